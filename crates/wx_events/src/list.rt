@@ -1,0 +1,146 @@
+ghost use Rattle.std.specs.Prelude.{IsTrue, ◌≡◌, ℕ, ◌+◌, ◌<◌, [], ◌∷◌, ◌++◌, length, IfOk, OnOk, OnErr, ◌==◌, slice_get, option_map, remove, Some, IfSome, IfNone};
+ghost use Rattle.std.specs.Option.{option_copied};
+ghost use Rattle.std.specs.Cmp.Lexicographic.{pointwise, lists_per};
+
+use std::alloc::Global;
+use std::marker::Model;
+
+/// Want of memory.
+#[derive(Clone, Copy, Debug, PartialEq, Eq)]
+pub struct Memory;
+
+impl From<std::alloc::AllocError> for Memory {
+    fn from(_error: std::alloc::AllocError) -> Self {
+        Memory
+    }
+}
+
+impl<T: Drop> From<std::alloc::AllocFailed<T>> for Memory {
+    fn from(_error: std::alloc::AllocFailed<T>) -> Self {
+        Memory
+    }
+}
+
+/// A value that owns memory, and can be copied.
+pub trait Copies {
+    fn copy(&self, alloc: Global) -> Result<Self, Memory>
+        ensures { IfOk result (λ copied. copied ≡ self.now) };
+}
+
+/// A list.
+#[derive(Drop, Debug)]
+pub struct List<T> {
+    items: Vec<T>,
+}
+
+impl<T> Model for List<T> {
+    ghost use Rattle.std.specs.Prelude.{List};
+
+    ghost Value = { List T };
+
+    ghost view = { λ l. l.items.items };
+}
+
+impl<T> List<T> {
+    pub fn new(alloc: Global) -> Self
+        ensures { result ≡ [] }
+    {
+        List {
+            items: Vec::new(alloc),
+        }
+    }
+
+    pub fn len(&self) -> usize
+        ensures { result ≡ length self.now }
+    {
+        self.items.len()
+    }
+
+    pub fn is_empty(&self) -> bool
+        ensures { result ≡ (length self.now == 0) }
+    {
+        self.items.is_empty()
+    }
+
+    pub fn as_slice(&self) -> &[T]
+        ensures { result.now ≡ self.now }
+    {
+        self.items.as_slice()
+    }
+
+    pub fn push(&mut self, x: T) -> Result<(), Memory>
+    where
+        T: Drop,
+        ensures ok { OnOk result (self.new ≡ self.old ++ x ∷ []) }
+        ensures err { OnErr result (self.new ≡ self.old) }
+    {
+        self.items.push(x)?;
+        Ok(())
+    }
+
+    /// Takes the item at this index out.
+    pub fn remove(&mut self, index: usize) -> T
+        requires { index < length self.old }
+        ensures value { slice_get self.old index ≡ Some result }
+        ensures rest { self.new ≡ remove self.old index }
+    {
+        self.items.remove(index)
+    }
+
+    /// The first item.
+    pub fn first(&self) -> Option<&T>
+        ensures none { IfNone result (self.now ≡ []) }
+        ensures some { IfSome result (λ x. slice_get self.now 0 ≡ Some x.now) }
+    {
+        self.items.first()
+    }
+
+    /// Drops the items.
+    pub fn clear(&mut self)
+    where
+        T: Drop,
+        ensures { self.new ≡ [] }
+    {
+        self.items.clear();
+    }
+
+    /// Takes the first item out.
+    pub fn take_first(&mut self) -> Option<T>
+        ensures none { IfNone result (self.old ≡ []) }
+        ensures same { IfNone result (self.new ≡ []) }
+        ensures some { IfSome result (λ x. self.old ≡ x ∷ self.new) }
+    {
+        if self.items.is_empty() {
+            None
+        } else {
+            Some(self.items.remove(0))
+        }
+    }
+
+    pub fn from_vec(items: Vec<T>) -> Self
+        ensures { result ≡ items.items }
+    {
+        List { items }
+    }
+}
+
+impl<T: Copies + Drop> Copies for List<T> {
+    fn copy(&self, alloc: Global) -> Result<Self, Memory> {
+        let mut items = Vec::new(alloc);
+        for x in &self.items {
+            let y = x.copy(alloc)?;
+            items.push(y)?;
+        }
+        Ok(List { items })
+    }
+}
+
+impl<T: PartialEq> PartialEq for List<T> {
+    ghost eq = { pointwise T.eq };
+
+    ghost laws = { lists_per T.laws };
+
+    fn eq(&self, other: &List<T>) -> bool {
+        self.items.as_slice() == other.items.as_slice()
+    }
+}
