@@ -12,6 +12,8 @@ mod path;
 mod priority;
 mod spelled;
 mod switches;
+#[cfg(test)]
+mod tests;
 mod text;
 mod texts;
 
