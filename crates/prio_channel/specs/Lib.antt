@@ -1,0 +1,5 @@
+pub mod SameBag
+pub mod BagLaws
+pub mod Channel
+pub mod Refused
+pub mod Greatest
