@@ -1,5 +1,5 @@
 -- Counts of faults, what an error says of them, and what a whole reading says of the bytes.
-use Rattle.std.specs.Prelude.{ℕ, ◌≡◌, ◌+◌, ◌-◌, ◌^◌, ◌≤◌, ◌<◌, min, List, [], ◌++◌, length, take, OnErr, Result, Option, None, Some, ⊤}
+use Rattle.std.specs.Prelude.{ℕ, ◌≡◌, ◌+◌, ◌-◌, ◌^◌, ◌≤◌, ◌<◌, min, List, ◌++◌, length, take, OnErr, Result, Option, None, Some, ⊤}
 
 -- the count rose, or stands at the end of its range
 abbrev pub Rose : ℕ → ℕ → Type 0

@@ -70,3 +70,79 @@ pub fn write_all<K: Sink>(sink: &mut K, bytes: &[u8]) -> Result<(), WriteFault>
     }
     Ok(())
 }
+
+#[cfg(test)]
+mod tests {
+    use super::*;
+    use crate::memory::{CODE, MemSink, MemSource};
+    use std::test::Fail;
+
+    const BYTES: &[u8] = b"0123456789";
+
+    #[test]
+    fn reads_in_pieces(rt: HostRuntime) -> Result<(), Fail> {
+        for piece in [1, 3, 9, 10, 4096] {
+            let source = MemSource::new(rt.alloc(), BYTES)?;
+            let mut source = source.in_pieces(piece);
+            let text = read_all(rt.alloc(), &mut source)?;
+            assert!(rt; text.as_slice() == BYTES, "at {piece}");
+            assert_eq!(rt; source.faults(), 0, "at {piece}");
+        }
+        Ok(())
+    }
+
+    #[test]
+    fn reads_up_to_a_fault(rt: HostRuntime) -> Result<(), Fail> {
+        // in pieces of 3 these are five reads, of which the last answers 0
+        for (call, faults) in [(1, 1), (2, 1), (3, 1), (4, 1), (5, 1), (6, 0)] {
+            let source = MemSource::new(rt.alloc(), BYTES)?;
+            let at = vec![in rt.alloc(); call]?;
+            let mut source = source.in_pieces(3).failing(at);
+            let result = read_all(rt.alloc(), &mut source);
+            assert_eq!(rt; result.is_err(), faults == 1, "at {call}");
+            if let Err(unread) = result {
+                assert_eq!(rt; unread, Unread::Fault, "at {call}");
+            }
+            assert_eq!(rt; source.faults(), faults, "at {call}");
+        }
+        Ok(())
+    }
+
+    #[test]
+    fn keeps_to_the_limit(rt: HostRuntime) -> Result<(), Fail> {
+        for (count, is_whole) in [(LIMIT, true), (LIMIT + 1, false)] {
+            let bytes = vec![in rt.alloc(); b'x'; count]?;
+            let mut source = MemSource::new(rt.alloc(), bytes.as_slice())?;
+            match read_all(rt.alloc(), &mut source) {
+                Ok(text) => assert!(rt; is_whole && text.len() == count),
+                Err(unread) => assert!(rt; !is_whole && unread == Unread::TooLong),
+            }
+        }
+        Ok(())
+    }
+
+    #[test]
+    fn writes_up_to_a_fault(rt: HostRuntime) -> Result<(), Fail> {
+        // in pieces of 4 these are three writes
+        let table = [
+            (1, b"".as_slice()),
+            (2, b"0123".as_slice()),
+            (3, b"01234567".as_slice()),
+            (4, BYTES),
+        ];
+        for (call, held) in table {
+            let at = vec![in rt.alloc(); call]?;
+            let mut sink = MemSink::new(rt.alloc()).in_pieces(4).failing(at);
+            let result = write_all(&mut sink, BYTES);
+            assert!(rt; sink.text().as_slice() == held, "at {call}");
+            if call < 4 {
+                assert!(rt; result == Err(WriteFault(CODE)), "at {call}");
+                assert_eq!(rt; sink.faults(), 1, "at {call}");
+            } else {
+                assert!(rt; result.is_ok());
+                assert_eq!(rt; sink.faults(), 0);
+            }
+        }
+        Ok(())
+    }
+}

@@ -7,11 +7,10 @@ mod sink;
 mod source;
 mod standard;
 
-use std::io;
-use std::process::ExitCode;
-
 use feeding::{read_all, write_all};
 use standard::{StdSink, StdSource};
+use std::io;
+use std::process::ExitCode;
 
 fn main(rt: HostRuntime) -> ExitCode {
     let mut source = StdSource::new(rt.reader());

@@ -18,6 +18,13 @@ impl<R: io::Read> StdSource<R> {
     {
         StdSource { reader, faults: 0 }
     }
+
+    /// How many reads failed.
+    pub fn faults(&self) -> u64
+        ensures { result ≡ self.now.faults }
+    {
+        self.faults
+    }
 }
 
 impl<R: io::Read> Source for StdSource<R> {
@@ -50,6 +57,13 @@ impl<W: io::Write> StdSink<W> {
     {
         StdSink { writer, faults: 0 }
     }
+
+    /// How many writes failed.
+    pub fn faults(&self) -> u64
+        ensures { result ≡ self.now.faults }
+    {
+        self.faults
+    }
 }
 
 impl<W: io::Write> Sink for StdSink<W> {
@@ -73,5 +87,59 @@ fn code_of(error: &io::Error) -> u32 {
     match error.raw_os_error() {
         Some(code) => code.unsigned_abs(),
         None => 0,
+    }
+}
+
+#[cfg(test)]
+mod tests {
+    use super::*;
+    use std::io::{Read, Write};
+
+    /// Fails at each call, or gives and takes nothing.
+    #[derive(Drop)]
+    struct Broken {
+        code: i32,
+    }
+
+    impl Read for Broken {
+        fn read(&mut self, _buf: &mut [u8]) -> io::Result<usize> {
+            if self.code == 0 {
+                return Ok(0);
+            }
+            Err(io::Error::from_raw_os_error(self.code))
+        }
+    }
+
+    impl Write for Broken {
+        fn write(&mut self, _buf: &[u8]) -> io::Result<usize> {
+            if self.code == 0 {
+                return Ok(0);
+            }
+            Err(io::Error::from_raw_os_error(self.code))
+        }
+
+        fn flush(&mut self) -> io::Result<()> {
+            Ok(())
+        }
+    }
+
+    #[test]
+    fn gives_the_systems_code(rt: HostRuntime) {
+        let mut source = StdSource::new(Broken { code: 5 });
+        let mut buf = [0u8; 4];
+        assert!(rt; source.read(&mut buf) == Err(ReadFault(5)));
+        assert!(rt; source.read(&mut buf) == Err(ReadFault(5)));
+        assert_eq!(rt; source.faults(), 2);
+        let mut sink = StdSink::new(Broken { code: 28 });
+        assert!(rt; sink.write(b"x") == Err(WriteFault(28)));
+        assert_eq!(rt; sink.faults(), 1);
+    }
+
+    #[test]
+    fn takes_a_write_of_nothing_as_a_fault(rt: HostRuntime) {
+        let mut sink = StdSink::new(Broken { code: 0 });
+        assert!(rt; sink.write(b"x") == Err(WriteFault(0)));
+        assert!(rt; sink.write(b"") == Ok(0));
+        assert_eq!(rt; sink.faults(), 1);
     }
 }

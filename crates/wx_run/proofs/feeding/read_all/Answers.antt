@@ -1,4 +1,4 @@
-use Rattle.std.proofs.Common.{ℕ, take, ◌++◌}
+use Rattle.std.proofs.Common.{take, ◌++◌}
 use Rattle.wx_run.proofs.KnownLaws.{consumes-then}
 use Rattle.wx_run.proofs.feeding.read_all.Goals as goal
 
