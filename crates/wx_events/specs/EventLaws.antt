@@ -1,8 +1,6 @@
 -- Priorities and events are read again from their words.
-use Rattle.std.proofs.Common.{◌≡◌, ℕ, zero, suc, ◌<◌, None, Some, List, [], ◌∷◌, ◌++◌, refl, arith}
+use Rattle.std.proofs.Common.{◌≡◌, ℕ, Some, List, ◌++◌, refl}
 use Rattle.std.specs.Prelude.{codes}
-use Rattle.std.specs.List.{flat_map}
-use Rattle.wx_events.specs.Lists.{read_items}
 use Rattle.wx_events.specs.declared.priority.Priority.{Priority}
 use Rattle.wx_events.specs.declared.priority.Priority.TheVariants.{Low, Normal, High, Urgent}
 use Rattle.wx_events.specs.declared.event.Tag.{Tag}
@@ -46,24 +44,6 @@ tag_form = record { again = again; takes = rows_take text_in TagFits tag_words t
 
 pub tag_clean : (tag : Tag) → TagFits tag → AllClean (tag_words tag)
 tag_clean = elim [ ]
-
--- no tag is there yet
-pub no_tag_words : (tags : List Tag) → flat_map tag_words tags ≡ []
-no_tag_words [] = refl
-no_tag_words (tag ∷ tags) = none tag
-  where
-    none : (tag : Tag) → flat_map tag_words (tag ∷ tags) ≡ []
-    none = elim [ ]
-
-no_tag_read : (ws : List (List ℕ)) → read_tag ws ≡ None
-unfolding read_tag
-no_tag_read [] = refl
-no_tag_read (w ∷ ws) = refl
-
-pub no_tags_read : (n : ℕ) (ws : List (List ℕ)) → 0 < n → read_items read_tag n ws ≡ None
-unfolding read_items
-no_tags_read zero ws lt = absurd (omega arith)
-no_tags_read (suc n) ws lt = rw (no_tag_read ws) refl
 
 -- ---- events
 

@@ -1,19 +1,20 @@
 // Events.
-ghost use Rattle.std.specs.Prelude.{◌≡◌, ◌==◌, length};
+ghost use Rattle.std.specs.Prelude.{◌≡◌, ◌==◌, length, IfOk};
+ghost use Rattle.wx_events.specs.Line.{Reads};
+ghost use Rattle.wx_events.specs.Events.{read_tag};
 
 use crate::cursor::Words;
 use crate::list::{Copies, List, Memory};
 use crate::spelled::Spelled;
 use crate::text::Text;
 use std::alloc::Global;
-use std::fmt;
 
-/// What an event says of itself. No tag is there yet, so no function takes one: what an event needs of its tags stands at the event.
-#[derive(Clone, Copy)]
+/// What an event says of itself. No tag is there yet, so the list of an event's tags is empty.
+#[derive(Clone, Copy, Debug, PartialEq, Eq)]
 pub enum Tag {}
 
 /// Something that happened.
-#[derive(Drop)]
+#[derive(Drop, Debug, PartialEq)]
 pub struct Event {
     pub tags: List<Tag>,
 }
@@ -27,32 +28,56 @@ impl Event {
     }
 }
 
-impl fmt::Debug for Event {
-    fn fmt<W: fmt::Write>(&self, f: &mut fmt::Formatter<W>) -> fmt::Result {
-        write!(f, "Event of {} tags", self.tags.len())
-    }
-}
-
-// The tags have nothing in them that could differ.
-impl PartialEq for Event {
-    ghost use Rattle.std.specs.Prelude.{◌==◌, length};
-    ghost use Rattle.std.specs.Ordering.{on};
-    ghost use Rattle.std.specs.Cmp.{on_equiv, partial_equiv_from_equiv, nat_eq_equiv};
-
-    ghost eq = { on (λ e. length e.tags) ◌==◌ };
-
-    ghost laws = { partial_equiv_from_equiv (on_equiv (λ e. length e.tags) nat_eq_equiv) };
-
-    fn eq(&self, other: &Event) -> bool {
-        self.tags.len() == other.tags.len()
+impl Copies for Tag {
+    fn copy(&self, _alloc: Global) -> Result<Tag, Memory> {
+        Ok(*self)
     }
 }
 
 impl Copies for Event {
     fn copy(&self, alloc: Global) -> Result<Event, Memory> {
         Ok(Event {
-            tags: self.tags.duplicate(alloc)?,
+            tags: self.tags.copy(alloc)?,
         })
+    }
+}
+
+/// Takes the tag at the front, or loses the place.
+#[tactic(auto, unfolding(crate::specs::Events::read_tag))]
+fn take_tag(_alloc: Global, line: &mut Words) -> Result<Option<Tag>, Memory>
+    ensures { IfOk result (λ tag. Reads line.new tag (read_tag line.old)) }
+{
+    let Some(_word) = line.next() else {
+        return Ok(None);
+    };
+    Ok(None)
+}
+
+impl Spelled for Tag {
+    ghost use Rattle.wx_events.specs.Events.{TagFits, tag_words, read_tag};
+    ghost use Rattle.wx_events.specs.EventLaws.{tag_form, tag_clean};
+
+    ghost words = { tag_words };
+
+    ghost fits = { TagFits };
+
+    ghost read = { read_tag };
+
+    ghost form = { tag_form };
+
+    ghost clean = { tag_clean };
+
+    fn put_after(&self, _out: &mut Text) -> Result<(), Memory> {
+        match *self {}
+    }
+
+    fn take(alloc: Global, line: &mut Words) -> Result<Option<Tag>, Memory> {
+        let mut ahead = line.fork();
+        let found = take_tag(alloc, &mut ahead)?;
+        if found.is_some() {
+            *line = ahead;
+        }
+        Ok(found)
     }
 }
 
@@ -70,23 +95,14 @@ impl Spelled for Event {
 
     ghost clean = { event_clean };
 
-    #[tactic(auto, using(crate::specs::EventLaws::no_tag_words))]
     fn put_after(&self, out: &mut Text) -> Result<(), Memory> {
-        (self.tags.len() as u64).put_after(out)
+        self.tags.put_after(out)
     }
 
-    #[tactic(auto, using(crate::specs::EventLaws::no_tags_read), unfolding(crate::specs::Lists::read_list, crate::specs::Lists::read_items))]
     fn take(alloc: Global, line: &mut Words) -> Result<Option<Event>, Memory> {
-        let mut ahead = line.fork();
-        let Some(count) = u64::take(alloc, &mut ahead)? else {
-            return Ok(None);
-        };
-        if count != 0 {
-            return Ok(None);
+        match List::take(alloc, line)? {
+            Some(tags) => Ok(Some(Event { tags })),
+            None => Ok(None),
         }
-        *line = ahead;
-        Ok(Some(Event {
-            tags: List::new(alloc),
-        }))
     }
 }

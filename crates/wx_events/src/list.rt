@@ -117,17 +117,6 @@ impl<T> List<T> {
         }
     }
 
-    /// A second list of the same items.
-    pub fn duplicate(&self, alloc: Global) -> Result<Self, Memory>
-    where
-        T: Copy,
-        ensures { IfOk result (λ copied. copied ≡ self.now) }
-    {
-        Ok(List {
-            items: Vec::from_slice(alloc, self.items.as_slice())?,
-        })
-    }
-
     pub fn from_vec(items: Vec<T>) -> Self
         ensures { result ≡ items.items }
     {

@@ -2,7 +2,7 @@
 use crate::cursor::Words;
 use crate::event::Event;
 use crate::keyword::take_literal;
-use crate::list::{Copies, List, Memory};
+use crate::list::{List, Memory};
 use crate::path::TextPath;
 use crate::priority::Priority;
 use crate::spelled::Spelled;
@@ -187,7 +187,6 @@ fn events_without_tags(rt: HostRuntime) -> Result<(), Fail> {
     assert_eq!(rt; line.as_slice(), b"0".as_slice());
     let again: Event = read_line(alloc, b"0")?.ok_or("an event")?;
     assert!(rt; again.is_empty());
-    assert_eq!(rt; again.copy(alloc)?, event);
     let unknown: Option<Event> = read_line(alloc, b"1 path")?;
     assert!(rt; unknown.is_none());
     Ok(())
