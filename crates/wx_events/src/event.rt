@@ -1,7 +1,12 @@
 // Events.
-ghost use Rattle.std.specs.Prelude.{◌≡◌, ◌==◌, length};
+ghost use Rattle.std.specs.Prelude.{◌≡◌, ◌==◌, length, IfOk};
+ghost use Rattle.wx_events.specs.Line.{Reads};
+ghost use Rattle.wx_events.specs.Events.{read_tag};
 
+use crate::cursor::Words;
 use crate::list::{Copies, List, Memory};
+use crate::spelled::Spelled;
+use crate::text::Text;
 use std::alloc::Global;
 
 /// What an event says of itself. No tag is there yet, so the list of an event's tags is empty.
@@ -34,5 +39,70 @@ impl Copies for Event {
         Ok(Event {
             tags: self.tags.copy(alloc)?,
         })
+    }
+}
+
+/// Takes the tag at the front, or loses the place.
+#[tactic(auto, unfolding(crate::specs::Events::read_tag))]
+fn take_tag(_alloc: Global, line: &mut Words) -> Result<Option<Tag>, Memory>
+    ensures { IfOk result (λ tag. Reads line.new tag (read_tag line.old)) }
+{
+    let Some(_word) = line.next() else {
+        return Ok(None);
+    };
+    Ok(None)
+}
+
+impl Spelled for Tag {
+    ghost use Rattle.wx_events.specs.Events.{TagFits, tag_words, read_tag};
+    ghost use Rattle.wx_events.specs.EventLaws.{tag_form, tag_clean};
+
+    ghost words = { tag_words };
+
+    ghost fits = { TagFits };
+
+    ghost read = { read_tag };
+
+    ghost form = { tag_form };
+
+    ghost clean = { tag_clean };
+
+    fn put_after(&self, _out: &mut Text) -> Result<(), Memory> {
+        match *self {}
+    }
+
+    fn take(alloc: Global, line: &mut Words) -> Result<Option<Tag>, Memory> {
+        let mut ahead = line.fork();
+        let found = take_tag(alloc, &mut ahead)?;
+        if found.is_some() {
+            *line = ahead;
+        }
+        Ok(found)
+    }
+}
+
+impl Spelled for Event {
+    ghost use Rattle.wx_events.specs.Events.{EventFits, event_words, read_event};
+    ghost use Rattle.wx_events.specs.EventLaws.{event_form, event_clean};
+
+    ghost words = { event_words };
+
+    ghost fits = { EventFits };
+
+    ghost read = { read_event };
+
+    ghost form = { event_form };
+
+    ghost clean = { event_clean };
+
+    fn put_after(&self, out: &mut Text) -> Result<(), Memory> {
+        self.tags.put_after(out)
+    }
+
+    fn take(alloc: Global, line: &mut Words) -> Result<Option<Event>, Memory> {
+        match List::take(alloc, line)? {
+            Some(tags) => Ok(Some(Event { tags })),
+            None => Ok(None),
+        }
     }
 }

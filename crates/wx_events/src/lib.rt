@@ -1,14 +1,29 @@
 //! Events, texts, lists, and the words in which they are written.
 #![tactic(auto)]
 
+mod cursor;
 mod event;
+mod keyword;
 mod list;
+mod lists;
+mod numbers;
+mod optional;
 mod path;
 mod priority;
+mod spelled;
+mod switches;
+#[cfg(test)]
+mod tests;
 mod text;
+mod texts;
 
+pub use cursor::{Words, cut};
 pub use event::{Event, Tag};
+pub use keyword::{Keyword, put_keyword, take_keyword, take_literal, with_word};
 pub use list::{Copies, List, Memory};
+pub use numbers::number_of;
 pub use path::TextPath;
 pub use priority::Priority;
+pub use spelled::Spelled;
 pub use text::Text;
+pub use texts::text_in;

@@ -1,7 +1,9 @@
 // Paths.
 ghost use Rattle.std.specs.Prelude.{◌≡◌};
 
+use crate::cursor::Words;
 use crate::list::{Copies, Memory};
+use crate::spelled::Spelled;
 use crate::text::Text;
 use std::alloc::Global;
 use std::marker::Model;
@@ -41,5 +43,33 @@ impl Copies for TextPath {
         Ok(TextPath {
             text: self.text.copy(alloc)?,
         })
+    }
+}
+
+impl Spelled for TextPath {
+    ghost use Rattle.std.specs.Prelude.{[], ◌∷◌};
+    ghost use Rattle.wx_events.specs.Texts.{AllBytes, text_word, read_text};
+    ghost use Rattle.wx_events.specs.TextLaws.{text_form};
+    ghost use Rattle.wx_events.specs.CleanLaws.{text_words_clean};
+
+    ghost words = { λ t. text_word t ∷ [] };
+
+    ghost fits = { AllBytes };
+
+    ghost read = { read_text };
+
+    ghost form = { text_form };
+
+    ghost clean = { text_words_clean };
+
+    fn put_after(&self, out: &mut Text) -> Result<(), Memory> {
+        self.text.put_after(out)
+    }
+
+    fn take(alloc: Global, line: &mut Words) -> Result<Option<TextPath>, Memory> {
+        match Text::take(alloc, line)? {
+            Some(text) => Ok(Some(TextPath { text })),
+            None => Ok(None),
+        }
     }
 }

@@ -1,0 +1,145 @@
+ghost use Rattle.std.specs.Prelude.{◌≡◌, None};
+
+use crate::sink::{Sink, WriteFault};
+use crate::source::{ReadFault, Source};
+use std::io;
+
+/// A source over a reader of the system, as standard input.
+#[derive(Drop)]
+pub struct StdSource<R> {
+    reader: R,
+    faults: u64,
+}
+
+impl<R: io::Read> StdSource<R> {
+    /// A source that reads from this reader.
+    pub fn new(reader: R) -> Self
+        ensures { result.faults ≡ 0 }
+    {
+        StdSource { reader, faults: 0 }
+    }
+
+    /// How many reads failed.
+    pub fn faults(&self) -> u64
+        ensures { result ≡ self.now.faults }
+    {
+        self.faults
+    }
+}
+
+impl<R: io::Read> Source for StdSource<R> {
+    ghost left = { λ _. None };
+
+    ghost faults = { λ s. s.faults };
+
+    fn read(&mut self, buf: &mut [u8]) -> Result<usize, ReadFault> {
+        match self.reader.read(buf) {
+            Ok(count) => Ok(count),
+            Err(error) => {
+                self.faults = self.faults.saturating_add(1);
+                Err(ReadFault(code_of(&error)))
+            }
+        }
+    }
+}
+
+/// A sink over a writer of the system, as standard output.
+#[derive(Drop)]
+pub struct StdSink<W> {
+    writer: W,
+    faults: u64,
+}
+
+impl<W: io::Write> StdSink<W> {
+    /// A sink that writes to this writer.
+    pub fn new(writer: W) -> Self
+        ensures { result.faults ≡ 0 }
+    {
+        StdSink { writer, faults: 0 }
+    }
+
+    /// How many writes failed.
+    pub fn faults(&self) -> u64
+        ensures { result ≡ self.now.faults }
+    {
+        self.faults
+    }
+}
+
+impl<W: io::Write> Sink for StdSink<W> {
+    ghost held = { λ _. None };
+
+    ghost faults = { λ s. s.faults };
+
+    fn write(&mut self, buf: &[u8]) -> Result<usize, WriteFault> {
+        let code = match self.writer.write(buf) {
+            Ok(count) if count > 0 || buf.is_empty() => return Ok(count),
+            Ok(_) => 0,
+            Err(error) => code_of(&error),
+        };
+        self.faults = self.faults.saturating_add(1);
+        Err(WriteFault(code))
+    }
+}
+
+/// The system's code of an error, or 0 where it has none.
+fn code_of(error: &io::Error) -> u32 {
+    match error.raw_os_error() {
+        Some(code) => code.unsigned_abs(),
+        None => 0,
+    }
+}
+
+#[cfg(test)]
+mod tests {
+    use super::*;
+    use std::io::{Read, Write};
+
+    /// Fails at each call, or gives and takes nothing.
+    #[derive(Drop)]
+    struct Broken {
+        code: i32,
+    }
+
+    impl Read for Broken {
+        fn read(&mut self, _buf: &mut [u8]) -> io::Result<usize> {
+            if self.code == 0 {
+                return Ok(0);
+            }
+            Err(io::Error::from_raw_os_error(self.code))
+        }
+    }
+
+    impl Write for Broken {
+        fn write(&mut self, _buf: &[u8]) -> io::Result<usize> {
+            if self.code == 0 {
+                return Ok(0);
+            }
+            Err(io::Error::from_raw_os_error(self.code))
+        }
+
+        fn flush(&mut self) -> io::Result<()> {
+            Ok(())
+        }
+    }
+
+    #[test]
+    fn gives_the_systems_code(rt: HostRuntime) {
+        let mut source = StdSource::new(Broken { code: 5 });
+        let mut buf = [0u8; 4];
+        assert!(rt; source.read(&mut buf) == Err(ReadFault(5)));
+        assert!(rt; source.read(&mut buf) == Err(ReadFault(5)));
+        assert_eq!(rt; source.faults(), 2);
+        let mut sink = StdSink::new(Broken { code: 28 });
+        assert!(rt; sink.write(b"x") == Err(WriteFault(28)));
+        assert_eq!(rt; sink.faults(), 1);
+    }
+
+    #[test]
+    fn takes_a_write_of_nothing_as_a_fault(rt: HostRuntime) {
+        let mut sink = StdSink::new(Broken { code: 0 });
+        assert!(rt; sink.write(b"x") == Err(WriteFault(0)));
+        assert!(rt; sink.write(b"") == Ok(0));
+        assert_eq!(rt; sink.faults(), 1);
+    }
+}
