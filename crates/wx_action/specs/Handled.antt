@@ -1,0 +1,34 @@
+-- What contracts see of the handler that is lent to an action.
+use Rattle.std.specs.Prelude.{◌≡◌, ℕ, ◌≤◌, Bool, Option, None, Some, if◌then◌else◌, List, [], ◌∷◌}
+use Rattle.wx_events.specs.declared.event.Event.{Event}
+use Rattle.wx_events.specs.declared.priority.Priority.{Priority}
+use Rattle.wx_action.specs.declared.entry.Entry.{Entry}
+use Rattle.wx_action.specs.declared.entry.Act.{Act}
+use Rattle.wx_action.specs.declared.entry.Act.TheVariants.{Quit}
+use Rattle.wx_action.specs.Journal.{listed}
+use Rattle.wx_action.specs.Due.{is_quit}
+
+-- the journal so far, the names and the events of the batch, the acts so far, and whether they were handed
+pub record Handled : Type 0 where
+  pub past : List Entry
+  pub names : List ℕ
+  pub events : List Event
+  pub acts : List Act
+  pub handed : Bool
+
+-- the acts with a quit behind them: one that stands last already is not repeated
+abbrev pub with_quit : List Act → List Act
+with_quit [] = Quit ∷ []
+with_quit (act ∷ []) = if is_quit act then act ∷ [] else act ∷ Quit ∷ []
+with_quit (act ∷ next ∷ acts) = act ∷ with_quit (next ∷ acts)
+
+-- what a journal lists under a name
+abbrev pub lookup : List Entry → ℕ → Option (Event × Priority)
+lookup p name = listed name p
+
+-- these are the events of these names
+abbrev pub AreEvents : (ℕ → Option (Event × Priority)) → List ℕ → List Event → Type 0
+AreEvents look [] [] = Unit {0}
+AreEvents look [] (event ∷ events) = ⊥
+AreEvents look (name ∷ names) [] = ⊥
+AreEvents look (name ∷ names) (event ∷ events) = ((priority : Priority) × (look name ≡ Some (event, priority))) × AreEvents look names events

@@ -1,0 +1,118 @@
+// The entries of a journal.
+ghost use Rattle.std.specs.Prelude.{◌≡◌, IfOk};
+
+use crate::config::{WatchedPath, Watcher};
+use std::alloc::Global;
+use wx_events::{Copies, Event, List, Memory, Priority, TextPath};
+
+/// What a turn brings.
+#[derive(Drop, Debug)]
+pub enum TurnKind {
+    /// An event arrives.
+    Arrive(Event, Priority),
+    /// The worker acts.
+    Work,
+    /// There is no further turn.
+    Last,
+}
+
+/// One turn: its moment in nanoseconds, and what it brings.
+#[derive(Drop, Debug)]
+pub struct Turn {
+    pub at: u64,
+    pub kind: TurnKind,
+}
+
+/// What became of an event that was offered to the queue.
+#[derive(Clone, Copy, Debug, PartialEq, Eq)]
+pub enum Offered {
+    Queued,
+    Full,
+}
+
+/// What the engine says of a turn that does nothing else.
+#[derive(Clone, Copy, Debug, PartialEq, Eq)]
+pub enum Word {
+    /// There was nothing to do.
+    Idle,
+}
+
+/// What a handler asks of the engine.
+#[derive(Clone, Copy, Debug, PartialEq, Eq)]
+pub enum Act {
+    /// The run is to end at once.
+    Quit,
+}
+
+/// An event with its name, which is its place in the order of the entries that list events.
+#[derive(Drop, Debug)]
+pub struct Named {
+    pub name: u64,
+    pub event: Event,
+}
+
+/// What happened in a run.
+#[derive(Drop, Debug)]
+pub enum Entry {
+    /// The run begins with these settings.
+    Begin {
+        throttle: u64,
+        size: u32,
+        errors: u32,
+        keyboard: bool,
+        follow: bool,
+        jobsignals: bool,
+        watcher: Watcher,
+        cwd: TextPath,
+        paths: List<WatchedPath>,
+    },
+    /// An event was sent before the run.
+    Sent {
+        name: u64,
+        event: Event,
+        priority: Priority,
+    },
+    /// The world gave a turn.
+    Turn(Turn),
+    /// The world had no turn to give, and this is the code of its fault.
+    TurnFault(u32),
+    /// An event was offered to the queue. The item is that of a file event.
+    Offer {
+        name: u64,
+        item: Option<u64>,
+        result: Offered,
+        event: Event,
+        priority: Priority,
+    },
+    /// There was nothing to do but to say so.
+    Word(Word),
+    /// An event was taken from the queue.
+    Take(u64),
+    /// A batch was handed to the action handler of this number, which asked for these acts.
+    Hand {
+        n: u32,
+        names: List<u64>,
+        acts: List<Act>,
+    },
+}
+
+impl Copies for TurnKind {
+    fn copy(&self, alloc: Global) -> Result<TurnKind, Memory> {
+        match self {
+            TurnKind::Arrive(event, priority) => {
+                Ok(TurnKind::Arrive(event.copy(alloc)?, *priority))
+            }
+            TurnKind::Work => Ok(TurnKind::Work),
+            TurnKind::Last => Ok(TurnKind::Last),
+        }
+    }
+}
+
+impl Copies for Turn {
+    fn copy(&self, alloc: Global) -> Result<Turn, Memory> {
+        Ok(Turn {
+            at: self.at,
+            kind: self.kind.copy(alloc)?,
+        })
+    }
+}

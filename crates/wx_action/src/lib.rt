@@ -1,0 +1,18 @@
+//! What an engine does in a turn, written into a journal.
+#![tactic(auto)]
+
+mod batch;
+mod config;
+mod entry;
+mod error;
+mod handler;
+mod journal;
+mod outside;
+
+pub use batch::Batch;
+pub use config::{Changeable, Config, WatchedPath, Watcher};
+pub use entry::{Act, Entry, Named, Offered, Turn, TurnKind, Word};
+pub use error::CriticalError;
+pub use handler::ActionHandler;
+pub use journal::Journal;
+pub use outside::{Hooks, Host, JobHooks, Outside, TurnFault, Turned, World};
