@@ -32,6 +32,7 @@ impl MemSource {
     pub fn new(alloc: Global, bytes: &[u8]) -> Result<Self, Memory>
         ensures bytes { IfOk result (λ source. drop source.position source.bytes.items ≡ bytes.now) }
         ensures faults { IfOk result (λ source. source.faults ≡ 0) }
+        ensures calls { IfOk result (λ source. source.calls ≡ 0) }
         ensures failing { IfOk result (λ source. source.failing.items ≡ []) }
     {
         Ok(MemSource {
@@ -125,6 +126,7 @@ impl MemSink {
     pub fn new(alloc: Global) -> Self
         ensures text { result.text ≡ [] }
         ensures faults { result.faults ≡ 0 }
+        ensures calls { result.calls ≡ 0 }
         ensures failing { result.failing.items ≡ [] }
     {
         MemSink {

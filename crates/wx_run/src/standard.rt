@@ -1,10 +1,13 @@
-ghost use Rattle.std.specs.Prelude.{◌≡◌, None};
+ghost use Rattle.std.specs.Prelude.{◌≡◌, MatchOption, unsigned_abs};
+ghost use Rattle.std.specs.IoError.{raw_os_error};
 
 use crate::sink::{Sink, WriteFault};
 use crate::source::{ReadFault, Source};
 use std::io;
 
-/// A source over a reader of the system, as standard input.
+/// A source over a reader, as that of standard input.
+///
+/// It tells what the reader tells, and of standard input that is nothing.
 #[derive(Drop)]
 pub struct StdSource<R> {
     reader: R,
@@ -14,7 +17,8 @@ pub struct StdSource<R> {
 impl<R: io::Read> StdSource<R> {
     /// A source that reads from this reader.
     pub fn new(reader: R) -> Self
-        ensures { result.faults ≡ 0 }
+        ensures faults { result.faults ≡ 0 }
+        ensures reader { result.reader ≡ reader }
     {
         StdSource { reader, faults: 0 }
     }
@@ -28,7 +32,7 @@ impl<R: io::Read> StdSource<R> {
 }
 
 impl<R: io::Read> Source for StdSource<R> {
-    ghost left = { λ _. None };
+    ghost left = { λ s. R.remaining s.reader };
 
     ghost faults = { λ s. s.faults };
 
@@ -43,7 +47,9 @@ impl<R: io::Read> Source for StdSource<R> {
     }
 }
 
-/// A sink over a writer of the system, as standard output.
+/// A sink over a writer, as that of standard output.
+///
+/// It tells what the writer tells, and of standard output that is nothing.
 #[derive(Drop)]
 pub struct StdSink<W> {
     writer: W,
@@ -53,7 +59,8 @@ pub struct StdSink<W> {
 impl<W: io::Write> StdSink<W> {
     /// A sink that writes to this writer.
     pub fn new(writer: W) -> Self
-        ensures { result.faults ≡ 0 }
+        ensures faults { result.faults ≡ 0 }
+        ensures writer { result.writer ≡ writer }
     {
         StdSink { writer, faults: 0 }
     }
@@ -67,7 +74,7 @@ impl<W: io::Write> StdSink<W> {
 }
 
 impl<W: io::Write> Sink for StdSink<W> {
-    ghost held = { λ _. None };
+    ghost held = { λ s. W.contents s.writer };
 
     ghost faults = { λ s. s.faults };
 
@@ -83,7 +90,9 @@ impl<W: io::Write> Sink for StdSink<W> {
 }
 
 /// The system's code of an error, or 0 where it has none.
-fn code_of(error: &io::Error) -> u32 {
+fn code_of(error: &io::Error) -> u32
+    ensures { MatchOption (raw_os_error error.now) (result ≡ 0) (λ code. result ≡ unsigned_abs code) }
+{
     match error.raw_os_error() {
         Some(code) => code.unsigned_abs(),
         None => 0,
