@@ -4,12 +4,13 @@ use Rattle.std.specs.Prelude.{codes}
 use Rattle.wx_events.specs.declared.priority.Priority.{Priority}
 use Rattle.wx_events.specs.declared.priority.Priority.TheVariants.{Low, Normal, High, Urgent}
 use Rattle.wx_events.specs.declared.event.Tag.{Tag}
+use Rattle.wx_events.specs.declared.event.Tag.TheVariants.{Unknown}
 use Rattle.wx_events.specs.declared.event.Event.{Event}
 use Rattle.wx_events.specs.Keywords.{with_word}
 use Rattle.wx_events.specs.KeywordLaws.{keyword_form}
 use Rattle.wx_events.specs.Texts.{text_in}
-use Rattle.wx_events.specs.Forms.{IsForm}
-use Rattle.wx_events.specs.CombineLaws.{as_form, rows_take}
+use Rattle.wx_events.specs.Forms.{IsForm, Stood}
+use Rattle.wx_events.specs.CombineLaws.{as_form, nothing_form, row_of, rows_take}
 use Rattle.wx_events.specs.ListLaws.{list_form}
 use Rattle.wx_events.specs.Clean.{IsClean, AllClean}
 use Rattle.wx_events.specs.CleanLaws.{clean, keyword_clean, list_clean}
@@ -37,13 +38,15 @@ priority_clean = keyword_clean priority_word priority_word_clean
 
 pub tag_form : IsForm text_in TagFits tag_words read_tag
 unfolding read_tag
-tag_form = record { again = again; takes = rows_take text_in TagFits tag_words tag_rows tt }
+tag_form = record { again = again; takes = takes }
   where
     again : (tag : Tag) (rest : List (List ℕ)) → TagFits tag → read_tag (tag_words tag ++ rest) ≡ Some (tag, rest)
-    again = elim [ ]
+    again Unknown rest fits = refl
+    takes : (ws : List (List ℕ)) (tag : Tag) (rest : List (List ℕ)) → read_tag ws ≡ Some (tag, rest) → TagFits tag × Stood text_in (tag_words tag) ws rest
+    takes = rows_take text_in TagFits tag_words tag_rows (row_of (nothing_form text_in) (λ u. Unknown) (codes "unknown") TagFits tag_words (λ u fits. tt) (λ u. refl), tt)
 
 pub tag_clean : (tag : Tag) → TagFits tag → AllClean (tag_words tag)
-tag_clean = elim [ ]
+tag_clean Unknown fits = (clean (codes "unknown") refl, tt)
 
 -- ---- events
 

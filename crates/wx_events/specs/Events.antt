@@ -1,12 +1,13 @@
 -- Priorities and events as words.
 use Rattle.std.specs.Prelude.{ℕ, ◌^◌, ◌<◌, List, [], ◌∷◌, length, codes}
 use Rattle.std.specs.List.{AllByRecursion}
-use Rattle.wx_events.specs.Combine.{Reader, read_as, read_rows}
+use Rattle.wx_events.specs.Combine.{Reader, read_as, read_nothing, read_rows}
 use Rattle.wx_events.specs.Keywords.{read_keyword}
 use Rattle.wx_events.specs.Lists.{list_words, read_list}
 use Rattle.wx_events.specs.declared.priority.Priority.{Priority}
 use Rattle.wx_events.specs.declared.priority.Priority.TheVariants.{Low, Normal, High, Urgent}
 use Rattle.wx_events.specs.declared.event.Tag.{Tag}
+use Rattle.wx_events.specs.declared.event.Tag.TheVariants.{Unknown}
 use Rattle.wx_events.specs.declared.event.Event.{Event}
 
 abbrev pub priority_word : Priority → List ℕ
@@ -26,14 +27,14 @@ read_priority ws = read_keyword priority_word priorities ws
 
 -- the tags whose texts and numbers are those of the code
 abbrev pub TagFits : Tag → Type 0
-TagFits = elim [ ]
+TagFits Unknown = Unit {0}
 
 abbrev pub tag_words : Tag → List (List ℕ)
-tag_words = elim [ ]
+tag_words Unknown = codes "unknown" ∷ []
 
 -- each first word of a tag, and how the rest is read
 abbrev pub tag_rows : List (List ℕ × Reader Tag)
-tag_rows = []
+tag_rows = (codes "unknown", read_as (λ u. Unknown) read_nothing) ∷ []
 
 unfoldable pub read_tag : Reader Tag
 read_tag ws = read_rows tag_rows ws

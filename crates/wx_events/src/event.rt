@@ -9,9 +9,12 @@ use crate::spelled::Spelled;
 use crate::text::Text;
 use std::alloc::Global;
 
-/// What an event says of itself. No tag is there yet, so the list of an event's tags is empty.
+/// What an event says of itself.
 #[derive(Clone, Copy, Debug, PartialEq, Eq)]
-pub enum Tag {}
+pub enum Tag {
+    /// Something of which nothing is known.
+    Unknown,
+}
 
 /// Something that happened.
 #[derive(Drop, Debug, PartialEq)]
@@ -47,10 +50,14 @@ impl Copies for Event {
 fn take_tag(_alloc: Global, line: &mut Words) -> Result<Option<Tag>, Memory>
     ensures { IfOk result (λ tag. Reads line.new tag (read_tag line.old)) }
 {
-    let Some(_word) = line.next() else {
+    let Some(word) = line.next() else {
         return Ok(None);
     };
-    Ok(None)
+    if word == b"unknown".as_slice() {
+        Ok(Some(Tag::Unknown))
+    } else {
+        Ok(None)
+    }
 }
 
 impl Spelled for Tag {
@@ -67,8 +74,10 @@ impl Spelled for Tag {
 
     ghost clean = { tag_clean };
 
-    fn put_after(&self, _out: &mut Text) -> Result<(), Memory> {
-        match *self {}
+    fn put_after(&self, out: &mut Text) -> Result<(), Memory> {
+        match self {
+            Tag::Unknown => out.append(b" unknown"),
+        }
     }
 
     fn take(alloc: Global, line: &mut Words) -> Result<Option<Tag>, Memory> {
