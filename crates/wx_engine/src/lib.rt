@@ -2,5 +2,12 @@
 #![tactic(auto)]
 
 mod script;
+mod script_hooks;
+mod script_world;
+mod supply;
+#[cfg(test)]
+mod tests;
 
 pub use script::{Script, ScriptTurn};
+pub use script_hooks::ScriptHooks;
+pub use script_world::ScriptWorld;
