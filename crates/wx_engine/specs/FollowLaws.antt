@@ -9,7 +9,7 @@ use Rattle.wx_action.specs.Told.{tell, tell_if, tells, is_turn}
 use Rattle.wx_engine.specs.declared.script.Script.{Script}
 use Rattle.wx_engine.specs.declared.script.ScriptTurn.{ScriptTurn}
 use Rattle.wx_engine.specs.declared.script.ScriptTurn.TheVariants.{Turn, Fault}
-use Rattle.wx_engine.specs.Turns.{comes, risen, Rises, first_given}
+use Rattle.wx_engine.specs.Turns.{comes, risen, Rises, Given, first_given}
 use Rattle.wx_engine.specs.Follows.{IsScript, start_of, given_of, FollowsTurns}
 
 -- what is told is the old list with the calls in front
@@ -21,9 +21,11 @@ tells_filter mine (e ∷ p) before =
       | false ↦ tells_filter mine p before
     ]
 
--- a world that tells the script's first turns, and has told those of this run
-pub follows_turns : (s : Script) (told p : List Entry) → told ≡ first_given (given_of s) (length told) → Some told ≡ tells is_turn p (Some []) → FollowsTurns s p
-follows_turns s told p follows tells_run = subst (λ (turns : List Entry). turns ≡ first_given (given_of s) (length turns)) same follows
+-- a world that gives the script's turns, told the first ones, and told those of this run
+pub follows_turns : (s : Script) (plan : Given) (told p : List Entry)
+    → plan ≡ given_of s → told ≡ first_given plan (length told) → Some told ≡ tells is_turn p (Some []) → FollowsTurns s p
+follows_turns s plan told p is follows tells_run =
+    subst (λ (turns : List Entry). turns ≡ first_given (given_of s) (length turns)) same (follows ∙ ap (λ (g : Given). first_given g (length told)) is)
   where
     whole : Some told ≡ Some (filter is_turn p)
     whole = tells_run ∙ tells_filter is_turn p [] ∙ ap Some (append-nil (filter is_turn p))

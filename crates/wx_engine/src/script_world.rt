@@ -3,6 +3,7 @@ ghost use Rattle.std.specs.Prelude.{◌≡◌, ◌∷◌, [], ◌≤◌, ◌<◌
 ghost use Rattle.std.specs.List.{list_all};
 ghost use Rattle.wx_action.specs.Told.{tell, turned, gives_last, moment_after, Counts};
 ghost use Rattle.wx_action.specs.declared.entry.TurnKind.TheVariants.{Last};
+ghost use Rattle.wx_engine.specs.Follows.{given_of};
 ghost use Rattle.wx_engine.specs.Turns.{comes, risen, Rises, entry_of, Given, first_given};
 
 use crate::script::{Script, ScriptTurn};
@@ -32,8 +33,7 @@ impl ScriptWorld {
     pub fn new(alloc: Global, script: &Script) -> Result<ScriptWorld, Memory>
         requires come { list_all comes script.now.turns ≡ true }
         requires rises { Rises script.now.turns script.now.last }
-        ensures turns { IfOk result (λ world. world.turns ≡ script.now.turns) }
-        ensures last { IfOk result (λ world. world.last ≡ script.now.last) }
+        ensures plan { IfOk result (λ world. record { turns = world.turns; last = world.last } ≡ given_of script.now) }
         ensures told { IfOk result (λ world. world.told.past ≡ []) }
         ensures moment { IfOk result (λ world. world.moment ≡ 0) }
         ensures faults { IfOk result (λ world. world.faults ≡ 0) }

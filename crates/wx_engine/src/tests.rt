@@ -41,48 +41,38 @@ fn script(alloc: Global) -> Result<Script, Memory>
     })
 }
 
-/// The moment and the sort of the next turn: 0 for an event, 1 for work, 2 for a last turn.
-fn next(world: &mut ScriptWorld) -> Result<(u64, u32), u32> {
-    if world.reserve(1).is_err() {
-        return Err(1000);
-    }
-    match world.turn() {
+/// The moment and the sort of the next turn, 0 for an event, 1 for work, 2 for a last turn, or the code of its fault.
+fn next(world: &mut ScriptWorld) -> Result<Result<(u64, u32), u32>, Memory> {
+    world.reserve(1)?;
+    Ok(match world.turn() {
         Ok(given) => match given.turn.kind {
             TurnKind::Arrive(_, _) => Ok((given.turn.at, 0)),
             TurnKind::Work => Ok((given.turn.at, 1)),
             TurnKind::Last => Ok((given.turn.at, 2)),
         },
         Err(fault) => Err(fault.0),
-    }
+    })
 }
 
 #[test]
 fn the_turns_come_in_order(rt: HostRuntime) -> Result<(), Fail> {
     let alloc = rt.alloc();
-    let Ok(script) = script(alloc) else {
-        return Ok(());
-    };
-    let Ok(mut world) = ScriptWorld::new(alloc, &script) else {
-        return Ok(());
-    };
-    assert_eq!(rt; next(&mut world), Ok((5, 0)));
-    assert_eq!(rt; next(&mut world), Err(3));
-    assert_eq!(rt; next(&mut world), Ok((8, 1)));
-    assert_eq!(rt; next(&mut world), Ok((8, 2)));
-    assert_eq!(rt; next(&mut world), Ok((8, 2)));
+    let script = script(alloc)?;
+    let mut world = ScriptWorld::new(alloc, &script)?;
+    assert_eq!(rt; next(&mut world)?, Ok((5, 0)));
+    assert_eq!(rt; next(&mut world)?, Err(3));
+    assert_eq!(rt; next(&mut world)?, Ok((8, 1)));
+    assert_eq!(rt; next(&mut world)?, Ok((8, 2)));
+    assert_eq!(rt; next(&mut world)?, Ok((8, 2)));
     Ok(())
 }
 
 #[test]
 fn hooks_are_made(rt: HostRuntime) -> Result<(), Fail> {
     let alloc = rt.alloc();
-    let Ok(script) = script(alloc) else {
-        return Ok(());
-    };
-    let Ok(mut hooks) = ScriptHooks::new(alloc, &script) else {
-        return Ok(());
-    };
-    assert!(rt; hooks.reserve(2).is_ok());
+    let script = script(alloc)?;
+    let mut hooks = ScriptHooks::new(alloc, &script)?;
+    hooks.reserve(2)?;
     assert!(rt; !hooks.short());
     Ok(())
 }
