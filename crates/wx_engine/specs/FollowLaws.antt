@@ -1,11 +1,11 @@
 -- What a run with the world and the hooks of a script comes to.
-use Rattle.std.proofs.Common.{◌≡◌, ℕ, ◌≤◌, Bool, true, false, cond, if◌then◌else◌, Option, None, Some, List, [], ◌∷◌, ◌++◌, length, nat_le, ◌&&◌, refl, sym, ap, subst, ◌∙◌, arith}
+use Rattle.std.proofs.Common.{◌≡◌, ℕ, Bool, true, false, cond, if◌then◌else◌, None, Some, List, [], ◌∷◌, ◌++◌, length, nat_le, ◌&&◌, refl, ap, subst, ◌∙◌, arith}
 use Rattle.std.proofs.lemmas.List.{append-nil}
 use Rattle.std.specs.List.{filter, list_all}
 use Rattle.wx_action.specs.declared.entry.Entry.{Entry}
 use Rattle.wx_action.specs.declared.entry.Turn.{Turn as Timed}
 use Rattle.wx_action.specs.Start.{IsStart}
-use Rattle.wx_action.specs.Told.{tell, tell_if, tells, is_turn}
+use Rattle.wx_action.specs.Told.{tell_if, tells, is_turn}
 use Rattle.wx_engine.specs.declared.script.Script.{Script}
 use Rattle.wx_engine.specs.declared.script.ScriptTurn.{ScriptTurn}
 use Rattle.wx_engine.specs.declared.script.ScriptTurn.TheVariants.{Turn, Fault}
@@ -17,7 +17,7 @@ pub tells_filter : (mine : Entry → Bool) (p before : List Entry) → tells min
 tells_filter mine [] before = refl
 tells_filter mine (e ∷ p) before =
     elim (mine e) as (λ b. tell_if b e (tells mine p (Some before)) ≡ Some (cond b (e ∷ filter mine p) (filter mine p) ++ before)) [
-      true ↦ rw (tells_filter mine p before) refl
+      | true ↦ rw (tells_filter mine p before) refl
       | false ↦ tells_filter mine p before
     ]
 

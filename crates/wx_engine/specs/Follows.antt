@@ -1,9 +1,9 @@
 -- What it means that a run follows a script.
-use Rattle.std.specs.Prelude.{◌≡◌, ℕ, ◌≤◌, Bool, true, false, Option, Some, List, [], ◌∷◌, ◌++◌, length, refl}
+use Rattle.std.specs.Prelude.{◌≡◌, ◌≤◌, true, List, [], ◌∷◌, length}
 use Rattle.std.specs.List.{filter, list_all}
 use Rattle.wx_action.specs.declared.entry.Entry.{Entry}
-use Rattle.wx_action.specs.Start.{Start, default_config, IsSize, IsStart}
-use Rattle.wx_action.specs.Told.{tell, tell_if, tells, is_turn}
+use Rattle.wx_action.specs.Start.{Start, default_config, IsSize}
+use Rattle.wx_action.specs.Told.{is_turn}
 use Rattle.wx_engine.specs.declared.script.Script.{Script}
 use Rattle.wx_engine.specs.Turns.{comes, Rises, Given, first_given}
 use Rattle.wx_engine.specs.Acted.{FollowsActs}

@@ -1,4 +1,4 @@
-use Rattle.std.proofs.Common.{◌≡◌, length, sym, ◌∙◌}
+use Rattle.std.proofs.Common.{length, sym, ◌∙◌}
 use Rattle.wx_engine.proofs.GivenLaws.{rest_more, rest_none, follows_more, follows_last}
 use Rattle.wx_engine.proofs.script_world.ScriptWorldWorld.turn.Goals as goal
 
