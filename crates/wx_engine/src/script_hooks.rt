@@ -1,7 +1,6 @@
 // Hooks in memory, which follow a script.
-ghost use Rattle.std.specs.Prelude.{◌≡◌, ◌∷◌, [], ◌≤◌, ◌<◌, ◌+◌, false, Some, List, IfOk, OnOk, length};
+ghost use Rattle.std.specs.Prelude.{◌≡◌, [], ◌≤◌, false, Some, List, IfOk, length};
 ghost use Rattle.wx_action.specs.declared.entry.Act.{Act};
-ghost use Rattle.wx_action.specs.declared.entry.Entry.{Entry};
 ghost use Rattle.wx_engine.specs.Acted.{performed, acts_rule, StandsFor, keeps_stand};
 
 use crate::script::Script;

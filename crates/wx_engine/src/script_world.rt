@@ -1,7 +1,6 @@
 // A world in memory, which follows a script.
-ghost use Rattle.std.specs.Prelude.{◌≡◌, ◌∷◌, [], ◌≤◌, ◌<◌, ◌+◌, true, Some, IfOk, OnOk, length, drop};
+ghost use Rattle.std.specs.Prelude.{◌≡◌, [], true, Some, IfOk, length, drop};
 ghost use Rattle.std.specs.List.{list_all};
-ghost use Rattle.wx_action.specs.Told.{tell, turned, gives_last, moment_after, Counts};
 ghost use Rattle.wx_action.specs.declared.entry.TurnKind.TheVariants.{Last};
 ghost use Rattle.wx_engine.specs.Follows.{given_of};
 ghost use Rattle.wx_engine.specs.Turns.{comes, risen, Rises, entry_of, Given, first_given};
