@@ -1,0 +1,37 @@
+-- What it means that a run follows a script.
+use Rattle.std.specs.Prelude.{◌≡◌, ◌≤◌, true, List, [], ◌∷◌, length}
+use Rattle.std.specs.List.{filter, list_all}
+use Rattle.wx_action.specs.declared.entry.Entry.{Entry}
+use Rattle.wx_action.specs.Start.{Start, default_config, IsSize}
+use Rattle.wx_action.specs.Told.{is_turn}
+use Rattle.wx_engine.specs.declared.script.Script.{Script}
+use Rattle.wx_engine.specs.Turns.{comes, Rises, Given, first_given}
+use Rattle.wx_engine.specs.Acted.{FollowsActs}
+
+-- what holds of each script that is read
+pub record IsScript (s : Script) : Type 0 where
+  pub size : IsSize s.size
+  pub sends : length s.sends ≤ s.size
+  pub comes : list_all comes s.turns ≡ true
+  pub rises : Rises s.turns s.last
+
+-- what the engine starts from: the default settings but for the throttle and the size, and the topmost folder
+abbrev pub start_of : Script → Start
+start_of s = record {
+  config = record default_config { throttle = s.throttle; event_channel_size = s.size };
+  folder = 47 ∷ [];
+  events = s.sends;
+}
+
+-- what its world gives
+abbrev pub given_of : Script → Given
+given_of s = record { turns = s.turns; last = s.last }
+
+-- the turns of the run are the script's first ones
+abbrev pub FollowsTurns : Script → List Entry → Type 0
+FollowsTurns s p = filter is_turn p ≡ first_given (given_of s) (length (filter is_turn p))
+
+-- the run follows the script: in its turns, and in what is asked for in each call of the action handler
+pub record Follows (s : Script) (p : List Entry) : Type 0 where
+  pub turns : FollowsTurns s p
+  pub acts : FollowsActs s.actions p

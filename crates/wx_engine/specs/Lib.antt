@@ -1,0 +1,4 @@
+pub mod Turns
+pub mod Acted
+pub mod Follows
+pub mod FollowLaws

@@ -1,0 +1,13 @@
+//! The engine, and a world and hooks that follow a script.
+#![tactic(auto)]
+
+mod script;
+mod script_hooks;
+mod script_world;
+mod supply;
+#[cfg(test)]
+mod tests;
+
+pub use script::{Script, ScriptTurn};
+pub use script_hooks::ScriptHooks;
+pub use script_world::ScriptWorld;

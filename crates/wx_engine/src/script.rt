@@ -1,0 +1,39 @@
+// What is written down for a run.
+use std::alloc::Global;
+use wx_action::{Act, Turn};
+use wx_events::{Copies, Event, List, Memory, Priority};
+
+/// What the world is to do when it is asked for a turn.
+#[derive(Drop, Debug)]
+pub enum ScriptTurn {
+    /// It gives this turn.
+    Turn(Turn),
+    /// It has none to give, and this is the code of the fault.
+    Fault(u32),
+}
+
+impl Copies for ScriptTurn {
+    fn copy(&self, alloc: Global) -> Result<ScriptTurn, Memory> {
+        match self {
+            ScriptTurn::Turn(turn) => Ok(ScriptTurn::Turn(turn.copy(alloc)?)),
+            ScriptTurn::Fault(code) => Ok(ScriptTurn::Fault(*code)),
+        }
+    }
+}
+
+/// A run written down in advance: what the engine starts from, and what its world and its hooks do.
+#[derive(Drop, Debug)]
+pub struct Script {
+    /// How long events are collected, in nanoseconds.
+    pub throttle: u64,
+    /// How many events the queue holds.
+    pub size: u32,
+    /// The events that are sent before the run.
+    pub sends: List<(Event, Priority)>,
+    /// The turns, in order. Those after them are last turns.
+    pub turns: List<ScriptTurn>,
+    /// What the action handler asks for: the acts of its first call, of its second, and so on.
+    pub actions: List<List<Act>>,
+    /// The moment of the last turn that is written down, in nanoseconds, 0 where there is none.
+    pub last: u64,
+}

@@ -1,0 +1,119 @@
+// A world in memory, which follows a script.
+ghost use Rattle.std.specs.Prelude.{◌≡◌, [], true, Some, IfOk, length, drop};
+ghost use Rattle.std.specs.List.{list_all};
+ghost use Rattle.wx_action.specs.declared.entry.TurnKind.TheVariants.{Last};
+ghost use Rattle.wx_engine.specs.Follows.{given_of};
+ghost use Rattle.wx_engine.specs.Turns.{comes, risen, Rises, entry_of, Given, first_given};
+
+use crate::script::{Script, ScriptTurn};
+use crate::supply::Supply;
+use std::alloc::Global;
+use wx_action::{Entry, Host, Journal, Outside, Turn, TurnFault, TurnKind, Turned, World};
+use wx_events::{Copies, List, Memory};
+
+/// A world that gives the turns of a script, in order, and then last turns at the last moment. It tells its entries,
+/// which are the script's first ones.
+#[derive(Drop, Debug)]
+pub struct ScriptWorld {
+    turns: List<ScriptTurn>,
+    last: u64,
+    left: Supply,
+    told: Journal,
+    moment: u64,
+    faults: u64,
+    pub ghost follows: { told.past ≡ first_given (record { turns = turns; last = last }) (length told.past) },
+    ghost rest: { left ≡ drop (length told.past) turns },
+    ghost come: { list_all comes left ≡ true },
+    ghost rises: { risen moment left ≡ Some last },
+}
+
+impl ScriptWorld {
+    /// A world that follows this script, before its first turn. It fails only for want of memory.
+    pub fn new(alloc: Global, script: &Script) -> Result<ScriptWorld, Memory>
+        requires come { list_all comes script.now.turns ≡ true }
+        requires rises { Rises script.now.turns script.now.last }
+        ensures plan { IfOk result (λ world. record { turns = world.turns; last = world.last } ≡ given_of script.now) }
+        ensures told { IfOk result (λ world. world.told.past ≡ []) }
+        ensures moment { IfOk result (λ world. world.moment ≡ 0) }
+        ensures faults { IfOk result (λ world. world.faults ≡ 0) }
+    {
+        Ok(ScriptWorld {
+            turns: script.turns.copy(alloc)?,
+            last: script.last,
+            left: Supply::new(alloc, &script.turns)?,
+            told: Journal::new(alloc)?,
+            moment: 0,
+            faults: 0,
+        })
+    }
+}
+
+impl Outside for ScriptWorld {
+    ghost Plan = { Given };
+
+    ghost plan = { λ s. record { turns = s.turns; last = s.last } };
+
+    ghost told = { λ s. Some s.told.past };
+
+    ghost turns = { λ s. Some s.told.past };
+
+    ghost spare = { λ s. s.told.spare };
+
+    ghost left = { λ s. length s.left };
+
+    ghost moment = { λ s. s.moment };
+
+    ghost host_faults = { λ _. 0 };
+
+    ghost turn_faults = { λ s. s.faults };
+
+    ghost maker_faults = { λ _. 0 };
+}
+
+impl Host for ScriptWorld {
+    fn reserve(&mut self, n: u64) -> Result<(), Memory> {
+        self.told.reserve(n)
+    }
+}
+
+impl World for ScriptWorld {
+    fn turn(&mut self) -> Result<Turned, TurnFault> {
+        let Some((given, told)) = self.left.next() else {
+            self.told.push(Entry::Turn(last_turn(self.last)));
+            return Ok(Turned {
+                turn: last_turn(self.last),
+            });
+        };
+        self.told.push(entry_of(told));
+        match given {
+            ScriptTurn::Turn(turn) => {
+                self.moment = turn.at;
+                Ok(Turned { turn })
+            }
+            ScriptTurn::Fault(code) => {
+                self.faults = self.faults.saturating_add(1);
+                Err(TurnFault(code))
+            }
+        }
+    }
+}
+
+/// The entry of a turn of a script.
+fn entry_of(turn: ScriptTurn) -> Entry
+    ensures { result ≡ entry_of turn }
+{
+    match turn {
+        ScriptTurn::Turn(turn) => Entry::Turn(turn),
+        ScriptTurn::Fault(code) => Entry::TurnFault(code),
+    }
+}
+
+/// A last turn at this moment.
+fn last_turn(at: u64) -> Turn
+    ensures { result ≡ record { at = at; kind = Last } }
+{
+    Turn {
+        at,
+        kind: TurnKind::Last,
+    }
+}
