@@ -1,1 +1,2 @@
 pub mod QuitLemmas
+pub mod PutLaws

@@ -6,3 +6,6 @@ pub mod KeptHandler
 pub mod Start
 pub mod Told
 pub mod Written
+pub mod Words
+pub mod WordLaws
+pub mod Printed

@@ -8,6 +8,8 @@ mod error;
 mod handler;
 mod journal;
 mod outside;
+mod printing;
+mod words;
 
 pub use batch::Batch;
 pub use config::{Changeable, Config, WatchedPath, Watcher};
@@ -16,3 +18,5 @@ pub use error::CriticalError;
 pub use handler::ActionHandler;
 pub use journal::Journal;
 pub use outside::{Hooks, Host, JobHooks, Outside, TurnFault, Turned, World};
+pub use printing::{lost, print_journal};
+pub use words::put_entry;
