@@ -9,3 +9,4 @@ pub mod Written
 pub mod Words
 pub mod WordLaws
 pub mod Printed
+pub mod OneSpelling

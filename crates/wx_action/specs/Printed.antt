@@ -21,14 +21,18 @@ abbrev pub critical_words : CriticalError → List (List ℕ)
 critical_words (IoError about err) = codes "io" ∷ text_word about ∷ decimal err ∷ []
 critical_words Memory = codes "memory" ∷ []
 
-abbrev pub answer_words : Result (Unit {0}) CriticalError → List (List ℕ)
+-- what a run answers
+abbrev pub Answer : Type 0
+Answer = Result (Unit {0}) CriticalError
+
+abbrev pub answer_words : Answer → List (List ℕ)
 answer_words (Ok u) = codes "ok" ∷ []
 answer_words (Err error) = codes "error" ∷ critical_words error
 
 -- the answer, and the names of the events that are lost
-abbrev pub end_words : Result (Unit {0}) CriticalError → List ℕ → List (List ℕ)
+abbrev pub end_words : Answer → List ℕ → List (List ℕ)
 end_words answer lost = codes "end" ∷ (answer_words answer ++ codes "lost" ∷ list_words name_words lost)
 
 -- the lines of a journal, the oldest entry first, and the end line
-abbrev pub printed : List Entry → Result (Unit {0}) CriticalError → List ℕ
+abbrev pub printed : List Entry → Answer → List ℕ
 printed journal answer = flat_map entry_line (reverse journal) ++ line_of (end_words answer (window journal))

@@ -18,5 +18,5 @@ pub use error::CriticalError;
 pub use handler::ActionHandler;
 pub use journal::Journal;
 pub use outside::{Hooks, Host, JobHooks, Outside, TurnFault, Turned, World};
-pub use printing::{lost, print_journal};
+pub use printing::{lost, one_spelling, print_journal};
 pub use words::put_entry;

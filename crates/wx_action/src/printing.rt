@@ -3,7 +3,8 @@ ghost use Rattle.std.specs.Prelude.{◌≡◌, ◌∷◌, ◌++◌, List as List
 ghost use Rattle.std.specs.List.{flat_map};
 ghost use Rattle.wx_events.specs.Line.{spaced, joined};
 ghost use Rattle.wx_action.specs.Journal.{window};
-ghost use Rattle.wx_action.specs.Printed.{entry_line, critical_words, answer_words, end_words, line_of, printed};
+ghost use Rattle.wx_action.specs.Printed.{entry_line, critical_words, answer_words, end_words, line_of, printed, Answer};
+ghost use Rattle.wx_action.specs.OneSpelling.{JournalFits, AnswerFits};
 ghost use Rattle.wx_action.specs.declared.entry.Entry.{Entry as AnEntry};
 
 use crate::entry::Entry;
@@ -124,4 +125,10 @@ pub fn print_journal(
     let names = lost(alloc, journal)?;
     put_lines(journal.as_slice(), out)?;
     put_end(answer, &names, out)
+}
+
+/// A printed journal is the text of one journal and of one answer.
+pub fn one_spelling()
+    ensures { (j k : Listed AnEntry) (a b : Answer) → JournalFits j → JournalFits k → AnswerFits a → AnswerFits b → printed j a ≡ printed k b → (j ≡ k) × (a ≡ b) }
+{
 }
