@@ -1,5 +1,5 @@
 -- A printed journal is the text of one journal and of one answer.
-use Rattle.std.proofs.Common.{◌≡◌, ℕ, zero, suc, ◌^◌, ◌<◌, ◌≤◌, Bool, true, false, Option, None, Some, Result, Ok, Err, List, [], ◌∷◌, ◌++◌, length, reverse, drop, refl, sym, ap, subst, ◌∙◌, append_assoc, length-append, arith}
+use Rattle.std.proofs.Common.{◌≡◌, ℕ, zero, suc, ◌^◌, ◌<◌, ◌≤◌, Bool, Option, None, Some, Ok, Err, List, [], ◌∷◌, ◌++◌, length, reverse, drop, refl, sym, ap, subst, ◌∙◌, append_assoc, length-append, arith}
 use Rattle.std.specs.Prelude.{codes, decimal}
 use Rattle.std.specs.List.{flat_map, AllByRecursion}
 use Rattle.std.proofs.lemmas.Grind.{reverse_onto}
@@ -14,11 +14,10 @@ use Rattle.wx_events.specs.Lists.{list_words}
 use Rattle.wx_events.specs.ListLaws.{list_form}
 use Rattle.wx_events.specs.Optional.{OptionalFits}
 use Rattle.wx_events.specs.OptionalLaws.{optional_form, optional_clean}
-use Rattle.wx_events.specs.Switches.{on_word}
 use Rattle.wx_events.specs.SwitchLaws.{on_form, on_word_clean}
-use Rattle.wx_events.specs.Combine.{Reader, read_pair, read_as, read_literal, read_nothing, read_rows}
+use Rattle.wx_events.specs.Combine.{Reader, read_pair, read_as, read_nothing, read_rows}
 use Rattle.wx_events.specs.CombineLaws.{pair_form, literal_form, as_form, row_again}
-use Rattle.wx_events.specs.Forms.{IsForm, Stood}
+use Rattle.wx_events.specs.Forms.{IsForm}
 use Rattle.wx_events.specs.Clean.{IsClean, AllClean}
 use Rattle.wx_events.specs.CleanLaws.{clean, number_clean, text_clean, list_clean, items_clean, words_back, line_back, each_append}
 use Rattle.wx_events.specs.Events.{EventFits}
@@ -248,7 +247,7 @@ same_answer a b lost gone fa fb fl fg e =
     let ws : end_words a lost ≡ end_words b gone = sym (end_is_line a lost fa fl).back ∙ ap words_of e ∙ (end_is_line b gone fb fg).back in
     let rest : List ℕ → List (List ℕ) = λ names. codes "lost" ∷ list_words name_words names in
     let both : ◌≡◌ {A = Option (Answer × List (List ℕ))} (Some (a, rest lost)) (Some (b, rest gone)) =
-      sym (answer_again a (rest lost) fa) ∙ ap (λ (x : List (List ℕ)). read_answer (drop 1 x)) ws ∙ answer_again b (rest gone) fb in
+    sym (answer_again a (rest lost) fa) ∙ ap (λ (x : List (List ℕ)). read_answer (drop 1 x)) ws ∙ answer_again b (rest gone) fb in
     (some_pair_parts a b (rest lost) (rest gone) both).0
 
 -- the first of some lines
@@ -262,7 +261,7 @@ one_spelling j k a b fj fk fa fb e =
     let lost = window_fits j fj in
     let gone = window_fits k fk in
     let both : ◌≡◌ {A = List Entry × List (List ℕ)} (reverse j, joined (end_words a (window j)) ∷ [] ∷ []) (reverse k, joined (end_words b (window k)) ∷ [] ∷ []) =
-      sym (printed_back (reverse j) a (window j) (each_reverse EntryFits j fj.1) fa lost) ∙ ap (λ (t : List ℕ). decoded (parts 10 t)) e ∙ printed_back (reverse k) b (window k) (each_reverse EntryFits k fk.1) fb gone in
+    sym (printed_back (reverse j) a (window j) (each_reverse EntryFits j fj.1) fa lost) ∙ ap (λ (t : List ℕ). decoded (parts 10 t)) e ∙ printed_back (reverse k) b (window k) (each_reverse EntryFits k fk.1) fb gone in
     let journals : reverse j ≡ reverse k = ap (λ (p : List Entry × List (List ℕ)). p.0) both in
     let ends : joined (end_words a (window j)) ≡ joined (end_words b (window k)) = ap (λ (p : List Entry × List (List ℕ)). first_line p.1) both in
     (sym (reverse-reverse j) ∙ ap (λ (x : List Entry). reverse x) journals ∙ reverse-reverse k, same_answer a b (window j) (window k) fa fb lost gone ends)

@@ -1,17 +1,16 @@
 -- Both laws of each value that stands in an entry.
-use Rattle.std.proofs.Common.{◌≡◌, ℕ, ◌^◌, ◌<◌, Bool, true, false, Some, List, [], ◌∷◌, ◌++◌, refl}
-use Rattle.std.specs.Prelude.{codes, decimal}
-use Rattle.wx_events.specs.Texts.{AllBytes, text_in, text_word, read_text}
+use Rattle.std.proofs.Common.{◌≡◌, ℕ, Bool, true, false, Some, List, ◌++◌, refl}
+use Rattle.std.specs.Prelude.{codes}
+use Rattle.wx_events.specs.Texts.{AllBytes, text_in}
 use Rattle.wx_events.specs.TextLaws.{text_form}
 use Rattle.wx_events.specs.NumberLaws.{number_form}
 use Rattle.wx_events.specs.Keywords.{with_word}
 use Rattle.wx_events.specs.KeywordLaws.{keyword_form}
-use Rattle.wx_events.specs.Combine.{pair_words}
 use Rattle.wx_events.specs.CombineLaws.{pair_form, nothing_form, row_of, row_again, rows_take}
 use Rattle.wx_events.specs.Forms.{IsForm, Stood}
 use Rattle.wx_events.specs.Clean.{IsClean, AllClean}
 use Rattle.wx_events.specs.CleanLaws.{clean, number_clean, text_clean}
-use Rattle.wx_events.specs.Events.{priority_words, EventFits, event_words}
+use Rattle.wx_events.specs.Events.{EventFits}
 use Rattle.wx_events.specs.EventLaws.{priority_form, priority_word_clean, event_form, event_clean}
 use Rattle.wx_events.specs.declared.priority.Priority.{Priority}
 use Rattle.wx_events.specs.declared.event.Event.{Event}
@@ -77,11 +76,15 @@ watcher_form = record { again = again; takes = takes }
     again : (x : Watcher) (rest : List (List ℕ)) → WatcherFits x → read_watcher (watcher_words x ++ rest) ≡ Some (x, rest)
     again Native rest fits = refl
     again (Poll interval) rest fits = row_again (number_form text_in) Poll interval rest fits
+
     takes : (ws : List (List ℕ)) (x : Watcher) (rest : List (List ℕ)) → read_watcher ws ≡ Some (x, rest) → WatcherFits x × Stood text_in (watcher_words x) ws rest
     takes = rows_take text_in WatcherFits watcher_words watcher_rows (
-      row_of (nothing_form text_in) (λ u. Native) (codes "native") WatcherFits watcher_words (λ u fits. tt) (λ u. refl), (
-      row_of (number_form text_in) Poll (codes "poll") WatcherFits watcher_words (λ n fits. fits) (λ n. refl),
-      tt))
+      row_of (nothing_form text_in) (λ u. Native) (codes "native") WatcherFits watcher_words (λ u fits. tt) (λ u. refl),
+      (
+        row_of (number_form text_in) Poll (codes "poll") WatcherFits watcher_words (λ n fits. fits) (λ n. refl),
+        tt,
+      ),
+    )
 
 pub watcher_clean : (x : Watcher) → WatcherFits x → AllClean (watcher_words x)
 watcher_clean Native fits = (clean (codes "native") refl, tt)
@@ -94,11 +97,15 @@ path_form = record { again = λ x rest fits. again x.recursive x.path rest fits;
     again : (recursive : Bool) (path : List ℕ) (rest : List (List ℕ)) → AllBytes path → read_path (path_words (make_path recursive path) ++ rest) ≡ Some (make_path recursive path, rest)
     again true path rest fits = row_again text_form (make_path true) path rest fits
     again false path rest fits = row_again text_form (make_path false) path rest fits
+
     takes : (ws : List (List ℕ)) (x : WatchedPath) (rest : List (List ℕ)) → read_path ws ≡ Some (x, rest) → PathFits x × Stood text_in (path_words x) ws rest
     takes = rows_take text_in PathFits path_words path_rows (
-      row_of text_form (make_path true) (codes "r") PathFits path_words (λ t fits. fits) (λ t. refl), (
-      row_of text_form (make_path false) (codes "n") PathFits path_words (λ t fits. fits) (λ t. refl),
-      tt))
+      row_of text_form (make_path true) (codes "r") PathFits path_words (λ t fits. fits) (λ t. refl),
+      (
+        row_of text_form (make_path false) (codes "n") PathFits path_words (λ t fits. fits) (λ t. refl),
+        tt,
+      ),
+    )
 
 depth_clean : (recursive : Bool) → IsClean (depth_word recursive)
 depth_clean true = clean (codes "r") refl
@@ -123,12 +130,18 @@ kind_form = record { again = again; takes = takes }
     again (Arrive event priority) rest fits = row_again ranked_form make_arrive (priority, event) rest (tt, fits)
     again Work rest fits = refl
     again Last rest fits = refl
+
     takes : (ws : List (List ℕ)) (kind : TurnKind) (rest : List (List ℕ)) → read_kind ws ≡ Some (kind, rest) → KindFits kind × Stood text_in (kind_words kind) ws rest
     takes = rows_take text_in KindFits kind_words kind_rows (
-      row_of ranked_form make_arrive (codes "arrive") KindFits kind_words (λ p fits. fits.1) (λ p. refl), (
-      row_of (nothing_form text_in) (λ u. Work) (codes "work") KindFits kind_words (λ u fits. tt) (λ u. refl), (
-      row_of (nothing_form text_in) (λ u. Last) (codes "last") KindFits kind_words (λ u fits. tt) (λ u. refl),
-      tt)))
+      row_of ranked_form make_arrive (codes "arrive") KindFits kind_words (λ p fits. fits.1) (λ p. refl),
+      (
+        row_of (nothing_form text_in) (λ u. Work) (codes "work") KindFits kind_words (λ u fits. tt) (λ u. refl),
+        (
+          row_of (nothing_form text_in) (λ u. Last) (codes "last") KindFits kind_words (λ u fits. tt) (λ u. refl),
+          tt,
+        ),
+      ),
+    )
 
 pub kind_clean : (kind : TurnKind) → KindFits kind → AllClean (kind_words kind)
 kind_clean (Arrive event priority) fits = (clean (codes "arrive") refl, ranked_clean priority event fits)

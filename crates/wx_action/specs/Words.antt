@@ -1,6 +1,6 @@
 -- Entries as words.
 use Rattle.std.specs.Prelude.{ℕ, zero, suc, ◌^◌, ◌<◌, Bool, true, false, Option, None, Some, List, [], ◌∷◌, ◌++◌, length, decimal, codes}
-use Rattle.std.specs.List.{flat_map, AllByRecursion}
+use Rattle.std.specs.List.{flat_map}
 use Rattle.wx_events.specs.Line.{◌>>=◌}
 use Rattle.wx_events.specs.Combine.{Reader, read_pair, read_as, read_literal, read_nothing, read_rows}
 use Rattle.wx_events.specs.Numbers.{read_number, read_u32}

@@ -1,4 +1,4 @@
-use Rattle.std.proofs.Common.{◌≡◌, [], ◌∷◌, ◌++◌, OnOk, ℕ, List, subst}
+use Rattle.std.proofs.Common.{◌≡◌, OnOk, ℕ, List, subst}
 use Rattle.std.specs.Prelude.{codes}
 use Rattle.wx_action.specs.Words.{limit_words, switch_words, watch_words}
 use Rattle.wx_action.proofs.PutLaws.{put_three}

@@ -1,4 +1,4 @@
-use Rattle.std.proofs.Common.{◌≡◌, [], ◌∷◌, ◌++◌, OnOk, ℕ, List, subst}
+use Rattle.std.proofs.Common.{◌≡◌, [], ◌∷◌, OnOk, ℕ, List, subst}
 use Rattle.std.specs.Prelude.{codes, decimal}
 use Rattle.std.specs.List.{flat_map}
 use Rattle.wx_events.specs.Lists.{list_words}
