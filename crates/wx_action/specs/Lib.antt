@@ -6,8 +6,12 @@ pub mod Journal
 pub mod KeptHandler
 pub mod Laws
 pub mod Leads
+pub mod OneSpelling
+pub mod Printed
 pub mod RunLaws
 pub mod Stands
 pub mod Start
 pub mod Told
+pub mod WordLaws
+pub mod Words
 pub mod Written

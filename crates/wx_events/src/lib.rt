@@ -21,6 +21,7 @@ pub use cursor::{Words, cut};
 pub use event::{Event, Tag};
 pub use keyword::{Keyword, put_keyword, take_keyword, take_literal, with_word};
 pub use list::{Copies, List, Memory};
+pub use lists::put_items;
 pub use numbers::number_of;
 pub use path::TextPath;
 pub use priority::Priority;

@@ -12,8 +12,8 @@ use crate::spelled::Spelled;
 use crate::text::Text;
 use std::alloc::Global;
 
-/// Appends the words of each item.
-fn put_items<T: Spelled>(items: &[T], out: &mut Text) -> Result<(), Memory>
+/// Appends the words of each item, each with a space before it.
+pub fn put_items<T: Spelled>(items: &[T], out: &mut Text) -> Result<(), Memory>
     ensures { OnOk result (out.new ≡ out.old ++ spaced (flat_map T.words items.now)) }
 {
     for item in items {
