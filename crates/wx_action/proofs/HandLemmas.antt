@@ -2,9 +2,8 @@
 use Rattle.std.proofs.Common.{◌≡◌, ℕ, ◌<◌, Bool, true, false, cond, List, [], ◌∷◌, ◌++◌, length, refl, ap, sym, subst, ◌∙◌}
 use Rattle.std.specs.Prelude.{Option, None, Some}
 use Rattle.wx_action.specs.declared.entry.Entry.{Entry}
-use Rattle.wx_action.specs.declared.entry.Entry.TheVariants.{Turn as Turned, Hand}
+use Rattle.wx_action.specs.declared.entry.Entry.TheVariants.{Hand}
 use Rattle.wx_action.specs.declared.entry.Act.{Act}
-use Rattle.wx_action.specs.declared.state.Worker.{Worker}
 use Rattle.wx_action.specs.declared.work.Worked.{Worked}
 use Rattle.wx_action.specs.declared.work.Worked.TheVariants.{On, End}
 use Rattle.wx_action.specs.Start.{Start}
@@ -13,8 +12,9 @@ use Rattle.wx_action.specs.Due.{Agenda, agenda, Due, IsRun, Hands, Open, Ended}
 use Rattle.wx_action.specs.Told.{tell, is_hooks, NamesItsOwn, More}
 use Rattle.wx_action.specs.Laws.{NoneUrgentWaits}
 use Rattle.wx_action.specs.Leads.{FollowsHooks, Then, Promised}
-use Rattle.wx_action.specs.Stands.{AtWork, Works}
-use Rattle.wx_action.specs.RunLaws.{none_waits, none_waits_at_turn}
+use Rattle.wx_action.specs.Stands.{Works}
+use Rattle.wx_action.specs.Turns.{SameTurns, StaysInTurn}
+use Rattle.wx_action.specs.RunLaws.{none_waits}
 
 -- the entry of a batch that was due and told
 pub hand_follows : (s : Start) (p p' : List Entry) (n : ℕ) (names : List ℕ) (acts : List Act) (hooks hooks' : Option (List Entry)) → agenda s p ≡ Hands → n ≡ (settings s p).action_handler → names ≡ window p → p' ≡ Hand n names acts ∷ p → hooks' ≡ tell (Hand n names acts) hooks → FollowsHooks s p hooks p' hooks'
@@ -43,11 +43,11 @@ calm_after s p End run w = none_waits s p run (λ e. not_hands_ended (sym w ∙ 
 pub calm_open : (s : Start) (p : List Entry) → IsRun s p → agenda s p ≡ Open → NoneUrgentWaits p
 calm_open s p run w = none_waits s p run (λ e. not_hands_open (sym w ∙ e))
 
--- nor directly after the turn
-pub calm_at_work : (s : Start) (w : Worker) (at : ℕ) (p : List Entry) → AtWork s w at p → NoneUrgentWaits p
-calm_at_work s w at p a = subst NoneUrgentWaits (sym a.last) (none_waits_at_turn s _ a.before (subst (IsRun s) a.last a.run))
-
 -- what is worked by a batch
 pub works_by : (s : Start) (p : List Entry) (quits : Bool) → agenda s p ≡ cond quits Ended Open → Works s (cond quits End On) p
 works_by s p true e = e
 works_by s p false e = e
+
+-- a batch is no turn
+pub turns_hand : (n : ℕ) (names : List ℕ) (acts : List Act) (p p' : List Entry) → p' ≡ Hand n names acts ∷ p → StaysInTurn p p'
+turns_hand n names acts p p' grown = rw grown (λ p₀ t. record { count = t.count; fault = t.fault; now = t.now; rise = t.rise; told = t.told })

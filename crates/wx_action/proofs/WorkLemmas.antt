@@ -20,11 +20,11 @@ use Rattle.wx_action.specs.Start.{Start}
 use Rattle.wx_action.specs.Journal.{settings, moment, event_count, bag, window, first, is_over, is_over_of}
 use Rattle.wx_action.specs.Due.{Agenda, agenda, Due, IsRun, Open, Says, Takes as TakesNext, Hands, after_take, work, rest}
 use Rattle.wx_action.specs.Handled.{AreEvents, lookup}
-use Rattle.wx_action.specs.Leads.{FollowsAlone, Then, Apart, Same, More, Promised}
-use Rattle.wx_action.specs.Stands.{Stands, Ready, AtWork, Collects}
+use Rattle.wx_action.specs.Leads.{FollowsAlone, Then, More}
+use Rattle.wx_action.specs.Stands.{Stands, Ready, Collects}
 use Rattle.wx_action.specs.BagLaws.{is_taken, IsTaken}
+use Rattle.wx_action.specs.Turns.{SameTurns, StaysInTurn}
 use Rattle.wx_action.specs.RunLaws.{own_of_run}
-use Rattle.wx_action.specs.Told.{NamesItsOwn, is_hooks, Obeys, More as MoreObeyed}
 use Rattle.wx_action.proofs.ArriveLemmas.{Steps}
 use Rattle.wx_action.proofs.StandsLemmas.{events-append}
 
@@ -73,6 +73,7 @@ take_done s w p p' at start x queue batch found ready due now takes most size cl
         };
         follows = λ world hooks p₀ world₀ hooks₀ l. Then (Take x.0.name) p world hooks l d;
         apart = λ p₀ a. More _ p a own refl;
+        turns = λ p₀ t. record { count = t.count; fault = t.fault; now = t.now; rise = t.rise; told = t.told };
       });
       collected = rw is_found (collects_take s p p' x.0.name _ grown (ap (agenda s) grown ∙ after));
     }
@@ -102,41 +103,7 @@ idle_done s w p p' at ready due over empty grown =
         };
         follows = λ world hooks p₀ world₀ hooks₀ l. Then (Said Idle) p world hooks l d;
         apart = λ p₀ a. More _ p a (own_of_run s p ready.run) refl;
+        turns = λ p₀ t. record { count = t.count; fault = t.fault; now = t.now; rise = t.rise; told = t.told };
       });
       collected = (grown, ap (agenda s) grown ∙ ap rest owed);
-    }
-
--- a worker at a Work turn stands for the journal with the turn too
-pub record IsAtWork (s : Start) (w : Worker) (at : ℕ) (p : List Entry) : Type 0 where
-  pub due : agenda s p ≡ work s p at
-  pub now : moment p ≡ at
-  pub ready : Ready s w p
-
-pub at_work : (s : Start) (w : Worker) (at : ℕ) (p : List Entry) → AtWork s w at p → IsAtWork s w at p
-at_work s w at p a =
-    subst (IsAtWork s w at) (sym a.last) (record {
-      due = refl;
-      now = refl;
-      ready = record {
-        run = subst (IsRun s) a.last a.run;
-        stands = record {
-          config_kept = a.stands.config_kept;
-          queue_kept = a.stands.queue_kept;
-          size_kept = a.stands.size_kept;
-          open_kept = a.stands.open_kept;
-          named_kept = a.stands.named_kept;
-          names_kept = a.stands.names_kept;
-          events_kept = a.stands.events_kept;
-          first_kept = a.stands.first_kept;
-        };
-      };
-    })
-
--- entries that are no calls on the hooks leave what these promise
-pub promised_apart : (short : Bool) (rule : List Entry → Entry → Type 0) (stands : List Entry → Type 0) (p p' : List Entry) → ((q : List Entry) (e : Entry) → NamesItsOwn q → is_hooks e ≡ false → stands q → stands (e ∷ q)) → Apart p p' → Promised short rule stands stands p p'
-promised_apart short rule stands p _ keep Same = record { rule_kept = λ s st p₀ o. o; stands_kept = λ s st. st }
-promised_apart short rule stands p _ keep (More e q apart own other) =
-    let h = promised_apart short rule stands p q keep apart in record {
-      rule_kept = λ s st p₀ o. MoreObeyed e q (h.rule_kept s st p₀ o) (λ mine. (let both : true ≡ false = sym mine ∙ other in absurd cc));
-      stands_kept = λ s st. keep q e own other (h.stands_kept s st);
     }

@@ -1,3 +1,4 @@
+pub mod Answer
 pub mod BagLaws
 pub mod Batch
 pub mod Due
@@ -12,6 +13,8 @@ pub mod RunLaws
 pub mod Stands
 pub mod Start
 pub mod Told
+pub mod TurnLaws
+pub mod Turns
 pub mod WordLaws
 pub mod Words
 pub mod Written

@@ -8,6 +8,7 @@ use Rattle.wx_action.specs.declared.entry.Entry.TheVariants.{Turn as Turned, Wor
 use Rattle.wx_action.specs.declared.entry.Named.{Named}
 use Rattle.wx_action.specs.declared.entry.Offered.{Offered}
 use Rattle.wx_action.specs.declared.entry.Offered.TheVariants.{Queued, Full}
+use Rattle.wx_action.specs.declared.entry.TurnKind.{TurnKind}
 use Rattle.wx_action.specs.declared.entry.TurnKind.TheVariants.{Work}
 use Rattle.wx_action.specs.declared.entry.Word.TheVariants.{Idle}
 use Rattle.wx_action.specs.declared.state.Worker.{Worker}
@@ -36,12 +37,15 @@ pub record Ready (s : Start) (w : Worker) (p : List Entry) : Type 0 where
   pub run : IsRun s p
   pub stands : Stands s w p
 
--- the journal is a run whose last entry is a Work turn of this moment, and the worker stands for it without that turn
-pub record AtWork (s : Start) (w : Worker) (at : ℕ) (p : List Entry) : Type 0 where
+-- the journal is a run whose last entry is a turn of this moment and kind, and the worker stands for it without that turn
+pub record AtTurn (s : Start) (w : Worker) (at : ℕ) (kind : TurnKind) (p : List Entry) : Type 0 where
   pub before : List Entry
-  pub last : p ≡ Turned (record { at = at; kind = Work }) ∷ before
+  pub last : p ≡ Turned (record { at = at; kind = kind }) ∷ before
   pub run : IsRun s p
   pub stands : Stands s w before
+
+abbrev pub AtWork : Start → Worker → ℕ → List Entry → Type 0
+AtWork s w at p = AtTurn s w at Work p
 
 -- a queue took an item, or was full
 abbrev pub IsOffered : Channel Named → Named × Priority → Channel Named → Offered → Type 0

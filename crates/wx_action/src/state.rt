@@ -8,6 +8,7 @@ ghost use Rattle.wx_action.specs.Start.{Start, IsSize};
 ghost use Rattle.wx_action.specs.Journal.{bag, event_count};
 ghost use Rattle.wx_action.specs.Due.{agenda, Open, Sends, rest, Offers, begin_of};
 ghost use Rattle.wx_action.specs.Leads.{FollowsAlone, StaysApart};
+ghost use Rattle.wx_action.specs.Turns.{StaysInTurn};
 ghost use Rattle.wx_action.specs.Stands.{Stands, Ready, IsOffered};
 
 use crate::batch::Batch;
@@ -62,6 +63,7 @@ impl Worker {
         ensures ready { Ready start self.new journal.new.past }
         ensures follows { FollowsAlone start journal.old.past journal.new.past }
         ensures apart { StaysApart journal.old.past journal.new.past }
+        ensures turns { StaysInTurn journal.old.past journal.new.past }
         ensures done { OnOk result (agenda start journal.new.past ≡ rest (agenda start journal.old.past)) }
         ensures bag { OnOk result (length (bag journal.new.past) ≡ length (bag journal.old.past) + 1) }
         ensures err { OnErr result (journal.new.past ≡ journal.old.past) }
@@ -93,6 +95,7 @@ impl Worker {
         ensures ready { Ready start self.new journal.new.past }
         ensures follows { FollowsAlone start journal.old.past journal.new.past }
         ensures apart { StaysApart journal.old.past journal.new.past }
+        ensures turns { StaysInTurn journal.old.past journal.new.past }
         ensures done { OnOk result (agenda start journal.new.past ≡ Open) }
         ensures err { OnErr result (journal.new.past ≡ journal.old.past) }
     {

@@ -7,6 +7,7 @@ ghost use Rattle.wx_action.specs.Journal.{moment, bag, is_over, is_over_of};
 ghost use Rattle.wx_action.specs.Due.{agenda, work, has_quit, Open, Takes, Hands, Ended};
 ghost use Rattle.wx_action.specs.Leads.{StaysApart, FollowsAlone, FollowsHooks, Follows, Promised};
 ghost use Rattle.wx_action.specs.Laws.{NoneUrgentWaits};
+ghost use Rattle.wx_action.specs.Turns.{StaysInTurn};
 ghost use Rattle.wx_action.specs.Stands.{Stands, Ready, AtWork, Collects, Works};
 
 use crate::batch::Batch;
@@ -93,6 +94,7 @@ impl Worker {
         ensures ready { Ready start self.new journal.new.past }
         ensures follows { FollowsAlone start journal.old.past journal.new.past }
         ensures apart { StaysApart journal.old.past journal.new.past }
+        ensures turns { StaysInTurn journal.old.past journal.new.past }
         ensures collected { Collects start journal.old.past result journal.new.past }
         ensures room { journal.new.spare + 1 ≡ journal.old.spare }
     {
@@ -115,6 +117,7 @@ impl Worker {
         ensures ready { Ready start self.new journal.new.past }
         ensures follows { FollowsAlone start journal.old.past journal.new.past }
         ensures apart { StaysApart journal.old.past journal.new.past }
+        ensures turns { StaysInTurn journal.old.past journal.new.past }
         ensures collected { IfOk result (λ found. Collects start journal.old.past found journal.new.past) }
         ensures error { IfErr result (λ error. error ≡ WantOfMemory) }
         ensures unchanged { OnErr result (journal.new.past ≡ journal.old.past) }
@@ -153,6 +156,7 @@ pub fn throttle_collect<H: Hooks>(
     ensures hooks_room { H.spare hooks.old ≤ H.spare hooks.new }
     ensures plan { H.plan hooks.new ≡ H.plan hooks.old }
     ensures short { H.short hooks.new ≡ false → H.short hooks.old ≡ false }
+    ensures turns { StaysInTurn journal.old.past journal.new.past }
     ensures promised { Promised (H.short hooks.new) (H.rule (H.plan hooks.old)) (H.stands hooks.old) (H.stands hooks.new) journal.old.past journal.new.past }
     ensures place { H.place hooks.new ≡ H.place hooks.old }
 {
@@ -183,6 +187,7 @@ fn hand<H: Hooks>(
     ensures works { Works start result journal.new.past }
     ensures plan { H.plan hooks.new ≡ H.plan hooks.old }
     ensures short { H.short hooks.new ≡ false → H.short hooks.old ≡ false }
+    ensures turns { StaysInTurn journal.old.past journal.new.past }
     ensures promised { Promised (H.short hooks.new) (H.rule (H.plan hooks.old)) (H.stands hooks.old) (H.stands hooks.new) journal.old.past journal.new.past }
     ensures place { H.place hooks.new ≡ H.place hooks.old }
 {
@@ -216,6 +221,7 @@ pub fn worker<W: Host, H: Hooks>(
     ensures calm { NoneUrgentWaits journal.new.past }
     ensures plan { H.plan hooks.new ≡ H.plan hooks.old }
     ensures short { H.short hooks.new ≡ false → H.short hooks.old ≡ false }
+    ensures turns { StaysInTurn journal.old.past journal.new.past }
     ensures promised { Promised (H.short hooks.new) (H.rule (H.plan hooks.old)) (H.stands hooks.old) (H.stands hooks.new) journal.old.past journal.new.past }
     ensures hooks_place { H.place hooks.new ≡ H.place hooks.old }
     ensures host { host.new ≡ host.old }

@@ -1,7 +1,7 @@
 use Rattle.std.proofs.Common.{ap, sym, subst, ◌∙◌, refl, ◌<◌, length}
 use Rattle.wx_action.specs.declared.entry.Entry.TheVariants.{Hand}
 use Rattle.wx_action.specs.RunLaws.{own_of_run, window_to_hand}
-use Rattle.wx_action.proofs.HandLemmas.{hand_follows, promised_call}
+use Rattle.wx_action.proofs.HandLemmas.{hand_follows, promised_call, turns_hand}
 use Rattle.wx_action.proofs.work.hand.Goals as goal
 
 pub new-handler-requires-clause-some : goal.new-handler-requires-clause-some
@@ -21,3 +21,6 @@ returns-clause-promised g c =
     promised_call _ _ _ _ (Hand c.args.worker.now.config.action_handler c.action.new.handler.names c.action.new.handler.acts) c.args.journal.now.past c.push.new.self.past
     (rw (c.into_parts-names.ensures.names, c.into_parts-names.ensures.acts) at c.push.ensures.past)
     (λ s st. keeps s (own_of_run g.start c.args.journal.now.past c.requires.1.1.0.run) st)
+
+pub returns-clause-turns : goal.returns-clause-turns
+returns-clause-turns g c = turns_hand c.args.worker.now.config.action_handler c.into_parts-names.result.0 c.into_parts-names.result.1 c.args.journal.now.past c.push.new.self.past c.push.ensures.past

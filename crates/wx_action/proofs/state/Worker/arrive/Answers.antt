@@ -22,3 +22,6 @@ returns-clause-follows g c = (done g c).follows
 
 pub returns-clause-apart : goal.returns-clause-apart
 returns-clause-apart g c = (done g c).apart
+
+pub returns-clause-turns : goal.returns-clause-turns
+returns-clause-turns g c = (done g c).turns

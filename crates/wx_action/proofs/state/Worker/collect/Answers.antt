@@ -18,3 +18,6 @@ returns-then-is_empty-clause-collected g c = (done g c).collected
 
 pub returns-then-is_empty-clause-apart : goal.returns-then-is_empty-clause-apart
 returns-then-is_empty-clause-apart g c = (done g c).steps.apart
+
+pub returns-then-is_empty-clause-turns : goal.returns-then-is_empty-clause-turns
+returns-then-is_empty-clause-turns g c = (done g c).steps.turns

@@ -23,3 +23,6 @@ returns-clause-collected g c = (done g c).collected
 
 pub returns-clause-apart : goal.returns-clause-apart
 returns-clause-apart g c = (done g c).steps.apart
+
+pub returns-clause-turns : goal.returns-clause-turns
+returns-clause-turns g c = (done g c).steps.turns

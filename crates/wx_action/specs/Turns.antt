@@ -1,0 +1,18 @@
+-- The turns of a journal stay as they are over entries that are none.
+use Rattle.std.specs.Prelude.{◌≡◌, ℕ, Option, List, [], ◌∷◌}
+use Rattle.wx_action.specs.declared.entry.Entry.{Entry}
+use Rattle.wx_action.specs.Journal.{moment, turn_count, turn_fault}
+use Rattle.wx_action.specs.Told.{tells, is_turn}
+use Rattle.wx_action.specs.Laws.{MomentsRise}
+
+-- the second journal has the turns of the first
+pub record SameTurns (p p' : List Entry) : Type 0 where
+  pub count : turn_count p' ≡ turn_count p
+  pub fault : turn_fault p' ≡ turn_fault p
+  pub now : moment p' ≡ moment p
+  pub rise : MomentsRise p → MomentsRise p'
+  pub told : (before : Option (List Entry)) → tells is_turn p' before ≡ tells is_turn p before
+
+-- whatever had the turns of the one has those of the other
+abbrev pub StaysInTurn : List Entry → List Entry → Type 0
+StaysInTurn p p' = (p₀ : List Entry) → SameTurns p₀ p → SameTurns p₀ p'
