@@ -1,1 +1,5 @@
+pub mod ArriveLemmas
+pub mod HandLemmas
 pub mod QuitLemmas
+pub mod StandsLemmas
+pub mod WorkLemmas

@@ -1,8 +1,13 @@
+pub mod BagLaws
 pub mod Batch
 pub mod Due
 pub mod Handled
 pub mod Journal
 pub mod KeptHandler
+pub mod Laws
+pub mod Leads
+pub mod RunLaws
+pub mod Stands
 pub mod Start
 pub mod Told
 pub mod Written

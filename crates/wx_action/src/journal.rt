@@ -36,6 +36,7 @@ impl Journal {
         ensures same { self.new.past ≡ self.old.past }
         ensures room { OnOk result (n ≤ self.new.spare) }
         ensures kept { self.old.spare ≤ self.new.spare }
+        ensures fits { length self.new.past + self.new.spare < 2 ^ 64 }
     {
         self.entries.reserve(n as usize)?;
         Ok(())

@@ -8,6 +8,8 @@ mod error;
 mod handler;
 mod journal;
 mod outside;
+mod state;
+mod work;
 
 pub use batch::Batch;
 pub use config::{Changeable, Config, WatchedPath, Watcher};
@@ -16,3 +18,5 @@ pub use error::CriticalError;
 pub use handler::ActionHandler;
 pub use journal::Journal;
 pub use outside::{Hooks, Host, JobHooks, Outside, TurnFault, Turned, World};
+pub use state::Worker;
+pub use work::{Collected, Worked, throttle_collect, worker};

@@ -2,7 +2,7 @@ use Rattle.std.proofs.Common.{◌≡◌, ℕ, ◌+◌, ◌-◌, ◌<◌, ◌≤�
 use Rattle.std.specs.Prelude.{◌==◌, remove}
 use Rattle.std.proofs.lemmas.List.Edits.{remove-append_right}
 use Rattle.std.specs.List.{slice_split, position_or_len, before_first, after_first}
-use Rattle.std.proofs.lemmas.List.Splits.{slice_split_first, slice_split_none, length-slice_split}
+use Rattle.std.proofs.lemmas.List.Splits.{slice_split_first, slice_split_none}
 use Rattle.std.proofs.lemmas.List.{get_or_default, take_all, length-drop}
 use Rattle.std.proofs.lemmas.List.Sums.{position_or_len_is}
 use Rattle.wx_events.specs.Line.{parts}
@@ -19,9 +19,6 @@ cut_at line c i lt before here =
 
 pub cut_none : (line : List ℕ) (c i : ℕ) → length line ≤ i → NotBefore line c i → parts c line ≡ line ∷ []
 cut_none line c i le before = slice_split_none (λ b. b == c) line (λ k d lt. ne_eqb _ _ (λ e. before k (omega arith) (get_or_default line k 0 d lt ∙ e)))
-
-pub some_part : (c : ℕ) (line : List ℕ) → 0 < length (parts c line)
-some_part c line = omega (arith, length-slice_split (λ b. b == c) line)
 
 pub cut_here : (line : List ℕ) (c i : ℕ) → i < length line → NotBefore line c i → get_or line i 0 ≡ c → parts c line ≡ take i line ∷ parts c (take (length line - (i + 1)) (drop (i + 1) line))
 cut_here line c i lt before here =

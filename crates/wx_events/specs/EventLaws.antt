@@ -12,7 +12,7 @@ use Rattle.wx_events.specs.Forms.{IsForm}
 use Rattle.wx_events.specs.CombineLaws.{as_form, rows_take}
 use Rattle.wx_events.specs.ListLaws.{list_form}
 use Rattle.wx_events.specs.Clean.{IsClean, AllClean}
-use Rattle.wx_events.specs.CleanLaws.{clean, list_clean}
+use Rattle.wx_events.specs.CleanLaws.{clean, keyword_clean, list_clean}
 use Rattle.wx_events.specs.Events.{priority_word, priorities, priority_words, read_priority, TagFits, tag_words, tag_rows, read_tag, EventFits, event_words, make_event, read_event}
 
 pub priority_found : (x : Priority) → with_word priority_word priorities (priority_word x) ≡ Some x
@@ -31,7 +31,7 @@ pub priority_form : IsForm text_in (λ (x : Priority). Unit {0}) priority_words 
 priority_form = keyword_form text_in priority_word priorities priority_found
 
 pub priority_clean : (x : Priority) → Unit {0} → AllClean (priority_words x)
-priority_clean x fits = (priority_word_clean x, tt)
+priority_clean = keyword_clean priority_word priority_word_clean
 
 -- ---- tags
 

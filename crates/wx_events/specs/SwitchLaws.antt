@@ -6,7 +6,7 @@ use Rattle.wx_events.specs.KeywordLaws.{keyword_form}
 use Rattle.wx_events.specs.Texts.{text_in}
 use Rattle.wx_events.specs.Forms.{IsForm}
 use Rattle.wx_events.specs.Clean.{IsClean, AllClean}
-use Rattle.wx_events.specs.CleanLaws.{clean}
+use Rattle.wx_events.specs.CleanLaws.{clean, keyword_clean}
 use Rattle.wx_events.specs.Switches.{on_word, switches, on_words, read_on}
 
 pub on_found : (b : Bool) → with_word on_word switches (on_word b) ≡ Some b
@@ -21,4 +21,4 @@ pub on_form : IsForm text_in (λ (b : Bool). Unit {0}) on_words read_on
 on_form = keyword_form text_in on_word switches on_found
 
 pub on_clean : (b : Bool) → Unit {0} → AllClean (on_words b)
-on_clean b fits = (on_word_clean b, tt)
+on_clean = keyword_clean on_word on_word_clean

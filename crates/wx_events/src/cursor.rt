@@ -62,7 +62,7 @@ impl<'a> Words<'a> {
     }
 
     /// Whether no word is left.
-    #[tactic(auto, using(crate::proofs::CutLaws::some_part))]
+    #[tactic(auto, using(crate::specs::LineLaws::some_part))]
     pub fn is_done(&self) -> bool
         ensures { result ≡ (length self.now == 0) }
     {

@@ -1,7 +1,6 @@
 // Lists as words.
-ghost use Rattle.std.specs.Prelude.{◌≡◌, ℕ, ◌+◌, ◌<◌, [], ◌∷◌, ◌++◌, List, Option, Some, None, OnOk, IfOk};
+ghost use Rattle.std.specs.Prelude.{◌≡◌, ℕ, ◌+◌, ◌<◌, [], ◌∷◌, ◌++◌, List, Option, Some, None, OnOk, IfOk, length, ◌^◌};
 ghost use Rattle.std.specs.List.{flat_map, AllByRecursion};
-ghost use Rattle.std.specs.Prelude.{length, ◌^◌};
 ghost use Rattle.wx_events.specs.CleanLaws.{list_clean};
 ghost use Rattle.wx_events.specs.ListLaws.{list_form};
 ghost use Rattle.wx_events.specs.Line.{spaced, joined, Taken, Reads};

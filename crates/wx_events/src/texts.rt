@@ -1,11 +1,10 @@
 // Texts as words.
-ghost use Rattle.std.specs.Prelude.{◌≡◌, ℕ, ◌+◌, ◌*◌, ◌<◌, ◌≤◌, ◌^◌, [], ◌∷◌, ◌++◌, List, Option, Some, None, OnOk, IfOk, IfSome, IfNone, length};
+ghost use Rattle.std.specs.Prelude.{◌≡◌, ℕ, ◌+◌, ◌*◌, ◌<◌, ◌≤◌, ◌^◌, [], ◌∷◌, ◌++◌, List, Option, Some, None, OnOk, IfOk, IfSome, IfNone, length, true};
 ghost use Rattle.wx_events.specs.Line.{spaced, joined, Taken};
 ghost use Rattle.wx_events.specs.CleanLaws.{text_words_clean};
 ghost use Rattle.wx_events.specs.TextLaws.{text_form};
 ghost use Rattle.wx_events.specs.Texts.{AllBytes, escaped_byte, escaped, text_word, hex_in, unescaped, text_in, read_text, is_plain, onto};
 ghost use Rattle.std.specs.Fmt.{digit_glyph};
-ghost use Rattle.std.specs.Prelude.{true};
 
 use crate::cursor::Words;
 use crate::list::Memory;

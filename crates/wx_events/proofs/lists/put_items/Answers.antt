@@ -1,5 +1,5 @@
 use Rattle.std.proofs.Common.{◌∙◌}
-use Rattle.wx_events.proofs.ListLaws.{put_more}
+use Rattle.wx_events.proofs.ItemLaws.{put_more}
 use Rattle.wx_events.proofs.lists.put_items.Goals as goal
 
 pub loop-item-preserved : goal.loop-item-preserved

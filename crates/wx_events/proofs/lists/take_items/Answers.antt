@@ -1,4 +1,4 @@
-use Rattle.wx_events.proofs.ListLaws.{goes_on, stops, is_done}
+use Rattle.wx_events.proofs.ItemLaws.{goes_on, stops, is_done}
 use Rattle.wx_events.proofs.lists.take_items.Goals as goal
 
 pub returns-in_default : goal.returns-in_default

@@ -1,6 +1,6 @@
 use Rattle.std.proofs.Common.{◌≡◌, ◌-◌}
 use Rattle.wx_events.specs.Lists.{read_items}
-use Rattle.wx_events.proofs.ListLaws.{with_front}
+use Rattle.wx_events.proofs.ItemLaws.{with_front}
 use Rattle.wx_events.proofs.lists.take_items.Given as goal
 
 abbrev pub invariant-loop : goal.invariant-loop

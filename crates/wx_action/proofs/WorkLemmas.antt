@@ -1,0 +1,142 @@
+-- A Work turn.
+use Rattle.std.proofs.Common.{◌≡◌, ℕ, ◌+◌, ◌<◌, Bool, true, false, cond, List, [], ◌∷◌, ◌++◌, length, arith, refl, ap, sym, subst, ◌∙◌}
+use Rattle.std.specs.Prelude.{Option, None, Some, ◌==◌, ◌||◌}
+use Rattle.wx_events.specs.declared.event.Event.{Event}
+use Rattle.wx_events.specs.declared.priority.Priority.{Priority}
+use Rattle.wx_events.specs.Priority.{is_urgent}
+use Rattle.prio_channel.specs.Channel.{Channel, AllAtMost}
+use Rattle.prio_channel.specs.SameBag.{SameBag, Takes}
+use Rattle.prio_channel.specs.BagLaws.{same-length}
+use Rattle.wx_action.specs.declared.entry.Entry.{Entry}
+use Rattle.wx_action.specs.declared.entry.Entry.TheVariants.{Turn as Turned, Word as Said, Take}
+use Rattle.wx_action.specs.declared.entry.Named.{Named}
+use Rattle.wx_action.specs.declared.state.Worker.{Worker}
+use Rattle.wx_action.specs.declared.work.Collected.{Collected}
+use Rattle.wx_action.specs.declared.work.Collected.TheVariants.{Hand, Kept}
+use Rattle.wx_action.specs.declared.work.Collected.TheVariants as collected
+use Rattle.wx_action.specs.declared.entry.Word.TheVariants.{Idle}
+use Rattle.wx_action.specs.Batch.{Waiting}
+use Rattle.wx_action.specs.Start.{Start}
+use Rattle.wx_action.specs.Journal.{settings, moment, event_count, bag, window, first, is_over, is_over_of}
+use Rattle.wx_action.specs.Due.{Agenda, agenda, Due, IsRun, Open, Says, Takes as TakesNext, Hands, after_take, work, rest}
+use Rattle.wx_action.specs.Handled.{AreEvents, lookup}
+use Rattle.wx_action.specs.Leads.{FollowsAlone, Then, Apart, Same, More, Promised}
+use Rattle.wx_action.specs.Stands.{Stands, Ready, AtWork, Collects}
+use Rattle.wx_action.specs.BagLaws.{is_taken, IsTaken}
+use Rattle.wx_action.specs.RunLaws.{own_of_run}
+use Rattle.wx_action.specs.Told.{NamesItsOwn, is_hooks, Obeys, More as MoreObeyed}
+use Rattle.wx_action.proofs.ArriveLemmas.{Steps}
+use Rattle.wx_action.proofs.StandsLemmas.{events-append}
+
+-- a queue that is empty, where the bag isn't
+pub not_empty : (s : Start) (w : Worker) (p : List Entry) → Stands s w p → w.queue.items ≡ [] → (length (bag p) == 0) ≡ false → ⊥
+not_empty s w p stands none some =
+    let n : length w.queue.items ≡ length (bag p) = same-length w.queue.items (bag p) stands.queue_kept in
+    let z : length (bag p) ≡ 0 = sym n ∙ ap (λ (xs : List (Named × Priority)). length xs) none in
+    (let t : (length (bag p) == 0) ≡ true = ap (λ (m : ℕ). m == 0) z in cc)
+
+-- what is collected by a take
+pub collects_take : (s : Start) (p p' : List Entry) (name : ℕ) (due : Bool) → p' ≡ Take name ∷ p → agenda s p' ≡ cond due Hands Open → Collects s p (cond due Hand Kept) p'
+collects_take s p p' name true grown e = e
+collects_take s p p' name false grown e = ((name, grown), e)
+
+pub record TakeDone (s : Start) (w : Worker) (p p' : List Entry) (found : Collected) : Type 0 where
+  pub steps : Steps s w p p'
+  pub collected : Collects s p found p'
+
+pub take_done : (s : Start) (w : Worker) (p p' : List Entry) (at start : ℕ) (x : Named × Priority) (queue : Channel Named) (batch : Waiting) (found : Collected) → Ready s w p → agenda s p ≡ TakesNext → moment p ≡ at
+    → Takes w.queue.items x queue.items → AllAtMost x.1 w.queue.items → queue.size ≡ w.queue.size → queue.closed ≡ w.queue.closed → start ≡ cond (length w.batch.names == 0) at w.first
+    → batch.names ≡ w.batch.names ++ x.0.name ∷ [] → batch.events ≡ w.batch.events ++ x.0.event ∷ [] → found ≡ cond (is_urgent x.1 || is_over_of w.config.throttle batch.names start at) Hand Kept → p' ≡ Take x.0.name ∷ p
+    → TakeDone s (record w { queue = queue; batch = batch; first = start }) p p' found
+take_done s w p p' at start x queue batch found ready due now takes most size closed began names events is_found grown =
+    let own = own_of_run s p ready.run in
+    let t = is_taken p w.queue.items queue.items x own ready.stands.queue_kept takes most in
+    let d : Due s p (Take x.0.name) = rw due (x.0.name, refl, t.is_greatest) in
+    let first_is : first (Take x.0.name ∷ p) ≡ start = rw (began, ready.stands.names_kept, ready.stands.first_kept, now) refl in
+    let names_are : batch.names ≡ window p ++ x.0.name ∷ [] = names ∙ ap (λ (ns : List ℕ). ns ++ x.0.name ∷ []) ready.stands.names_kept in
+    let over : is_over s (Take x.0.name ∷ p) (moment p) ≡ is_over_of w.config.throttle batch.names start at = rw (first_is, names_are, ready.stands.config_kept, now) refl in
+    let after : agenda s (Take x.0.name ∷ p) ≡ cond (is_urgent x.1 || is_over_of w.config.throttle batch.names start at) Hands Open = rw (← over, ← t.urgency) refl in
+    record {
+      steps = rw grown (record {
+        ready = record {
+          run = (d, ready.run);
+          stands = record {
+            config_kept = ready.stands.config_kept;
+            queue_kept = t.is_rest;
+            size_kept = size ∙ ready.stands.size_kept;
+            open_kept = closed ∙ ready.stands.open_kept;
+            named_kept = ready.stands.named_kept;
+            names_kept = names_are;
+            events_kept = rw events (events-append (lookup p) (window p) w.batch.events x.0.name x.0.event x.1 ready.stands.events_kept t.is_listed);
+            first_kept = sym first_is;
+          };
+        };
+        follows = λ world hooks p₀ world₀ hooks₀ l. Then (Take x.0.name) p world hooks l d;
+        apart = λ p₀ a. More _ p a own refl;
+      });
+      collected = rw is_found (collects_take s p p' x.0.name _ grown (ap (agenda s) grown ∙ after));
+    }
+
+-- there was nothing to take
+pub idle_done : (s : Start) (w : Worker) (p p' : List Entry) (at : ℕ) → Ready s w p → agenda s p ≡ work s p at → is_over_of w.config.throttle w.batch.names w.first at ≡ false → (length w.queue.items == 0) ≡ true → p' ≡ Said Idle ∷ p
+    → TakeDone s w p p' collected.Idle
+idle_done s w p p' at ready due over empty grown =
+    let later : is_over s p at ≡ false = rw (← ready.stands.config_kept, ← ready.stands.names_kept, ← ready.stands.first_kept) over in
+    let none : (length (bag p) == 0) ≡ true = rw (← same-length w.queue.items (bag p) ready.stands.queue_kept) empty in
+    let owed : agenda s p ≡ Says Idle Open = due ∙ rw (later, none) refl in
+    let d : Due s p (Said Idle) = rw owed refl in
+    record {
+      steps = rw grown (record {
+        ready = record {
+          run = (d, ready.run);
+          stands = record {
+            config_kept = ready.stands.config_kept;
+            queue_kept = ready.stands.queue_kept;
+            size_kept = ready.stands.size_kept;
+            open_kept = ready.stands.open_kept;
+            named_kept = ready.stands.named_kept;
+            names_kept = ready.stands.names_kept;
+            events_kept = ready.stands.events_kept;
+            first_kept = ready.stands.first_kept;
+          };
+        };
+        follows = λ world hooks p₀ world₀ hooks₀ l. Then (Said Idle) p world hooks l d;
+        apart = λ p₀ a. More _ p a (own_of_run s p ready.run) refl;
+      });
+      collected = (grown, ap (agenda s) grown ∙ ap rest owed);
+    }
+
+-- a worker at a Work turn stands for the journal with the turn too
+pub record IsAtWork (s : Start) (w : Worker) (at : ℕ) (p : List Entry) : Type 0 where
+  pub due : agenda s p ≡ work s p at
+  pub now : moment p ≡ at
+  pub ready : Ready s w p
+
+pub at_work : (s : Start) (w : Worker) (at : ℕ) (p : List Entry) → AtWork s w at p → IsAtWork s w at p
+at_work s w at p a =
+    subst (IsAtWork s w at) (sym a.last) (record {
+      due = refl;
+      now = refl;
+      ready = record {
+        run = subst (IsRun s) a.last a.run;
+        stands = record {
+          config_kept = a.stands.config_kept;
+          queue_kept = a.stands.queue_kept;
+          size_kept = a.stands.size_kept;
+          open_kept = a.stands.open_kept;
+          named_kept = a.stands.named_kept;
+          names_kept = a.stands.names_kept;
+          events_kept = a.stands.events_kept;
+          first_kept = a.stands.first_kept;
+        };
+      };
+    })
+
+-- entries that are no calls on the hooks leave what these promise
+pub promised_apart : (short : Bool) (rule : List Entry → Entry → Type 0) (stands : List Entry → Type 0) (p p' : List Entry) → ((q : List Entry) (e : Entry) → NamesItsOwn q → is_hooks e ≡ false → stands q → stands (e ∷ q)) → Apart p p' → Promised short rule stands stands p p'
+promised_apart short rule stands p _ keep Same = record { rule_kept = λ s st p₀ o. o; stands_kept = λ s st. st }
+promised_apart short rule stands p _ keep (More e q apart own other) =
+    let h = promised_apart short rule stands p q keep apart in record {
+      rule_kept = λ s st p₀ o. MoreObeyed e q (h.rule_kept s st p₀ o) (λ mine. (let both : true ≡ false = sym mine ∙ other in absurd cc));
+      stands_kept = λ s st. keep q e own other (h.stands_kept s st);
+    }

@@ -1,0 +1,56 @@
+-- What holds of every run.
+use Rattle.std.specs.Prelude.{◌≡◌, ℕ, ◌<◌, ◌≤◌, Bool, true, false, List, [], ◌∷◌, ◌++◌, length}
+use Rattle.std.specs.List.{AllByRecursion, flat_map}
+use Rattle.wx_action.specs.declared.entry.Entry.{Entry}
+use Rattle.wx_action.specs.declared.entry.Entry.TheVariants.{Turn as Turned, Hand}
+use Rattle.wx_action.specs.Start.{Start}
+use Rattle.wx_action.specs.Journal.{moment, is_urgent_named, passed, batches, window, is_over}
+
+-- batches, one behind the other
+abbrev pub joined : List (List ℕ) → List ℕ
+joined batches = flat_map (λ batch. batch) batches
+
+-- the passed events are the batches, joined, and then the window
+abbrev pub IsBatched : List Entry → Type 0
+IsBatched p = passed p ≡ joined (batches p) ++ window p
+
+-- none of these events is urgent
+abbrev pub NoneUrgent : (ℕ → Bool) → List ℕ → Type 0
+NoneUrgent urgent names = AllByRecursion (λ name. urgent name ≡ false) names
+
+-- none but the last is urgent
+abbrev pub UrgentLast : (ℕ → Bool) → List ℕ → Type 0
+UrgentLast urgent [] = Unit {0}
+UrgentLast urgent (name ∷ []) = Unit {0}
+UrgentLast urgent (name ∷ next ∷ names) = (urgent name ≡ false) × UrgentLast urgent (next ∷ names)
+
+abbrev pub is_last_urgent : (ℕ → Bool) → List ℕ → Bool
+is_last_urgent urgent [] = false
+is_last_urgent urgent (name ∷ []) = urgent name
+is_last_urgent urgent (name ∷ next ∷ names) = is_last_urgent urgent (next ∷ names)
+
+-- which events are urgent, by a journal
+abbrev pub urgent_in : List Entry → ℕ → Bool
+urgent_in p name = is_urgent_named name p
+
+-- A batch isn't empty, none but its last event is urgent, and where that isn't either, the throttle is over.
+pub record IsBatch (s : Start) (p : List Entry) (names : List ℕ) : Type 0 where
+  pub some : 0 < length names
+  pub urgent_last : UrgentLast (urgent_in p) names
+  pub in_time : is_last_urgent (urgent_in p) names ≡ false → is_over s p (moment p) ≡ true
+
+-- each batch is one
+abbrev pub AreBatches : Start → List Entry → Type 0
+AreBatches s [] = Unit {0}
+AreBatches s (Hand n names acts ∷ p) = IsBatch s p names × AreBatches s p
+AreBatches s (_ ∷ p) = AreBatches s p
+
+-- no urgent event waits in the window
+abbrev pub NoneUrgentWaits : List Entry → Type 0
+NoneUrgentWaits p = NoneUrgent (urgent_in p) (window p)
+
+-- the moments of the turns never fall
+abbrev pub MomentsRise : List Entry → Type 0
+MomentsRise [] = Unit {0}
+MomentsRise (Turned t ∷ p) = (moment p ≤ t.at) × MomentsRise p
+MomentsRise (_ ∷ p) = MomentsRise p

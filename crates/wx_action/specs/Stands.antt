@@ -1,0 +1,60 @@
+-- A worker stands for a journal.
+use Rattle.std.specs.Prelude.{◌≡◌, ℕ, ◌==◌, Bool, true, false, List, [], ◌∷◌, ◌++◌, length}
+use Rattle.wx_events.specs.declared.priority.Priority.{Priority}
+use Rattle.prio_channel.specs.Channel.{Channel}
+use Rattle.prio_channel.specs.SameBag.{SameBag}
+use Rattle.wx_action.specs.declared.entry.Entry.{Entry}
+use Rattle.wx_action.specs.declared.entry.Entry.TheVariants.{Turn as Turned, Word as Said, Take}
+use Rattle.wx_action.specs.declared.entry.Named.{Named}
+use Rattle.wx_action.specs.declared.entry.Offered.{Offered}
+use Rattle.wx_action.specs.declared.entry.Offered.TheVariants.{Queued, Full}
+use Rattle.wx_action.specs.declared.entry.TurnKind.TheVariants.{Work}
+use Rattle.wx_action.specs.declared.entry.Word.TheVariants.{Idle}
+use Rattle.wx_action.specs.declared.state.Worker.{Worker}
+use Rattle.wx_action.specs.declared.work.Collected.{Collected}
+use Rattle.wx_action.specs.declared.work.Collected.TheVariants as collected
+use Rattle.wx_action.specs.declared.work.Worked.{Worked}
+use Rattle.wx_action.specs.declared.work.Worked.TheVariants as worked
+use Rattle.wx_action.specs.Start.{Start}
+use Rattle.wx_action.specs.Journal.{settings, event_count, bag, window, first}
+use Rattle.wx_action.specs.Due.{agenda, Open, Hands, Ended, IsRun}
+use Rattle.wx_action.specs.Handled.{AreEvents, lookup}
+
+-- it keeps what the journal says, for this start
+pub record Stands (s : Start) (w : Worker) (p : List Entry) : Type 0 where
+  pub config_kept : w.config ≡ settings s p
+  pub queue_kept : SameBag w.queue.items (bag p)
+  pub size_kept : w.queue.size ≡ (settings s p).event_channel_size
+  pub open_kept : w.queue.closed ≡ false
+  pub named_kept : w.named ≡ event_count p
+  pub names_kept : w.batch.names ≡ window p
+  pub events_kept : AreEvents (lookup p) (window p) w.batch.events
+  pub first_kept : w.first ≡ first p
+
+-- the journal is a run from this start, and the worker stands for it
+pub record Ready (s : Start) (w : Worker) (p : List Entry) : Type 0 where
+  pub run : IsRun s p
+  pub stands : Stands s w p
+
+-- the journal is a run whose last entry is a Work turn of this moment, and the worker stands for it without that turn
+pub record AtWork (s : Start) (w : Worker) (at : ℕ) (p : List Entry) : Type 0 where
+  pub before : List Entry
+  pub last : p ≡ Turned (record { at = at; kind = Work }) ∷ before
+  pub run : IsRun s p
+  pub stands : Stands s w before
+
+-- a queue took an item, or was full
+abbrev pub IsOffered : Channel Named → Named × Priority → Channel Named → Offered → Type 0
+IsOffered old item new Queued = SameBag new.items (old.items ++ item ∷ []) × ((length old.items == old.size) ≡ false)
+IsOffered old item new Full = (new.items ≡ old.items) × ((length old.items == old.size) ≡ true)
+
+-- What a Work turn collected: the window is due; or there was nothing to take; or an event was taken, which waits.
+abbrev pub Collects : Start → List Entry → Collected → List Entry → Type 0
+Collects s p collected.Hand p' = agenda s p' ≡ Hands
+Collects s p collected.Idle p' = (p' ≡ Said Idle ∷ p) × (agenda s p' ≡ Open)
+Collects s p collected.Kept p' = ((name : ℕ) × (p' ≡ Take name ∷ p)) × (agenda s p' ≡ Open)
+
+-- whether the run goes on
+abbrev pub Works : Start → Worked → List Entry → Type 0
+Works s worked.On p' = agenda s p' ≡ Open
+Works s worked.End p' = agenda s p' ≡ Ended
