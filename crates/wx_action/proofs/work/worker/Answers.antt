@@ -7,17 +7,17 @@ pub returns-in_err-reserve-clause-ready : goal.returns-in_err-reserve-clause-rea
 returns-in_err-reserve-clause-ready g c = rw c.in_err-reserve.ensures.same (at_turn g.start c.args.worker.now c.args.at _ c.args.journal.now.past c.requires.1.1).ready
 
 pub returns-in_err-reserve-clause-calm : goal.returns-in_err-reserve-clause-calm
-returns-in_err-reserve-clause-calm g c = rw c.in_err-reserve.ensures.same (at_turn g.start c.args.worker.now c.args.at _ c.args.journal.now.past c.requires.1.1)
+returns-in_err-reserve-clause-calm g c = rw c.in_err-reserve.ensures.same (at_turn g.start c.args.worker.now c.args.at _ c.args.journal.now.past c.requires.1.1).calm
 
 pub returns-in_err-reserve-2-clause-ready : goal.returns-in_err-reserve-2-clause-ready
 returns-in_err-reserve-2-clause-ready g c = rw c.in_ok-reserve.ensures.same (at_turn g.start c.args.worker.now c.args.at _ c.args.journal.now.past c.requires.1.1).ready
 
 pub returns-in_err-reserve-2-clause-calm : goal.returns-in_err-reserve-2-clause-calm
-returns-in_err-reserve-2-clause-calm g c = rw c.in_ok-reserve.ensures.same (at_turn g.start c.args.worker.now c.args.at _ c.args.journal.now.past c.requires.1.1)
+returns-in_err-reserve-2-clause-calm g c = rw c.in_ok-reserve.ensures.same (at_turn g.start c.args.worker.now c.args.at _ c.args.journal.now.past c.requires.1.1).calm
 
 pub returns-in_err-throttle_collect-clause-calm : goal.returns-in_err-throttle_collect-clause-calm
 returns-in_err-throttle_collect-clause-calm g c =
-    rw (c.in_err-throttle_collect.ensures.unchanged, c.in_ok-reserve.ensures.same) (at_turn g.start c.args.worker.now c.args.at _ c.args.journal.now.past c.requires.1.1)
+    rw (c.in_err-throttle_collect.ensures.unchanged, c.in_ok-reserve.ensures.same) (at_turn g.start c.args.worker.now c.args.at _ c.args.journal.now.past c.requires.1.1).calm
 
 pub returns-in-Hand-clause-calm : goal.returns-in-Hand-clause-calm
 returns-in-Hand-clause-calm g c = calm_after g.start _ _ c.hand.ensures.ready.run c.hand.ensures.works
