@@ -1,2 +1,4 @@
 mod ActedLaws
+mod BeginLemmas
 mod GivenLaws
+mod TurnLemmas

@@ -2,3 +2,6 @@ pub mod Turns
 pub mod Acted
 pub mod Follows
 pub mod FollowLaws
+pub mod Sent
+pub mod Run
+pub mod MainLaws

@@ -1,13 +1,16 @@
 //! The engine, and a world and hooks that follow a script.
 #![tactic(auto)]
 
+mod running;
 mod script;
 mod script_hooks;
 mod script_world;
 mod supply;
 #[cfg(test)]
 mod tests;
+mod watchexec;
 
 pub use script::{Script, ScriptTurn};
 pub use script_hooks::ScriptHooks;
 pub use script_world::ScriptWorld;
+pub use watchexec::{SendRefused, Watchexec};

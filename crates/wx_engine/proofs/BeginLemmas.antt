@@ -1,0 +1,46 @@
+-- The beginning of a run.
+use Rattle.std.proofs.Common.{◌≡◌, ℕ, suc, ◌+◌, ◌<◌, ◌≤◌, List, [], ◌∷◌, length, drop, get_or, drop-cons, add-one, arith, refl, ap, sym, subst, ◌∙◌}
+use Rattle.wx_events.specs.declared.event.Event.{Event}
+use Rattle.wx_events.specs.declared.priority.Priority.{Priority}
+use Rattle.wx_action.specs.declared.entry.Entry.{Entry}
+use Rattle.wx_action.specs.declared.state.Worker.{Worker}
+use Rattle.wx_action.specs.Start.{Start, IsStart}
+use Rattle.wx_action.specs.Journal.{bag}
+use Rattle.wx_action.specs.Due.{Agenda, Sends, Hands, agenda, sends, rest, begin_of, IsRun}
+use Rattle.wx_action.specs.Laws.{NoneUrgentWaits}
+use Rattle.wx_action.specs.Leads.{StaysApart, FollowsAlone, Then, More}
+use Rattle.wx_action.specs.Turns.{SameTurns, StaysInTurn}
+use Rattle.wx_action.specs.Stands.{Stands, Ready}
+use Rattle.wx_action.specs.RunLaws.{none_waits}
+
+-- what is known once the beginning is listed
+pub record Begun (s : Start) (w : Worker) (p p' : List Entry) : Type 0 where
+  pub ready : Ready s w p'
+  pub due : agenda s p' ≡ sends s.events
+  pub count : length (bag p') ≡ 0
+  pub follows : FollowsAlone s p p'
+  pub apart : StaysApart p p'
+  pub turns : StaysInTurn p p'
+
+pub begun : (s : Start) (w : Worker) (e : Entry) (p p' : List Entry) → p ≡ [] → e ≡ begin_of s → p' ≡ e ∷ p → Stands s w (begin_of s ∷ []) → Begun s w p p'
+begun s w e p p' empty is grown stands = rw (grown, is, empty) (record {
+  ready = record { run = (refl, tt); stands = stands };
+  due = refl;
+  count = refl;
+  follows = λ world hooks p₀ world₀ hooks₀ l. Then (begin_of s) [] world hooks l refl;
+  apart = λ p₀ a. More (begin_of s) [] a tt refl;
+  turns = λ p₀ t. record { count = t.count; fault = t.fault; now = t.now; rise = t.rise; told = t.told };
+})
+
+sends_no_batch : (xs : List (Event × Priority)) → sends xs ≡ Hands → ⊥
+sends_no_batch [] e = cc
+sends_no_batch (x ∷ xs) e = cc
+
+-- no urgent event waits at the beginning
+pub calm_begun : (s : Start) (p : List Entry) (xs : List (Event × Priority)) → IsRun s p → agenda s p ≡ sends xs → NoneUrgentWaits p
+calm_begun s p xs run due = none_waits s p run (λ e. sends_no_batch xs (sym due ∙ e))
+
+-- the next event that was sent
+pub next_sent : (s : Start) (p : List Entry) (xs : List (Event × Priority)) (i : ℕ) (x : Event × Priority) → i < length xs → x ≡ get_or xs i x → agenda s p ≡ sends (drop i xs) → agenda s p ≡ Sends x.0 x.1 (drop (i + 1) xs)
+next_sent s p xs i x lt is due =
+    due ∙ ap sends (drop-cons xs i x lt ∙ ap (λ (y : Event × Priority). y ∷ drop (suc i) xs) (sym is)) ∙ ap (λ (k : ℕ). Sends x.0 x.1 (drop k xs)) (sym (add-one i))

@@ -1,0 +1,7 @@
+use Rattle.wx_engine.proofs.running.run.Given as goal
+
+abbrev pub ghost-begin : goal.ghost-begin
+ghost-begin g a = a.engine
+
+abbrev pub ghost-serve_turns : goal.ghost-serve_turns
+ghost-serve_turns g a = g.start
