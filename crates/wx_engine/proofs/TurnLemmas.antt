@@ -60,3 +60,7 @@ served t p mid p' grown stays =
       rise = λ later so_far. same.rise (later, so_far);
       told = λ before. same.told before;
     }
+
+-- a journal has its own turns
+pub same_turns : (p : List Entry) → SameTurns p p
+same_turns p = record { count = refl; fault = refl; now = refl; rise = λ r. r; told = λ before. refl }

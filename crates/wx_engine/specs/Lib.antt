@@ -5,3 +5,4 @@ pub mod FollowLaws
 pub mod Sent
 pub mod Run
 pub mod MainLaws
+pub mod Completes

@@ -15,7 +15,10 @@ ghost use Rattle.wx_engine.specs.Run.{TellsTurns, HasCause};
 
 use crate::watchexec::Watchexec;
 use std::alloc::Global;
-use wx_action::{Config, CriticalError, Entry, Hooks, Host, JobHooks, Journal, TurnKind, Worked, Worker, World, worker};
+use wx_action::{
+    Config, CriticalError, Entry, Hooks, Host, JobHooks, Journal, TurnKind, Worked, Worker, World,
+    worker,
+};
 use wx_events::{Copies, Memory, Text, TextPath};
 
 /// The entry that a run begins with. It fails only for want of memory.
@@ -36,7 +39,11 @@ fn beginning(alloc: Global, config: &Config, folder: TextPath) -> Result<Entry, 
 }
 
 /// Begins a run: lists the beginning, and each event that was sent. It fails only for want of memory.
-pub(crate) fn begin(alloc: Global, engine: Watchexec, journal: &mut Journal) -> Result<Worker, Memory>
+pub(crate) fn begin(
+    alloc: Global,
+    engine: Watchexec,
+    journal: &mut Journal,
+) -> Result<Worker, Memory>
     ghost start: { Start }
     requires engine { engine ≡ start }
     requires empty { journal.old.past ≡ [] }

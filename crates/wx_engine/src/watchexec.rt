@@ -3,11 +3,19 @@ ghost use Rattle.std.specs.Prelude.{◌≡◌, ◌∷◌, ◌++◌, [], ◌+◌,
 ghost use Rattle.wx_events.specs.declared.event.Event.{Event as AnEvent};
 ghost use Rattle.wx_events.specs.declared.priority.Priority.{Priority as APriority};
 ghost use Rattle.wx_action.specs.Start.{Start, IsSize, IsStart, default_config, is_absolute};
+ghost use Rattle.wx_action.specs.Journal.{turn_count};
+ghost use Rattle.wx_action.specs.Due.{IsRun};
+ghost use Rattle.wx_action.specs.Told.{is_world, is_hooks, is_turn, tells, Obeys, Rose};
+ghost use Rattle.wx_action.specs.Laws.{IsBatched, AreBatches, NoneUrgentWaits, MomentsRise};
+ghost use Rattle.wx_action.specs.Answer.{Answers};
 ghost use Rattle.wx_engine.specs.Sent.{Refuses};
+ghost use Rattle.wx_engine.specs.Run.{HasCause};
+ghost use Rattle.wx_engine.specs.Completes.{IsOkOrMemory};
 
+use crate::running::run;
 use std::alloc::Global;
 use std::marker::Model;
-use wx_action::Config;
+use wx_action::{Config, CriticalError, Hooks, Host, JobHooks, Journal, Outside, World};
 use wx_events::{Event, List, Memory, Priority, TextPath};
 
 /// Why an event was not sent.
@@ -81,5 +89,50 @@ impl Watchexec {
             Ok(()) => Ok(()),
             Err(_) => Err(SendRefused::Memory),
         }
+    }
+
+    /// Runs the engine: asks `world` for turns, serves each before the next, and writes all of it into `journal`, until an
+    /// action asks for the end or the last turn came. `IoError` about `turn` comes only where the world had no turn to
+    /// give, with the code of that fault; `Memory` where there was none. Whatever the answer, the journal is a run, and
+    /// lists the turns that were given and the calls that were made, in order.
+    pub fn main<W: World, H: Hooks>(
+        self,
+        alloc: Global,
+        world: &mut W,
+        hooks: &mut H,
+        journal: &mut Journal,
+    ) -> Result<(), CriticalError>
+        requires { journal.old.past ≡ [] }
+
+        // The journal is a run that this answer may have, and each error has its cause.
+        ensures run { IsRun self journal.new.past }
+        ensures answer { Answers self journal.new.past result }
+        ensures cause { IfErr result (λ error. HasCause error (W.turn_faults world.old) (W.turn_faults world.new)) }
+        ensures completes { (Rose (W.turn_faults world.old) (W.turn_faults world.new) → ⊥) → IsOkOrMemory result }
+
+        // It lists what was told: the turns, and the calls on world and hooks.
+        ensures world { W.told world.new ≡ tells is_world journal.new.past (W.told world.old) }
+        ensures hooks { H.told hooks.new ≡ tells is_hooks journal.new.past (H.told hooks.old) }
+        ensures turns { W.turns world.new ≡ tells is_turn journal.new.past (W.turns world.old) }
+        ensures count { turn_count journal.new.past ≤ W.left world.old + 1 }
+
+        // The laws of runs.
+        ensures batched { IsBatched journal.new.past }
+        ensures batches { AreBatches self journal.new.past }
+        ensures never_lost { NoneUrgentWaits journal.new.past }
+        ensures moments { MomentsRise journal.new.past }
+
+        // Where the hooks stood for the empty journal and are not short, each call passes their rule.
+        ensures rule { H.short hooks.new ≡ false → H.stands hooks.old [] → Obeys (H.rule (H.plan hooks.old)) [] journal.new.past }
+        ensures stands { H.short hooks.new ≡ false → H.stands hooks.old [] → H.stands hooks.new journal.new.past }
+        ensures short { H.short hooks.new ≡ false → H.short hooks.old ≡ false }
+
+        // What no call changes.
+        ensures world_plan { W.plan world.new ≡ W.plan world.old }
+        ensures world_place { W.place world.new ≡ W.place world.old }
+        ensures hooks_plan { H.plan hooks.new ≡ H.plan hooks.old }
+        ensures hooks_place { H.place hooks.new ≡ H.place hooks.old }
+    {
+        run(alloc, self, world, hooks, journal)
     }
 }

@@ -7,13 +7,12 @@ use Rattle.wx_action.specs.Due.{Agenda, Sends, agenda, rest, sends, begin_of}
 use Rattle.wx_engine.proofs.BeginLemmas.{begun, calm_begun, next_sent}
 use Rattle.wx_engine.proofs.running.begin.Goals as goal
 
-
 pub loop-item-init : goal.loop-item-init
 loop-item-init g c =
     let is = c.engine.view_is ∙ c.requires.0 in
     let all : c.as_slice-item-items.result.now ≡ g.start.events = c.as_slice-item-items.ensures ∙ ap (λ (s : Start). s.events) is in
     let b = begun g.start c.in_ok-worker.worker c.in_ok-entry.entry c.args.journal.now.past c.push.new.self.past c.requires.1 (c.in_ok-entry.ensures ∙ ap begin_of is) (rw c.in_ok-reserve.ensures.same at c.push.ensures.past)
-      (c.in_ok-worker.ensures g.start (ap (λ (s : Start). s.config) (sym is))) in
+    (c.in_ok-worker.ensures g.start (ap (λ (s : Start). s.config) (sym is))) in
     record {
       is_start = subst IsStart is c.engine.invariant;
       all = all;
@@ -33,7 +32,7 @@ send-requires g c =
     let n = next_sent g.start c.loop-item.journal.past _ c.loop-item.item-index c.item-item.result c.loop-item-test.true c.item-item.is c.loop-item.invariant.due in
     let rest_is : List (Event × Priority) = drop (c.loop-item.item-index + 1) c.as_slice-item-items.result.now in
     let lt : length (bag c.loop-item.journal.past) < g.start.config.event_channel_size =
-      omega (arith, c.loop-item.invariant.count, ap (λ (xs : List (Event × Priority)). length xs) c.loop-item.invariant.all, c.loop-item.invariant.is_start.events, c.loop-item-test.true) in
+    omega (arith, c.loop-item.invariant.count, ap (λ (xs : List (Event × Priority)). length xs) c.loop-item.invariant.all, c.loop-item.invariant.is_start.events, c.loop-item-test.true) in
     ((rest_is, n ∙ ap (λ (e : Event). Sends e c.item-item.result.1 rest_is) (sym c.in_ok-event.ensures)), (c.loop-item.invariant.ready, lt))
 
 pub returns-in_err-send-clause-calm : goal.returns-in_err-send-clause-calm

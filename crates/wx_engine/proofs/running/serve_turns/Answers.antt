@@ -43,9 +43,9 @@ returns-in_err-serve-clause-follows g c = λ q wq hq l.
 pub returns-in_err-serve-clause-promised : goal.returns-in_err-serve-clause-promised
 returns-in_err-serve-clause-promised g c =
     promised_then (g.H.JobHooks.short c.turns.hooks) (g.H.JobHooks.short c.serve.new.hooks) _ (g.H.JobHooks.rule (g.H.JobHooks.plan c.turns.hooks)) (g.H.JobHooks.stands c.args.hooks.now) (g.H.JobHooks.stands c.turns.hooks) (g.H.JobHooks.stands c.serve.new.hooks) c.args.journal.now.past c.push-in-turns.new.self.past c.serve.new.journal.past
-      c.serve.ensures.short (ap (λ k. g.H.JobHooks.rule k) c.turns.invariant.plan)
-      (turn_promised g.start _ _ _ _ c.in-Ok.given.turn _ c.turns.journal.past _ (g.met.H.JobHooks.stands_other c.turns.hooks) c.turns.invariant.ready.run c.turns.invariant.promised (rw c.in_ok-reserve.ensures.same at c.push-in-turns.ensures.past))
-      c.serve.ensures.promised
+    c.serve.ensures.short (ap (λ k. g.H.JobHooks.rule k) c.turns.invariant.plan)
+    (turn_promised g.start _ _ _ _ c.in-Ok.given.turn _ c.turns.journal.past _ (g.met.H.JobHooks.stands_other c.turns.hooks) c.turns.invariant.ready.run c.turns.invariant.promised (rw c.in_ok-reserve.ensures.same at c.push-in-turns.ensures.past))
+    c.serve.ensures.promised
 
 pub returns-in-End-clause-follows : goal.returns-in-End-clause-follows
 returns-in-End-clause-follows g c = λ q wq hq l.
@@ -54,9 +54,9 @@ returns-in-End-clause-follows g c = λ q wq hq l.
 pub returns-in-End-clause-promised : goal.returns-in-End-clause-promised
 returns-in-End-clause-promised g c =
     promised_then (g.H.JobHooks.short c.turns.hooks) (g.H.JobHooks.short c.serve.new.hooks) _ (g.H.JobHooks.rule (g.H.JobHooks.plan c.turns.hooks)) (g.H.JobHooks.stands c.args.hooks.now) (g.H.JobHooks.stands c.turns.hooks) (g.H.JobHooks.stands c.serve.new.hooks) c.args.journal.now.past c.push-in-turns.new.self.past c.serve.new.journal.past
-      c.serve.ensures.short (ap (λ k. g.H.JobHooks.rule k) c.turns.invariant.plan)
-      (turn_promised g.start _ _ _ _ c.in-Ok.given.turn _ c.turns.journal.past _ (g.met.H.JobHooks.stands_other c.turns.hooks) c.turns.invariant.ready.run c.turns.invariant.promised (rw c.in_ok-reserve.ensures.same at c.push-in-turns.ensures.past))
-      c.serve.ensures.promised
+    c.serve.ensures.short (ap (λ k. g.H.JobHooks.rule k) c.turns.invariant.plan)
+    (turn_promised g.start _ _ _ _ c.in-Ok.given.turn _ c.turns.journal.past _ (g.met.H.JobHooks.stands_other c.turns.hooks) c.turns.invariant.ready.run c.turns.invariant.promised (rw c.in_ok-reserve.ensures.same at c.push-in-turns.ensures.past))
+    c.serve.ensures.promised
 
 pub turns-smaller : goal.turns-smaller
 turns-smaller g c =
@@ -82,13 +82,13 @@ turns-preserved g c =
       rise = v.rise (omega (arith, c.turns.invariant.now, c.in-Ok.ensures.later, c.in_ok-reserve-2.ensures.moment)) c.turns.invariant.rise;
       follows = λ q wq hq l. c.serve.ensures.follows q wq hq (turn_follows g.start _ _ _ c.in-Ok.given.turn c.turns.journal.past c.push-in-turns.new.self.past _ _ _ c.turns.invariant.follows c.turns.invariant.open_is (rw c.in_ok-reserve.ensures.same at c.push-in-turns.ensures.past) (rw c.in_ok-reserve-2.ensures.told at c.in-Ok.ensures.told) q wq hq l);
       turns = λ before e.
-        ap (λ w. g.W.Outside.turns w) c.serve.ensures.world ∙ c.in-Ok.ensures.turns ∙ ap (λ l. tell (Turned c.in-Ok.given.turn) l) (c.in_ok-reserve-2.ensures.turns ∙ c.turns.invariant.turns before e) ∙ sym (v.told before);
+          ap (λ w. g.W.Outside.turns w) c.serve.ensures.world ∙ c.in-Ok.ensures.turns ∙ ap (λ l. tell (Turned c.in-Ok.given.turn) l) (c.in_ok-reserve-2.ensures.turns ∙ c.turns.invariant.turns before e) ∙ sym (v.told before);
       count = omega (arith, v.count, c.turns.invariant.count, c.in-Ok.ensures.falls comes, c.in_ok-reserve-2.ensures.left, left_is);
       faults = omega (arith, c.turns.invariant.faults, c.in-Ok.ensures.faults.later, c.in_ok-reserve-2.ensures.turn_faults, faults_is);
       promised = promised_then (g.H.JobHooks.short c.turns.hooks) (g.H.JobHooks.short c.serve.new.hooks) _ (g.H.JobHooks.rule (g.H.JobHooks.plan c.turns.hooks)) (g.H.JobHooks.stands c.args.hooks.now) (g.H.JobHooks.stands c.turns.hooks) (g.H.JobHooks.stands c.serve.new.hooks) c.args.journal.now.past c.push-in-turns.new.self.past c.serve.new.journal.past
-      c.serve.ensures.short (ap (λ k. g.H.JobHooks.rule k) c.turns.invariant.plan)
-      (turn_promised g.start _ _ _ _ c.in-Ok.given.turn _ c.turns.journal.past _ (g.met.H.JobHooks.stands_other c.turns.hooks) c.turns.invariant.ready.run c.turns.invariant.promised (rw c.in_ok-reserve.ensures.same at c.push-in-turns.ensures.past))
-      c.serve.ensures.promised;
+          c.serve.ensures.short (ap (λ k. g.H.JobHooks.rule k) c.turns.invariant.plan)
+          (turn_promised g.start _ _ _ _ c.in-Ok.given.turn _ c.turns.journal.past _ (g.met.H.JobHooks.stands_other c.turns.hooks) c.turns.invariant.ready.run c.turns.invariant.promised (rw c.in_ok-reserve.ensures.same at c.push-in-turns.ensures.past))
+          c.serve.ensures.promised;
       short = λ x. c.turns.invariant.short (c.serve.ensures.short x);
       plan = c.serve.ensures.plan ∙ c.turns.invariant.plan;
       place = c.serve.ensures.place ∙ c.turns.invariant.place;

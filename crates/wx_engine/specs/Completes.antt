@@ -1,0 +1,11 @@
+-- When a run answers otherwise than Ok.
+use Rattle.std.specs.Prelude.{◌≡◌, Result, Ok, Err, List}
+use Rattle.wx_action.specs.declared.error.CriticalError.{CriticalError}
+use Rattle.wx_action.specs.declared.error.CriticalError.TheVariants.{IoError, Memory}
+use Rattle.wx_action.specs.Printed.{Answer}
+
+-- Ok, or want of memory
+abbrev pub IsOkOrMemory : Answer → Type 0
+IsOkOrMemory (Ok u) = Unit {0}
+IsOkOrMemory (Err Memory) = Unit {0}
+IsOkOrMemory (Err (IoError about err)) = ⊥
