@@ -1,0 +1,134 @@
+// A script from its lines.
+ghost use Rattle.std.specs.Prelude.{length, ◌==◌, ◌&&◌, ◌≡◌, ℕ, ◌+◌, ◌<◌, ◌≤◌, [], ◌∷◌, ◌++◌, Option, Some, None, Ok, Err, IfOk, IfErr, MatchBool, MatchResult};
+ghost use Rattle.wx_run.specs.declared.lines.Line.TheVariants.{Size, Send, Turn as Turned};
+ghost use Rattle.wx_run.specs.Scripts.{accepts, step, start, script_in};
+
+use crate::lines::{Line, line_in};
+use std::alloc::Global;
+use wx_action::Turn;
+use wx_engine::{Script, ScriptTurn};
+use wx_events::{Event, Priority, List, Memory, cut};
+
+/// The number of the first bad line, counted from 1.
+#[derive(Clone, Copy, Debug, PartialEq, Eq)]
+pub struct BadLine(pub u64);
+
+/// The script of no lines.
+fn start(alloc: Global) -> Script
+    ensures { result ≡ start }
+{
+    Script {
+        throttle: 50_000_000,
+        size: 4096,
+        sends: List::new(alloc),
+        turns: List::new(alloc),
+        actions: List::new(alloc),
+        last: 0,
+    }
+}
+
+/// Whether settings can still stand here.
+fn is_early(script: &Script) -> bool
+    ensures { result ≡ (length script.now.sends == 0 && length script.now.turns == 0) }
+{
+    script.sends.is_empty() && script.turns.is_empty()
+}
+
+/// Sets the size, where that can stand here.
+fn set_size(script: &mut Script, size: u32) -> bool
+    ensures { MatchBool result (accepts script.old (Size size) ≡ Some script.new) (accepts script.old (Size size) ≡ None) }
+{
+    let fits = is_early(script) && 1 <= size && size <= 65_536;
+    if fits {
+        script.size = size;
+    }
+    fits
+}
+
+/// Adds an event that is sent before the run, where it can stand here.
+fn add_send(script: &mut Script, event: Event, priority: Priority) -> Result<bool, Memory>
+    ensures { IfOk result (λ fits. MatchBool fits (accepts script.old (Send event priority) ≡ Some script.new) (accepts script.old (Send event priority) ≡ None)) }
+{
+    let fits = script.turns.is_empty() && (script.sends.len() as u64) < script.size as u64;
+    if fits {
+        script.sends.push((event, priority))?;
+    }
+    Ok(fits)
+}
+
+/// Adds a turn, where it can stand here.
+fn add_turn(script: &mut Script, turn: Turn) -> Result<bool, Memory>
+    ensures { IfOk result (λ fits. MatchBool fits (accepts script.old (Turned turn) ≡ Some script.new) (accepts script.old (Turned turn) ≡ None)) }
+{
+    let fits = script.last <= turn.at;
+    if fits {
+        script.last = turn.at;
+        script.turns.push(ScriptTurn::Turn(turn))?;
+    }
+    Ok(fits)
+}
+
+/// Adds what a line says, where it can stand here.
+fn add(script: &mut Script, said: Line) -> Result<bool, Memory>
+    ensures { IfOk result (λ fits. MatchBool fits (accepts script.old said ≡ Some script.new) (accepts script.old said ≡ None)) }
+{
+    match said {
+        Line::Nothing => Ok(true),
+        Line::Throttle(throttle) => {
+            let fits = is_early(script);
+            if fits {
+                script.throttle = throttle;
+            }
+            Ok(fits)
+        }
+        Line::Size(size) => Ok(set_size(script, size)),
+        Line::Send(event, priority) => add_send(script, event, priority),
+        Line::Turn(turn) => add_turn(script, turn),
+        Line::Fault(code) => {
+            script.turns.push(ScriptTurn::Fault(code))?;
+            Ok(true)
+        }
+        Line::Acts(acts) => {
+            script.actions.push(acts)?;
+            Ok(true)
+        }
+    }
+}
+
+/// Adds a line, where it can stand here.
+fn add_line(alloc: Global, script: &mut Script, line: &[u8]) -> Result<bool, Memory>
+    ensures { IfOk result (λ fits. MatchBool fits (step script.old line.now ≡ Some script.new) (step script.old line.now ≡ None)) }
+{
+    match line_in(alloc, line)? {
+        None => Ok(false),
+        Some(said) => add(script, said),
+    }
+}
+
+/// Reads the lines one by one.
+fn scan(alloc: Global, bytes: &[u8]) -> Result<Result<Script, BadLine>, Memory>
+    ensures { IfOk result (λ r. MatchResult r (λ s. script_in bytes.now ≡ Ok s) (λ bad. script_in bytes.now ≡ Err bad.0)) }
+{
+    let mut script = start(alloc);
+    let mut rest = bytes;
+    let mut number = 1;
+    while let Some((line, after)) = cut(rest, 10) {
+        if !add_line(alloc, &mut script, line)? {
+            return Ok(Err(BadLine(number)));
+        }
+        rest = after;
+        number += 1;
+    }
+    if rest.is_empty() {
+        Ok(Ok(script))
+    } else {
+        Ok(Err(BadLine(number)))
+    }
+}
+
+/// The script that the bytes are, or its first bad line.
+pub fn read_script(alloc: Global, bytes: &[u8]) -> Result<Result<Script, BadLine>, Memory>
+    ensures exact { IfOk result (λ r. MatchResult r (λ s. script_in bytes.now ≡ Ok s) (λ bad. script_in bytes.now ≡ Err bad.0)) }
+{
+    scan(alloc, bytes)
+}
