@@ -1,9 +1,9 @@
 -- One line more.
-use Rattle.std.proofs.Common.{◌≡◌, ℕ, zero, suc, ◌+◌, ◌<◌, ◌≤◌, Bool, true, false, Option, None, Some, Result, Ok, Err, List, [], ◌∷◌, ◌++◌, length, refl, sym, ap, ◌∙◌, arith, ne_eqb}
+use Rattle.std.proofs.Common.{◌≡◌, ℕ, ◌+◌, ◌<◌, None, Some, Result, Ok, Err, List, [], ◌∷◌, length, refl, sym, ap, ◌∙◌, arith, ne_eqb}
 use Rattle.wx_events.specs.Line.{parts}
 use Rattle.wx_events.specs.LineLaws.{some_part}
 use Rattle.wx_engine.specs.declared.script.Script.{Script}
-use Rattle.wx_run.specs.Scripts.{step, scan, script_in}
+use Rattle.wx_run.specs.Scripts.{step, scan}
 
 scan_more : (n : ℕ) (line : List ℕ) (ps : List (List ℕ)) (s t : Script) → 0 < length ps → step s line ≡ Some t → scan n (line ∷ ps) s ≡ scan (n + 1) ps t
 unfolding scan

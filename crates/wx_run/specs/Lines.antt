@@ -1,5 +1,5 @@
 -- What one line of a script says.
-use Rattle.std.specs.Prelude.{ℕ, ◌==◌, if◌then◌else◌, Option, None, Some, List, [], ◌∷◌, length, codes}
+use Rattle.std.specs.Prelude.{ℕ, ◌==◌, if◌then◌else◌, Option, Some, List, [], ◌∷◌, codes}
 use Rattle.wx_events.specs.Line.{words_of, ◌>>=◌}
 use Rattle.wx_events.specs.Combine.{Reader, read_pair, read_as, read_literal, read_nothing, read_rows}
 use Rattle.wx_events.specs.Numbers.{read_number, read_u32}

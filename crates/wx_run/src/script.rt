@@ -1,5 +1,7 @@
 // A script from its lines.
 ghost use Rattle.std.specs.Prelude.{length, ◌==◌, ◌&&◌, ◌≡◌, ℕ, ◌+◌, ◌<◌, ◌≤◌, [], ◌∷◌, ◌++◌, Option, Some, None, Ok, Err, IfOk, IfErr, MatchBool, MatchResult};
+ghost use Rattle.wx_engine.specs.Follows.{IsScript};
+ghost use Rattle.wx_run.specs.Bad.{IsFirstBad};
 ghost use Rattle.wx_run.specs.declared.lines.Line.TheVariants.{Size, Send, Turn as Turned};
 ghost use Rattle.wx_run.specs.Scripts.{accepts, step, start, script_in};
 
@@ -7,7 +9,7 @@ use crate::lines::{Line, line_in};
 use std::alloc::Global;
 use wx_action::Turn;
 use wx_engine::{Script, ScriptTurn};
-use wx_events::{Event, Priority, List, Memory, cut};
+use wx_events::{Event, List, Memory, Priority, cut};
 
 /// The number of the first bad line, counted from 1.
 #[derive(Clone, Copy, Debug, PartialEq, Eq)]
@@ -127,7 +129,10 @@ fn scan(alloc: Global, bytes: &[u8]) -> Result<Result<Script, BadLine>, Memory>
 }
 
 /// The script that the bytes are, or its first bad line.
+#[tactic(auto, using(crate::specs::BadLaws::first_bad, crate::specs::ScriptLaws::lawful))]
 pub fn read_script(alloc: Global, bytes: &[u8]) -> Result<Result<Script, BadLine>, Memory>
+    ensures lawful { IfOk result (λ r. IfOk r IsScript) }
+    ensures first_bad { IfOk result (λ r. IfErr r (λ bad. IsFirstBad bytes.now bad.0)) }
     ensures exact { IfOk result (λ r. MatchResult r (λ s. script_in bytes.now ≡ Ok s) (λ bad. script_in bytes.now ≡ Err bad.0)) }
 {
     scan(alloc, bytes)
