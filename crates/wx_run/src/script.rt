@@ -137,3 +137,112 @@ pub fn read_script(alloc: Global, bytes: &[u8]) -> Result<Result<Script, BadLine
 {
     scan(alloc, bytes)
 }
+
+#[cfg(test)]
+mod tests {
+    use super::*;
+
+    /// How many sends, turns and actions the script of these bytes has, and its throttle, its size and the moment of its last turn.
+    fn counts(alloc: Global, bytes: &[u8]) -> Option<(usize, usize, usize, u64, u32, u64)> {
+        match read_script(alloc, bytes) {
+            Ok(Ok(script)) => Some((
+                script.sends.len(),
+                script.turns.len(),
+                script.actions.len(),
+                script.throttle,
+                script.size,
+                script.last,
+            )),
+            _ => None,
+        }
+    }
+
+    /// The number of the bad line of these bytes.
+    fn bad_line(alloc: Global, bytes: &[u8]) -> Option<u64> {
+        match read_script(alloc, bytes) {
+            Ok(Err(bad)) => Some(bad.0),
+            _ => None,
+        }
+    }
+
+    #[test]
+    fn reads_scripts(rt: HostRuntime) {
+        let alloc = rt.alloc();
+        let table: [(&[u8], (usize, usize, usize, u64, u32, u64)); 5] = [
+            (b"", (0, 0, 0, 50_000_000, 4096, 0)),
+            (
+                b"# a script\nset size 64\n\nset size 2\nset throttle 7\nsend urgent 0\nsend low 0\naction quit quit\nturn 0 arrive normal 0\nturnfault 5\naction\nturn 10000000 work\nturn 10000000 arrive high 0\n",
+                (2, 4, 2, 7, 2, 10_000_000),
+            ),
+            (b"set size 65536\n", (0, 0, 0, 50_000_000, 65_536, 0)),
+            (
+                b"set throttle 18446744073709551615\nturn 18446744073709551615 work\n",
+                (0, 1, 0, u64::MAX, 4096, u64::MAX),
+            ),
+            (
+                b"action\nset size 1\nturnfault 4294967295\n",
+                (0, 1, 1, 50_000_000, 1, 0),
+            ),
+        ];
+        for (bytes, want) in table {
+            assert!(rt; counts(alloc, bytes) == Some(want), "at {bytes:?}");
+        }
+    }
+
+    #[test]
+    fn counts_lines_to_the_first_bad_one(rt: HostRuntime) {
+        let alloc = rt.alloc();
+        let table: [(&[u8], u64); 12] = [
+            (b"turn 0 work", 1),
+            (b"# c", 1),
+            (b"turn 0 work\n# c", 2),
+            (b"send low 0\n\nset size 1\n", 3),
+            (b"send low 0\nset throttle 1\nset\n", 2),
+            (b"set size 1\nsend low 0\nsend low 0\n", 3),
+            (b"turn 0 work\nset throttle 1\n", 2),
+            (b"turnfault 5\nset size 1\n", 2),
+            (b"turnfault 5\nsend low 0\n", 2),
+            (b"turn 0 work\nsend low 0\n", 2),
+            (b"turn 5 work\nturnfault 1\nturn 4 work\n", 3),
+            (b"\n\n\nx\nturn 5 work\n", 4),
+        ];
+        for (bytes, want) in table {
+            assert!(rt; bad_line(alloc, bytes) == Some(want), "at {bytes:?}");
+        }
+    }
+
+    #[test]
+    fn refuses_lines(rt: HostRuntime) {
+        let alloc = rt.alloc();
+        let table: [&[u8]; 25] = [
+            b"set size 0\n",
+            b"set size 65537\n",
+            b"set size 4294967296\n",
+            b"set size\n",
+            b"set other 1\n",
+            b"turn 5  work\n",
+            b"turn 05 work\n",
+            b"turn 18446744073709551616 work\n",
+            b"turn 0 last\n",
+            b"turn 0\n",
+            b" turn 0 work\n",
+            b"turn 0 work \n",
+            b"turn 0 work\r\n",
+            b"turn 0 arrive normal\n",
+            b"turn 0 arrive normal 1 unknown\n",
+            b"send normal 1 unknown\n",
+            b"send normal\n",
+            b"send middle 0\n",
+            b"send normal 00\n",
+            b"action stop\n",
+            b"action \n",
+            b"action quit stop\n",
+            b"turnfault 4294967296\n",
+            b"turnfault\n",
+            b" \n",
+        ];
+        for bytes in table {
+            assert!(rt; bad_line(alloc, bytes) == Some(1), "at {bytes:?}");
+        }
+    }
+}
