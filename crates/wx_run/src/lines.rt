@@ -1,5 +1,5 @@
 // What one line of a script says.
-ghost use Rattle.std.specs.Prelude.{◌≡◌, List as Listed, [], ◌++◌, Option, Some, None, IfOk, MatchBool, MatchOption};
+ghost use Rattle.std.specs.Prelude.{◌≡◌, [], IfOk};
 ghost use Rattle.wx_events.specs.Line.{Reads};
 ghost use Rattle.wx_run.specs.Lines.{read_untagged, read_kind, read_set, read_turn, read_acts, read_form, line_in};
 

@@ -1,5 +1,5 @@
 // A script from its lines.
-ghost use Rattle.std.specs.Prelude.{length, ◌==◌, ◌&&◌, ◌≡◌, ℕ, ◌+◌, ◌<◌, ◌≤◌, [], ◌∷◌, ◌++◌, Option, Some, None, Ok, Err, IfOk, IfErr, MatchBool, MatchResult};
+ghost use Rattle.std.specs.Prelude.{◌≡◌, ◌==◌, ◌&&◌, Some, None, Ok, Err, length, IfOk, IfErr, MatchBool, MatchResult};
 ghost use Rattle.wx_engine.specs.Follows.{IsScript};
 ghost use Rattle.wx_run.specs.Bad.{IsFirstBad};
 ghost use Rattle.wx_run.specs.declared.lines.Line.TheVariants.{Size, Send, Turn as Turned};
@@ -129,11 +129,13 @@ fn scan(alloc: Global, bytes: &[u8]) -> Result<Result<Script, BadLine>, Memory>
 }
 
 /// The script that the bytes are, or its first bad line.
+///
+/// `Memory` comes where there was no memory for the script.
 #[tactic(auto, using(crate::specs::BadLaws::first_bad, crate::specs::ScriptLaws::lawful))]
 pub fn read_script(alloc: Global, bytes: &[u8]) -> Result<Result<Script, BadLine>, Memory>
-    ensures lawful { IfOk result (λ r. IfOk r IsScript) }
-    ensures first_bad { IfOk result (λ r. IfErr r (λ bad. IsFirstBad bytes.now bad.0)) }
     ensures exact { IfOk result (λ r. MatchResult r (λ s. script_in bytes.now ≡ Ok s) (λ bad. script_in bytes.now ≡ Err bad.0)) }
+    ensures first_bad { IfOk result (λ r. IfErr r (λ bad. IsFirstBad bytes.now bad.0)) }
+    ensures lawful { IfOk result (λ r. IfOk r IsScript) }
 {
     scan(alloc, bytes)
 }
