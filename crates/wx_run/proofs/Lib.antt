@@ -1,2 +1,4 @@
+pub mod ActLaws
 pub mod KnownLaws
 pub mod Parts
+pub mod ScanLaws

@@ -2,7 +2,9 @@
 #![tactic(auto)]
 
 mod feeding;
+mod lines;
 mod memory;
+mod script;
 mod sink;
 mod source;
 mod standard;

@@ -1,0 +1,159 @@
+// What one line of a script says.
+ghost use Rattle.std.specs.Prelude.{◌≡◌, [], IfOk};
+ghost use Rattle.wx_events.specs.Line.{Reads};
+ghost use Rattle.wx_run.specs.Lines.{read_untagged, read_kind, read_set, read_turn, read_acts, read_form, line_in};
+
+use std::alloc::Global;
+use wx_action::{Act, Turn, TurnKind};
+use wx_events::{Event, List, Memory, Priority, Spelled, Words, take_literal, with_word};
+
+/// What a line of a script says.
+#[derive(Drop, Debug)]
+pub enum Line {
+    /// Nothing, as an empty line and one that begins with `#`.
+    Nothing,
+    /// How long events are collected, in nanoseconds.
+    Throttle(u64),
+    /// How many events the queue holds.
+    Size(u32),
+    /// An event is sent before the run.
+    Send(Event, Priority),
+    /// The world gives a turn.
+    Turn(Turn),
+    /// The world has no turn to give, and this is the code of its fault.
+    Fault(u32),
+    /// The action handler asks for this in one call.
+    Acts(List<Act>),
+}
+
+/// Takes the priority of an event without tags and the number of its tags, or loses the place.
+fn take_untagged(alloc: Global, line: &mut Words) -> Result<Option<Priority>, Memory>
+    ensures { IfOk result (λ priority. Reads line.new priority (read_untagged line.old)) }
+{
+    let Some(priority) = Priority::take(alloc, line)? else {
+        return Ok(None);
+    };
+    if take_literal(b"0", line) {
+        Ok(Some(priority))
+    } else {
+        Ok(None)
+    }
+}
+
+/// An event without tags.
+fn untagged(alloc: Global) -> Event
+    ensures { result.tags ≡ [] }
+{
+    Event {
+        tags: List::new(alloc),
+    }
+}
+
+/// Takes what a turn brings, or loses the place.
+#[tactic(auto, unfolding(crate::specs::Lines::read_kind))]
+fn take_kind(alloc: Global, line: &mut Words) -> Result<Option<TurnKind>, Memory>
+    ensures { IfOk result (λ kind. Reads line.new kind (read_kind line.old)) }
+{
+    let Some(word) = line.next() else {
+        return Ok(None);
+    };
+    if word == b"arrive".as_slice() {
+        match take_untagged(alloc, line)? {
+            Some(priority) => Ok(Some(TurnKind::Arrive(untagged(alloc), priority))),
+            None => Ok(None),
+        }
+    } else if word == b"work".as_slice() {
+        Ok(Some(TurnKind::Work))
+    } else {
+        Ok(None)
+    }
+}
+
+/// Takes a setting, or loses the place.
+#[tactic(auto, unfolding(crate::specs::Lines::read_set))]
+fn take_set(alloc: Global, line: &mut Words) -> Result<Option<Line>, Memory>
+    ensures { IfOk result (λ said. Reads line.new said (read_set line.old)) }
+{
+    let Some(word) = line.next() else {
+        return Ok(None);
+    };
+    if word == b"throttle".as_slice() {
+        match u64::take(alloc, line)? {
+            Some(throttle) => Ok(Some(Line::Throttle(throttle))),
+            None => Ok(None),
+        }
+    } else if word == b"size".as_slice() {
+        match u32::take(alloc, line)? {
+            Some(size) => Ok(Some(Line::Size(size))),
+            None => Ok(None),
+        }
+    } else {
+        Ok(None)
+    }
+}
+
+/// Takes a turn, or loses the place.
+fn take_turn(alloc: Global, line: &mut Words) -> Result<Option<Line>, Memory>
+    ensures { IfOk result (λ said. Reads line.new said (read_turn line.old)) }
+{
+    let Some(at) = u64::take(alloc, line)? else {
+        return Ok(None);
+    };
+    let Some(kind) = take_kind(alloc, line)? else {
+        return Ok(None);
+    };
+    Ok(Some(Line::Turn(Turn { at, kind })))
+}
+
+/// Takes all words that are left, each of which is an act, or loses the place.
+#[tactic(auto, using(crate::proofs::ActLaws::goes_on, crate::proofs::ActLaws::stops, crate::proofs::ActLaws::ends))]
+fn take_acts(alloc: Global, line: &mut Words) -> Result<Option<List<Act>>, Memory>
+    ensures { IfOk result (λ acts. Reads line.new acts (read_acts line.old)) }
+{
+    let mut acts = List::new(alloc);
+    while let Some(word) = line.next() {
+        let Some(act) = with_word(word) else {
+            return Ok(None);
+        };
+        acts.push(act)?;
+    }
+    Ok(Some(acts))
+}
+
+/// Takes what the first word calls for, or loses the place.
+#[tactic(auto, unfolding(crate::specs::Lines::read_form))]
+fn take_form(alloc: Global, line: &mut Words) -> Result<Option<Line>, Memory>
+    ensures { IfOk result (λ said. Reads line.new said (read_form line.old)) }
+{
+    let Some(word) = line.next() else {
+        return Ok(None);
+    };
+    if word == b"set".as_slice() {
+        return take_set(alloc, line);
+    }
+    if word == b"turn".as_slice() {
+        return take_turn(alloc, line);
+    }
+    let said = if word == b"send".as_slice() {
+        take_untagged(alloc, line)?.map(|priority| Line::Send(untagged(alloc), priority))
+    } else if word == b"turnfault".as_slice() {
+        u32::take(alloc, line)?.map(Line::Fault)
+    } else if word == b"action".as_slice() {
+        take_acts(alloc, line)?.map(Line::Acts)
+    } else {
+        None
+    };
+    Ok(said)
+}
+
+/// What a line says, without its line feed.
+pub fn line_in(alloc: Global, line: &[u8]) -> Result<Option<Line>, Memory>
+    ensures { IfOk result (λ said. said ≡ line_in line.now) }
+{
+    if line.is_empty() || line[0] == 35 {
+        return Ok(Some(Line::Nothing));
+    }
+    let mut words = Words::new(line);
+    let said = take_form(alloc, &mut words)?;
+    if words.is_done() { Ok(said) } else { Ok(None) }
+}
