@@ -42,6 +42,7 @@ tag_form = record { again = again; takes = takes }
   where
     again : (tag : Tag) (rest : List (List ℕ)) → TagFits tag → read_tag (tag_words tag ++ rest) ≡ Some (tag, rest)
     again Unknown rest fits = refl
+
     takes : (ws : List (List ℕ)) (tag : Tag) (rest : List (List ℕ)) → read_tag ws ≡ Some (tag, rest) → TagFits tag × Stood text_in (tag_words tag) ws rest
     takes = rows_take text_in TagFits tag_words tag_rows (row_of (nothing_form text_in) (λ u. Unknown) (codes "unknown") TagFits tag_words (λ u fits. tt) (λ u. refl), tt)
 
