@@ -2,3 +2,4 @@ pub mod ActLaws
 pub mod KnownLaws
 pub mod Parts
 pub mod ScanLaws
+pub mod ReplayLaws

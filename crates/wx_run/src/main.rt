@@ -1,27 +1,59 @@
-//! Runs scripts of events.
+//! Runs scripts of events, and writes the journal of each run.
 #![tactic(auto)]
 
 mod feeding;
 mod lines;
 mod memory;
+mod replay;
 mod script;
 mod sink;
 mod source;
 mod standard;
+mod status;
+#[cfg(test)]
+mod tests;
 
-use feeding::{read_all, write_all};
+use log::{Log, warn};
+use replay::wx_main;
 use standard::{StdSink, StdSource};
-use std::io;
+use status::Status;
+use std::alloc::Global;
 use std::process::ExitCode;
+use std::{env, io};
+use wx_events::{Memory, Text};
+
+/// The words of the command line, without the program's name.
+fn words(rt: &HostRuntime) -> Result<Vec<Text>, Memory> {
+    let mut words = Vec::new(rt.alloc());
+    let Ok(args) = env::args(rt) else {
+        return Ok(words);
+    };
+    for arg in args.skip(1) {
+        words.push(Text::from_slice(rt.alloc(), arg.as_bytes())?)?;
+    }
+    Ok(words)
+}
+
+/// Names a status other than `Done` on standard error.
+fn warn_of(rt: &impl Log, status: Status) {
+    match status {
+        Status::Done => {}
+        Status::Critical => warn!(rt; "the run ended with an error, which the end line tells"),
+        Status::Usage => warn!(rt; "the only words are: replay"),
+        Status::NoScript => warn!(rt; "standard input is no script"),
+        Status::ReadFault => warn!(rt; "standard input could not be read"),
+        Status::WriteFault => warn!(rt; "standard output could not be written"),
+        Status::Memory => warn!(rt; "there is no memory"),
+    }
+}
 
 fn main(rt: HostRuntime) -> ExitCode {
     let mut source = StdSource::new(rt.reader());
     let mut sink = StdSink::new(io::writer(&rt));
-    let Ok(text) = read_all(rt.alloc(), &mut source) else {
-        return ExitCode::from(2);
+    let status = match words(&rt) {
+        Ok(words) => wx_main(rt.alloc(), words.as_slice(), &mut source, &mut sink),
+        Err(_) => Status::Memory,
     };
-    match write_all(&mut sink, text.as_slice()) {
-        Ok(()) => ExitCode::SUCCESS,
-        Err(_) => ExitCode::from(3),
-    }
+    warn_of(&rt, status);
+    ExitCode::from(status.code())
 }

@@ -1,0 +1,60 @@
+-- What a replay writes, and how it ends.
+use Rattle.std.specs.Prelude.{ℕ, ◌≡◌, ◌<◌, ◌≤◌, ⊤, Result, Ok, Err, List, [], ◌∷◌, ◌++◌, length, codes, decimal}
+use Rattle.wx_action.specs.declared.entry.Entry.{Entry}
+use Rattle.wx_action.specs.declared.error.CriticalError.TheVariants.{IoError, Memory as NoMemory}
+use Rattle.wx_action.specs.Answer.{Answers}
+use Rattle.wx_action.specs.Printed.{Answer, printed}
+use Rattle.wx_engine.specs.declared.script.Script.{Script}
+use Rattle.wx_engine.specs.Follows.{start_of, Follows}
+use Rattle.wx_run.specs.Scripts.{script_in}
+use Rattle.wx_run.specs.declared.status.Status.{Status}
+use Rattle.wx_run.specs.declared.status.Status.TheVariants.{Done, Critical, Usage, NoScript, ReadFault, WriteFault, Memory}
+
+-- the words that ask for a replay
+abbrev pub replay_words : List (List ℕ)
+replay_words = codes "replay" ∷ []
+
+-- the status for what a run answered
+abbrev pub status_of : Answer → Status
+status_of (Ok u) = Done
+status_of (Err (IoError about err)) = Critical
+status_of (Err NoMemory) = Memory
+
+-- the text is the journal of a run that follows the script, with its answer, and the status is that of this answer
+pub record IsReplay (s : Script) (text : List ℕ) (status : Status) : Type 0 where
+  pub journal : List Entry
+  pub answer : Answer
+  pub answers : Answers (start_of s) journal answer
+  pub follows : Follows s journal
+  pub text_is : text ≡ printed journal answer
+  pub status_is : status ≡ status_of answer
+
+-- the same, or which line is bad
+abbrev pub ReplaysRead : Result Script ℕ → List ℕ → Status → Type 0
+ReplaysRead (Ok s) text status = IsReplay s text status
+ReplaysRead (Err n) text status = (text ≡ codes "bad line " ++ decimal n ++ 10 ∷ []) × (status ≡ NoScript)
+
+-- the text and the status that are due for these bytes
+pub record Replays (limit : ℕ) (bytes : List ℕ) (text : List ℕ) (status : Status) : Type 0 where
+  pub too_long : limit < length bytes → (text ≡ codes "too long\n") × (status ≡ NoScript)
+  pub script : length bytes ≤ limit → ReplaysRead (script_in bytes) text status
+
+-- a text was written whole
+abbrev pub IsWritten : Status → Type 0
+IsWritten Done = ⊤
+IsWritten Critical = ⊤
+IsWritten NoScript = ⊤
+IsWritten Usage = ⊥
+IsWritten ReadFault = ⊥
+IsWritten WriteFault = ⊥
+IsWritten Memory = ⊥
+
+-- the number by which a program ends
+abbrev pub code_of : Status → ℕ
+code_of Done = 0
+code_of Critical = 1
+code_of Usage = 2
+code_of NoScript = 3
+code_of ReadFault = 4
+code_of WriteFault = 5
+code_of Memory = 6

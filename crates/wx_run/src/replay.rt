@@ -1,0 +1,153 @@
+// A script from its bytes to the journal of its run.
+ghost use Rattle.std.specs.Prelude.{ℕ, ◌≡◌, ◌≢◌, ◌↔◌, ◌⊎◌, ◌≤◌, ◌<◌, ◌++◌, ◌∷◌, [], length, List as Listed, IfOk, IfSome, codes, decimal};
+ghost use Rattle.std.specs.Io.KnownBytes.{Appends, Consumes, IsAtEnd};
+ghost use Rattle.wx_action.specs.Start.{default_config};
+ghost use Rattle.wx_engine.specs.Follows.{IsScript, start_of};
+ghost use Rattle.wx_run.specs.Causes.{Rose, AddsFront};
+ghost use Rattle.wx_run.specs.Replays.{replay_words, IsReplay, ReplaysRead, Replays, IsWritten};
+ghost use Rattle.wx_run.specs.Scripts.{script_in};
+
+use crate::feeding::{LIMIT, Unread, read_all, write_all};
+use crate::script::read_script;
+use crate::sink::Sink;
+use crate::source::Source;
+use crate::status::Status;
+use std::alloc::Global;
+use wx_action::{Config, CriticalError, Journal, print_journal};
+use wx_engine::{Script, ScriptHooks, ScriptWorld, Watchexec};
+use wx_events::{Copies, Memory, Text, TextPath};
+
+/// The settings that a script states.
+fn config_of(alloc: Global, script: &Script) -> Result<Config, Memory>
+    ensures { IfOk result (λ config. config ≡ record default_config { throttle = script.now.throttle; event_channel_size = script.now.size }) }
+{
+    let mut config = Config::new(alloc)?;
+    config.throttle.replace(script.throttle);
+    config.event_channel_size = script.size;
+    Ok(config)
+}
+
+/// The engine that a script states, to which all its events were sent.
+fn engine_of(alloc: Global, script: &Script) -> Result<Watchexec, Memory>
+    requires { IsScript script.now }
+    ensures { IfOk result (λ engine. engine ≡ start_of script.now) }
+{
+    let config = config_of(alloc, script)?;
+    let folder = TextPath::new(Text::from_slice(alloc, b"/")?);
+    let mut engine = Watchexec::with_config(alloc, config, folder)?;
+    for (event, priority) in script.sends.as_slice() {
+        // a script sends no more events than the queue holds
+        if engine.send_event(event.copy(alloc)?, *priority).is_err() {
+            return Err(Memory);
+        }
+    }
+    Ok(engine)
+}
+
+/// Runs a script. The text is the journal of the run with its end line.
+fn play(alloc: Global, script: &Script) -> Result<(Text, Status), Memory>
+    requires { IsScript script.now }
+    ensures text { IfOk result (λ r. IsReplay script.now r.0 r.1) }
+    ensures status { IfOk result (λ r. IsWritten r.1) }
+{
+    let engine = engine_of(alloc, script)?;
+    let mut world = ScriptWorld::new(alloc, script)?;
+    let mut hooks = ScriptHooks::new(alloc, script)?;
+    let mut journal = Journal::new(alloc)?;
+    let answer = engine.main(alloc, &mut world, &mut hooks, &mut journal);
+    let status = match &answer {
+        Ok(()) => Status::Done,
+        Err(CriticalError::IoError { .. }) => Status::Critical,
+        Err(CriticalError::Memory) => return Err(Memory),
+    };
+    if hooks.short() {
+        return Err(Memory);
+    }
+    let mut out = Text::new(alloc);
+    print_journal(alloc, &journal, &answer, &mut out)?;
+    Ok((out, status))
+}
+
+/// The text about a bad line.
+fn about_line(alloc: Global, number: u64) -> Result<Text, Memory>
+    ensures { IfOk result (λ text. text ≡ codes "bad line " ++ decimal number ++ 10 ∷ []) }
+{
+    let mut out = Text::new(alloc);
+    out.append(b"bad line ")?;
+    out.append_number(number)?;
+    out.push(10)?;
+    Ok(out)
+}
+
+/// The text and the status that are due for these bytes.
+fn reply(alloc: Global, bytes: &[u8]) -> Result<(Text, Status), Memory>
+    ensures text { IfOk result (λ r. ReplaysRead (script_in bytes.now) r.0 r.1) }
+    ensures status { IfOk result (λ r. IsWritten r.1) }
+{
+    match read_script(alloc, bytes)? {
+        Ok(script) => play(alloc, &script),
+        Err(bad) => Ok((about_line(alloc, bad.0)?, Status::NoScript)),
+    }
+}
+
+/// Writes a text, and answers this status where all of it was written.
+fn write_out<K: Sink>(sink: &mut K, text: &[u8], status: Status) -> Status
+    requires { IsWritten status }
+    ensures written { IsWritten result → Appends (K.held sink.old) (K.held sink.new) text.now × (result ≡ status) }
+    ensures part { result ≡ Status.WriteFault → AddsFront (K.held sink.old) (K.held sink.new) text.now × Rose (K.faults sink.old) (K.faults sink.new) }
+    ensures other { (result ≡ status) ⊎ (result ≡ Status.WriteFault) }
+{
+    match write_all(sink, text) {
+        Ok(()) => status,
+        Err(_) => Status::WriteFault,
+    }
+}
+
+/// Reads a script to its end, runs it, and writes the journal of the run.
+pub fn replay<S: Source, K: Sink>(alloc: Global, source: &mut S, sink: &mut K) -> Status
+    ensures usage { result ≢ Status.Usage }
+    ensures read { IsWritten result → (read : Listed ℕ) × Consumes (S.left source.old) (S.left source.new) read × (length read ≤ LIMIT → IsAtEnd (S.left source.new)) }
+    ensures written { IsWritten result → IfSome (S.left source.old) (λ bytes. (text : Listed ℕ) × Replays LIMIT bytes text result × Appends (K.held sink.old) (K.held sink.new) text) }
+    ensures part { result ≡ Status.WriteFault → IfSome (S.left source.old) (λ bytes. (text : Listed ℕ) × (status : Status) × Replays LIMIT bytes text status × AddsFront (K.held sink.old) (K.held sink.new) text) }
+    ensures read_fault { result ≡ Status.ReadFault → Rose (S.faults source.old) (S.faults source.new) × (sink.new ≡ sink.old) }
+    ensures write_fault { result ≡ Status.WriteFault → Rose (K.faults sink.old) (K.faults sink.new) }
+    ensures memory { result ≡ Status.Memory → sink.new ≡ sink.old }
+{
+    let text = match read_all(alloc, source) {
+        Ok(text) => text,
+        Err(Unread::Fault) => return Status::ReadFault,
+        Err(Unread::Memory) => return Status::Memory,
+        Err(Unread::TooLong) => return write_out(sink, b"too long\n", Status::NoScript),
+    };
+    match reply(alloc, text.as_slice()) {
+        Ok((out, status)) => write_out(sink, out.as_slice(), status),
+        Err(_) => Status::Memory,
+    }
+}
+
+/// Does what the words ask for: `replay` reads a script from the source to its end, runs it, and writes the journal of
+/// the run to the sink.
+///
+/// `Usage` comes for all other words, and then nothing is read or written. `NoScript` comes where the bytes are no
+/// script or more than `LIMIT`. `ReadFault` comes where a read failed, and `WriteFault` where a write did; the latter
+/// leaves a front part of the text. `Memory` comes where there was none, and nothing was written.
+pub fn wx_main<S: Source, K: Sink>(
+    alloc: Global,
+    words: &[Text],
+    source: &mut S,
+    sink: &mut K,
+) -> Status
+    ensures usage { (result ≡ Status.Usage) ↔ (words.now ≢ replay_words) }
+    ensures untouched { result ≡ Status.Usage → (source.new ≡ source.old) × (sink.new ≡ sink.old) }
+    ensures read { IsWritten result → (read : Listed ℕ) × Consumes (S.left source.old) (S.left source.new) read × (length read ≤ LIMIT → IsAtEnd (S.left source.new)) }
+    ensures written { IsWritten result → IfSome (S.left source.old) (λ bytes. (text : Listed ℕ) × Replays LIMIT bytes text result × Appends (K.held sink.old) (K.held sink.new) text) }
+    ensures part { result ≡ Status.WriteFault → IfSome (S.left source.old) (λ bytes. (text : Listed ℕ) × (status : Status) × Replays LIMIT bytes text status × AddsFront (K.held sink.old) (K.held sink.new) text) }
+    ensures read_fault { result ≡ Status.ReadFault → Rose (S.faults source.old) (S.faults source.new) × (sink.new ≡ sink.old) }
+    ensures write_fault { result ≡ Status.WriteFault → Rose (K.faults sink.old) (K.faults sink.new) }
+    ensures memory { result ≡ Status.Memory → sink.new ≡ sink.old }
+{
+    match words {
+        [word] if word.as_slice() == b"replay".as_slice() => replay(alloc, source, sink),
+        _ => Status::Usage,
+    }
+}

@@ -1,0 +1,225 @@
+// Worked runs of the program, from bytes to bytes.
+use crate::feeding::LIMIT;
+use crate::memory::{MemSink, MemSource};
+use crate::replay::wx_main;
+use crate::status::Status;
+use std::alloc::Global;
+use std::test::Fail;
+use wx_events::{Memory, Text, cut};
+
+/// These words, of which a space stands between two.
+fn words_of(alloc: Global, line: &[u8]) -> Result<Vec<Text>, Memory> {
+    let mut words = Vec::new(alloc);
+    let mut rest = line;
+    while let Some((word, after)) = cut(rest, 32) {
+        words.push(Text::from_slice(alloc, word)?)?;
+        rest = after;
+    }
+    if !rest.is_empty() {
+        words.push(Text::from_slice(alloc, rest)?)?;
+    }
+    Ok(words)
+}
+
+/// What these words write for a script, and how they end.
+fn run(alloc: Global, line: &[u8], script: &[u8]) -> Result<(MemSink, Status), Memory> {
+    let words = words_of(alloc, line)?;
+    let mut source = MemSource::new(alloc, script)?;
+    let mut sink = MemSink::new(alloc);
+    let status = wx_main(alloc, words.as_slice(), &mut source, &mut sink);
+    Ok((sink, status))
+}
+
+#[test]
+fn an_empty_script(rt: HostRuntime) -> Result<(), Fail> {
+    let (sink, status) = run(rt.alloc(), b"replay", b"")?;
+    assert!(rt;
+        sink.text().as_slice()
+            == b"begin throttle 50000000 size 4096 errors 64 keyboard off follow on jobsignals off watcher native cwd / paths 0\nturn 0 last\nend ok lost 0\n".as_slice()
+    );
+    assert!(rt; status == Status::Done);
+    Ok(())
+}
+
+#[test]
+fn runs_with_their_journals(rt: HostRuntime) -> Result<(), Fail> {
+    let table: [(&[u8], &[u8], Status); 8] = [
+        // a queue of one
+        (
+            b"set size 1\nturn 0 arrive normal 0\nturn 0 arrive normal 0\nturn 0 arrive normal 0\nturn 0 work\nturn 0 arrive normal 0\n",
+            b"turn 0 arrive normal 0\noffer 0 - queued normal 0\nturn 0 arrive normal 0\noffer 1 - full normal 0\nturn 0 arrive normal 0\noffer 2 - full normal 0\nturn 0 work\ntake 0\nturn 0 arrive normal 0\noffer 3 - queued normal 0\nturn 0 last\nend ok lost 1 0\n",
+            Status::Done,
+        ),
+        // no throttle
+        (
+            b"set throttle 0\nturn 0 arrive normal 0\nturn 0 work\nturn 0 arrive normal 0\nturn 0 work\nturn 0 arrive normal 0\nturn 0 work\n",
+            b"turn 0 arrive normal 0\noffer 0 - queued normal 0\nturn 0 work\ntake 0\nhand 0 1 0\nturn 0 arrive normal 0\noffer 1 - queued normal 0\nturn 0 work\ntake 1\nhand 0 1 1\nturn 0 arrive normal 0\noffer 2 - queued normal 0\nturn 0 work\ntake 2\nhand 0 1 2\nturn 0 last\nend ok lost 0\n",
+            Status::Done,
+        ),
+        // a quit
+        (
+            b"send urgent 0\naction quit\nturn 0 work\nturn 1 work\n",
+            b"sent 0 urgent 0\nturn 0 work\ntake 0\nhand 0 1 0 quit\nend ok lost 0\n",
+            Status::Done,
+        ),
+        // two events within the throttle
+        (
+            b"turn 0 arrive normal 0\nturn 0 work\nturn 10000000 arrive low 0\nturn 10000000 work\nturn 49999999 work\nturn 50000000 work\n",
+            b"turn 0 arrive normal 0\noffer 0 - queued normal 0\nturn 0 work\ntake 0\nturn 10000000 arrive low 0\noffer 1 - queued low 0\nturn 10000000 work\ntake 1\nturn 49999999 work\nword idle\nturn 50000000 work\nhand 0 2 0 1\nturn 50000000 last\nend ok lost 0\n",
+            Status::Done,
+        ),
+        // the fault of a turn
+        (
+            b"turn 0 arrive normal 0\nturn 0 work\nturnfault 5\n",
+            b"turn 0 arrive normal 0\noffer 0 - queued normal 0\nturn 0 work\ntake 0\nturnfault 5\nend error io turn 5 lost 1 0\n",
+            Status::Critical,
+        ),
+        // the highest priority first, and then the oldest
+        (
+            b"set throttle 0\nsend low 0\nsend normal 0\nsend high 0\nsend high 0\nturn 3 work\nturn 3 work\nturn 4 work\nturn 5 work\nturn 6 work\n",
+            b"sent 0 low 0\nsent 1 normal 0\nsent 2 high 0\nsent 3 high 0\nturn 3 work\ntake 2\nhand 0 1 2\nturn 3 work\ntake 3\nhand 0 1 3\nturn 4 work\ntake 1\nhand 0 1 1\nturn 5 work\ntake 0\nhand 0 1 0\nturn 6 work\nword idle\nturn 6 last\nend ok lost 0\n",
+            Status::Done,
+        ),
+        // an urgent event ends the window
+        (
+            b"# two batches\n\naction\naction quit quit\nturn 0 arrive normal 0\nturn 0 work\nturn 1 arrive urgent 0\nturn 1 work\nturn 2 arrive urgent 0\nturn 2 work\nturn 3 work\n",
+            b"turn 0 arrive normal 0\noffer 0 - queued normal 0\nturn 0 work\ntake 0\nturn 1 arrive urgent 0\noffer 1 - queued urgent 0\nturn 1 work\ntake 1\nhand 0 2 0 1\nturn 2 arrive urgent 0\noffer 2 - queued urgent 0\nturn 2 work\ntake 2\nhand 0 1 2 quit\nend ok lost 0\n",
+            Status::Done,
+        ),
+        // a fault at once
+        (
+            b"turnfault 4294967295\nturn 1 work\n",
+            b"turnfault 4294967295\nend error io turn 4294967295 lost 0\n",
+            Status::Critical,
+        ),
+    ];
+    for (script, journal, want) in table {
+        let (sink, status) = run(rt.alloc(), b"replay", script)?;
+        let Some((_, rest)) = cut(sink.text().as_slice(), 10) else {
+            return Err(Fail::from(Memory));
+        };
+        assert!(rt; rest == journal, "of {script:?}");
+        assert!(rt; status == want, "of {script:?}");
+    }
+    Ok(())
+}
+
+#[test]
+fn the_settings_stand_in_the_first_line(rt: HostRuntime) -> Result<(), Fail> {
+    let (sink, status) = run(rt.alloc(), b"replay", b"set throttle 7\nset size 9\n")?;
+    assert!(rt;
+        sink.text().as_slice()
+            == b"begin throttle 7 size 9 errors 64 keyboard off follow on jobsignals off watcher native cwd / paths 0\nturn 0 last\nend ok lost 0\n".as_slice()
+    );
+    assert!(rt; status == Status::Done);
+    Ok(())
+}
+
+#[test]
+fn what_is_no_script(rt: HostRuntime) -> Result<(), Fail> {
+    let table: [(&[u8], &[u8]); 12] = [
+        (b"turn 0 work", b"bad line 1\n"),
+        (b"# c\nturn 0 work\nturn 0 last\n", b"bad line 3\n"),
+        (b"turn 00 work\n", b"bad line 1\n"),
+        (b"turn 1 work\nturn 0 work\n", b"bad line 2\n"),
+        (b"turn 0 arrive normal 1 process 1\n", b"bad line 1\n"),
+        (b"turn 0 arrive Normal 0\n", b"bad line 1\n"),
+        (b"set size 0\n", b"bad line 1\n"),
+        (b"set size 65537\n", b"bad line 1\n"),
+        (b"turn 0 work\nset throttle 1\n", b"bad line 2\n"),
+        (b"set size 1\nsend low 0\nsend low 0\n", b"bad line 3\n"),
+        (b"turnfault 4294967296\n", b"bad line 1\n"),
+        (b"turn 0 work \n", b"bad line 1\n"),
+    ];
+    for (script, text) in table {
+        let (sink, status) = run(rt.alloc(), b"replay", script)?;
+        assert!(rt; sink.text().as_slice() == text, "of {script:?}");
+        assert!(rt; status == Status::NoScript, "of {script:?}");
+    }
+    Ok(())
+}
+
+#[test]
+fn the_limit(rt: HostRuntime) -> Result<(), Fail> {
+    let mut bytes = vec![in rt.alloc(); b'#'; LIMIT + 1]?;
+    let (sink, status) = run(rt.alloc(), b"replay", bytes.as_slice())?;
+    assert!(rt; sink.text().as_slice() == b"too long\n".as_slice());
+    assert!(rt; status == Status::NoScript);
+    // one byte less is a comment, but for its line feed
+    bytes.pop();
+    let (sink, status) = run(rt.alloc(), b"replay", bytes.as_slice())?;
+    assert!(rt; sink.text().as_slice() == b"bad line 1\n".as_slice());
+    assert!(rt; status == Status::NoScript);
+    Ok(())
+}
+
+#[test]
+fn other_words(rt: HostRuntime) -> Result<(), Fail> {
+    let table: [&[u8]; 7] = [
+        b"",
+        b"flood 07 1",
+        b"Replay",
+        b"replay x",
+        b"replay replay",
+        b"repla",
+        b"replays",
+    ];
+    for line in table {
+        let (sink, status) = run(rt.alloc(), line, b"turn 0 work\n")?;
+        assert!(rt; sink.text().as_slice().is_empty(), "of {line:?}");
+        assert!(rt; status == Status::Usage, "of {line:?}");
+    }
+    Ok(())
+}
+
+#[test]
+fn a_failed_read_writes_nothing(rt: HostRuntime) -> Result<(), Fail> {
+    let words = words_of(rt.alloc(), b"replay")?;
+    // in pieces of 5 these are four reads, of which the last finds the end
+    for call in [1, 2, 3, 4] {
+        let at = vec![in rt.alloc(); call]?;
+        let source = MemSource::new(rt.alloc(), b"turn 0 work\n")?;
+        let mut source = source.in_pieces(5).failing(at);
+        let mut sink = MemSink::new(rt.alloc());
+        let status = wx_main(rt.alloc(), words.as_slice(), &mut source, &mut sink);
+        assert!(rt; status == Status::ReadFault, "at {call}");
+        assert!(rt; sink.text().as_slice().is_empty(), "at {call}");
+        assert_eq!(rt; source.faults(), 1, "at {call}");
+    }
+    Ok(())
+}
+
+#[test]
+fn a_failed_write_leaves_a_front(rt: HostRuntime) -> Result<(), Fail> {
+    let words = words_of(rt.alloc(), b"replay")?;
+    for (call, held) in [
+        (1, b"".as_slice()),
+        (2, b"bad ".as_slice()),
+        (3, b"bad line".as_slice()),
+    ] {
+        let at = vec![in rt.alloc(); call]?;
+        let mut source = MemSource::new(rt.alloc(), b"no\n")?;
+        let mut sink = MemSink::new(rt.alloc()).in_pieces(4).failing(at);
+        let status = wx_main(rt.alloc(), words.as_slice(), &mut source, &mut sink);
+        assert!(rt; status == Status::WriteFault, "at {call}");
+        assert!(rt; sink.text().as_slice() == held, "at {call}");
+        assert_eq!(rt; sink.faults(), 1, "at {call}");
+    }
+    Ok(())
+}
+
+#[test]
+fn each_status_has_its_number(rt: HostRuntime) {
+    let table = [
+        (Status::Done, 0),
+        (Status::Critical, 1),
+        (Status::Usage, 2),
+        (Status::NoScript, 3),
+        (Status::ReadFault, 4),
+        (Status::WriteFault, 5),
+        (Status::Memory, 6),
+    ];
+    for (status, code) in table {
+        assert_eq!(rt; status.code(), code);
+    }
+}
