@@ -1,10 +1,9 @@
 -- An event is offered to the queue, or listed as sent.
-use Rattle.std.proofs.Common.{◌≡◌, ℕ, ◌+◌, ◌<◌, Bool, true, false, List, [], ◌∷◌, ◌++◌, length, arith, refl, ap, sym, subst, ◌∙◌}
-use Rattle.std.specs.Prelude.{Option, None, Some}
+use Rattle.std.proofs.Common.{◌≡◌, ℕ, ◌+◌, ◌<◌, false, List, ◌∷◌, length, arith, refl, ap, sym, subst}
+use Rattle.std.specs.Prelude.{None}
 use Rattle.wx_events.specs.declared.event.Event.{Event}
 use Rattle.wx_events.specs.declared.priority.Priority.{Priority}
 use Rattle.prio_channel.specs.Channel.{Channel}
-use Rattle.prio_channel.specs.SameBag.{SameBag}
 use Rattle.prio_channel.specs.BagLaws.{same-length}
 use Rattle.std.proofs.lemmas.Bool.{eqb-true}
 use Rattle.wx_action.specs.declared.entry.Entry.{Entry}
@@ -14,12 +13,12 @@ use Rattle.wx_action.specs.declared.entry.Offered.{Offered}
 use Rattle.wx_action.specs.declared.entry.Offered.TheVariants.{Queued, Full}
 use Rattle.wx_action.specs.declared.state.Worker.{Worker}
 use Rattle.wx_action.specs.Start.{Start}
-use Rattle.wx_action.specs.Journal.{settings, event_count, bag}
-use Rattle.wx_action.specs.Due.{Agenda, agenda, Due, Admits, Offers, Sends}
+use Rattle.wx_action.specs.Journal.{event_count, bag}
+use Rattle.wx_action.specs.Due.{Agenda, agenda, Due, Offers, Sends}
 use Rattle.wx_action.specs.Leads.{FollowsAlone, Then, StaysApart, More}
-use Rattle.wx_action.specs.Turns.{SameTurns, StaysInTurn}
+use Rattle.wx_action.specs.Turns.{StaysInTurn}
 use Rattle.wx_action.specs.RunLaws.{own_of_run}
-use Rattle.wx_action.specs.Stands.{Stands, Ready, IsOffered}
+use Rattle.wx_action.specs.Stands.{Ready, IsOffered}
 use Rattle.wx_action.proofs.StandsLemmas.{offered_is, stands_offered, stands_sent}
 
 -- a worker goes on to this one, over one entry

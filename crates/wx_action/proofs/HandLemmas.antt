@@ -1,6 +1,6 @@
 -- The window is handed.
-use Rattle.std.proofs.Common.{◌≡◌, ℕ, ◌<◌, Bool, true, false, cond, List, [], ◌∷◌, ◌++◌, length, refl, ap, sym, subst, ◌∙◌}
-use Rattle.std.specs.Prelude.{Option, None, Some}
+use Rattle.std.proofs.Common.{◌≡◌, ℕ, Bool, true, false, cond, List, ◌∷◌, refl, sym, ◌∙◌}
+use Rattle.std.specs.Prelude.{Option}
 use Rattle.wx_action.specs.declared.entry.Entry.{Entry}
 use Rattle.wx_action.specs.declared.entry.Entry.TheVariants.{Hand}
 use Rattle.wx_action.specs.declared.entry.Act.{Act}
@@ -8,12 +8,12 @@ use Rattle.wx_action.specs.declared.work.Worked.{Worked}
 use Rattle.wx_action.specs.declared.work.Worked.TheVariants.{On, End}
 use Rattle.wx_action.specs.Start.{Start}
 use Rattle.wx_action.specs.Journal.{settings, window}
-use Rattle.wx_action.specs.Due.{Agenda, agenda, Due, IsRun, Hands, Open, Ended}
-use Rattle.wx_action.specs.Told.{tell, is_hooks, NamesItsOwn, More}
+use Rattle.wx_action.specs.Due.{agenda, Due, IsRun, Hands, Open, Ended}
+use Rattle.wx_action.specs.Told.{tell, More}
 use Rattle.wx_action.specs.Laws.{NoneUrgentWaits}
 use Rattle.wx_action.specs.Leads.{FollowsHooks, Then, Promised}
 use Rattle.wx_action.specs.Stands.{Works}
-use Rattle.wx_action.specs.Turns.{SameTurns, StaysInTurn}
+use Rattle.wx_action.specs.Turns.{StaysInTurn}
 use Rattle.wx_action.specs.RunLaws.{none_waits}
 
 -- the entry of a batch that was due and told

@@ -1,5 +1,5 @@
 -- Quits that follow each other.
-use Rattle.std.proofs.Common.{◌≡◌, ◌<◌, Bool, false, List, [], ◌∷◌, length, refl, ap, arith, ne_eqb}
+use Rattle.std.proofs.Common.{◌≡◌, false, List, [], ◌∷◌, length, refl, ap, arith, ne_eqb}
 use Rattle.std.specs.Prelude.{◌==◌}
 use Rattle.wx_action.specs.declared.entry.Act.{Act}
 use Rattle.wx_action.specs.declared.entry.Act.TheVariants.{Quit}

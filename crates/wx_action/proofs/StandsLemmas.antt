@@ -1,5 +1,5 @@
 -- A worker goes on to stand for a journal with one entry more.
-use Rattle.std.proofs.Common.{◌≡◌, ℕ, suc, ◌+◌, ◌<◌, ◌≤◌, Bool, true, false, cond, List, [], ◌∷◌, ◌++◌, length, arith, refl, ap, sym, subst, ◌∙◌, ne_eqb}
+use Rattle.std.proofs.Common.{◌≡◌, ℕ, ◌+◌, ◌<◌, ◌≤◌, Bool, true, false, cond, List, [], ◌∷◌, ◌++◌, length, arith, ap, sym, ◌∙◌, ne_eqb}
 use Rattle.std.specs.Prelude.{Option, None, Some, ◌==◌}
 use Rattle.std.specs.List.{AllByRecursion}
 use Rattle.wx_events.specs.declared.event.Event.{Event}
@@ -8,13 +8,13 @@ use Rattle.prio_channel.specs.Channel.{Channel}
 use Rattle.prio_channel.specs.SameBag.{SameBag}
 use Rattle.prio_channel.specs.BagLaws.{same-trans, add-bag, same-length}
 use Rattle.wx_action.specs.declared.entry.Entry.{Entry}
-use Rattle.wx_action.specs.declared.entry.Entry.TheVariants.{Sent, Turn as Turned, Offer, Take}
+use Rattle.wx_action.specs.declared.entry.Entry.TheVariants.{Sent, Offer}
 use Rattle.wx_action.specs.declared.entry.Named.{Named}
 use Rattle.wx_action.specs.declared.entry.Offered.{Offered}
 use Rattle.wx_action.specs.declared.entry.Offered.TheVariants.{Queued, Full}
 use Rattle.wx_action.specs.declared.state.Worker.{Worker}
 use Rattle.wx_action.specs.Start.{Start}
-use Rattle.wx_action.specs.Journal.{settings, event_count, listed, bag, offered, window, first}
+use Rattle.wx_action.specs.Journal.{settings, event_count, bag, offered, window}
 use Rattle.wx_action.specs.Due.{IsRun}
 use Rattle.wx_action.specs.Handled.{AreEvents, lookup}
 use Rattle.wx_action.specs.Stands.{Stands, IsOffered}

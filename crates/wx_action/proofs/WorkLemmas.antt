@@ -1,14 +1,13 @@
 -- A Work turn.
-use Rattle.std.proofs.Common.{◌≡◌, ℕ, ◌+◌, ◌<◌, Bool, true, false, cond, List, [], ◌∷◌, ◌++◌, length, arith, refl, ap, sym, subst, ◌∙◌}
-use Rattle.std.specs.Prelude.{Option, None, Some, ◌==◌, ◌||◌}
-use Rattle.wx_events.specs.declared.event.Event.{Event}
+use Rattle.std.proofs.Common.{◌≡◌, ℕ, Bool, true, false, cond, List, [], ◌∷◌, ◌++◌, length, refl, ap, sym, ◌∙◌}
+use Rattle.std.specs.Prelude.{◌==◌, ◌||◌}
 use Rattle.wx_events.specs.declared.priority.Priority.{Priority}
 use Rattle.wx_events.specs.Priority.{is_urgent}
 use Rattle.prio_channel.specs.Channel.{Channel, AllAtMost}
-use Rattle.prio_channel.specs.SameBag.{SameBag, Takes}
+use Rattle.prio_channel.specs.SameBag.{Takes}
 use Rattle.prio_channel.specs.BagLaws.{same-length}
 use Rattle.wx_action.specs.declared.entry.Entry.{Entry}
-use Rattle.wx_action.specs.declared.entry.Entry.TheVariants.{Turn as Turned, Word as Said, Take}
+use Rattle.wx_action.specs.declared.entry.Entry.TheVariants.{Word as Said, Take}
 use Rattle.wx_action.specs.declared.entry.Named.{Named}
 use Rattle.wx_action.specs.declared.state.Worker.{Worker}
 use Rattle.wx_action.specs.declared.work.Collected.{Collected}
@@ -17,13 +16,12 @@ use Rattle.wx_action.specs.declared.work.Collected.TheVariants as collected
 use Rattle.wx_action.specs.declared.entry.Word.TheVariants.{Idle}
 use Rattle.wx_action.specs.Batch.{Waiting}
 use Rattle.wx_action.specs.Start.{Start}
-use Rattle.wx_action.specs.Journal.{settings, moment, event_count, bag, window, first, is_over, is_over_of}
-use Rattle.wx_action.specs.Due.{Agenda, agenda, Due, IsRun, Open, Says, Takes as TakesNext, Hands, after_take, work, rest}
-use Rattle.wx_action.specs.Handled.{AreEvents, lookup}
-use Rattle.wx_action.specs.Leads.{FollowsAlone, Then, More}
+use Rattle.wx_action.specs.Journal.{moment, bag, window, first, is_over, is_over_of}
+use Rattle.wx_action.specs.Due.{agenda, Due, Open, Says, Takes as TakesNext, Hands, work, rest}
+use Rattle.wx_action.specs.Handled.{lookup}
+use Rattle.wx_action.specs.Leads.{Then, More}
 use Rattle.wx_action.specs.Stands.{Stands, Ready, Collects}
-use Rattle.wx_action.specs.BagLaws.{is_taken, IsTaken}
-use Rattle.wx_action.specs.Turns.{SameTurns, StaysInTurn}
+use Rattle.wx_action.specs.BagLaws.{is_taken}
 use Rattle.wx_action.specs.RunLaws.{own_of_run}
 use Rattle.wx_action.proofs.ArriveLemmas.{Steps}
 use Rattle.wx_action.proofs.StandsLemmas.{events-append}

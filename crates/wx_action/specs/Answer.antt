@@ -1,7 +1,6 @@
 -- What an answer of the engine says of its journal.
-use Rattle.std.specs.Prelude.{◌≡◌, ℕ, Option, None, Some, Result, Ok, Err, List, [], ◌∷◌, codes}
+use Rattle.std.specs.Prelude.{◌≡◌, None, Some, Ok, Err, List, codes}
 use Rattle.wx_action.specs.declared.entry.Entry.{Entry}
-use Rattle.wx_action.specs.declared.error.CriticalError.{CriticalError}
 use Rattle.wx_action.specs.declared.error.CriticalError.TheVariants.{IoError, Memory}
 use Rattle.wx_action.specs.Start.{Start}
 use Rattle.wx_action.specs.Journal.{turn_fault}

@@ -1,18 +1,17 @@
 -- In a run an item of the bag is found by its name, and the journal lists it.
-use Rattle.std.proofs.Common.{◌≡◌, ℕ, zero, suc, ◌+◌, ◌≤◌, ◌<◌, Bool, true, false, cond, List, [], ◌∷◌, ◌++◌, length, slice_get, arith, refl, ap, sym, subst, ◌∙◌, eq-eqb, ne_eqb}
-use Rattle.std.specs.Prelude.{Option, None, Some, remove, ◌==◌, if◌then◌else◌}
+use Rattle.std.proofs.Common.{◌≡◌, ℕ, zero, suc, ◌+◌, ◌≤◌, ◌<◌, Bool, true, false, cond, List, [], ◌∷◌, ◌++◌, slice_get, arith, refl, ap, sym, subst, ◌∙◌, eq-eqb, ne_eqb}
+use Rattle.std.specs.Prelude.{Option, Some, remove, ◌==◌}
 use Rattle.std.specs.List.{AllByRecursion}
 use Rattle.wx_events.specs.declared.event.Event.{Event}
 use Rattle.wx_events.specs.declared.priority.Priority.{Priority}
 use Rattle.prio_channel.specs.Channel.{AllAtMost}
 use Rattle.prio_channel.specs.SameBag.{SameBag, Takes}
-use Rattle.prio_channel.specs.BagLaws.{take-bag, same-trans, all-same, same-length}
+use Rattle.prio_channel.specs.BagLaws.{take-bag, same-trans, all-same}
 use Rattle.wx_action.specs.declared.entry.Entry.{Entry}
 use Rattle.wx_action.specs.declared.entry.Entry.TheVariants.{Begin, Sent, Turn as Turned, TurnFault, Offer, Word as Said, Take, Hand}
 use Rattle.wx_action.specs.declared.entry.Offered.TheVariants.{Queued, Full}
 use Rattle.wx_action.specs.declared.entry.Named.{Named}
-use Rattle.wx_action.specs.Start.{Start}
-use Rattle.wx_action.specs.Journal.{event_count, listed, named, without, bag, window, is_urgent_named, is_urgent_in}
+use Rattle.wx_action.specs.Journal.{event_count, listed, named, without, bag, is_urgent_named, is_urgent_in}
 use Rattle.wx_action.specs.Due.{IsGreatest}
 use Rattle.wx_action.specs.Told.{NamesItsOwn}
 

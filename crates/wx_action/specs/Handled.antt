@@ -1,5 +1,5 @@
 -- What contracts see of the handler that is lent to an action.
-use Rattle.std.specs.Prelude.{◌≡◌, ℕ, ◌≤◌, Bool, Option, None, Some, if◌then◌else◌, List, [], ◌∷◌}
+use Rattle.std.specs.Prelude.{◌≡◌, ℕ, Bool, Option, Some, if◌then◌else◌, List, [], ◌∷◌}
 use Rattle.wx_events.specs.declared.event.Event.{Event}
 use Rattle.wx_events.specs.declared.priority.Priority.{Priority}
 use Rattle.wx_action.specs.declared.entry.Entry.{Entry}

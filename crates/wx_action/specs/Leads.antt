@@ -1,5 +1,5 @@
 -- What a call did to a journal, and what it told.
-use Rattle.std.specs.Prelude.{◌≡◌, ℕ, Bool, true, false, Option, Some, None, List, [], ◌∷◌}
+use Rattle.std.specs.Prelude.{◌≡◌, Bool, false, Option, List, ◌∷◌}
 use Rattle.wx_action.specs.declared.entry.Entry.{Entry}
 use Rattle.wx_action.specs.Start.{Start}
 use Rattle.wx_action.specs.Due.{Due}

@@ -1,8 +1,8 @@
 -- The laws of every run, proved.
-use Rattle.std.proofs.Common.{◌≡◌, ◌≢◌, ℕ, zero, suc, ◌+◌, ◌≤◌, ◌<◌, Bool, true, false, cond, List, [], ◌∷◌, ◌++◌, length, arith, refl, ap, sym, subst, ◌∙◌, append_assoc, eq-eqb, ne_eqb}
-use Rattle.std.specs.Prelude.{Option, None, Some, ◌==◌, ◌&&◌, ◌||◌, not, nat_le}
+use Rattle.std.proofs.Common.{◌≡◌, ℕ, ◌≤◌, ◌<◌, Bool, true, false, cond, List, [], ◌∷◌, ◌++◌, length, arith, refl, ap, sym, subst, ◌∙◌, append_assoc, ne_eqb}
+use Rattle.std.specs.Prelude.{Option, None, Some, ◌==◌, ◌&&◌, ◌||◌, not}
 use Rattle.std.specs.Option.{IsSomeAnd}
-use Rattle.std.specs.List.{AllByRecursion, flat_map}
+use Rattle.std.specs.List.{AllByRecursion}
 use Rattle.std.proofs.lemmas.List.{append-nil}
 use Rattle.wx_events.specs.declared.event.Event.{Event}
 use Rattle.wx_events.specs.declared.priority.Priority.{Priority}
@@ -11,16 +11,15 @@ use Rattle.wx_action.specs.declared.entry.Entry.TheVariants.{Begin, Sent, Turn a
 use Rattle.wx_action.specs.declared.entry.Act.{Act}
 use Rattle.wx_action.specs.declared.entry.Named.{Named}
 use Rattle.wx_action.specs.declared.entry.Offered.{Offered}
-use Rattle.wx_action.specs.declared.entry.Offered.TheVariants.{Queued, Full}
 use Rattle.wx_action.specs.declared.entry.Turn.{Turn}
 use Rattle.wx_action.specs.declared.entry.TurnKind.{TurnKind}
 use Rattle.wx_action.specs.declared.entry.TurnKind.TheVariants.{Arrive, Work, Last}
 use Rattle.wx_action.specs.declared.entry.Word.TheVariants.{Idle}
 use Rattle.wx_action.specs.Start.{Start}
-use Rattle.wx_action.specs.Journal.{moment, event_count, listed, named, bag, window, passed, batches, is_over, is_urgent_named, is_urgent_in}
-use Rattle.wx_action.specs.Due.{Agenda, Begins, Sends, Open, Offers, Says, Takes, Hands, Ended, sends, rest, work, turn_agenda, after_take, after_hand, has_quit, agenda, Admits, Due, IsRun, IsGreatest, begin_of}
+use Rattle.wx_action.specs.Journal.{moment, event_count, listed, named, bag, window, batches, is_over, is_urgent_named, is_urgent_in}
+use Rattle.wx_action.specs.Due.{Agenda, Begins, Sends, Open, Offers, Says, Takes, Hands, Ended, sends, rest, turn_agenda, has_quit, agenda, Admits, IsRun, IsGreatest}
 use Rattle.wx_action.specs.Told.{NamesItsOwn}
-use Rattle.wx_action.specs.BagLaws.{AreBelow, BagFacts, bag_facts}
+use Rattle.wx_action.specs.BagLaws.{AreBelow, bag_facts}
 use Rattle.wx_action.specs.Laws.{joined, IsBatched, NoneUrgent, UrgentLast, is_last_urgent, urgent_in, IsBatch, AreBatches, NoneUrgentWaits}
 
 -- ---- what an agenda that admits an entry says of it

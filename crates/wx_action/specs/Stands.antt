@@ -1,5 +1,5 @@
 -- A worker stands for a journal.
-use Rattle.std.specs.Prelude.{◌≡◌, ℕ, ◌==◌, Bool, true, false, List, [], ◌∷◌, ◌++◌, length}
+use Rattle.std.specs.Prelude.{◌≡◌, ℕ, ◌==◌, true, false, List, [], ◌∷◌, ◌++◌, length}
 use Rattle.wx_events.specs.declared.priority.Priority.{Priority}
 use Rattle.prio_channel.specs.Channel.{Channel}
 use Rattle.prio_channel.specs.SameBag.{SameBag}

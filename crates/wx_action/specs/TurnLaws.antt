@@ -1,5 +1,5 @@
 -- What is known of a worker directly after a turn was drawn, and of what hooks promise over several calls.
-use Rattle.std.proofs.Common.{◌≡◌, ℕ, Bool, true, false, Option, None, Some, List, [], ◌∷◌, refl, ap, sym, subst, ◌∙◌}
+use Rattle.std.proofs.Common.{◌≡◌, ℕ, Bool, true, false, List, ◌∷◌, refl, sym, subst, ◌∙◌}
 use Rattle.wx_action.specs.declared.entry.Entry.{Entry}
 use Rattle.wx_action.specs.declared.entry.Entry.TheVariants.{Turn as Turned}
 use Rattle.wx_action.specs.declared.entry.Turn.{Turn}
@@ -7,13 +7,13 @@ use Rattle.wx_action.specs.declared.entry.TurnKind.{TurnKind}
 use Rattle.wx_action.specs.declared.entry.TurnKind.TheVariants.{Arrive, Work, Last}
 use Rattle.wx_action.specs.declared.state.Worker.{Worker}
 use Rattle.wx_action.specs.Start.{Start}
-use Rattle.wx_action.specs.Journal.{moment, turn_fault}
-use Rattle.wx_action.specs.Due.{Agenda, Begins, Sends, Open, Offers, Says, Takes, Hands, Ended, agenda, turn_agenda, Due, Admits, IsRun}
-use Rattle.wx_action.specs.Told.{NamesItsOwn, is_hooks, Obeys, More as MoreObeyed}
+use Rattle.wx_action.specs.Journal.{moment}
+use Rattle.wx_action.specs.Due.{Open, agenda, turn_agenda, IsRun}
+use Rattle.wx_action.specs.Told.{NamesItsOwn, is_hooks, More as MoreObeyed}
 use Rattle.wx_action.specs.Laws.{NoneUrgentWaits}
-use Rattle.wx_action.specs.Leads.{Apart, Same, More, KeepsRule, Promised}
-use Rattle.wx_action.specs.Stands.{Stands, Ready, AtTurn}
-use Rattle.wx_action.specs.RunLaws.{none_waits_at_turn, own_of_run}
+use Rattle.wx_action.specs.Leads.{Apart, Same, More, Promised}
+use Rattle.wx_action.specs.Stands.{Ready, AtTurn}
+use Rattle.wx_action.specs.RunLaws.{none_waits_at_turn}
 
 -- the worker stands for the journal with the turn too, and the turn owes what its kind says
 pub record IsDrawn (s : Start) (w : Worker) (at : ℕ) (kind : TurnKind) (p : List Entry) : Type 0 where

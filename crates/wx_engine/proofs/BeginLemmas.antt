@@ -1,15 +1,15 @@
 -- The beginning of a run.
-use Rattle.std.proofs.Common.{◌≡◌, ℕ, suc, ◌+◌, ◌<◌, ◌≤◌, List, [], ◌∷◌, length, drop, get_or, drop-cons, add-one, arith, refl, ap, sym, subst, ◌∙◌}
+use Rattle.std.proofs.Common.{◌≡◌, ℕ, suc, ◌+◌, ◌<◌, List, [], ◌∷◌, length, drop, get_or, drop-cons, add-one, refl, ap, sym, ◌∙◌}
 use Rattle.wx_events.specs.declared.event.Event.{Event}
 use Rattle.wx_events.specs.declared.priority.Priority.{Priority}
 use Rattle.wx_action.specs.declared.entry.Entry.{Entry}
 use Rattle.wx_action.specs.declared.state.Worker.{Worker}
-use Rattle.wx_action.specs.Start.{Start, IsStart}
+use Rattle.wx_action.specs.Start.{Start}
 use Rattle.wx_action.specs.Journal.{bag}
-use Rattle.wx_action.specs.Due.{Agenda, Sends, Hands, agenda, sends, rest, begin_of, IsRun}
+use Rattle.wx_action.specs.Due.{Sends, Hands, agenda, sends, begin_of, IsRun}
 use Rattle.wx_action.specs.Laws.{NoneUrgentWaits}
 use Rattle.wx_action.specs.Leads.{StaysApart, FollowsAlone, Then, More}
-use Rattle.wx_action.specs.Turns.{SameTurns, StaysInTurn}
+use Rattle.wx_action.specs.Turns.{StaysInTurn}
 use Rattle.wx_action.specs.Stands.{Stands, Ready}
 use Rattle.wx_action.specs.RunLaws.{none_waits}
 

@@ -1,18 +1,17 @@
 -- A turn is drawn and served.
-use Rattle.std.proofs.Common.{◌≡◌, ℕ, suc, ◌+◌, ◌<◌, ◌≤◌, Bool, true, false, Option, None, Some, Ok, List, [], ◌∷◌, refl, ap, sym, subst, ◌∙◌, arith}
+use Rattle.std.proofs.Common.{◌≡◌, ℕ, ◌+◌, ◌≤◌, Bool, false, Option, List, [], ◌∷◌, refl, subst}
 use Rattle.wx_action.specs.declared.entry.Entry.{Entry}
 use Rattle.wx_action.specs.declared.entry.Entry.TheVariants.{Turn as Turned, TurnFault}
 use Rattle.wx_action.specs.declared.entry.Turn.{Turn}
 use Rattle.wx_action.specs.Start.{Start}
 use Rattle.wx_action.specs.Journal.{moment, turn_count, turn_fault}
-use Rattle.wx_action.specs.Due.{agenda, Due, Open, IsTurn, IsRun}
-use Rattle.wx_action.specs.Told.{tell, tell_if, tells, is_world, is_hooks, is_turn, NamesItsOwn}
+use Rattle.wx_action.specs.Due.{agenda, Open, IsRun}
+use Rattle.wx_action.specs.Told.{tell, tells, is_hooks, is_turn, NamesItsOwn}
 use Rattle.wx_action.specs.Laws.{NoneUrgentWaits, MomentsRise}
-use Rattle.wx_action.specs.Leads.{Follows, Then, Apart, Same, More, Promised}
+use Rattle.wx_action.specs.Leads.{Follows, Then, Same, More, Promised}
 use Rattle.wx_action.specs.Turns.{SameTurns, StaysInTurn}
 use Rattle.wx_action.specs.RunLaws.{own_of_run}
 use Rattle.wx_action.specs.TurnLaws.{promised_apart, promised_then}
-use Rattle.wx_engine.specs.Run.{TellsTurns}
 use Rattle.wx_engine.proofs.BeginLemmas.{calm_begun}
 
 -- a turn that was drawn and told

@@ -1,6 +1,5 @@
 -- When a run answers otherwise than Ok.
-use Rattle.std.specs.Prelude.{◌≡◌, Result, Ok, Err, List}
-use Rattle.wx_action.specs.declared.error.CriticalError.{CriticalError}
+use Rattle.std.specs.Prelude.{Ok, Err}
 use Rattle.wx_action.specs.declared.error.CriticalError.TheVariants.{IoError, Memory}
 use Rattle.wx_action.specs.Printed.{Answer}
 

@@ -1,5 +1,5 @@
 -- What a run that led from the empty journal to this one told.
-use Rattle.std.proofs.Common.{◌≡◌, Bool, Option, List, [], ◌∷◌, refl, ap}
+use Rattle.std.proofs.Common.{◌≡◌, Option, List, [], refl, ap}
 use Rattle.wx_action.specs.declared.entry.Entry.{Entry}
 use Rattle.wx_action.specs.Start.{Start}
 use Rattle.wx_action.specs.Due.{IsRun}

@@ -1,5 +1,5 @@
 -- Why an engine refuses an event.
-use Rattle.std.specs.Prelude.{◌≡◌, ℕ, List, length}
+use Rattle.std.specs.Prelude.{◌≡◌, length}
 use Rattle.wx_events.specs.declared.event.Event.{Event}
 use Rattle.wx_events.specs.declared.priority.Priority.{Priority}
 use Rattle.wx_action.specs.Start.{Start}

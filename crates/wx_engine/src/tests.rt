@@ -1,12 +1,15 @@
-// Tests of a world that follows a script.
-ghost use Rattle.std.specs.Prelude.{IfOk};
+// Tests of a world that follows a script, and of runs: their text is worked out by hand.
+ghost use Rattle.std.specs.Prelude.{◌≡◌, ◌∷◌, [], IfOk};
+ghost use Rattle.wx_action.specs.Start.{IsSize};
+ghost use Rattle.wx_action.specs.declared.entry.TurnKind.TheVariants.{Arrive, Work};
+ghost use Rattle.wx_engine.specs.declared.script.ScriptTurn.TheVariants.{Turn as Comes};
 ghost use Rattle.wx_engine.specs.Follows.{IsScript};
 
-use crate::{Script, ScriptHooks, ScriptTurn, ScriptWorld};
+use crate::{Script, ScriptHooks, ScriptTurn, ScriptWorld, SendRefused, Watchexec};
 use std::alloc::Global;
 use std::test::Fail;
-use wx_action::{Act, Host, JobHooks, Turn, TurnKind, World};
-use wx_events::{Event, List, Memory, Priority};
+use wx_action::{Act, Config, Host, JobHooks, Journal, Turn, TurnKind, World, print_journal};
+use wx_events::{Copies, Event, List, Memory, Priority, Tag, Text, TextPath, cut};
 
 /// Two turns with a fault between them, and one call that quits.
 fn script(alloc: Global) -> Result<Script, Memory>
@@ -74,5 +77,225 @@ fn hooks_are_made(rt: HostRuntime) -> Result<(), Fail> {
     let mut hooks = ScriptHooks::new(alloc, &script)?;
     hooks.reserve(2)?;
     assert!(rt; !hooks.short());
+    Ok(())
+}
+
+/// An event without tags.
+fn event(alloc: Global) -> Event
+    ensures { result ≡ record { tags = [] } }
+{
+    Event {
+        tags: List::new(alloc),
+    }
+}
+
+/// A turn in which an event without tags arrives.
+fn arrive(alloc: Global, at: u64, priority: Priority) -> ScriptTurn
+    ensures { result ≡ Comes (record { at = at; kind = Arrive (record { tags = [] }) priority }) }
+{
+    let kind = TurnKind::Arrive(event(alloc), priority);
+    ScriptTurn::Turn(Turn { at, kind })
+}
+
+/// A turn in which the worker acts.
+fn work(at: u64) -> ScriptTurn
+    ensures { result ≡ Comes (record { at = at; kind = Work }) }
+{
+    let kind = TurnKind::Work;
+    ScriptTurn::Turn(Turn { at, kind })
+}
+
+/// The default settings and no turn.
+fn empty(alloc: Global) -> Script
+    ensures { result ≡ record { throttle = 50_000_000; size = 4096; sends = []; turns = []; actions = []; last = 0 } }
+{
+    Script {
+        throttle: 50_000_000,
+        size: 4096,
+        sends: List::new(alloc),
+        turns: List::new(alloc),
+        actions: List::new(alloc),
+        last: 0,
+    }
+}
+
+/// An urgent event is sent, and the first call quits.
+fn quits(alloc: Global) -> Result<Script, Memory>
+    ensures { IfOk result IsScript }
+{
+    let mut script = empty(alloc);
+    script.sends.push((event(alloc), Priority::Urgent))?;
+    script.turns.push(work(0))?;
+    script.turns.push(work(0))?;
+    let mut acts = List::new(alloc);
+    acts.push(Act::Quit)?;
+    script.actions.push(acts)?;
+    Ok(script)
+}
+
+/// The world has no turn to give while an event waits in the window.
+fn faults(alloc: Global) -> Result<Script, Memory>
+    ensures { IfOk result IsScript }
+{
+    let mut script = empty(alloc);
+    script.turns.push(arrive(alloc, 0, Priority::Normal))?;
+    script.turns.push(work(0))?;
+    script.turns.push(ScriptTurn::Fault(5))?;
+    Ok(script)
+}
+
+/// Two events are collected, and handed as soon as the throttle is over.
+fn collects(alloc: Global) -> Result<Script, Memory>
+    ensures { IfOk result IsScript }
+{
+    let mut script = empty(alloc);
+    script.turns.push(arrive(alloc, 0, Priority::Normal))?;
+    script.turns.push(work(0))?;
+    script.turns.push(arrive(alloc, 10_000_000, Priority::Low))?;
+    script.turns.push(work(10_000_000))?;
+    script.turns.push(work(49_999_999))?;
+    script.turns.push(work(50_000_000))?;
+    script.last = 50_000_000;
+    Ok(script)
+}
+
+/// Three events arrive at a queue of one.
+fn fills(alloc: Global) -> Result<Script, Memory>
+    ensures { IfOk result IsScript }
+{
+    let mut script = empty(alloc);
+    script.size = 1;
+    script.turns.push(arrive(alloc, 0, Priority::Normal))?;
+    script.turns.push(arrive(alloc, 0, Priority::Normal))?;
+    script.turns.push(arrive(alloc, 0, Priority::Normal))?;
+    Ok(script)
+}
+
+/// An urgent event arrives behind another one, and is handed first and at once.
+fn hurries(alloc: Global) -> Result<Script, Memory>
+    ensures { IfOk result IsScript }
+{
+    let mut script = empty(alloc);
+    script.turns.push(arrive(alloc, 0, Priority::Low))?;
+    script.turns.push(arrive(alloc, 3, Priority::Urgent))?;
+    script.turns.push(work(4))?;
+    script.last = 4;
+    Ok(script)
+}
+
+/// The scripts above.
+#[derive(Clone, Copy, Debug)]
+enum Case {
+    Quits,
+    Faults,
+    Collects,
+    Fills,
+    Hurries,
+}
+
+fn script_of(alloc: Global, case: Case) -> Result<Script, Memory>
+    ensures { IfOk result IsScript }
+{
+    match case {
+        Case::Quits => quits(alloc),
+        Case::Faults => faults(alloc),
+        Case::Collects => collects(alloc),
+        Case::Fills => fills(alloc),
+        Case::Hurries => hurries(alloc),
+    }
+}
+
+/// The topmost folder.
+fn root(alloc: Global) -> Result<TextPath, Memory>
+    ensures { IfOk result (λ folder. folder ≡ 47 ∷ []) }
+{
+    Ok(TextPath::new(Text::from_slice(alloc, b"/")?))
+}
+
+/// An engine with this throttle and a queue of this size.
+fn engine_with(alloc: Global, throttle: u64, size: u32) -> Result<Watchexec, Memory>
+    requires { IsSize size }
+{
+    let mut config = Config::new(alloc)?;
+    config.throttle.replace(throttle);
+    config.event_channel_size = size;
+    Watchexec::with_config(alloc, config, root(alloc)?)
+}
+
+/// Runs an engine as a script says, and answers how many entries the journal has, and its text.
+fn run_text(alloc: Global, engine: Watchexec, script: &Script) -> Result<(u64, Text), Memory>
+    requires { IsScript script.now }
+{
+    let mut engine = engine;
+    for item in script.sends.as_slice() {
+        let event = item.0.copy(alloc)?;
+        if engine.send_event(event, item.1).is_err() {
+            return Err(Memory);
+        }
+    }
+    let mut world = ScriptWorld::new(alloc, script)?;
+    let mut hooks = ScriptHooks::new(alloc, script)?;
+    let mut journal = Journal::new(alloc)?;
+    let answer = engine.main(alloc, &mut world, &mut hooks, &mut journal);
+    let mut text = Text::new(alloc);
+    print_journal(alloc, &journal, &answer, &mut text)?;
+    Ok((journal.len(), text))
+}
+
+const QUITS: &[u8] = b"sent 0 urgent 0\nturn 0 work\ntake 0\nhand 0 1 0 quit\nend ok lost 0\n";
+const FAULTS: &[u8] = b"turn 0 arrive normal 0\noffer 0 - queued normal 0\nturn 0 work\ntake 0\nturnfault 5\nend error io turn 5 lost 1 0\n";
+const COLLECTS: &[u8] = b"turn 0 arrive normal 0\noffer 0 - queued normal 0\nturn 0 work\ntake 0\nturn 10000000 arrive low 0\noffer 1 - queued low 0\nturn 10000000 work\ntake 1\nturn 49999999 work\nword idle\nturn 50000000 work\nhand 0 2 0 1\nturn 50000000 last\nend ok lost 0\n";
+const FILLS: &[u8] = b"turn 0 arrive normal 0\noffer 0 - queued normal 0\nturn 0 arrive normal 0\noffer 1 - full normal 0\nturn 0 arrive normal 0\noffer 2 - full normal 0\nturn 0 last\nend ok lost 0\n";
+const HURRIES: &[u8] = b"turn 0 arrive low 0\noffer 0 - queued low 0\nturn 3 arrive urgent 0\noffer 1 - queued urgent 0\nturn 4 work\ntake 1\nhand 0 1 1\nturn 4 last\nend ok lost 0\n";
+
+#[test]
+fn runs_follow_their_scripts(rt: HostRuntime) -> Result<(), Fail> {
+    let alloc = rt.alloc();
+    let table = [
+        (Case::Quits, 5, QUITS),
+        (Case::Faults, 6, FAULTS),
+        (Case::Collects, 14, COLLECTS),
+        (Case::Fills, 8, FILLS),
+        (Case::Hurries, 9, HURRIES),
+    ];
+    for (case, count, lines) in table {
+        let script = script_of(alloc, case)?;
+        let engine = engine_with(alloc, script.throttle, script.size)?;
+        let (len, text) = run_text(alloc, engine, &script)?;
+        let (_, rest) = cut(text.as_slice(), 10).ok_or("a beginning")?;
+        assert_eq!(rt; rest, lines, "at {case:?}");
+        assert_eq!(rt; len, count, "at {case:?}");
+    }
+    Ok(())
+}
+
+#[test]
+fn an_engine_begins_with_the_default_settings(rt: HostRuntime) -> Result<(), Fail> {
+    let alloc = rt.alloc();
+    let engine = Watchexec::new(alloc, 7, root(alloc)?)?;
+    let script = hurries(alloc)?;
+    let (_, text) = run_text(alloc, engine, &script)?;
+    let (begin, rest) = cut(text.as_slice(), 10).ok_or("a beginning")?;
+    let settings = b"begin throttle 50000000 size 4096 errors 64 keyboard off follow on jobsignals off watcher native cwd / paths 0";
+    assert_eq!(rt; begin, settings.as_slice());
+    let end = b"hand 7 1 1\nturn 4 last\nend ok lost 0\n";
+    assert!(rt; rest.ends_with(end.as_slice()));
+    Ok(())
+}
+
+#[test]
+fn a_full_queue_hands_the_event_back(rt: HostRuntime) -> Result<(), Fail> {
+    let alloc = rt.alloc();
+    let mut engine = engine_with(alloc, 0, 1)?;
+    assert!(rt; engine.send_event(event(alloc), Priority::Low).is_ok());
+    let mut tagged = event(alloc);
+    tagged.tags.push(Tag::Unknown)?;
+    match engine.send_event(tagged, Priority::High) {
+        Err(SendRefused::Full(event, priority)) => {
+            assert_eq!(rt; event.tags.as_slice(), [Tag::Unknown].as_slice());
+            assert_eq!(rt; priority, Priority::High);
+        }
+        _ => assert!(rt; false, "it is full"),
+    }
     Ok(())
 }

@@ -1,6 +1,6 @@
 // Lines and values by the rules of the words: the expected values are worked out by hand.
 use crate::cursor::Words;
-use crate::event::Event;
+use crate::event::{Event, Tag};
 use crate::keyword::take_literal;
 use crate::list::{List, Memory};
 use crate::path::TextPath;
@@ -189,6 +189,29 @@ fn events_without_tags(rt: HostRuntime) -> Result<(), Fail> {
     assert!(rt; again.is_empty());
     let unknown: Option<Event> = read_line(alloc, b"1 path")?;
     assert!(rt; unknown.is_none());
+    Ok(())
+}
+
+#[test]
+fn events_with_a_tag(rt: HostRuntime) -> Result<(), Fail> {
+    let alloc = rt.alloc();
+    let line = line_of(alloc, &Tag::Unknown)?;
+    assert_eq!(rt; line.as_slice(), b"unknown".as_slice());
+    let tag: Option<Tag> = read_line(alloc, b"unknown")?;
+    assert_eq!(rt; tag, Some(Tag::Unknown));
+    let mut event = Event {
+        tags: List::new(alloc),
+    };
+    event.tags.push(Tag::Unknown)?;
+    let line = line_of(alloc, &event)?;
+    assert_eq!(rt; line.as_slice(), b"1 unknown".as_slice());
+    let again: Event = read_line(alloc, b"1 unknown")?.ok_or("an event")?;
+    assert!(rt; again == event);
+    let table: [&[u8]; 4] = [b"1", b"1 Unknown", b"2 unknown", b"0 unknown"];
+    for line in table {
+        let found: Option<Event> = read_line(alloc, line)?;
+        assert!(rt; found.is_none(), "at {line:?}");
+    }
     Ok(())
 }
 

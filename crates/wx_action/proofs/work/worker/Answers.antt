@@ -1,4 +1,3 @@
-use Rattle.std.proofs.Common.{rules}
 use Rattle.wx_action.proofs.HandLemmas.{calm_after, calm_open}
 use Rattle.wx_action.specs.TurnLaws.{at_turn}
 use Rattle.wx_action.proofs.work.worker.Goals as goal

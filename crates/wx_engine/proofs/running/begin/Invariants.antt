@@ -1,4 +1,4 @@
-use Rattle.std.proofs.Common.{◌≡◌, ◌≤◌, length, drop}
+use Rattle.std.proofs.Common.{◌≡◌, length, drop}
 use Rattle.wx_action.specs.Journal.{bag}
 use Rattle.wx_action.specs.Due.{agenda, sends}
 use Rattle.wx_action.specs.Leads.{StaysApart, FollowsAlone}

@@ -1,6 +1,5 @@
-use Rattle.std.proofs.Common.{[], refl, sym, ◌∙◌, ap}
+use Rattle.std.proofs.Common.{[], refl, sym, ◌∙◌}
 use Rattle.wx_action.specs.Leads.{Same}
-use Rattle.wx_action.specs.Turns.{SameTurns}
 use Rattle.wx_action.specs.TurnLaws.{promised_apart, promised_then}
 use Rattle.wx_engine.proofs.TurnLemmas.{same_turns}
 use Rattle.wx_engine.proofs.running.run.Goals as goal

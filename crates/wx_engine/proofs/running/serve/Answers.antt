@@ -1,7 +1,6 @@
-use Rattle.std.proofs.Common.{◌∙◌, ap, []}
-use Rattle.wx_action.specs.declared.entry.TurnKind.{TurnKind}
+use Rattle.std.proofs.Common.{[]}
 use Rattle.wx_action.specs.Leads.{Same}
-use Rattle.wx_action.specs.TurnLaws.{IsDrawn, at_turn, promised_apart}
+use Rattle.wx_action.specs.TurnLaws.{at_turn, promised_apart}
 use Rattle.wx_engine.proofs.BeginLemmas.{calm_begun}
 use Rattle.wx_engine.proofs.running.serve.Goals as goal
 

@@ -1,11 +1,9 @@
-use Rattle.std.proofs.Common.{◌≡◌, ◌+◌, ◌≤◌, [], ap, arith, sym, ◌∙◌, subst, rules}
+use Rattle.std.proofs.Common.{[], ap, arith, sym, ◌∙◌}
 use Rattle.wx_action.specs.declared.entry.Entry.TheVariants.{Turn as Turned}
-use Rattle.wx_action.specs.declared.entry.Turn.{Turn}
-use Rattle.wx_action.specs.declared.entry.TurnKind.{TurnKind}
 use Rattle.wx_action.specs.Told.{is_last, tell}
 use Rattle.wx_action.specs.TurnLaws.{promised_then}
 use Rattle.wx_engine.proofs.BeginLemmas.{calm_begun}
-use Rattle.wx_engine.proofs.TurnLemmas.{turn_follows, fault_follows, follows_then, turn_calm, fault_calm, turn_promised, fault_promised, Served, served}
+use Rattle.wx_engine.proofs.TurnLemmas.{turn_follows, fault_follows, turn_calm, fault_calm, turn_promised, fault_promised, served}
 use Rattle.wx_engine.proofs.running.serve_turns.Goals as goal
 
 pub returns-in_err-reserve-clause-calm : goal.returns-in_err-reserve-clause-calm

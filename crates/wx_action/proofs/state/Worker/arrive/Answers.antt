@@ -1,6 +1,4 @@
 use Rattle.std.proofs.Common.{ap, arith, length, ◌+◌}
-use Rattle.wx_action.specs.declared.entry.Entry.{Entry}
-use Rattle.wx_action.specs.declared.state.Worker.{Worker}
 use Rattle.wx_action.proofs.StandsLemmas.{event_count-small}
 use Rattle.wx_action.proofs.ArriveLemmas.{Steps, offer_done}
 use Rattle.wx_action.proofs.state.Worker.arrive.Goals as goal

@@ -1,4 +1,3 @@
-use Rattle.std.proofs.Common.{◌∙◌}
 use Rattle.wx_action.specs.declared.work.Collected.TheVariants.{Idle}
 use Rattle.wx_action.proofs.WorkLemmas.{TakeDone, idle_done}
 use Rattle.wx_action.proofs.state.Worker.collect.Goals as goal

@@ -1,5 +1,3 @@
-use Rattle.std.proofs.Common.{◌∙◌}
-use Rattle.wx_action.specs.declared.state.Worker.{Worker}
 use Rattle.wx_action.proofs.WorkLemmas.{not_empty, TakeDone, take_done}
 use Rattle.wx_action.proofs.state.Worker.take.Goals as goal
 
