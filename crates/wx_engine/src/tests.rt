@@ -243,10 +243,18 @@ fn run_text(alloc: Global, engine: Watchexec, script: &Script) -> Result<(u64, T
 }
 
 const QUITS: &[u8] = b"sent 0 urgent 0\nturn 0 work\ntake 0\nhand 0 1 0 quit\nend ok lost 0\n";
-const FAULTS: &[u8] = b"turn 0 arrive normal 0\noffer 0 - queued normal 0\nturn 0 work\ntake 0\nturnfault 5\nend error io turn 5 lost 1 0\n";
-const COLLECTS: &[u8] = b"turn 0 arrive normal 0\noffer 0 - queued normal 0\nturn 0 work\ntake 0\nturn 10000000 arrive low 0\noffer 1 - queued low 0\nturn 10000000 work\ntake 1\nturn 49999999 work\nword idle\nturn 50000000 work\nhand 0 2 0 1\nturn 50000000 last\nend ok lost 0\n";
-const FILLS: &[u8] = b"turn 0 arrive normal 0\noffer 0 - queued normal 0\nturn 0 arrive normal 0\noffer 1 - full normal 0\nturn 0 arrive normal 0\noffer 2 - full normal 0\nturn 0 last\nend ok lost 0\n";
-const HURRIES: &[u8] = b"turn 0 arrive low 0\noffer 0 - queued low 0\nturn 3 arrive urgent 0\noffer 1 - queued urgent 0\nturn 4 work\ntake 1\nhand 0 1 1\nturn 4 last\nend ok lost 0\n";
+
+const FAULTS: &[u8] =
+    b"turn 0 arrive normal 0\noffer 0 - queued normal 0\nturn 0 work\ntake 0\nturnfault 5\nend error io turn 5 lost 1 0\n";
+
+const COLLECTS: &[u8] =
+    b"turn 0 arrive normal 0\noffer 0 - queued normal 0\nturn 0 work\ntake 0\nturn 10000000 arrive low 0\noffer 1 - queued low 0\nturn 10000000 work\ntake 1\nturn 49999999 work\nword idle\nturn 50000000 work\nhand 0 2 0 1\nturn 50000000 last\nend ok lost 0\n";
+
+const FILLS: &[u8] =
+    b"turn 0 arrive normal 0\noffer 0 - queued normal 0\nturn 0 arrive normal 0\noffer 1 - full normal 0\nturn 0 arrive normal 0\noffer 2 - full normal 0\nturn 0 last\nend ok lost 0\n";
+
+const HURRIES: &[u8] =
+    b"turn 0 arrive low 0\noffer 0 - queued low 0\nturn 3 arrive urgent 0\noffer 1 - queued urgent 0\nturn 4 work\ntake 1\nhand 0 1 1\nturn 4 last\nend ok lost 0\n";
 
 #[test]
 fn runs_follow_their_scripts(rt: HostRuntime) -> Result<(), Fail> {
@@ -276,7 +284,8 @@ fn an_engine_begins_with_the_default_settings(rt: HostRuntime) -> Result<(), Fai
     let script = hurries(alloc)?;
     let (_, text) = run_text(alloc, engine, &script)?;
     let (begin, rest) = cut(text.as_slice(), 10).ok_or("a beginning")?;
-    let settings = b"begin throttle 50000000 size 4096 errors 64 keyboard off follow on jobsignals off watcher native cwd / paths 0";
+    let settings =
+        b"begin throttle 50000000 size 4096 errors 64 keyboard off follow on jobsignals off watcher native cwd / paths 0";
     assert_eq!(rt; begin, settings.as_slice());
     let end = b"hand 7 1 1\nturn 4 last\nend ok lost 0\n";
     assert!(rt; rest.ends_with(end.as_slice()));
