@@ -18,15 +18,18 @@ use replay::wx_main;
 use standard::{StdSink, StdSource};
 use status::Status;
 use std::alloc::Global;
+use std::io::ErrorKind;
 use std::process::ExitCode;
 use std::{env, io};
 use wx_events::{Memory, Text};
 
-/// The words of the command line, without the program's name.
+/// The words of the command line, without the program's name. There are none where one of them is no text.
 fn words(rt: &HostRuntime) -> Result<Vec<Text>, Memory> {
     let mut words = Vec::new(rt.alloc());
-    let Ok(args) = env::args(rt) else {
-        return Ok(words);
+    let args = match env::args(rt) {
+        Ok(args) => args,
+        Err(error) if error.kind() == ErrorKind::OutOfMemory => return Err(Memory),
+        Err(_) => return Ok(words),
     };
     for arg in args.skip(1) {
         words.push(Text::from_slice(rt.alloc(), arg.as_bytes())?)?;
