@@ -1,6 +1,5 @@
 pub mod ArriveLemmas
 pub mod HandLemmas
-pub mod PutLaws
 pub mod QuitLemmas
 pub mod StandsLemmas
 pub mod WorkLemmas

@@ -15,6 +15,3 @@ pub mod Start
 pub mod Told
 pub mod TurnLaws
 pub mod Turns
-pub mod WordLaws
-pub mod Words
-pub mod Written

@@ -21,16 +21,16 @@ use Rattle.wx_events.specs.Forms.{IsForm}
 use Rattle.wx_events.specs.Clean.{IsClean, AllClean}
 use Rattle.wx_events.specs.CleanLaws.{clean, number_clean, text_clean, list_clean, items_clean, words_back, line_back, each_append}
 use Rattle.wx_events.specs.Events.{EventFits}
-use Rattle.wx_action.specs.declared.config.Watcher.{Watcher}
-use Rattle.wx_action.specs.declared.config.WatchedPath.{WatchedPath}
-use Rattle.wx_action.specs.declared.entry.Act.{Act}
-use Rattle.wx_action.specs.declared.entry.Entry.{Entry}
-use Rattle.wx_action.specs.declared.entry.Entry.TheVariants.{Begin, Sent, Turn as Turned, TurnFault, Offer, Word as Said, Take, Hand}
+use Rattle.wx_job.specs.declared.watched.Watcher.{Watcher}
+use Rattle.wx_job.specs.declared.watched.WatchedPath.{WatchedPath}
+use Rattle.wx_job.specs.declared.entry.Act.{Act}
+use Rattle.wx_job.specs.declared.entry.Entry.{Entry}
+use Rattle.wx_job.specs.declared.entry.Entry.TheVariants.{Begin, Sent, Turn as Turned, TurnFault, Offer, Word as Said, Take, Hand}
 use Rattle.wx_action.specs.declared.error.CriticalError.{CriticalError}
 use Rattle.wx_action.specs.declared.error.CriticalError.TheVariants.{IoError, Memory}
 use Rattle.wx_action.specs.Journal.{window}
-use Rattle.wx_action.specs.Words.{WatcherFits, PathFits, path_words, KindFits, act_words, read_act, limit_words, switch_words, watch_words, name_words, entry_words, read_behind, make_begin, make_sent, make_turn, make_offer, read_all, read_batch, ended, read_entry}
-use Rattle.wx_action.specs.WordLaws.{offered_form, offered_word_clean, said_form, said_word_clean, act_form, act_clean, watcher_form, watcher_clean, path_form, path_clean, ranked_form, ranked_clean, kind_form, kind_clean}
+use Rattle.wx_job.specs.Words.{WatcherFits, PathFits, path_words, KindFits, act_words, read_act, limit_words, switch_words, watch_words, name_words, entry_words, read_behind, make_begin, make_sent, make_turn, make_offer, read_all, read_batch, ended, read_entry}
+use Rattle.wx_job.specs.WordLaws.{offered_form, offered_word_clean, said_form, said_word_clean, act_form, act_clean, watcher_form, watcher_clean, path_form, path_clean, ranked_form, ranked_clean, kind_form, kind_clean}
 use Rattle.wx_action.specs.Printed.{Answer, line_of, entry_line, critical_words, answer_words, end_words, printed}
 
 abbrev pub NamesFit : List ℕ → Type 0

@@ -4,11 +4,11 @@ use Rattle.std.specs.List.{flat_map}
 use Rattle.wx_events.specs.Line.{joined}
 use Rattle.wx_events.specs.Lists.{list_words}
 use Rattle.wx_events.specs.Texts.{text_word}
-use Rattle.wx_action.specs.declared.entry.Entry.{Entry}
+use Rattle.wx_job.specs.declared.entry.Entry.{Entry}
 use Rattle.wx_action.specs.declared.error.CriticalError.{CriticalError}
 use Rattle.wx_action.specs.declared.error.CriticalError.TheVariants.{IoError, Memory}
 use Rattle.wx_action.specs.Journal.{window}
-use Rattle.wx_action.specs.Words.{entry_words, name_words}
+use Rattle.wx_job.specs.Words.{entry_words, name_words}
 
 -- words as a line, with its line feed
 abbrev pub line_of : List (List ℕ) → List ℕ

@@ -1,10 +1,10 @@
 // The events that wait to be handed, with the room for handing them.
 ghost use Rattle.std.specs.Prelude.{◌≡◌, ℕ, ◌+◌, ◌<◌, ◌≤◌, ◌==◌, [], ◌∷◌, ◌++◌, length, OnOk, OnErr};
 
-use crate::entry::{Act, Named};
 use std::alloc::Global;
 use std::marker::Model;
 use wx_events::{Event, Memory};
+use wx_job::{Act, Named};
 
 /// The window of a worker: the names and the events, in the order in which they passed. With each event there is room
 /// to hand it: for its name twice, and for the act that ends the run twice, since two entries are made of a batch.

@@ -1,56 +1,10 @@
 // The settings of an engine.
-ghost use Rattle.std.specs.Prelude.{◌≡◌, IfOk, true, false};
+ghost use Rattle.std.specs.Prelude.{◌≡◌, IfOk};
 
 use std::alloc::Global;
 use std::marker::Model;
-use wx_events::{Copies, List, Memory, TextPath};
-
-/// How files are watched.
-#[derive(Clone, Copy, Debug, Default, PartialEq, Eq)]
-pub enum Watcher {
-    #[default]
-    Native,
-    /// By polling. The interval in nanoseconds has no effect.
-    Poll(u64),
-}
-
-/// A path that is watched, with all below it where it is recursive.
-#[derive(Drop, Debug)]
-pub struct WatchedPath {
-    pub path: TextPath,
-    pub recursive: bool,
-}
-
-impl WatchedPath {
-    /// This path and all below it.
-    pub fn recursive(path: TextPath) -> WatchedPath
-        ensures { result ≡ record { path = path; recursive = true } }
-    {
-        WatchedPath {
-            path,
-            recursive: true,
-        }
-    }
-
-    /// This path and its direct entries.
-    pub fn non_recursive(path: TextPath) -> WatchedPath
-        ensures { result ≡ record { path = path; recursive = false } }
-    {
-        WatchedPath {
-            path,
-            recursive: false,
-        }
-    }
-}
-
-impl Copies for WatchedPath {
-    fn copy(&self, alloc: Global) -> Result<WatchedPath, Memory> {
-        Ok(WatchedPath {
-            path: self.path.copy(alloc)?,
-            recursive: self.recursive,
-        })
-    }
-}
+use wx_events::{List, Memory};
+use wx_job::{WatchedPath, Watcher};
 
 /// A value that can be replaced, which contracts see as that value.
 #[derive(Drop, Debug)]

@@ -3,24 +3,18 @@
 
 mod batch;
 mod config;
-mod entry;
 mod error;
 mod handler;
-mod journal;
 mod outside;
 mod printing;
 mod state;
-mod words;
 mod work;
 
 pub use batch::Batch;
-pub use config::{Changeable, Config, WatchedPath, Watcher};
-pub use entry::{Act, Entry, Named, Offered, Turn, TurnKind, Word};
+pub use config::{Changeable, Config};
 pub use error::CriticalError;
 pub use handler::ActionHandler;
-pub use journal::Journal;
 pub use outside::{Hooks, Host, JobHooks, Outside, TurnFault, Turned, World};
 pub use printing::{lost, one_spelling, print_journal};
 pub use state::Worker;
-pub use words::put_entry;
 pub use work::{Collected, Worked, throttle_collect, worker};

@@ -5,14 +5,12 @@ ghost use Rattle.wx_events.specs.Line.{spaced, joined};
 ghost use Rattle.wx_action.specs.Journal.{window};
 ghost use Rattle.wx_action.specs.Printed.{entry_line, critical_words, answer_words, end_words, line_of, printed, Answer};
 ghost use Rattle.wx_action.specs.OneSpelling.{JournalFits, AnswerFits};
-ghost use Rattle.wx_action.specs.declared.entry.Entry.{Entry as AnEntry};
+ghost use Rattle.wx_job.specs.declared.entry.Entry.{Entry as AnEntry};
 
-use crate::entry::Entry;
 use crate::error::CriticalError;
-use crate::journal::Journal;
-use crate::words::put_entry;
 use std::alloc::Global;
 use wx_events::{List, Memory, Spelled, Text};
+use wx_job::{Entry, Journal, put_entry};
 
 /// Adds an event that was taken, and drops those that were handed.
 fn follow(entry: &Entry, names: &mut List<u64>) -> Result<(), Memory>
@@ -135,10 +133,9 @@ pub fn one_spelling()
 #[cfg(test)]
 mod tests {
     use super::*;
-    use crate::config::{WatchedPath, Watcher};
-    use crate::entry::{Act, Offered, Turn, TurnKind, Word};
     use std::test::Fail;
     use wx_events::{Event, Priority, TextPath, Words};
+    use wx_job::{Act, Offered, Turn, TurnKind, WatchedPath, Watcher, Word};
 
     /// An event without tags.
     fn event(alloc: Global) -> Event {

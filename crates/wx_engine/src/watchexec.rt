@@ -15,8 +15,9 @@ ghost use Rattle.wx_engine.specs.Completes.{IsOkOrMemory};
 use crate::running::run;
 use std::alloc::Global;
 use std::marker::Model;
-use wx_action::{Config, CriticalError, Hooks, Host, JobHooks, Journal, Outside, World};
+use wx_action::{Config, CriticalError, Hooks, Host, JobHooks, Outside, World};
 use wx_events::{Event, List, Memory, Priority, TextPath};
+use wx_job::Journal;
 
 /// Why an event was not sent.
 #[derive(Drop, Debug)]

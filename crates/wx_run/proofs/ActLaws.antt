@@ -3,8 +3,8 @@ use Rattle.std.proofs.Common.{◌≡◌, ℕ, Option, None, Some, List, [], ◌�
 use Rattle.std.proofs.lemmas.List.{append-nil}
 use Rattle.wx_events.specs.Line.{◌>>=◌}
 use Rattle.wx_events.specs.Keywords.{with_word}
-use Rattle.wx_action.specs.declared.entry.Act.{Act}
-use Rattle.wx_action.specs.Words.{act_word, act_all}
+use Rattle.wx_job.specs.declared.entry.Act.{Act}
+use Rattle.wx_job.specs.Words.{act_word, act_all}
 use Rattle.wx_run.specs.Lines.{acts_in}
 
 -- acts in front of what was read

@@ -7,10 +7,10 @@ use Rattle.wx_events.specs.Keywords.{with_word}
 use Rattle.wx_events.specs.Events.{read_priority}
 use Rattle.wx_events.specs.declared.priority.Priority.{Priority}
 use Rattle.wx_events.specs.declared.event.Event.{Event}
-use Rattle.wx_action.specs.Words.{act_word, act_all, ended}
-use Rattle.wx_action.specs.declared.entry.Act.{Act}
-use Rattle.wx_action.specs.declared.entry.TurnKind.{TurnKind}
-use Rattle.wx_action.specs.declared.entry.TurnKind.TheVariants.{Arrive, Work}
+use Rattle.wx_job.specs.Words.{act_word, act_all, ended}
+use Rattle.wx_job.specs.declared.entry.Act.{Act}
+use Rattle.wx_job.specs.declared.entry.TurnKind.{TurnKind}
+use Rattle.wx_job.specs.declared.entry.TurnKind.TheVariants.{Arrive, Work}
 use Rattle.wx_run.specs.declared.lines.Line.{Line}
 use Rattle.wx_run.specs.declared.lines.Line.TheVariants.{Nothing, Throttle, Size, Send, Turn as Turned, Fault, Acts}
 

@@ -13,9 +13,10 @@ use crate::sink::Sink;
 use crate::source::Source;
 use crate::status::Status;
 use std::alloc::Global;
-use wx_action::{Config, CriticalError, Journal, print_journal};
+use wx_action::{Config, CriticalError, print_journal};
 use wx_engine::{Script, ScriptHooks, ScriptWorld, Watchexec};
 use wx_events::{Copies, Memory, Text, TextPath};
+use wx_job::Journal;
 
 /// The settings that a script states.
 fn config_of(alloc: Global, script: &Script) -> Result<Config, Memory>

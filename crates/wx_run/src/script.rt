@@ -7,9 +7,9 @@ ghost use Rattle.wx_run.specs.Scripts.{accepts, step, start, script_in};
 
 use crate::lines::{Line, line_in};
 use std::alloc::Global;
-use wx_action::Turn;
 use wx_engine::{Script, ScriptTurn};
 use wx_events::{Event, List, Memory, Priority, cut};
+use wx_job::Turn;
 
 /// The number of the first bad line, counted from 1.
 #[derive(Clone, Copy, Debug, PartialEq, Eq)]

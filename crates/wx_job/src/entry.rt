@@ -1,7 +1,7 @@
 // The entries of a journal.
 ghost use Rattle.std.specs.Prelude.{◌≡◌, IfOk};
 
-use crate::config::{WatchedPath, Watcher};
+use crate::watched::{WatchedPath, Watcher};
 use std::alloc::Global;
 use wx_events::{Copies, Event, List, Memory, Priority, TextPath};
 

@@ -1,8 +1,8 @@
 use Rattle.std.proofs.Common.{◌≡◌, OnOk, ℕ, List, subst}
 use Rattle.std.specs.Prelude.{codes}
-use Rattle.wx_action.specs.Words.{limit_words, switch_words, watch_words}
-use Rattle.wx_action.proofs.PutLaws.{put_three}
-use Rattle.wx_action.proofs.words.put_entry.Goals as goal
+use Rattle.wx_job.specs.Words.{limit_words, switch_words, watch_words}
+use Rattle.wx_job.proofs.PutLaws.{put_three}
+use Rattle.wx_job.proofs.words.put_entry.Goals as goal
 
 pub returns-in_ok-put_switches-in-Begin : goal.returns-in_ok-put_switches-in-Begin
 returns-in_ok-put_switches-in-Begin c =

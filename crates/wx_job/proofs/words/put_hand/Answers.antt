@@ -2,9 +2,9 @@ use Rattle.std.proofs.Common.{◌≡◌, [], ◌∷◌, OnOk, ℕ, List, subst}
 use Rattle.std.specs.Prelude.{codes, decimal}
 use Rattle.std.specs.List.{flat_map}
 use Rattle.wx_events.specs.Lists.{list_words}
-use Rattle.wx_action.specs.Words.{act_words, name_words}
-use Rattle.wx_action.proofs.PutLaws.{put_three}
-use Rattle.wx_action.proofs.words.put_hand.Goals as goal
+use Rattle.wx_job.specs.Words.{act_words, name_words}
+use Rattle.wx_job.proofs.PutLaws.{put_three}
+use Rattle.wx_job.proofs.words.put_hand.Goals as goal
 
 pub returns : goal.returns
 returns c =

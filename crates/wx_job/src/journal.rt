@@ -14,7 +14,7 @@ pub struct Journal {
 
 impl Model for Journal {
     ghost use Rattle.std.specs.Prelude.{reverse, ◌-◌, vec_len, vec_capacity};
-    ghost use Rattle.wx_action.specs.Written.{Written};
+    ghost use Rattle.wx_job.specs.Written.{Written};
 
     ghost Value = { Written };
 

@@ -14,18 +14,18 @@ use Rattle.wx_events.specs.Events.{EventFits}
 use Rattle.wx_events.specs.EventLaws.{priority_form, priority_word_clean, event_form, event_clean}
 use Rattle.wx_events.specs.declared.priority.Priority.{Priority}
 use Rattle.wx_events.specs.declared.event.Event.{Event}
-use Rattle.wx_action.specs.declared.config.Watcher.{Watcher}
-use Rattle.wx_action.specs.declared.config.Watcher.TheVariants.{Native, Poll}
-use Rattle.wx_action.specs.declared.config.WatchedPath.{WatchedPath}
-use Rattle.wx_action.specs.declared.entry.Offered.{Offered}
-use Rattle.wx_action.specs.declared.entry.Offered.TheVariants.{Queued, Full}
-use Rattle.wx_action.specs.declared.entry.Word.{Word}
-use Rattle.wx_action.specs.declared.entry.Word.TheVariants.{Idle}
-use Rattle.wx_action.specs.declared.entry.Act.{Act}
-use Rattle.wx_action.specs.declared.entry.Act.TheVariants.{Quit}
-use Rattle.wx_action.specs.declared.entry.TurnKind.{TurnKind}
-use Rattle.wx_action.specs.declared.entry.TurnKind.TheVariants.{Arrive, Work, Last}
-use Rattle.wx_action.specs.Words.{offered_word, offered_all, offered_words, read_offered, said_word, said_all, said_words, read_said, act_word, act_all, act_words, read_act, WatcherFits, watcher_words, watcher_rows, read_watcher, depth_word, PathFits, path_words, make_path, path_rows, read_path, ranked_words, read_ranked, KindFits, kind_words, make_arrive, kind_rows, read_kind}
+use Rattle.wx_job.specs.declared.watched.Watcher.{Watcher}
+use Rattle.wx_job.specs.declared.watched.Watcher.TheVariants.{Native, Poll}
+use Rattle.wx_job.specs.declared.watched.WatchedPath.{WatchedPath}
+use Rattle.wx_job.specs.declared.entry.Offered.{Offered}
+use Rattle.wx_job.specs.declared.entry.Offered.TheVariants.{Queued, Full}
+use Rattle.wx_job.specs.declared.entry.Word.{Word}
+use Rattle.wx_job.specs.declared.entry.Word.TheVariants.{Idle}
+use Rattle.wx_job.specs.declared.entry.Act.{Act}
+use Rattle.wx_job.specs.declared.entry.Act.TheVariants.{Quit}
+use Rattle.wx_job.specs.declared.entry.TurnKind.{TurnKind}
+use Rattle.wx_job.specs.declared.entry.TurnKind.TheVariants.{Arrive, Work, Last}
+use Rattle.wx_job.specs.Words.{offered_word, offered_all, offered_words, read_offered, said_word, said_all, said_words, read_said, act_word, act_all, act_words, read_act, WatcherFits, watcher_words, watcher_rows, read_watcher, depth_word, PathFits, path_words, make_path, path_rows, read_path, ranked_words, read_ranked, KindFits, kind_words, make_arrive, kind_rows, read_kind}
 
 -- ---- values of one word
 

@@ -3,11 +3,11 @@ ghost use Rattle.std.specs.Prelude.{◌≡◌, [], ◌∷◌, ◌++◌, OnOk, If
 ghost use Rattle.std.specs.List.{flat_map};
 ghost use Rattle.wx_events.specs.Line.{spaced, joined, Reads};
 ghost use Rattle.wx_events.specs.Lists.{list_words};
-ghost use Rattle.wx_action.specs.Words.{ranked_words, limit_words, switch_words, watch_words, kind_words, entry_words, read_watcher, read_path, read_arrive, read_kind};
-ghost use Rattle.wx_action.specs.declared.entry.Entry.TheVariants.{Sent, Turn as Turned, Offer, Hand};
+ghost use Rattle.wx_job.specs.Words.{ranked_words, limit_words, switch_words, watch_words, kind_words, entry_words, read_watcher, read_path, read_arrive, read_kind};
+ghost use Rattle.wx_job.specs.declared.entry.Entry.TheVariants.{Sent, Turn as Turned, Offer, Hand};
 
-use crate::config::{WatchedPath, Watcher};
 use crate::entry::{Act, Entry, Offered, Turn, TurnKind, Word};
+use crate::watched::{WatchedPath, Watcher};
 use std::alloc::Global;
 use wx_events::{
     Event, Keyword, List, Memory, Priority, Spelled, Text, TextPath, Words, put_items, put_keyword,
@@ -17,8 +17,8 @@ use wx_events::{
 const OFFERED: [Offered; 2] = [Offered::Queued, Offered::Full];
 
 impl Keyword for Offered {
-    ghost use Rattle.wx_action.specs.Words.{offered_word, offered_all};
-    ghost use Rattle.wx_action.specs.WordLaws.{offered_found, offered_word_clean};
+    ghost use Rattle.wx_job.specs.Words.{offered_word, offered_all};
+    ghost use Rattle.wx_job.specs.WordLaws.{offered_found, offered_word_clean};
 
     ghost word = { offered_word };
 
@@ -41,8 +41,8 @@ impl Keyword for Offered {
 }
 
 impl Spelled for Offered {
-    ghost use Rattle.wx_action.specs.Words.{offered_words, read_offered};
-    ghost use Rattle.wx_action.specs.WordLaws.{offered_form, offered_clean};
+    ghost use Rattle.wx_job.specs.Words.{offered_words, read_offered};
+    ghost use Rattle.wx_job.specs.WordLaws.{offered_form, offered_clean};
 
     ghost words = { offered_words };
 
@@ -66,8 +66,8 @@ impl Spelled for Offered {
 const WORDS: [Word; 1] = [Word::Idle];
 
 impl Keyword for Word {
-    ghost use Rattle.wx_action.specs.Words.{said_word, said_all};
-    ghost use Rattle.wx_action.specs.WordLaws.{said_found, said_word_clean};
+    ghost use Rattle.wx_job.specs.Words.{said_word, said_all};
+    ghost use Rattle.wx_job.specs.WordLaws.{said_found, said_word_clean};
 
     ghost word = { said_word };
 
@@ -89,8 +89,8 @@ impl Keyword for Word {
 }
 
 impl Spelled for Word {
-    ghost use Rattle.wx_action.specs.Words.{said_words, read_said};
-    ghost use Rattle.wx_action.specs.WordLaws.{said_form, said_clean};
+    ghost use Rattle.wx_job.specs.Words.{said_words, read_said};
+    ghost use Rattle.wx_job.specs.WordLaws.{said_form, said_clean};
 
     ghost words = { said_words };
 
@@ -114,8 +114,8 @@ impl Spelled for Word {
 const ACTS: [Act; 1] = [Act::Quit];
 
 impl Keyword for Act {
-    ghost use Rattle.wx_action.specs.Words.{act_word, act_all};
-    ghost use Rattle.wx_action.specs.WordLaws.{act_found, act_word_clean};
+    ghost use Rattle.wx_job.specs.Words.{act_word, act_all};
+    ghost use Rattle.wx_job.specs.WordLaws.{act_found, act_word_clean};
 
     ghost word = { act_word };
 
@@ -137,8 +137,8 @@ impl Keyword for Act {
 }
 
 impl Spelled for Act {
-    ghost use Rattle.wx_action.specs.Words.{act_words, read_act};
-    ghost use Rattle.wx_action.specs.WordLaws.{act_form, act_clean};
+    ghost use Rattle.wx_job.specs.Words.{act_words, read_act};
+    ghost use Rattle.wx_job.specs.WordLaws.{act_form, act_clean};
 
     ghost words = { act_words };
 
@@ -180,8 +180,8 @@ fn take_watcher(alloc: Global, line: &mut Words) -> Result<Option<Watcher>, Memo
 }
 
 impl Spelled for Watcher {
-    ghost use Rattle.wx_action.specs.Words.{WatcherFits, watcher_words};
-    ghost use Rattle.wx_action.specs.WordLaws.{watcher_form, watcher_clean};
+    ghost use Rattle.wx_job.specs.Words.{WatcherFits, watcher_words};
+    ghost use Rattle.wx_job.specs.WordLaws.{watcher_form, watcher_clean};
 
     ghost words = { watcher_words };
 
@@ -233,8 +233,8 @@ fn take_path(alloc: Global, line: &mut Words) -> Result<Option<WatchedPath>, Mem
 }
 
 impl Spelled for WatchedPath {
-    ghost use Rattle.wx_action.specs.Words.{PathFits, path_words};
-    ghost use Rattle.wx_action.specs.WordLaws.{path_form, path_clean};
+    ghost use Rattle.wx_job.specs.Words.{PathFits, path_words};
+    ghost use Rattle.wx_job.specs.WordLaws.{path_form, path_clean};
 
     ghost words = { path_words };
 
@@ -304,8 +304,8 @@ fn take_kind(alloc: Global, line: &mut Words) -> Result<Option<TurnKind>, Memory
 }
 
 impl Spelled for TurnKind {
-    ghost use Rattle.wx_action.specs.Words.{KindFits};
-    ghost use Rattle.wx_action.specs.WordLaws.{kind_form, kind_clean};
+    ghost use Rattle.wx_job.specs.Words.{KindFits};
+    ghost use Rattle.wx_job.specs.WordLaws.{kind_form, kind_clean};
 
     ghost words = { kind_words };
 

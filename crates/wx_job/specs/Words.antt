@@ -12,19 +12,19 @@ use Rattle.wx_events.specs.Switches.{on_word, read_on}
 use Rattle.wx_events.specs.Events.{priority_word, read_priority, EventFits, event_words, read_event}
 use Rattle.wx_events.specs.declared.priority.Priority.{Priority}
 use Rattle.wx_events.specs.declared.event.Event.{Event}
-use Rattle.wx_action.specs.declared.config.Watcher.{Watcher}
-use Rattle.wx_action.specs.declared.config.Watcher.TheVariants.{Native, Poll}
-use Rattle.wx_action.specs.declared.config.WatchedPath.{WatchedPath}
-use Rattle.wx_action.specs.declared.entry.Offered.{Offered}
-use Rattle.wx_action.specs.declared.entry.Offered.TheVariants.{Queued, Full}
-use Rattle.wx_action.specs.declared.entry.Word.{Word}
-use Rattle.wx_action.specs.declared.entry.Word.TheVariants.{Idle}
-use Rattle.wx_action.specs.declared.entry.Act.{Act}
-use Rattle.wx_action.specs.declared.entry.Act.TheVariants.{Quit}
-use Rattle.wx_action.specs.declared.entry.TurnKind.{TurnKind}
-use Rattle.wx_action.specs.declared.entry.TurnKind.TheVariants.{Arrive, Work, Last}
-use Rattle.wx_action.specs.declared.entry.Entry.{Entry}
-use Rattle.wx_action.specs.declared.entry.Entry.TheVariants.{Begin, Sent, Turn as Turned, TurnFault, Offer, Word as Said, Take, Hand}
+use Rattle.wx_job.specs.declared.watched.Watcher.{Watcher}
+use Rattle.wx_job.specs.declared.watched.Watcher.TheVariants.{Native, Poll}
+use Rattle.wx_job.specs.declared.watched.WatchedPath.{WatchedPath}
+use Rattle.wx_job.specs.declared.entry.Offered.{Offered}
+use Rattle.wx_job.specs.declared.entry.Offered.TheVariants.{Queued, Full}
+use Rattle.wx_job.specs.declared.entry.Word.{Word}
+use Rattle.wx_job.specs.declared.entry.Word.TheVariants.{Idle}
+use Rattle.wx_job.specs.declared.entry.Act.{Act}
+use Rattle.wx_job.specs.declared.entry.Act.TheVariants.{Quit}
+use Rattle.wx_job.specs.declared.entry.TurnKind.{TurnKind}
+use Rattle.wx_job.specs.declared.entry.TurnKind.TheVariants.{Arrive, Work, Last}
+use Rattle.wx_job.specs.declared.entry.Entry.{Entry}
+use Rattle.wx_job.specs.declared.entry.Entry.TheVariants.{Begin, Sent, Turn as Turned, TurnFault, Offer, Word as Said, Take, Hand}
 
 -- ---- values of one word
 

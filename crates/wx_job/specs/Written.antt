@@ -1,6 +1,6 @@
 -- What contracts see of a journal.
 use Rattle.std.specs.Prelude.{ℕ, List}
-use Rattle.wx_action.specs.declared.entry.Entry.{Entry}
+use Rattle.wx_job.specs.declared.entry.Entry.{Entry}
 
 -- the entries so far, the newest first, and the room for more
 pub record Written : Type 0 where

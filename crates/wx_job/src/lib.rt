@@ -1,0 +1,12 @@
+//! The journal of a run: its entries, their words, and the list of them.
+#![tactic(auto)]
+
+mod entry;
+mod journal;
+mod watched;
+mod words;
+
+pub use entry::{Act, Entry, Named, Offered, Turn, TurnKind, Word};
+pub use journal::Journal;
+pub use watched::{WatchedPath, Watcher};
+pub use words::put_entry;
