@@ -1,0 +1,1 @@
+// Commands by their words: the expected values are worked out by hand.
