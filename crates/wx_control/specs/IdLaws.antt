@@ -1,5 +1,5 @@
 -- Names of jobs are read again from their words.
-use Rattle.std.proofs.Common.{◌≡◌, refl}
+use Rattle.std.proofs.Common.{refl}
 use Rattle.wx_events.specs.NumberLaws.{u32_form}
 use Rattle.wx_events.specs.Texts.{text_in}
 use Rattle.wx_events.specs.Forms.{IsForm}

@@ -1,5 +1,5 @@
 -- Levels are read again from their words, and ranks tell them apart.
-use Rattle.std.proofs.Common.{◌≡◌, ℕ, Some, List, refl}
+use Rattle.std.proofs.Common.{◌≡◌, Some, refl}
 use Rattle.std.specs.Prelude.{codes}
 use Rattle.wx_events.specs.Keywords.{with_word}
 use Rattle.wx_events.specs.KeywordLaws.{keyword_form}

@@ -6,18 +6,20 @@ use wx_events::{Copies, Memory};
 
 /// A flag that one side raises and others look at. It holds nothing yet: whether it is raised can't be asked.
 #[derive(Drop, Debug)]
-pub struct Flag {}
+pub struct Flag {
+    state: (),
+}
 
 impl Flag {
     /// A flag, raised at once where `value` is true. It fails only for want of memory.
     pub fn new(_alloc: Global, _value: bool) -> Result<Flag, Memory> {
-        Ok(Flag {})
+        Ok(Flag { state: () })
     }
 }
 
 impl Copies for Flag {
     fn copy(&self, _alloc: Global) -> Result<Flag, Memory> {
-        Ok(Flag {})
+        Ok(Flag { state: () })
     }
 }
 

@@ -5,12 +5,12 @@ ghost use Rattle.wx_control.specs.declared.ask.Ask.TheVariants.{One};
 ghost use Rattle.wx_control.specs.Sent.{asked, made_one, refused_full};
 
 use crate::ask::Ask;
-use crate::command::Command;
 use crate::control::Control;
 use crate::flag::{Flag, Ticket};
 use crate::id::Id;
 use crate::sink::{Controls, Refused};
 use std::alloc::Global;
+use wx_command::Command;
 use wx_events::{Copies, Memory};
 
 /// A handle on a job: its name, what it runs, and the flag that tells that it is gone.

@@ -2,7 +2,6 @@
 #![tactic(auto)]
 
 mod ask;
-mod command;
 mod control;
 mod flag;
 mod id;

@@ -2,7 +2,6 @@
 ghost use Rattle.std.specs.Prelude.{Some};
 
 use crate::ask::{Ask, Sends};
-use crate::command::Command;
 use crate::control::Control;
 use crate::flag::{Flag, Ticket};
 use crate::id::Id;
@@ -13,7 +12,8 @@ use crate::sink::{Controls, Refused};
 use std::alloc::Global;
 use std::cmp::Ordering;
 use std::test::Fail;
-use wx_events::{Copies, List, Memory, Spelled, Text, Words};
+use wx_command::{Command, Program, SpawnOptions};
+use wx_events::{Copies, List, Memory, Spelled, Text, TextPath, Words};
 
 /// A sink that keeps the asks that it takes, counts all sends, and refuses each where it is told to.
 #[derive(Drop, Debug)]
@@ -61,11 +61,16 @@ fn sink(alloc: Global, refuses: Option<Refused>) -> Kept {
     }
 }
 
-/// A job of this name.
+/// A job of this name, which runs `true`.
 fn job(alloc: Global, number: u32) -> Result<Job, Memory> {
-    let mut words = List::new(alloc);
-    words.push(Text::from_slice(alloc, b"true")?)?;
-    Ok(Job::new(Id(number), Command { words }, Flag::new(alloc, false)?))
+    let command = Command {
+        program: Program::Exec {
+            prog: TextPath::new(Text::from_slice(alloc, b"true")?),
+            args: List::new(alloc),
+        },
+        options: SpawnOptions::default(),
+    };
+    Ok(Job::new(Id(number), command, Flag::new(alloc, false)?))
 }
 
 /// The words of this value with one space between them.
@@ -243,10 +248,8 @@ fn copies_are_equal(rt: HostRuntime) -> Result<(), Fail> {
     let one = job(alloc, 9)?;
     let copy = one.copy(alloc)?;
     assert_eq!(rt; copy.id(), Id(9));
-    assert_eq!(rt;
-        copy.command().words.as_slice(),
-        one.command().words.as_slice()
-    );
+    let line = line_of(alloc, copy.command())?;
+    assert_eq!(rt; line.as_slice(), b"exec ---- 1 true".as_slice());
     let mut sink = sink(alloc, None);
     let ticket = copy.start(alloc, &mut sink).ok().ok_or("a ticket")?;
     let _second = ticket.copy(alloc)?;
@@ -255,6 +258,23 @@ fn copies_are_equal(rt: HostRuntime) -> Result<(), Fail> {
     assert_eq!(rt; Control::Stop.copy(alloc)?, Control::Stop);
     let ask = Ask::One(Control::Start);
     assert_eq!(rt; ask.copy(alloc)?, ask);
+    Ok(())
+}
+
+/// Takes only what may move between threads.
+fn moves<T: Send>(_value: &T) {}
+
+#[test]
+fn handles_may_move_between_threads(rt: HostRuntime) -> Result<(), Fail> {
+    let alloc = rt.alloc();
+    let flag = Flag::new(alloc, true)?;
+    moves(&flag);
+    let ticket = Ticket {
+        gone: flag.copy(alloc)?,
+        done: flag,
+    };
+    moves(&ticket);
+    moves(&job(alloc, 1)?);
     Ok(())
 }
 
