@@ -7,7 +7,6 @@ use Rattle.wx_events.specs.CombineLaws.{pair_form, row_of, row_again, rows_take}
 use Rattle.wx_events.specs.Forms.{IsForm, Stood}
 use Rattle.wx_events.specs.Clean.{AllClean}
 use Rattle.wx_events.specs.CleanLaws.{clean, text_words_clean}
-use Rattle.wx_command.specs.Options.{options_words}
 use Rattle.wx_command.specs.OptionsLaws.{options_form, options_word_clean}
 use Rattle.wx_command.specs.Filled.{FilledFits}
 use Rattle.wx_command.specs.FilledLaws.{filled_form, filled_clean}

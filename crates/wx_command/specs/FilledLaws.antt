@@ -1,5 +1,5 @@
 -- A list with at least one item is read from its length and its items.
-use Rattle.std.proofs.Common.{◌≡◌, ℕ, ◌^◌, ◌<◌, Option, None, Some, List, [], ◌∷◌, ◌++◌, length, refl, sym, ap, subst}
+use Rattle.std.proofs.Common.{◌≡◌, ℕ, ◌^◌, ◌<◌, Some, List, [], ◌∷◌, ◌++◌, length, refl, ap, subst}
 use Rattle.std.specs.List.{AllByRecursion}
 use Rattle.wx_events.specs.Line.{◌>>=◌}
 use Rattle.wx_events.specs.OptionLaws.{bind_some}

@@ -6,3 +6,5 @@ pub mod Commands
 pub mod CommandLaws
 pub mod Spawnables
 pub mod SpawnableLaws
+pub mod Equal
+pub mod EqualLaws

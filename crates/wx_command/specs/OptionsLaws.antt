@@ -2,7 +2,6 @@
 use Rattle.std.proofs.Common.{◌≡◌, ℕ, ◌<◌, Bool, true, false, Some, List, [], ◌∷◌, refl, ap, subst, ◌∙◌, inl, inr, arith}
 use Rattle.std.specs.Prelude.{◌==◌}
 use Rattle.std.proofs.lemmas.Bool.{eqb-true}
-use Rattle.wx_events.specs.Line.{◌>>=◌}
 use Rattle.wx_events.specs.OptionLaws.{map_some, bind_some, chosen_by, guarded}
 use Rattle.wx_events.specs.Texts.{text_in}
 use Rattle.wx_events.specs.Forms.{Stood, IsForm}

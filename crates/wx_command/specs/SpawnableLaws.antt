@@ -1,5 +1,5 @@
 -- What is spawned is read again from its words.
-use Rattle.std.proofs.Common.{ℕ, List, refl}
+use Rattle.std.proofs.Common.{refl}
 use Rattle.wx_events.specs.Texts.{AllBytes, text_in}
 use Rattle.wx_events.specs.TextLaws.{text_form}
 use Rattle.wx_events.specs.CombineLaws.{pair_form, as_form}

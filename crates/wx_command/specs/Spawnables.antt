@@ -1,5 +1,5 @@
 -- What a command spawns, and its words.
-use Rattle.std.specs.Prelude.{ℕ, ◌^◌, ◌<◌, List, [], ◌∷◌, length}
+use Rattle.std.specs.Prelude.{ℕ, ◌^◌, ◌<◌, List, ◌∷◌, length}
 use Rattle.std.specs.List.{AllByRecursion}
 use Rattle.wx_events.specs.Combine.{Reader, pair_words, read_pair, read_as}
 use Rattle.wx_events.specs.Lists.{list_words, read_list}

@@ -23,7 +23,7 @@ pub struct SpawnOptions {
 }
 
 /// A program, and how it is spawned.
-#[derive(Drop, Debug)]
+#[derive(Drop, Debug, PartialEq, Eq, Hash)]
 pub struct Command {
     pub program: Program,
     pub options: SpawnOptions,

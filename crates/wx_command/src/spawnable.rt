@@ -44,6 +44,25 @@ impl Command {
     }
 }
 
+impl PartialEq for Spawnable {
+    ghost use Rattle.wx_command.specs.Equal.{spawnable_eq};
+    ghost use Rattle.wx_command.specs.EqualLaws.{spawnable_per};
+
+    ghost eq = { spawnable_eq };
+
+    ghost laws = { spawnable_per };
+
+    fn eq(&self, other: &Spawnable) -> bool {
+        self.words == other.words && self.options == other.options
+    }
+}
+
+impl Eq for Spawnable {
+    ghost use Rattle.wx_command.specs.EqualLaws.{spawnable_equiv};
+
+    ghost laws = { spawnable_equiv };
+}
+
 impl Copies for Spawnable {
     fn copy(&self, alloc: Global) -> Result<Spawnable, Memory> {
         Ok(Spawnable {

@@ -12,5 +12,5 @@ returns c =
     let tail : List ℕ = spaced (list_words text_words (c.args.prog.now ∷ c.args.args.now)) in
     let front = c.in_ok-put_after.ensures ∙ ap (λ (v : List ℕ). v ++ spaced (options_words c.args.options)) c.in_ok-append.ensures.ok in
     let whole : c.put_after.new.out ++ tail ≡ c.args.out.now ++ spaced (with_options c.args.options (Exec c.args.prog.now c.args.args.now)) =
-        ap (λ (v : List ℕ). v ++ tail) front ∙ exec_spaced c.args.out.now c.args.options (list_words text_words (c.args.prog.now ∷ c.args.args.now)) in
+    ap (λ (v : List ℕ). v ++ tail) front ∙ exec_spaced c.args.out.now c.args.options (list_words text_words (c.args.prog.now ∷ c.args.args.now)) in
     rw whole at c.put_program.ensures
