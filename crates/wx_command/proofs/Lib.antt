@@ -1,0 +1,2 @@
+pub mod ExecLaws
+pub mod HashLemmas

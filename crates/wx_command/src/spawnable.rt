@@ -1,0 +1,107 @@
+// What a command spawns.
+ghost use Rattle.std.specs.Prelude.{◌≡◌, ◌++◌, OnOk, IfOk};
+ghost use Rattle.wx_command.specs.Spawnables.{spawnable_of};
+
+use crate::command::{Command, SpawnOptions};
+use crate::program::Program;
+use std::alloc::Global;
+use wx_events::{Copies, List, Memory, Spelled, Text, Words};
+
+/// What is spawned: the program and then its arguments, and how.
+#[derive(Drop, Debug)]
+pub struct Spawnable {
+    pub words: List<Text>,
+    pub options: SpawnOptions,
+}
+
+/// Appends a copy of each text.
+fn push_copies(alloc: Global, texts: &[Text], words: &mut List<Text>) -> Result<(), Memory>
+    ensures { OnOk result (words.new ≡ words.old ++ texts.now) }
+{
+    for text in texts {
+        words.push(text.copy(alloc)?)?;
+    }
+    Ok(())
+}
+
+impl Command {
+    /// What this command spawns: the program and then its arguments, with the options of the command. It fails only
+    /// for want of memory.
+    pub fn to_spawnable(&self, alloc: Global) -> Result<Spawnable, Memory>
+        ensures { IfOk result (λ spawnable. spawnable ≡ spawnable_of self.now) }
+    {
+        let mut words = List::new(alloc);
+        match &self.program {
+            Program::Exec { prog, args } => {
+                words.push(prog.copy(alloc)?)?;
+                push_copies(alloc, args.as_slice(), &mut words)?;
+            }
+        }
+        Ok(Spawnable {
+            words,
+            options: self.options,
+        })
+    }
+}
+
+impl PartialEq for Spawnable {
+    ghost use Rattle.wx_command.specs.Equal.{spawnable_eq};
+    ghost use Rattle.wx_command.specs.EqualLaws.{spawnable_per};
+
+    ghost eq = { spawnable_eq };
+
+    ghost laws = { spawnable_per };
+
+    fn eq(&self, other: &Spawnable) -> bool {
+        self.words == other.words && self.options == other.options
+    }
+}
+
+impl Eq for Spawnable {
+    ghost use Rattle.wx_command.specs.EqualLaws.{spawnable_equiv};
+
+    ghost laws = { spawnable_equiv };
+}
+
+impl Copies for Spawnable {
+    fn copy(&self, alloc: Global) -> Result<Spawnable, Memory> {
+        Ok(Spawnable {
+            words: self.words.copy(alloc)?,
+            options: self.options,
+        })
+    }
+}
+
+impl Spelled for Spawnable {
+    ghost use Rattle.wx_command.specs.Spawnables.{SpawnableFits, spawnable_words, read_spawnable};
+    ghost use Rattle.wx_command.specs.SpawnableLaws.{spawnable_form, spawnable_clean};
+
+    ghost words = { spawnable_words };
+
+    ghost fits = { SpawnableFits };
+
+    ghost read = { read_spawnable };
+
+    ghost form = { spawnable_form };
+
+    ghost clean = { spawnable_clean };
+
+    #[tactic(auto, using(wx_events::specs::LineLaws::spaces))]
+    fn put_after(&self, out: &mut Text) -> Result<(), Memory> {
+        self.options.put_after(out)?;
+        self.words.put_after(out)
+    }
+
+    fn take(alloc: Global, line: &mut Words) -> Result<Option<Spawnable>, Memory> {
+        let mut ahead = line.fork();
+        let Some(options) = SpawnOptions::take(alloc, &mut ahead)? else {
+            return Ok(None);
+        };
+        let found: Option<List<Text>> = List::take(alloc, &mut ahead)?;
+        let Some(words) = found else {
+            return Ok(None);
+        };
+        *line = ahead;
+        Ok(Some(Spawnable { words, options }))
+    }
+}

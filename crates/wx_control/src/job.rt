@@ -1,0 +1,98 @@
+// Handles on jobs.
+ghost use Rattle.std.specs.Prelude.{◌≡◌};
+ghost use Rattle.wx_control.specs.declared.control.Control.TheVariants.{Start, Stop};
+ghost use Rattle.wx_control.specs.declared.ask.Ask.TheVariants.{One};
+ghost use Rattle.wx_control.specs.Sent.{asked, made_one, refused_full};
+
+use crate::ask::Ask;
+use crate::control::Control;
+use crate::flag::{Flag, Ticket};
+use crate::id::Id;
+use crate::sink::{Controls, Refused};
+use std::alloc::Global;
+use wx_command::Command;
+use wx_events::{Copies, Memory};
+
+/// A handle on a job: its name, what it runs, and the flag that tells that it is gone.
+#[derive(Drop, Debug)]
+pub struct Job {
+    id: Id,
+    command: Command,
+    gone: Flag,
+}
+
+impl Job {
+    /// A handle on the job of this name.
+    pub fn new(id: Id, command: Command, gone: Flag) -> Job
+        ensures { result ≡ record { id = id; command = command; gone = gone } }
+    {
+        Job { id, command, gone }
+    }
+
+    /// The name of the job.
+    pub fn id(&self) -> Id
+        ensures { result ≡ self.now.id }
+    {
+        self.id
+    }
+
+    /// What the job runs.
+    pub fn command(&self) -> &Command
+        ensures { result.now ≡ self.now.command }
+    {
+        &self.command
+    }
+
+    /// The flag that tells that the job is gone.
+    pub fn gone(&self) -> &Flag
+        ensures { result.now ≡ self.now.gone }
+    {
+        &self.gone
+    }
+
+    /// Asks this one control of the job, by one send. It answers what the sink answers: the ticket of the control, or
+    /// why it was refused.
+    pub fn control<C: Controls>(
+        &self,
+        alloc: Global,
+        c: &mut C,
+        control: Control,
+    ) -> Result<Ticket, Refused>
+        ensures asks { C.asks c.new ≡ asked result self.now.id (One control) (C.asks c.old) }
+        ensures sends { C.sends c.new ≡ made_one (C.sends c.old) }
+        ensures fulls { C.fulls c.new ≡ refused_full result (C.fulls c.old) }
+        ensures place { C.place c.new ≡ C.place c.old }
+    {
+        c.send(alloc, self, Ask::One(control))
+    }
+
+    /// Asks for a start, as `control` does.
+    pub fn start<C: Controls>(&self, alloc: Global, c: &mut C) -> Result<Ticket, Refused>
+        ensures asks { C.asks c.new ≡ asked result self.now.id (One Start) (C.asks c.old) }
+        ensures sends { C.sends c.new ≡ made_one (C.sends c.old) }
+        ensures fulls { C.fulls c.new ≡ refused_full result (C.fulls c.old) }
+        ensures place { C.place c.new ≡ C.place c.old }
+    {
+        self.control(alloc, c, Control::Start)
+    }
+
+    /// Asks for a stop, as `control` does.
+    pub fn stop<C: Controls>(&self, alloc: Global, c: &mut C) -> Result<Ticket, Refused>
+        ensures asks { C.asks c.new ≡ asked result self.now.id (One Stop) (C.asks c.old) }
+        ensures sends { C.sends c.new ≡ made_one (C.sends c.old) }
+        ensures fulls { C.fulls c.new ≡ refused_full result (C.fulls c.old) }
+        ensures place { C.place c.new ≡ C.place c.old }
+    {
+        self.control(alloc, c, Control::Stop)
+    }
+}
+
+impl Copies for Job {
+    fn copy(&self, alloc: Global) -> Result<Job, Memory> {
+        Ok(Job {
+            id: self.id,
+            command: self.command.copy(alloc)?,
+            gone: self.gone.copy(alloc)?,
+        })
+    }
+}

@@ -1,0 +1,296 @@
+// Words, asks and sends: the expected values are worked out by hand.
+ghost use Rattle.std.specs.Prelude.{Some};
+
+use crate::ask::{Ask, Sends};
+use crate::control::Control;
+use crate::flag::{Flag, Ticket};
+use crate::id::Id;
+use crate::job::Job;
+use crate::laws::{are_equal_ids, are_equal_levels, compare_ids, compare_levels};
+use crate::level::Level;
+use crate::sink::{Controls, Refused};
+use std::alloc::Global;
+use std::cmp::Ordering;
+use std::test::Fail;
+use wx_command::{Command, Program, SpawnOptions};
+use wx_events::{Copies, List, Memory, Spelled, Text, TextPath, Words};
+
+/// A sink that keeps the asks that it takes, counts all sends, and refuses each where it is told to.
+#[derive(Drop, Debug)]
+struct Kept {
+    asks: List<(Id, Ask)>,
+    sends: u64,
+    fulls: u64,
+    refuses: Option<Refused>,
+}
+
+impl Controls for Kept {
+    ghost asks = { λ k. k.asks };
+
+    ghost sends = { λ k. Some k.sends };
+
+    ghost fulls = { λ k. k.fulls };
+
+    fn send(&mut self, alloc: Global, job: &Job, ask: Ask) -> Result<Ticket, Refused> {
+        self.sends = self.sends.saturating_add(1);
+        match self.refuses {
+            Some(Refused::Full) => {
+                self.fulls = self.fulls.saturating_add(1);
+                Err(Refused::Full)
+            }
+            Some(Refused::Memory) => Err(Refused::Memory),
+            None => {
+                let ticket = Ticket {
+                    gone: job.gone().copy(alloc)?,
+                    done: Flag::new(alloc, false)?,
+                };
+                self.asks.push((job.id(), ask))?;
+                Ok(ticket)
+            }
+        }
+    }
+}
+
+/// A sink that holds nothing and answers this.
+fn sink(alloc: Global, refuses: Option<Refused>) -> Kept {
+    Kept {
+        asks: List::new(alloc),
+        sends: 0,
+        fulls: 0,
+        refuses,
+    }
+}
+
+/// A job of this name, which runs `true`.
+fn job(alloc: Global, number: u32) -> Result<Job, Memory> {
+    let command = Command {
+        program: Program::Exec {
+            prog: TextPath::new(Text::from_slice(alloc, b"true")?),
+            args: List::new(alloc),
+        },
+        options: SpawnOptions::default(),
+    };
+    Ok(Job::new(Id(number), command, Flag::new(alloc, false)?))
+}
+
+/// The words of this value with one space between them.
+fn line_of<T: Spelled>(alloc: Global, value: &T) -> Result<Text, Memory> {
+    let mut line = Text::new(alloc);
+    value.put(&mut line)?;
+    Ok(line)
+}
+
+/// The value whose words are this whole line.
+fn read_line<T: Spelled>(alloc: Global, line: &[u8]) -> Result<Option<T>, Memory> {
+    let mut words = Words::new(line);
+    let found = T::take_front(alloc, &mut words)?;
+    if words.is_done() { Ok(found) } else { Ok(None) }
+}
+
+/// The asks of this sink: for each the job and the words of what was asked, with a comma behind.
+fn asks_of(alloc: Global, sink: &Kept) -> Result<Text, Memory> {
+    let mut line = Text::new(alloc);
+    for (id, ask) in sink.asks.as_slice() {
+        id.put(&mut line)?;
+        line.append(b" ")?;
+        ask.put(&mut line)?;
+        line.append(b",")?;
+    }
+    Ok(line)
+}
+
+#[test]
+fn levels_as_words(rt: HostRuntime) -> Result<(), Fail> {
+    let alloc = rt.alloc();
+    let table: [(Level, &[u8]); 3] = [
+        (Level::Normal, b"normal"),
+        (Level::High, b"high"),
+        (Level::Urgent, b"urgent"),
+    ];
+    for (level, word) in table {
+        let line = line_of(alloc, &level)?;
+        assert_eq!(rt; line.as_slice(), word);
+        let found: Option<Level> = read_line(alloc, word)?;
+        assert_eq!(rt; found, Some(level));
+    }
+    let words: [&[u8]; 4] = [b"low", b"Normal", b"", b"normal "];
+    for word in words {
+        let found: Option<Level> = read_line(alloc, word)?;
+        assert_eq!(rt; found, None);
+    }
+    Ok(())
+}
+
+#[test]
+fn controls_and_asks_as_words(rt: HostRuntime) -> Result<(), Fail> {
+    let alloc = rt.alloc();
+    let table: [(Control, &[u8]); 2] = [(Control::Start, b"start"), (Control::Stop, b"stop")];
+    for (control, word) in table {
+        let line = line_of(alloc, &control)?;
+        assert_eq!(rt; line.as_slice(), word);
+        let found: Option<Control> = read_line(alloc, word)?;
+        assert_eq!(rt; found, Some(control));
+        let line = line_of(alloc, &Ask::One(control))?;
+        assert_eq!(rt; line.as_slice(), word);
+        let found: Option<Ask> = read_line(alloc, word)?;
+        assert_eq!(rt; found, Some(Ask::One(control)));
+    }
+    let words: [&[u8]; 5] = [b"Start", b"stop 1", b"", b"starts", b"one start"];
+    for word in words {
+        let found: Option<Control> = read_line(alloc, word)?;
+        assert_eq!(rt; found, None);
+        let found: Option<Ask> = read_line(alloc, word)?;
+        assert_eq!(rt; found, None);
+    }
+    Ok(())
+}
+
+#[test]
+fn names_as_words(rt: HostRuntime) -> Result<(), Fail> {
+    let alloc = rt.alloc();
+    let line = line_of(alloc, &Id(4_294_967_295))?;
+    assert_eq!(rt; line.as_slice(), b"4294967295".as_slice());
+    let table: [(&[u8], Option<Id>); 4] = [
+        (b"0", Some(Id(0))),
+        (b"4294967295", Some(Id(4_294_967_295))),
+        (b"4294967296", None),
+        (b"-1", None),
+    ];
+    for (word, id) in table {
+        let found: Option<Id> = read_line(alloc, word)?;
+        assert_eq!(rt; found, id);
+    }
+    Ok(())
+}
+
+#[test]
+fn a_name_a_level_and_a_control(rt: HostRuntime) -> Result<(), Fail> {
+    let alloc = rt.alloc();
+    let mut words = Words::new(b"7 normal stop");
+    assert_eq!(rt; Id::take_front(alloc, &mut words)?, Some(Id(7)));
+    assert_eq!(rt; Id::take_front(alloc, &mut words)?, None);
+    assert_eq!(rt; Level::take_front(alloc, &mut words)?, Some(Level::Normal));
+    assert_eq!(rt;
+        Control::take_front(alloc, &mut words)?,
+        Some(Control::Stop)
+    );
+    assert!(rt; words.is_done());
+    Ok(())
+}
+
+#[test]
+fn asks_and_their_controls(rt: HostRuntime) -> Result<(), Fail> {
+    let table = [
+        (
+            Ask::One(Control::Start),
+            Sends {
+                first: Control::Start,
+                second: None,
+                level: Level::Normal,
+            },
+        ),
+        (
+            Ask::One(Control::Stop),
+            Sends {
+                first: Control::Stop,
+                second: None,
+                level: Level::Normal,
+            },
+        ),
+    ];
+    for (ask, sends) in table {
+        assert_eq!(rt; ask.controls(), sends);
+    }
+    Ok(())
+}
+
+#[test]
+fn each_sender_sends_once(rt: HostRuntime) -> Result<(), Fail> {
+    let alloc = rt.alloc();
+    let one = job(alloc, 3)?;
+    let other = job(alloc, 0)?;
+    let mut sink = sink(alloc, None);
+    assert!(rt; one.start(alloc, &mut sink).is_ok());
+    assert!(rt; other.stop(alloc, &mut sink).is_ok());
+    assert!(rt; one.control(alloc, &mut sink, Control::Stop).is_ok());
+    assert!(rt; one.control(alloc, &mut sink, Control::Start).is_ok());
+    let asks = asks_of(alloc, &sink)?;
+    assert_eq!(rt;
+        asks.as_slice(),
+        b"3 start,0 stop,3 stop,3 start,".as_slice()
+    );
+    assert_eq!(rt; sink.sends, 4);
+    Ok(())
+}
+
+#[test]
+fn refused_sends_leave_nothing(rt: HostRuntime) -> Result<(), Fail> {
+    let alloc = rt.alloc();
+    let one = job(alloc, 3)?;
+    for (refusal, fulls) in [(Refused::Full, 3), (Refused::Memory, 0)] {
+        let mut sink = sink(alloc, Some(refusal));
+        assert_eq!(rt; one.start(alloc, &mut sink).err(), Some(refusal));
+        assert_eq!(rt; one.stop(alloc, &mut sink).err(), Some(refusal));
+        assert_eq!(rt;
+            one.control(alloc, &mut sink, Control::Stop).err(),
+            Some(refusal)
+        );
+        assert!(rt; sink.asks.is_empty());
+        assert_eq!(rt; sink.sends, 3);
+        assert_eq!(rt; sink.fulls, fulls);
+    }
+    Ok(())
+}
+
+#[test]
+fn copies_are_equal(rt: HostRuntime) -> Result<(), Fail> {
+    let alloc = rt.alloc();
+    let one = job(alloc, 9)?;
+    let copy = one.copy(alloc)?;
+    assert_eq!(rt; copy.id(), Id(9));
+    let line = line_of(alloc, copy.command())?;
+    assert_eq!(rt; line.as_slice(), b"exec ---- 1 true".as_slice());
+    let mut sink = sink(alloc, None);
+    let ticket = copy.start(alloc, &mut sink).ok().ok_or("a ticket")?;
+    let _second = ticket.copy(alloc)?;
+    let asks = asks_of(alloc, &sink)?;
+    assert_eq!(rt; asks.as_slice(), b"9 start,".as_slice());
+    assert_eq!(rt; Control::Stop.copy(alloc)?, Control::Stop);
+    let ask = Ask::One(Control::Start);
+    assert_eq!(rt; ask.copy(alloc)?, ask);
+    Ok(())
+}
+
+/// Takes only what may move between threads.
+fn moves<T: Send>(_value: &T) {}
+
+#[test]
+fn handles_may_move_between_threads(rt: HostRuntime) -> Result<(), Fail> {
+    let alloc = rt.alloc();
+    let flag = Flag::new(alloc, true)?;
+    moves(&flag);
+    let ticket = Ticket {
+        gone: flag.copy(alloc)?,
+        done: flag,
+    };
+    moves(&ticket);
+    moves(&job(alloc, 1)?);
+    Ok(())
+}
+
+#[test]
+fn levels_and_names_in_order(rt: HostRuntime) -> Result<(), Fail> {
+    let levels = [Level::Normal, Level::High, Level::Urgent];
+    for i in 0..3 {
+        for j in 0..3 {
+            let order = i.cmp(&j);
+            assert_eq!(rt; compare_levels(levels[i], levels[j]), order);
+            assert_eq!(rt; are_equal_levels(levels[i], levels[j]), i == j);
+            assert_eq!(rt; levels[i].rank() as usize, i);
+        }
+    }
+    assert_eq!(rt; compare_ids(Id(2), Id(10)), Ordering::Less);
+    assert!(rt; are_equal_ids(Id(2), Id(2)));
+    assert!(rt; !are_equal_ids(Id(2), Id(3)));
+    Ok(())
+}
