@@ -3,3 +3,4 @@ pub mod BagLaws
 pub mod Channel
 pub mod Refused
 pub mod Greatest
+pub mod Order

@@ -17,7 +17,7 @@ pub enum Tag {
 }
 
 /// Something that happened.
-#[derive(Drop, Debug, PartialEq)]
+#[derive(Drop, Debug, PartialEq, Eq)]
 pub struct Event {
     pub tags: List<Tag>,
 }

@@ -231,3 +231,24 @@ fn takes_one_after_the_other(rt: HostRuntime) -> Result<(), Fail> {
     assert!(rt; words.is_done());
     Ok(())
 }
+
+#[test]
+fn texts_and_paths_are_compared_by_their_bytes(rt: HostRuntime) -> Result<(), Fail> {
+    let alloc = rt.alloc();
+    let table: [(&[u8], &[u8], bool); 5] = [
+        (b"", b"", true),
+        (b"/a", b"/a", true),
+        (b"/a", b"/a/", false),
+        (b"/a", b"/b", false),
+        (b"", b"/", false),
+    ];
+    for (one, other, same) in table {
+        let one = Text::from_slice(alloc, one)?;
+        let other = Text::from_slice(alloc, other)?;
+        assert_eq!(rt; one == other, same, "{one:?} and {other:?}");
+        let one = TextPath::new(one);
+        let other = TextPath::new(other);
+        assert_eq!(rt; one == other, same, "{one:?} and {other:?}");
+    }
+    Ok(())
+}

@@ -99,3 +99,7 @@ impl PartialEq for Text {
         self.bytes.as_slice() == other.bytes.as_slice()
     }
 }
+
+impl Eq for Text {
+    ghost laws = { nat_list_eq_equiv };
+}

@@ -1,10 +1,15 @@
 // The journal of a run.
 ghost use Rattle.std.specs.Prelude.{◌≡◌, ℕ, ◌+◌, ◌<◌, ◌≤◌, ◌^◌, ◌==◌, [], ◌∷◌, length, reverse, OnOk, IfOk};
+ghost use Rattle.std.specs.Slice.Iter.{iter_rest};
 
 use crate::entry::Entry;
 use std::alloc::Global;
 use std::marker::Model;
+use std::slice;
 use wx_events::Memory;
+
+/// The entries of a journal, in the order in which they came.
+pub type Entries<'a> = slice::Iter<'a, Entry>;
 
 /// The entries of a run so far. Contracts see the entries, the newest first, and the room that was taken for more.
 #[derive(Drop, Debug)]
@@ -79,5 +84,11 @@ impl Journal {
         ensures newest_first { self.now.past ≡ reverse result.now }
     {
         self.entries.as_slice()
+    }
+    /// The entries one by one, in the order in which they came.
+    pub fn iter(&self) -> Entries<'_>
+        ensures { iter_rest result ≡ reverse self.now.past }
+    {
+        self.entries.iter()
     }
 }

@@ -7,6 +7,6 @@ mod watched;
 mod words;
 
 pub use entry::{Act, Entry, Named, Offered, Turn, TurnKind, Word};
-pub use journal::Journal;
+pub use journal::{Entries, Journal};
 pub use watched::{WatchedPath, Watcher};
 pub use words::put_entry;
