@@ -13,7 +13,7 @@ use std::alloc::Global;
 use std::cmp::Ordering;
 use std::test::Fail;
 use wx_command::{Command, Program, SpawnOptions};
-use wx_events::{Copies, List, Memory, Spelled, Text, TextPath, Words};
+use wx_events::{Copies, List, Memory, Spelled, Text, Words};
 
 /// A sink that keeps the asks that it takes, counts all sends, and refuses each where it is told to.
 #[derive(Drop, Debug)]
@@ -65,7 +65,7 @@ fn sink(alloc: Global, refuses: Option<Refused>) -> Kept {
 fn job(alloc: Global, number: u32) -> Result<Job, Memory> {
     let command = Command {
         program: Program::Exec {
-            prog: TextPath::new(Text::from_slice(alloc, b"true")?),
+            prog: Text::from_slice(alloc, b"true")?,
             args: List::new(alloc),
         },
         options: SpawnOptions::default(),
