@@ -6,11 +6,11 @@ use Rattle.wx_events.specs.declared.priority.Priority.{Priority}
 use Rattle.prio_channel.specs.Channel.{Channel}
 use Rattle.prio_channel.specs.BagLaws.{same-length}
 use Rattle.std.proofs.lemmas.Bool.{eqb-true}
-use Rattle.wx_job.specs.declared.entry.Entry.{Entry}
-use Rattle.wx_job.specs.declared.entry.Entry.TheVariants.{Sent, Offer}
-use Rattle.wx_job.specs.declared.entry.Named.{Named}
-use Rattle.wx_job.specs.declared.entry.Offered.{Offered}
-use Rattle.wx_job.specs.declared.entry.Offered.TheVariants.{Queued, Full}
+use Rattle.wx_journal.specs.declared.entry.Entry.{Entry}
+use Rattle.wx_journal.specs.declared.entry.Entry.TheVariants.{Sent, Offer}
+use Rattle.wx_journal.specs.declared.entry.Named.{Named}
+use Rattle.wx_journal.specs.declared.entry.Offered.{Offered}
+use Rattle.wx_journal.specs.declared.entry.Offered.TheVariants.{Queued, Full}
 use Rattle.wx_action.specs.declared.state.Worker.{Worker}
 use Rattle.wx_action.specs.Start.{Start}
 use Rattle.wx_action.specs.Journal.{event_count, bag}

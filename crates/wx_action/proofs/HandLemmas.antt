@@ -1,9 +1,9 @@
 -- The window is handed.
 use Rattle.std.proofs.Common.{◌≡◌, ℕ, Bool, true, false, cond, List, ◌∷◌, refl, sym, ◌∙◌}
 use Rattle.std.specs.Prelude.{Option}
-use Rattle.wx_job.specs.declared.entry.Entry.{Entry}
-use Rattle.wx_job.specs.declared.entry.Entry.TheVariants.{Hand}
-use Rattle.wx_job.specs.declared.entry.Act.{Act}
+use Rattle.wx_journal.specs.declared.entry.Entry.{Entry}
+use Rattle.wx_journal.specs.declared.entry.Entry.TheVariants.{Hand}
+use Rattle.wx_journal.specs.declared.entry.Act.{Act}
 use Rattle.wx_action.specs.declared.work.Worked.{Worked}
 use Rattle.wx_action.specs.declared.work.Worked.TheVariants.{On, End}
 use Rattle.wx_action.specs.Start.{Start}

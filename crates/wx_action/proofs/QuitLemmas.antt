@@ -1,8 +1,8 @@
 -- Quits that follow each other.
 use Rattle.std.proofs.Common.{◌≡◌, false, List, [], ◌∷◌, length, refl, ap, arith, ne_eqb}
 use Rattle.std.specs.Prelude.{◌==◌}
-use Rattle.wx_job.specs.declared.entry.Act.{Act}
-use Rattle.wx_job.specs.declared.entry.Act.TheVariants.{Quit}
+use Rattle.wx_journal.specs.declared.entry.Act.{Act}
+use Rattle.wx_journal.specs.declared.entry.Act.TheVariants.{Quit}
 use Rattle.wx_action.specs.Handled.{with_quit}
 
 -- there is no other act, so where one stands a quit stands last

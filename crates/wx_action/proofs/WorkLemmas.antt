@@ -6,14 +6,14 @@ use Rattle.wx_events.specs.Priority.{is_urgent}
 use Rattle.prio_channel.specs.Channel.{Channel, AllAtMost}
 use Rattle.prio_channel.specs.SameBag.{Takes}
 use Rattle.prio_channel.specs.BagLaws.{same-length}
-use Rattle.wx_job.specs.declared.entry.Entry.{Entry}
-use Rattle.wx_job.specs.declared.entry.Entry.TheVariants.{Word as Said, Take}
-use Rattle.wx_job.specs.declared.entry.Named.{Named}
+use Rattle.wx_journal.specs.declared.entry.Entry.{Entry}
+use Rattle.wx_journal.specs.declared.entry.Entry.TheVariants.{Word as Said, Take}
+use Rattle.wx_journal.specs.declared.entry.Named.{Named}
 use Rattle.wx_action.specs.declared.state.Worker.{Worker}
 use Rattle.wx_action.specs.declared.work.Collected.{Collected}
 use Rattle.wx_action.specs.declared.work.Collected.TheVariants.{Hand, Kept}
 use Rattle.wx_action.specs.declared.work.Collected.TheVariants as collected
-use Rattle.wx_job.specs.declared.entry.Word.TheVariants.{Idle}
+use Rattle.wx_journal.specs.declared.entry.Word.TheVariants.{Idle}
 use Rattle.wx_action.specs.Batch.{Waiting}
 use Rattle.wx_action.specs.Start.{Start}
 use Rattle.wx_action.specs.Journal.{moment, bag, window, first, is_over, is_over_of}

@@ -1,6 +1,6 @@
 -- What an answer of the engine says of its journal.
 use Rattle.std.specs.Prelude.{◌≡◌, None, Some, Ok, Err, List, codes}
-use Rattle.wx_job.specs.declared.entry.Entry.{Entry}
+use Rattle.wx_journal.specs.declared.entry.Entry.{Entry}
 use Rattle.wx_action.specs.declared.error.CriticalError.TheVariants.{IoError, Memory}
 use Rattle.wx_action.specs.Start.{Start}
 use Rattle.wx_action.specs.Journal.{turn_fault}

@@ -7,10 +7,10 @@ use Rattle.wx_events.specs.declared.priority.Priority.{Priority}
 use Rattle.prio_channel.specs.Channel.{AllAtMost}
 use Rattle.prio_channel.specs.SameBag.{SameBag, Takes}
 use Rattle.prio_channel.specs.BagLaws.{take-bag, same-trans, all-same}
-use Rattle.wx_job.specs.declared.entry.Entry.{Entry}
-use Rattle.wx_job.specs.declared.entry.Entry.TheVariants.{Begin, Sent, Turn as Turned, TurnFault, Offer, Word as Said, Take, Hand}
-use Rattle.wx_job.specs.declared.entry.Offered.TheVariants.{Queued, Full}
-use Rattle.wx_job.specs.declared.entry.Named.{Named}
+use Rattle.wx_journal.specs.declared.entry.Entry.{Entry}
+use Rattle.wx_journal.specs.declared.entry.Entry.TheVariants.{Begin, Sent, Turn as Turned, TurnFault, Offer, Word as Said, Take, Hand}
+use Rattle.wx_journal.specs.declared.entry.Offered.TheVariants.{Queued, Full}
+use Rattle.wx_journal.specs.declared.entry.Named.{Named}
 use Rattle.wx_action.specs.Journal.{event_count, listed, named, without, bag, is_urgent_named, is_urgent_in}
 use Rattle.wx_action.specs.Due.{IsGreatest}
 use Rattle.wx_action.specs.Told.{NamesItsOwn}

@@ -3,11 +3,11 @@ use Rattle.std.specs.Prelude.{ℕ, ◌+◌, Bool, false, not, ◌&&◌, ◌==◌
 use Rattle.wx_events.specs.declared.event.Event.{Event}
 use Rattle.wx_events.specs.declared.priority.Priority.{Priority}
 use Rattle.wx_events.specs.Priority.{is_urgent}
-use Rattle.wx_job.specs.declared.entry.Entry.{Entry}
-use Rattle.wx_job.specs.declared.entry.Entry.TheVariants.{Sent, Turn as Turned, TurnFault, Offer, Take, Hand}
-use Rattle.wx_job.specs.declared.entry.Named.{Named}
-use Rattle.wx_job.specs.declared.entry.Offered.{Offered}
-use Rattle.wx_job.specs.declared.entry.Offered.TheVariants.{Queued, Full}
+use Rattle.wx_journal.specs.declared.entry.Entry.{Entry}
+use Rattle.wx_journal.specs.declared.entry.Entry.TheVariants.{Sent, Turn as Turned, TurnFault, Offer, Take, Hand}
+use Rattle.wx_journal.specs.declared.entry.Named.{Named}
+use Rattle.wx_journal.specs.declared.entry.Offered.{Offered}
+use Rattle.wx_journal.specs.declared.entry.Offered.TheVariants.{Queued, Full}
 use Rattle.wx_action.specs.declared.config.Config.{Config}
 use Rattle.wx_action.specs.Start.{Start}
 

@@ -1,8 +1,8 @@
 -- What a handler keeps beside what contracts see of it.
 use Rattle.std.specs.Prelude.{◌≡◌, ℕ, ◌≤◌, Option, Some, List, [], vec_capacity}
 use Rattle.wx_events.specs.declared.event.Event.{Event}
-use Rattle.wx_job.specs.declared.entry.Entry.{Entry}
-use Rattle.wx_job.specs.declared.entry.Act.{Act}
+use Rattle.wx_journal.specs.declared.entry.Entry.{Entry}
+use Rattle.wx_journal.specs.declared.entry.Act.{Act}
 use Rattle.wx_action.specs.declared.handler.Second.{Second}
 use Rattle.wx_action.specs.Handled.{AreEvents, lookup}
 

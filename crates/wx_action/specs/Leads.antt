@@ -1,6 +1,6 @@
 -- What a call did to a journal, and what it told.
 use Rattle.std.specs.Prelude.{◌≡◌, Bool, false, Option, List, ◌∷◌}
-use Rattle.wx_job.specs.declared.entry.Entry.{Entry}
+use Rattle.wx_journal.specs.declared.entry.Entry.{Entry}
 use Rattle.wx_action.specs.Start.{Start}
 use Rattle.wx_action.specs.Due.{Due}
 use Rattle.wx_action.specs.Told.{tell_if, is_world, is_hooks, NamesItsOwn, Obeys}

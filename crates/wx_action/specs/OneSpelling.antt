@@ -5,32 +5,32 @@ use Rattle.std.specs.List.{flat_map, AllByRecursion}
 use Rattle.std.proofs.lemmas.Grind.{reverse_onto}
 use Rattle.std.proofs.lemmas.List.{reverse-reverse, append-nil}
 use Rattle.std.proofs.lemmas.Option.{some_pair_parts}
-use Rattle.wx_events.specs.Line.{parts, words_of, joined}
-use Rattle.wx_events.specs.Texts.{AllBytes, text_in, read_text}
-use Rattle.wx_events.specs.TextLaws.{text_form}
-use Rattle.wx_events.specs.Numbers.{read_u32}
-use Rattle.wx_events.specs.NumberLaws.{number_form, u32_form}
-use Rattle.wx_events.specs.Lists.{list_words}
-use Rattle.wx_events.specs.ListLaws.{list_form}
-use Rattle.wx_events.specs.Optional.{OptionalFits}
-use Rattle.wx_events.specs.OptionalLaws.{optional_form, optional_clean}
-use Rattle.wx_events.specs.SwitchLaws.{on_form, on_word_clean}
-use Rattle.wx_events.specs.Combine.{Reader, read_pair, read_as, read_nothing, read_rows}
-use Rattle.wx_events.specs.CombineLaws.{pair_form, literal_form, as_form, row_again}
-use Rattle.wx_events.specs.Forms.{IsForm}
-use Rattle.wx_events.specs.Clean.{IsClean, AllClean}
-use Rattle.wx_events.specs.CleanLaws.{clean, number_clean, text_clean, list_clean, items_clean, words_back, line_back, each_append}
+use Rattle.wx_words.specs.Line.{parts, words_of, joined}
+use Rattle.wx_words.specs.Texts.{AllBytes, text_in, read_text}
+use Rattle.wx_words.specs.TextLaws.{text_form}
+use Rattle.wx_words.specs.Numbers.{read_u32}
+use Rattle.wx_words.specs.NumberLaws.{number_form, u32_form}
+use Rattle.wx_words.specs.Lists.{list_words}
+use Rattle.wx_words.specs.ListLaws.{list_form}
+use Rattle.wx_words.specs.Optional.{OptionalFits}
+use Rattle.wx_words.specs.OptionalLaws.{optional_form, optional_clean}
+use Rattle.wx_words.specs.SwitchLaws.{on_form, on_word_clean}
+use Rattle.wx_words.specs.Combine.{Reader, read_pair, read_as, read_nothing, read_rows}
+use Rattle.wx_words.specs.CombineLaws.{pair_form, literal_form, as_form, row_again}
+use Rattle.wx_words.specs.Forms.{IsForm}
+use Rattle.wx_words.specs.Clean.{IsClean, AllClean}
+use Rattle.wx_words.specs.CleanLaws.{clean, number_clean, text_clean, list_clean, items_clean, words_back, line_back, each_append}
 use Rattle.wx_events.specs.Events.{EventFits}
-use Rattle.wx_job.specs.declared.watched.Watcher.{Watcher}
-use Rattle.wx_job.specs.declared.watched.WatchedPath.{WatchedPath}
-use Rattle.wx_job.specs.declared.entry.Act.{Act}
-use Rattle.wx_job.specs.declared.entry.Entry.{Entry}
-use Rattle.wx_job.specs.declared.entry.Entry.TheVariants.{Begin, Sent, Turn as Turned, TurnFault, Offer, Word as Said, Take, Hand}
+use Rattle.wx_journal.specs.declared.watched.Watcher.{Watcher}
+use Rattle.wx_journal.specs.declared.watched.WatchedPath.{WatchedPath}
+use Rattle.wx_journal.specs.declared.entry.Act.{Act}
+use Rattle.wx_journal.specs.declared.entry.Entry.{Entry}
+use Rattle.wx_journal.specs.declared.entry.Entry.TheVariants.{Begin, Sent, Turn as Turned, TurnFault, Offer, Word as Said, Take, Hand}
 use Rattle.wx_action.specs.declared.error.CriticalError.{CriticalError}
 use Rattle.wx_action.specs.declared.error.CriticalError.TheVariants.{IoError, Memory}
 use Rattle.wx_action.specs.Journal.{window}
-use Rattle.wx_job.specs.Words.{WatcherFits, PathFits, path_words, KindFits, act_words, read_act, limit_words, switch_words, watch_words, name_words, entry_words, read_behind, make_begin, make_sent, make_turn, make_offer, read_all, read_batch, ended, read_entry}
-use Rattle.wx_job.specs.WordLaws.{offered_form, offered_word_clean, said_form, said_word_clean, act_form, act_clean, watcher_form, watcher_clean, path_form, path_clean, ranked_form, ranked_clean, kind_form, kind_clean}
+use Rattle.wx_journal.specs.Words.{WatcherFits, PathFits, path_words, KindFits, act_words, read_act, limit_words, switch_words, watch_words, name_words, entry_words, read_behind, make_begin, make_sent, make_turn, make_offer, read_all, read_batch, ended, read_entry}
+use Rattle.wx_journal.specs.WordLaws.{offered_form, offered_word_clean, said_form, said_word_clean, act_form, act_clean, watcher_form, watcher_clean, path_form, path_clean, ranked_form, ranked_clean, kind_form, kind_clean}
 use Rattle.wx_action.specs.Printed.{Answer, line_of, entry_line, critical_words, answer_words, end_words, printed}
 
 abbrev pub NamesFit : List ℕ → Type 0

@@ -1,14 +1,14 @@
 -- A journal as text.
 use Rattle.std.specs.Prelude.{ℕ, Result, Ok, Err, List, [], ◌∷◌, ◌++◌, reverse, codes, decimal}
 use Rattle.std.specs.List.{flat_map}
-use Rattle.wx_events.specs.Line.{joined}
-use Rattle.wx_events.specs.Lists.{list_words}
-use Rattle.wx_events.specs.Texts.{text_word}
-use Rattle.wx_job.specs.declared.entry.Entry.{Entry}
+use Rattle.wx_words.specs.Line.{joined}
+use Rattle.wx_words.specs.Lists.{list_words}
+use Rattle.wx_words.specs.Texts.{text_word}
+use Rattle.wx_journal.specs.declared.entry.Entry.{Entry}
 use Rattle.wx_action.specs.declared.error.CriticalError.{CriticalError}
 use Rattle.wx_action.specs.declared.error.CriticalError.TheVariants.{IoError, Memory}
 use Rattle.wx_action.specs.Journal.{window}
-use Rattle.wx_job.specs.Words.{entry_words, name_words}
+use Rattle.wx_journal.specs.Words.{entry_words, name_words}
 
 -- words as a line, with its line feed
 abbrev pub line_of : List (List ℕ) → List ℕ

@@ -6,15 +6,15 @@ use Rattle.std.specs.List.{AllByRecursion}
 use Rattle.std.proofs.lemmas.List.{append-nil}
 use Rattle.wx_events.specs.declared.event.Event.{Event}
 use Rattle.wx_events.specs.declared.priority.Priority.{Priority}
-use Rattle.wx_job.specs.declared.entry.Entry.{Entry}
-use Rattle.wx_job.specs.declared.entry.Entry.TheVariants.{Begin, Sent, Turn as Turned, TurnFault, Offer, Word as Said, Take, Hand}
-use Rattle.wx_job.specs.declared.entry.Act.{Act}
-use Rattle.wx_job.specs.declared.entry.Named.{Named}
-use Rattle.wx_job.specs.declared.entry.Offered.{Offered}
-use Rattle.wx_job.specs.declared.entry.Turn.{Turn}
-use Rattle.wx_job.specs.declared.entry.TurnKind.{TurnKind}
-use Rattle.wx_job.specs.declared.entry.TurnKind.TheVariants.{Arrive, Work, Last}
-use Rattle.wx_job.specs.declared.entry.Word.TheVariants.{Idle}
+use Rattle.wx_journal.specs.declared.entry.Entry.{Entry}
+use Rattle.wx_journal.specs.declared.entry.Entry.TheVariants.{Begin, Sent, Turn as Turned, TurnFault, Offer, Word as Said, Take, Hand}
+use Rattle.wx_journal.specs.declared.entry.Act.{Act}
+use Rattle.wx_journal.specs.declared.entry.Named.{Named}
+use Rattle.wx_journal.specs.declared.entry.Offered.{Offered}
+use Rattle.wx_journal.specs.declared.entry.Turn.{Turn}
+use Rattle.wx_journal.specs.declared.entry.TurnKind.{TurnKind}
+use Rattle.wx_journal.specs.declared.entry.TurnKind.TheVariants.{Arrive, Work, Last}
+use Rattle.wx_journal.specs.declared.entry.Word.TheVariants.{Idle}
 use Rattle.wx_action.specs.Start.{Start}
 use Rattle.wx_action.specs.Journal.{moment, event_count, listed, named, bag, window, batches, is_over, is_urgent_named, is_urgent_in}
 use Rattle.wx_action.specs.Due.{Agenda, Begins, Sends, Open, Offers, Says, Takes, Hands, Ended, sends, rest, turn_agenda, has_quit, agenda, Admits, IsRun, IsGreatest}

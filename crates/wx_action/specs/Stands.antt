@@ -3,14 +3,14 @@ use Rattle.std.specs.Prelude.{◌≡◌, ℕ, ◌==◌, true, false, List, [], �
 use Rattle.wx_events.specs.declared.priority.Priority.{Priority}
 use Rattle.prio_channel.specs.Channel.{Channel}
 use Rattle.prio_channel.specs.SameBag.{SameBag}
-use Rattle.wx_job.specs.declared.entry.Entry.{Entry}
-use Rattle.wx_job.specs.declared.entry.Entry.TheVariants.{Turn as Turned, Word as Said, Take}
-use Rattle.wx_job.specs.declared.entry.Named.{Named}
-use Rattle.wx_job.specs.declared.entry.Offered.{Offered}
-use Rattle.wx_job.specs.declared.entry.Offered.TheVariants.{Queued, Full}
-use Rattle.wx_job.specs.declared.entry.TurnKind.{TurnKind}
-use Rattle.wx_job.specs.declared.entry.TurnKind.TheVariants.{Work}
-use Rattle.wx_job.specs.declared.entry.Word.TheVariants.{Idle}
+use Rattle.wx_journal.specs.declared.entry.Entry.{Entry}
+use Rattle.wx_journal.specs.declared.entry.Entry.TheVariants.{Turn as Turned, Word as Said, Take}
+use Rattle.wx_journal.specs.declared.entry.Named.{Named}
+use Rattle.wx_journal.specs.declared.entry.Offered.{Offered}
+use Rattle.wx_journal.specs.declared.entry.Offered.TheVariants.{Queued, Full}
+use Rattle.wx_journal.specs.declared.entry.TurnKind.{TurnKind}
+use Rattle.wx_journal.specs.declared.entry.TurnKind.TheVariants.{Work}
+use Rattle.wx_journal.specs.declared.entry.Word.TheVariants.{Idle}
 use Rattle.wx_action.specs.declared.state.Worker.{Worker}
 use Rattle.wx_action.specs.declared.work.Collected.{Collected}
 use Rattle.wx_action.specs.declared.work.Collected.TheVariants as collected

@@ -3,7 +3,7 @@ use Rattle.std.specs.Prelude.{◌≡◌, ℕ, ◌≤◌, Bool, true, false, ◌=
 use Rattle.wx_events.specs.declared.event.Event.{Event}
 use Rattle.wx_events.specs.declared.priority.Priority.{Priority}
 use Rattle.wx_action.specs.declared.config.Config.{Config}
-use Rattle.wx_job.specs.declared.watched.Watcher.TheVariants.{Native}
+use Rattle.wx_journal.specs.declared.watched.Watcher.TheVariants.{Native}
 
 -- the default settings
 abbrev pub default_config : Config

@@ -1,10 +1,10 @@
 -- What is known of a worker directly after a turn was drawn, and of what hooks promise over several calls.
 use Rattle.std.proofs.Common.{◌≡◌, ℕ, Bool, true, false, List, ◌∷◌, refl, sym, subst, ◌∙◌}
-use Rattle.wx_job.specs.declared.entry.Entry.{Entry}
-use Rattle.wx_job.specs.declared.entry.Entry.TheVariants.{Turn as Turned}
-use Rattle.wx_job.specs.declared.entry.Turn.{Turn}
-use Rattle.wx_job.specs.declared.entry.TurnKind.{TurnKind}
-use Rattle.wx_job.specs.declared.entry.TurnKind.TheVariants.{Arrive, Work, Last}
+use Rattle.wx_journal.specs.declared.entry.Entry.{Entry}
+use Rattle.wx_journal.specs.declared.entry.Entry.TheVariants.{Turn as Turned}
+use Rattle.wx_journal.specs.declared.entry.Turn.{Turn}
+use Rattle.wx_journal.specs.declared.entry.TurnKind.{TurnKind}
+use Rattle.wx_journal.specs.declared.entry.TurnKind.TheVariants.{Arrive, Work, Last}
 use Rattle.wx_action.specs.declared.state.Worker.{Worker}
 use Rattle.wx_action.specs.Start.{Start}
 use Rattle.wx_action.specs.Journal.{moment}

@@ -4,7 +4,7 @@ ghost use Rattle.std.specs.Prelude.{◌≡◌, ℕ, ◌+◌, ◌<◌, ◌≤◌,
 use std::alloc::Global;
 use std::marker::Model;
 use wx_events::{Event, Memory};
-use wx_job::{Act, Named};
+use wx_journal::{Act, Named};
 
 /// The window of a worker: the names and the events, in the order in which they passed. With each event there is room
 /// to hand it: for its name twice, and for the act that ends the run twice, since two entries are made of a batch.

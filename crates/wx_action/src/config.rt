@@ -4,7 +4,7 @@ ghost use Rattle.std.specs.Prelude.{◌≡◌, IfOk};
 use std::alloc::Global;
 use std::marker::Model;
 use wx_events::{List, Memory};
-use wx_job::{WatchedPath, Watcher};
+use wx_journal::{WatchedPath, Watcher};
 
 /// A value that can be replaced, which contracts see as that value.
 #[derive(Drop, Debug)]

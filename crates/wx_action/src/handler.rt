@@ -1,12 +1,12 @@
 // The handler that is lent to an action: it shows the batch, and collects acts.
 ghost use Rattle.std.specs.Prelude.{◌≡◌, ◌∷◌, ◌++◌, [], ◌<◌, ◌≤◌, ◌+◌, Bool, true, false, length};
 ghost use Rattle.wx_action.specs.Handled.{with_quit, AreEvents, lookup};
-ghost use Rattle.wx_job.specs.declared.entry.Entry.TheVariants.{Hand};
+ghost use Rattle.wx_journal.specs.declared.entry.Entry.TheVariants.{Hand};
 
 use crate::batch::Batch;
 use std::marker::Model;
 use wx_events::{Event, List};
-use wx_job::{Act, Entry, Journal};
+use wx_journal::{Act, Entry, Journal};
 
 /// The names and the acts once more, for the entry that the handler hands out.
 #[derive(Drop, Debug)]

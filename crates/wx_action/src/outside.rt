@@ -1,11 +1,11 @@
 // The traits of the outside: what the engine asks of its world, and of the hooks that its user hands in.
 ghost use Rattle.std.specs.Prelude.{◌≡◌, ◌∷◌, [], ◌≤◌, ◌<◌, ◌+◌, OnOk, OnErr, IfOk, is_err, List, ℕ, Bool, true, false, Option};
-ghost use Rattle.wx_job.specs.declared.entry.Entry.{Entry};
+ghost use Rattle.wx_journal.specs.declared.entry.Entry.{Entry};
 ghost use Rattle.wx_action.specs.Told.{tell, turned, gives_last, moment_after, is_hooks, Counts, NamesItsOwn};
 
 use crate::handler::ActionHandler;
 use wx_events::Memory;
-use wx_job::{Entry, Turn};
+use wx_journal::{Entry, Turn};
 
 /// The world has no turn to give: the code of the fault.
 #[derive(Clone, Copy, Debug, PartialEq, Eq)]

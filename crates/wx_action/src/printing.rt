@@ -1,16 +1,16 @@
 // A journal as text.
 ghost use Rattle.std.specs.Prelude.{◌≡◌, ◌∷◌, ◌++◌, List as Listed, OnOk, IfOk};
 ghost use Rattle.std.specs.List.{flat_map};
-ghost use Rattle.wx_events.specs.Line.{spaced, joined};
+ghost use Rattle.wx_words.specs.Line.{spaced, joined};
 ghost use Rattle.wx_action.specs.Journal.{window};
 ghost use Rattle.wx_action.specs.Printed.{entry_line, critical_words, answer_words, end_words, line_of, printed, Answer};
 ghost use Rattle.wx_action.specs.OneSpelling.{JournalFits, AnswerFits};
-ghost use Rattle.wx_job.specs.declared.entry.Entry.{Entry as AnEntry};
+ghost use Rattle.wx_journal.specs.declared.entry.Entry.{Entry as AnEntry};
 
 use crate::error::CriticalError;
 use std::alloc::Global;
 use wx_events::{List, Memory, Spelled, Text};
-use wx_job::{Entry, Journal, put_entry};
+use wx_journal::{Entry, Journal, put_entry};
 
 /// Adds an event that was taken, and drops those that were handed.
 fn follow(entry: &Entry, names: &mut List<u64>) -> Result<(), Memory>
@@ -56,7 +56,7 @@ fn put_lines(entries: &[Entry], out: &mut Text) -> Result<(), Memory>
 }
 
 /// Appends the words of an error that ended a run, each with a space before it.
-#[tactic(auto, using(wx_events::specs::LineLaws::spaces))]
+#[tactic(auto, using(wx_words::specs::LineLaws::spaces))]
 fn put_critical(error: &CriticalError, out: &mut Text) -> Result<(), Memory>
     ensures { OnOk result (out.new ≡ out.old ++ spaced (critical_words error.now)) }
 {
@@ -71,7 +71,7 @@ fn put_critical(error: &CriticalError, out: &mut Text) -> Result<(), Memory>
 }
 
 /// Appends the words of the answer of a run, each with a space before it.
-#[tactic(auto, using(wx_events::specs::LineLaws::spaces))]
+#[tactic(auto, using(wx_words::specs::LineLaws::spaces))]
 fn put_answer(answer: &Result<(), CriticalError>, out: &mut Text) -> Result<(), Memory>
     ensures { OnOk result (out.new ≡ out.old ++ spaced (answer_words answer.now)) }
 {
@@ -85,7 +85,7 @@ fn put_answer(answer: &Result<(), CriticalError>, out: &mut Text) -> Result<(), 
 }
 
 /// Appends the words of the end line.
-#[tactic(auto, using(wx_events::specs::LineLaws::spaces))]
+#[tactic(auto, using(wx_words::specs::LineLaws::spaces))]
 fn put_end_words(
     answer: &Result<(), CriticalError>,
     lost: &List<u64>,
@@ -135,7 +135,7 @@ mod tests {
     use super::*;
     use std::test::Fail;
     use wx_events::{Event, Priority, TextPath, Words};
-    use wx_job::{Act, Offered, Turn, TurnKind, WatchedPath, Watcher, Word};
+    use wx_journal::{Act, Offered, Turn, TurnKind, WatchedPath, Watcher, Word};
 
     /// An event without tags.
     fn event(alloc: Global) -> Event {

@@ -3,7 +3,7 @@ ghost use Rattle.std.specs.Prelude.{◌≡◌, ◌∷◌, [], ◌++◌, ◌+◌,
 ghost use Rattle.wx_events.specs.declared.event.Event.{Event as AnEvent};
 ghost use Rattle.wx_events.specs.declared.priority.Priority.{Priority as APriority};
 ghost use Rattle.prio_channel.specs.SameBag.{SameBag};
-ghost use Rattle.wx_job.specs.declared.entry.Entry.{Entry};
+ghost use Rattle.wx_journal.specs.declared.entry.Entry.{Entry};
 ghost use Rattle.wx_action.specs.Start.{Start, IsSize};
 ghost use Rattle.wx_action.specs.Journal.{bag, event_count};
 ghost use Rattle.wx_action.specs.Due.{agenda, Open, Sends, rest, Offers, begin_of};
@@ -16,7 +16,7 @@ use crate::config::Config;
 use prio_channel::PrioQueue;
 use std::alloc::Global;
 use wx_events::{Copies, Event, Memory, Priority};
-use wx_job::{Entry, Journal, Named, Offered};
+use wx_journal::{Entry, Journal, Named, Offered};
 
 /// What an engine keeps between turns: its settings, the queue, how many events have a name, the window, and the moment
 /// at which the window's first event was taken, in nanoseconds.

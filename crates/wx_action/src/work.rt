@@ -1,6 +1,6 @@
 // A Work turn: an event is taken, and the window is handed where it is due.
 ghost use Rattle.std.specs.Prelude.{◌≡◌, ◌∷◌, [], ◌+◌, ◌<◌, ◌≤◌, ◌==◌, ◌||◌, nat_le, true, false, if◌then◌else◌, length, List, Option, IfOk, IfErr, OnErr};
-ghost use Rattle.wx_job.specs.declared.entry.Entry.{Entry};
+ghost use Rattle.wx_journal.specs.declared.entry.Entry.{Entry};
 ghost use Rattle.wx_action.specs.declared.error.CriticalError.TheVariants.{Memory as WantOfMemory};
 ghost use Rattle.wx_action.specs.Start.{Start};
 ghost use Rattle.wx_action.specs.Journal.{moment, bag, is_over, is_over_of};
@@ -17,7 +17,7 @@ use crate::outside::{Hooks, Host};
 use crate::state::Worker;
 use std::alloc::Global;
 use std::mem;
-use wx_job::{Act, Entry, Journal, Word};
+use wx_journal::{Act, Entry, Journal, Word};
 
 /// What a Work turn collected.
 #[derive(Clone, Copy, Debug, PartialEq, Eq)]

@@ -1,7 +1,7 @@
 -- The words of a command, part by part.
 use Rattle.std.proofs.Common.{◌≡◌, ℕ, List, ◌++◌, ◌∷◌, ◌∙◌, append_assoc}
 use Rattle.std.specs.Prelude.{codes}
-use Rattle.wx_events.specs.Line.{spaced}
+use Rattle.wx_words.specs.Line.{spaced}
 use Rattle.wx_command.specs.Options.{options_words}
 use Rattle.wx_command.specs.declared.command.SpawnOptions.{SpawnOptions}
 

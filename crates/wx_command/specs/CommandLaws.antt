@@ -1,12 +1,12 @@
 -- Commands are read again from their words.
 use Rattle.std.proofs.Common.{◌≡◌, ℕ, Some, List, ◌++◌, refl}
 use Rattle.std.specs.Prelude.{codes}
-use Rattle.wx_events.specs.Texts.{AllBytes, text_in}
-use Rattle.wx_events.specs.TextLaws.{text_form}
-use Rattle.wx_events.specs.CombineLaws.{pair_form, row_of, row_again, rows_take}
-use Rattle.wx_events.specs.Forms.{IsForm, Stood}
-use Rattle.wx_events.specs.Clean.{AllClean}
-use Rattle.wx_events.specs.CleanLaws.{clean, text_words_clean}
+use Rattle.wx_words.specs.Texts.{AllBytes, text_in}
+use Rattle.wx_words.specs.TextLaws.{text_form}
+use Rattle.wx_words.specs.CombineLaws.{pair_form, row_of, row_again, rows_take}
+use Rattle.wx_words.specs.Forms.{IsForm, Stood}
+use Rattle.wx_words.specs.Clean.{AllClean}
+use Rattle.wx_words.specs.CleanLaws.{clean, text_words_clean}
 use Rattle.wx_command.specs.OptionsLaws.{options_form, options_word_clean}
 use Rattle.wx_command.specs.Filled.{FilledFits}
 use Rattle.wx_command.specs.FilledLaws.{filled_form, filled_clean}

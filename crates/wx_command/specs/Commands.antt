@@ -1,7 +1,7 @@
 -- Commands as words.
 use Rattle.std.specs.Prelude.{ℕ, List, [], ◌∷◌, codes}
-use Rattle.wx_events.specs.Combine.{Reader, pair_words, read_pair, read_as, read_rows}
-use Rattle.wx_events.specs.Texts.{AllBytes, text_word, read_text}
+use Rattle.wx_words.specs.Combine.{Reader, pair_words, read_pair, read_as, read_rows}
+use Rattle.wx_words.specs.Texts.{AllBytes, text_word, read_text}
 use Rattle.wx_command.specs.Options.{options_words, read_options}
 use Rattle.wx_command.specs.Filled.{FilledFits, filled_words, read_filled}
 use Rattle.wx_command.specs.declared.command.SpawnOptions.{SpawnOptions}

@@ -1,9 +1,9 @@
 -- Lists with at least one item, as words: the length, then the items.
 use Rattle.std.specs.Prelude.{ℕ, ◌^◌, ◌<◌, Option, None, Some, List, [], ◌∷◌, length}
 use Rattle.std.specs.List.{AllByRecursion}
-use Rattle.wx_events.specs.Line.{◌>>=◌}
-use Rattle.wx_events.specs.Combine.{Reader}
-use Rattle.wx_events.specs.Lists.{list_words, read_list}
+use Rattle.wx_words.specs.Line.{◌>>=◌}
+use Rattle.wx_words.specs.Combine.{Reader}
+use Rattle.wx_words.specs.Lists.{list_words, read_list}
 
 abbrev pub FilledFits : {X : Type 0} → (X → Type 0) → X × List X → Type 0
 FilledFits fits p = (length (p.0 ∷ p.1) < 2 ^ 64) × AllByRecursion fits (p.0 ∷ p.1)

@@ -1,15 +1,15 @@
 -- A list with at least one item is read from its length and its items.
 use Rattle.std.proofs.Common.{◌≡◌, ℕ, ◌^◌, ◌<◌, Some, List, [], ◌∷◌, ◌++◌, length, refl, ap, subst}
 use Rattle.std.specs.List.{AllByRecursion}
-use Rattle.wx_events.specs.Line.{◌>>=◌}
-use Rattle.wx_events.specs.OptionLaws.{bind_some}
-use Rattle.wx_events.specs.Combine.{Reader}
-use Rattle.wx_events.specs.Lists.{list_words, read_list}
-use Rattle.wx_events.specs.ListLaws.{list_form}
-use Rattle.wx_events.specs.Forms.{Stood, IsForm}
-use Rattle.wx_events.specs.FormLaws.{same_read}
-use Rattle.wx_events.specs.Clean.{AllClean}
-use Rattle.wx_events.specs.CleanLaws.{list_clean}
+use Rattle.wx_words.specs.Line.{◌>>=◌}
+use Rattle.wx_words.specs.OptionLaws.{bind_some}
+use Rattle.wx_words.specs.Combine.{Reader}
+use Rattle.wx_words.specs.Lists.{list_words, read_list}
+use Rattle.wx_words.specs.ListLaws.{list_form}
+use Rattle.wx_words.specs.Forms.{Stood, IsForm}
+use Rattle.wx_words.specs.FormLaws.{same_read}
+use Rattle.wx_words.specs.Clean.{AllClean}
+use Rattle.wx_words.specs.CleanLaws.{list_clean}
 use Rattle.wx_command.specs.Filled.{FilledFits, filled_words, first_of, read_filled}
 
 abbrev Words : Type 0

@@ -1,7 +1,7 @@
 -- The options of a spawn as a word: a letter for each that is on, and a hyphen for each that is off.
 use Rattle.std.specs.Prelude.{ℕ, ◌==◌, Bool, true, false, if◌then◌else◌, Option, None, Some, option_map, List, [], ◌∷◌}
-use Rattle.wx_events.specs.Line.{◌>>=◌}
-use Rattle.wx_events.specs.Combine.{Reader}
+use Rattle.wx_words.specs.Line.{◌>>=◌}
+use Rattle.wx_words.specs.Combine.{Reader}
 use Rattle.wx_command.specs.declared.command.SpawnOptions.{SpawnOptions}
 
 -- this letter or a hyphen

@@ -2,11 +2,11 @@
 use Rattle.std.proofs.Common.{◌≡◌, ℕ, ◌<◌, Bool, true, false, Some, List, [], ◌∷◌, refl, ap, subst, ◌∙◌, inl, inr, arith}
 use Rattle.std.specs.Prelude.{◌==◌}
 use Rattle.std.proofs.lemmas.Bool.{eqb-true}
-use Rattle.wx_events.specs.OptionLaws.{map_some, bind_some, chosen_by, guarded}
-use Rattle.wx_events.specs.Texts.{text_in}
-use Rattle.wx_events.specs.Forms.{Stood, IsForm}
-use Rattle.wx_events.specs.FormLaws.{stood-one, same_read}
-use Rattle.wx_events.specs.Clean.{IsClean, AllClean}
+use Rattle.wx_words.specs.OptionLaws.{map_some, bind_some, chosen_by, guarded}
+use Rattle.wx_words.specs.Texts.{text_in}
+use Rattle.wx_words.specs.Forms.{Stood, IsForm}
+use Rattle.wx_words.specs.FormLaws.{stood-one, same_read}
+use Rattle.wx_words.specs.Clean.{IsClean, AllClean}
 use Rattle.wx_command.specs.Options.{flag_byte, flag_in, options_word, options_words, options_in, read_options}
 use Rattle.wx_command.specs.declared.command.SpawnOptions.{SpawnOptions}
 

@@ -1,9 +1,9 @@
 -- What a command spawns, and its words.
 use Rattle.std.specs.Prelude.{ℕ, ◌^◌, ◌<◌, List, ◌∷◌, length}
 use Rattle.std.specs.List.{AllByRecursion}
-use Rattle.wx_events.specs.Combine.{Reader, pair_words, read_pair, read_as}
-use Rattle.wx_events.specs.Lists.{list_words, read_list}
-use Rattle.wx_events.specs.Texts.{AllBytes, read_text}
+use Rattle.wx_words.specs.Combine.{Reader, pair_words, read_pair, read_as}
+use Rattle.wx_words.specs.Lists.{list_words, read_list}
+use Rattle.wx_words.specs.Texts.{AllBytes, read_text}
 use Rattle.wx_command.specs.Options.{options_words, read_options}
 use Rattle.wx_command.specs.Commands.{text_words}
 use Rattle.wx_command.specs.declared.command.SpawnOptions.{SpawnOptions}

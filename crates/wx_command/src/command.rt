@@ -1,7 +1,7 @@
 // Commands.
 ghost use Rattle.std.specs.Prelude.{◌≡◌, ◌∷◌, ◌++◌, OnOk, IfOk};
-ghost use Rattle.wx_events.specs.Line.{spaced, Reads};
-ghost use Rattle.wx_events.specs.Lists.{list_words};
+ghost use Rattle.wx_words.specs.Line.{spaced, Reads};
+ghost use Rattle.wx_words.specs.Lists.{list_words};
 ghost use Rattle.wx_command.specs.Commands.{text_words, with_options, read_command};
 ghost use Rattle.wx_command.specs.declared.program.Program.TheVariants.{Exec};
 
@@ -39,7 +39,7 @@ impl Copies for Command {
 }
 
 /// Appends the words of a program and its arguments, each with a space before it.
-#[tactic(auto, using(wx_events::specs::LineLaws::spaces))]
+#[tactic(auto, using(wx_words::specs::LineLaws::spaces))]
 fn put_program(prog: &Text, args: &List<Text>, out: &mut Text) -> Result<(), Memory>
     ensures { OnOk result (out.new ≡ out.old ++ spaced (list_words text_words (prog.now ∷ args.now))) }
 {

@@ -86,7 +86,7 @@ impl Spelled for Spawnable {
 
     ghost clean = { spawnable_clean };
 
-    #[tactic(auto, using(wx_events::specs::LineLaws::spaces))]
+    #[tactic(auto, using(wx_words::specs::LineLaws::spaces))]
     fn put_after(&self, out: &mut Text) -> Result<(), Memory> {
         self.options.put_after(out)?;
         self.words.put_after(out)

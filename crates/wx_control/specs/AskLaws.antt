@@ -1,9 +1,9 @@
 -- Asks are read again from their words.
 use Rattle.std.proofs.Common.{◌≡◌, ℕ, Some, List, ◌++◌, refl}
-use Rattle.wx_events.specs.Texts.{text_in}
-use Rattle.wx_events.specs.Forms.{IsForm, Stood}
-use Rattle.wx_events.specs.CombineLaws.{as_form}
-use Rattle.wx_events.specs.Clean.{AllClean}
+use Rattle.wx_words.specs.Texts.{text_in}
+use Rattle.wx_words.specs.Forms.{IsForm, Stood}
+use Rattle.wx_words.specs.CombineLaws.{as_form}
+use Rattle.wx_words.specs.Clean.{AllClean}
 use Rattle.wx_control.specs.declared.control.Control.{Control}
 use Rattle.wx_control.specs.declared.ask.Ask.{Ask}
 use Rattle.wx_control.specs.declared.ask.Ask.TheVariants.{One}

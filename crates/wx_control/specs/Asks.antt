@@ -1,6 +1,6 @@
 -- The table of asks, and their words.
 use Rattle.std.specs.Prelude.{ℕ, None, List}
-use Rattle.wx_events.specs.Combine.{Reader, read_as}
+use Rattle.wx_words.specs.Combine.{Reader, read_as}
 use Rattle.wx_control.specs.declared.control.Control.{Control}
 use Rattle.wx_control.specs.declared.level.Level.TheVariants.{Normal}
 use Rattle.wx_control.specs.declared.ask.Ask.{Ask}

@@ -1,11 +1,11 @@
 -- Controls are read again from their words.
 use Rattle.std.proofs.Common.{◌≡◌, ℕ, Some, List, ◌++◌, refl}
 use Rattle.std.specs.Prelude.{codes}
-use Rattle.wx_events.specs.Texts.{text_in}
-use Rattle.wx_events.specs.Forms.{IsForm, Stood}
-use Rattle.wx_events.specs.CombineLaws.{nothing_form, row_of, rows_take}
-use Rattle.wx_events.specs.Clean.{AllClean}
-use Rattle.wx_events.specs.CleanLaws.{clean}
+use Rattle.wx_words.specs.Texts.{text_in}
+use Rattle.wx_words.specs.Forms.{IsForm, Stood}
+use Rattle.wx_words.specs.CombineLaws.{nothing_form, row_of, rows_take}
+use Rattle.wx_words.specs.Clean.{AllClean}
+use Rattle.wx_words.specs.CleanLaws.{clean}
 use Rattle.wx_control.specs.declared.control.Control.{Control}
 use Rattle.wx_control.specs.declared.control.Control.TheVariants.{Start, Stop}
 use Rattle.wx_control.specs.Controls.{ControlFits, control_words, control_rows, read_control}

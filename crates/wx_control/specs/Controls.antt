@@ -1,6 +1,6 @@
 -- Controls as words.
 use Rattle.std.specs.Prelude.{ℕ, List, [], ◌∷◌, codes}
-use Rattle.wx_events.specs.Combine.{Reader, read_as, read_nothing, read_rows}
+use Rattle.wx_words.specs.Combine.{Reader, read_as, read_nothing, read_rows}
 use Rattle.wx_control.specs.declared.control.Control.{Control}
 use Rattle.wx_control.specs.declared.control.Control.TheVariants.{Start, Stop}
 

@@ -1,11 +1,11 @@
 -- Names of jobs are read again from their words.
 use Rattle.std.proofs.Common.{refl}
-use Rattle.wx_events.specs.NumberLaws.{u32_form}
-use Rattle.wx_events.specs.Texts.{text_in}
-use Rattle.wx_events.specs.Forms.{IsForm}
-use Rattle.wx_events.specs.CombineLaws.{as_form}
-use Rattle.wx_events.specs.Clean.{AllClean}
-use Rattle.wx_events.specs.CleanLaws.{u32_clean}
+use Rattle.wx_words.specs.NumberLaws.{u32_form}
+use Rattle.wx_words.specs.Texts.{text_in}
+use Rattle.wx_words.specs.Forms.{IsForm}
+use Rattle.wx_words.specs.CombineLaws.{as_form}
+use Rattle.wx_words.specs.Clean.{AllClean}
+use Rattle.wx_words.specs.CleanLaws.{u32_clean}
 use Rattle.wx_control.specs.declared.id.Id.{Id}
 use Rattle.wx_control.specs.Ids.{IdFits, id_words, make_id, read_id}
 

@@ -1,7 +1,7 @@
 -- Names of jobs as words.
 use Rattle.std.specs.Prelude.{ℕ, ◌^◌, ◌<◌, List, [], ◌∷◌, decimal}
-use Rattle.wx_events.specs.Combine.{Reader, read_as}
-use Rattle.wx_events.specs.Numbers.{read_u32}
+use Rattle.wx_words.specs.Combine.{Reader, read_as}
+use Rattle.wx_words.specs.Numbers.{read_u32}
 use Rattle.wx_control.specs.declared.id.Id.{Id}
 
 -- the names whose numbers are those of the code

@@ -1,12 +1,12 @@
 -- Levels are read again from their words, and ranks tell them apart.
 use Rattle.std.proofs.Common.{◌≡◌, Some, refl}
 use Rattle.std.specs.Prelude.{codes}
-use Rattle.wx_events.specs.Keywords.{with_word}
-use Rattle.wx_events.specs.KeywordLaws.{keyword_form}
-use Rattle.wx_events.specs.Texts.{text_in}
-use Rattle.wx_events.specs.Forms.{IsForm}
-use Rattle.wx_events.specs.Clean.{IsClean, AllClean}
-use Rattle.wx_events.specs.CleanLaws.{clean, keyword_clean}
+use Rattle.wx_words.specs.Keywords.{with_word}
+use Rattle.wx_words.specs.KeywordLaws.{keyword_form}
+use Rattle.wx_words.specs.Texts.{text_in}
+use Rattle.wx_words.specs.Forms.{IsForm}
+use Rattle.wx_words.specs.Clean.{IsClean, AllClean}
+use Rattle.wx_words.specs.CleanLaws.{clean, keyword_clean}
 use Rattle.wx_control.specs.declared.level.Level.{Level}
 use Rattle.wx_control.specs.declared.level.Level.TheVariants.{Normal, High, Urgent}
 use Rattle.wx_control.specs.Levels.{level_word, levels, level_words, read_level}

@@ -1,7 +1,7 @@
 -- Levels, their order and their words.
 use Rattle.std.specs.Prelude.{ℕ, ◌≤◌, List, [], ◌∷◌, codes}
-use Rattle.wx_events.specs.Combine.{Reader}
-use Rattle.wx_events.specs.Keywords.{read_keyword}
+use Rattle.wx_words.specs.Combine.{Reader}
+use Rattle.wx_words.specs.Keywords.{read_keyword}
 use Rattle.wx_control.specs.declared.level.Level.{Level}
 use Rattle.wx_control.specs.declared.level.Level.TheVariants.{Normal, High, Urgent}
 

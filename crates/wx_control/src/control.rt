@@ -1,6 +1,6 @@
 // What one message asks of a job.
 ghost use Rattle.std.specs.Prelude.{◌≡◌, IfOk};
-ghost use Rattle.wx_events.specs.Line.{Reads};
+ghost use Rattle.wx_words.specs.Line.{Reads};
 ghost use Rattle.wx_control.specs.Controls.{read_control};
 
 use std::alloc::Global;

@@ -1,7 +1,7 @@
 use Rattle.std.proofs.Common.{◌≡◌, ℕ, ◌+◌, ◌<◌, List, ◌∷◌, length, drop, get_or, refl, ap, ◌∙◌}
 use Rattle.std.proofs.lemmas.List.{drop_more}
-use Rattle.wx_job.specs.declared.entry.Act.{Act}
-use Rattle.wx_job.specs.declared.entry.Act.TheVariants.{Quit}
+use Rattle.wx_journal.specs.declared.entry.Act.{Act}
+use Rattle.wx_journal.specs.declared.entry.Act.TheVariants.{Quit}
 use Rattle.wx_action.specs.Handled.{with_quit}
 use Rattle.wx_engine.specs.Acted.{performed}
 

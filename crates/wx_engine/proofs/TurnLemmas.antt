@@ -1,8 +1,8 @@
 -- A turn is drawn and served.
 use Rattle.std.proofs.Common.{◌≡◌, ℕ, ◌+◌, ◌≤◌, Bool, false, Option, List, [], ◌∷◌, refl, subst}
-use Rattle.wx_job.specs.declared.entry.Entry.{Entry}
-use Rattle.wx_job.specs.declared.entry.Entry.TheVariants.{Turn as Turned, TurnFault}
-use Rattle.wx_job.specs.declared.entry.Turn.{Turn}
+use Rattle.wx_journal.specs.declared.entry.Entry.{Entry}
+use Rattle.wx_journal.specs.declared.entry.Entry.TheVariants.{Turn as Turned, TurnFault}
+use Rattle.wx_journal.specs.declared.entry.Turn.{Turn}
 use Rattle.wx_action.specs.Start.{Start}
 use Rattle.wx_action.specs.Journal.{moment, turn_count, turn_fault}
 use Rattle.wx_action.specs.Due.{agenda, Open, IsRun}

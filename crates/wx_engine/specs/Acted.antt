@@ -1,9 +1,9 @@
 -- The acts of a script, and the rule of hooks that follow it.
 use Rattle.std.specs.Prelude.{◌≡◌, ℕ, min, false, Option, None, Some, List, [], ◌∷◌, length, slice_get, refl}
-use Rattle.wx_job.specs.declared.entry.Act.{Act}
-use Rattle.wx_job.specs.declared.entry.Act.TheVariants.{Quit}
-use Rattle.wx_job.specs.declared.entry.Entry.{Entry}
-use Rattle.wx_job.specs.declared.entry.Entry.TheVariants.{Begin, Sent, Turn, TurnFault, Offer, Word, Take, Hand}
+use Rattle.wx_journal.specs.declared.entry.Act.{Act}
+use Rattle.wx_journal.specs.declared.entry.Act.TheVariants.{Quit}
+use Rattle.wx_journal.specs.declared.entry.Entry.{Entry}
+use Rattle.wx_journal.specs.declared.entry.Entry.TheVariants.{Begin, Sent, Turn, TurnFault, Offer, Word, Take, Hand}
 use Rattle.wx_action.specs.Handled.{with_quit}
 use Rattle.wx_action.specs.Journal.{hand_count}
 use Rattle.wx_action.specs.Told.{is_hooks, Obeys, Same, More}

@@ -2,8 +2,8 @@
 use Rattle.std.proofs.Common.{◌≡◌, ℕ, Bool, true, false, cond, if◌then◌else◌, None, Some, List, [], ◌∷◌, ◌++◌, length, nat_le, ◌&&◌, refl, ap, subst, ◌∙◌, arith}
 use Rattle.std.proofs.lemmas.List.{append-nil}
 use Rattle.std.specs.List.{filter, list_all}
-use Rattle.wx_job.specs.declared.entry.Entry.{Entry}
-use Rattle.wx_job.specs.declared.entry.Turn.{Turn as Timed}
+use Rattle.wx_journal.specs.declared.entry.Entry.{Entry}
+use Rattle.wx_journal.specs.declared.entry.Turn.{Turn as Timed}
 use Rattle.wx_action.specs.Start.{IsStart}
 use Rattle.wx_action.specs.Told.{tell_if, tells, is_turn}
 use Rattle.wx_engine.specs.declared.script.Script.{Script}

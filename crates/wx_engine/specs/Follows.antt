@@ -1,7 +1,7 @@
 -- What it means that a run follows a script.
 use Rattle.std.specs.Prelude.{◌≡◌, ◌≤◌, true, List, [], ◌∷◌, length}
 use Rattle.std.specs.List.{filter, list_all}
-use Rattle.wx_job.specs.declared.entry.Entry.{Entry}
+use Rattle.wx_journal.specs.declared.entry.Entry.{Entry}
 use Rattle.wx_action.specs.Start.{Start, default_config, IsSize}
 use Rattle.wx_action.specs.Told.{is_turn}
 use Rattle.wx_engine.specs.declared.script.Script.{Script}

@@ -1,6 +1,6 @@
 -- What a run of the engine told of its turns, and why it ended early.
 use Rattle.std.specs.Prelude.{◌≡◌, ℕ, Option, List}
-use Rattle.wx_job.specs.declared.entry.Entry.{Entry}
+use Rattle.wx_journal.specs.declared.entry.Entry.{Entry}
 use Rattle.wx_action.specs.declared.error.CriticalError.{CriticalError}
 use Rattle.wx_action.specs.declared.error.CriticalError.TheVariants.{IoError, Memory}
 use Rattle.wx_action.specs.Told.{tells, is_turn, Rose}

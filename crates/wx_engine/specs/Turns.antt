@@ -1,8 +1,8 @@
 -- The turns of a script, and what a world that follows it gives.
 use Rattle.std.specs.Prelude.{◌≡◌, ℕ, zero, suc, Bool, true, not, nat_le, if◌then◌else◌, Option, None, Some, List, [], ◌∷◌, slice_get}
-use Rattle.wx_job.specs.declared.entry.Entry.{Entry}
-use Rattle.wx_job.specs.declared.entry.Entry.TheVariants.{Turn as Turned, TurnFault}
-use Rattle.wx_job.specs.declared.entry.TurnKind.TheVariants.{Last}
+use Rattle.wx_journal.specs.declared.entry.Entry.{Entry}
+use Rattle.wx_journal.specs.declared.entry.Entry.TheVariants.{Turn as Turned, TurnFault}
+use Rattle.wx_journal.specs.declared.entry.TurnKind.TheVariants.{Last}
 use Rattle.wx_action.specs.Told.{is_last}
 use Rattle.wx_engine.specs.declared.script.ScriptTurn.{ScriptTurn}
 use Rattle.wx_engine.specs.declared.script.ScriptTurn.TheVariants.{Turn, Fault}

@@ -1,6 +1,6 @@
 // A run of the engine.
 ghost use Rattle.std.specs.Prelude.{◌≡◌, ◌∷◌, ◌++◌, [], ◌+◌, ◌<◌, ◌≤◌, false, length, List, ℕ, Option, None, OnOk, OnErr, IfOk, IfErr, codes};
-ghost use Rattle.wx_job.specs.declared.entry.Entry.{Entry as AnEntry};
+ghost use Rattle.wx_journal.specs.declared.entry.Entry.{Entry as AnEntry};
 ghost use Rattle.wx_action.specs.declared.error.CriticalError.TheVariants.{Memory as WantOfMemory};
 ghost use Rattle.wx_action.specs.Start.{Start, IsStart};
 ghost use Rattle.wx_action.specs.Journal.{moment, turn_count, turn_fault};
@@ -17,7 +17,7 @@ use crate::watchexec::Watchexec;
 use std::alloc::Global;
 use wx_action::{Config, CriticalError, Hooks, Host, JobHooks, Worked, Worker, World, worker};
 use wx_events::{Copies, Memory, Text, TextPath};
-use wx_job::{Entry, Journal, TurnKind};
+use wx_journal::{Entry, Journal, TurnKind};
 
 /// The entry that a run begins with. It fails only for want of memory.
 fn beginning(alloc: Global, config: &Config, folder: TextPath) -> Result<Entry, Memory>

@@ -1,7 +1,7 @@
 // What is written down for a run.
 use std::alloc::Global;
 use wx_events::{Copies, Event, List, Memory, Priority};
-use wx_job::{Act, Turn};
+use wx_journal::{Act, Turn};
 
 /// What the world is to do when it is asked for a turn.
 #[derive(Drop, Debug)]

@@ -1,13 +1,13 @@
 // Hooks in memory, which follow a script.
 ghost use Rattle.std.specs.Prelude.{◌≡◌, [], ◌≤◌, false, Some, List, IfOk, length};
-ghost use Rattle.wx_job.specs.declared.entry.Act.{Act};
+ghost use Rattle.wx_journal.specs.declared.entry.Act.{Act};
 ghost use Rattle.wx_engine.specs.Acted.{performed, acts_rule, StandsFor, keeps_stand};
 
 use crate::script::Script;
 use std::alloc::Global;
 use wx_action::{ActionHandler, Hooks, JobHooks};
 use wx_events::{List, Memory};
-use wx_job::{Act, Entry, Journal};
+use wx_journal::{Act, Entry, Journal};
 
 /// Hooks that ask in each call of the action handler for the next acts of a script, and for nothing after them. They
 /// tell their entries.

@@ -1,7 +1,7 @@
 // A world in memory, which follows a script.
 ghost use Rattle.std.specs.Prelude.{◌≡◌, [], true, Some, IfOk, length, drop};
 ghost use Rattle.std.specs.List.{list_all};
-ghost use Rattle.wx_job.specs.declared.entry.TurnKind.TheVariants.{Last};
+ghost use Rattle.wx_journal.specs.declared.entry.TurnKind.TheVariants.{Last};
 ghost use Rattle.wx_engine.specs.Follows.{given_of};
 ghost use Rattle.wx_engine.specs.Turns.{comes, risen, Rises, entry_of, Given, first_given};
 
@@ -10,7 +10,7 @@ use crate::supply::Supply;
 use std::alloc::Global;
 use wx_action::{Host, Outside, TurnFault, Turned, World};
 use wx_events::{Copies, List, Memory};
-use wx_job::{Entry, Journal, Turn, TurnKind};
+use wx_journal::{Entry, Journal, Turn, TurnKind};
 
 /// A world that gives the turns of a script, in order, and then last turns at the last moment. It tells its entries,
 /// which are the script's first ones.

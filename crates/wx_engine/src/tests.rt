@@ -1,7 +1,7 @@
 // Tests of a world that follows a script, and of runs: their text is worked out by hand.
 ghost use Rattle.std.specs.Prelude.{◌≡◌, ◌∷◌, [], IfOk};
 ghost use Rattle.wx_action.specs.Start.{IsSize};
-ghost use Rattle.wx_job.specs.declared.entry.TurnKind.TheVariants.{Arrive, Work};
+ghost use Rattle.wx_journal.specs.declared.entry.TurnKind.TheVariants.{Arrive, Work};
 ghost use Rattle.wx_engine.specs.declared.script.ScriptTurn.TheVariants.{Turn as Comes};
 ghost use Rattle.wx_engine.specs.Follows.{IsScript};
 
@@ -10,7 +10,7 @@ use std::alloc::Global;
 use std::test::Fail;
 use wx_action::{Config, Host, JobHooks, World, print_journal};
 use wx_events::{Copies, Event, List, Memory, Priority, Tag, Text, TextPath, cut};
-use wx_job::{Act, Journal, Turn, TurnKind};
+use wx_journal::{Act, Journal, Turn, TurnKind};
 
 /// Two turns with a fault between them, and one call that quits.
 fn script(alloc: Global) -> Result<Script, Memory>

@@ -17,7 +17,7 @@ use std::alloc::Global;
 use std::marker::Model;
 use wx_action::{Config, CriticalError, Hooks, Host, JobHooks, Outside, World};
 use wx_events::{Event, List, Memory, Priority, TextPath};
-use wx_job::Journal;
+use wx_journal::Journal;
 
 /// Why an event was not sent.
 #[derive(Drop, Debug)]

@@ -6,14 +6,14 @@ use Rattle.wx_events.specs.declared.priority.Priority.TheVariants.{Low, Normal, 
 use Rattle.wx_events.specs.declared.event.Tag.{Tag}
 use Rattle.wx_events.specs.declared.event.Tag.TheVariants.{Unknown}
 use Rattle.wx_events.specs.declared.event.Event.{Event}
-use Rattle.wx_events.specs.Keywords.{with_word}
-use Rattle.wx_events.specs.KeywordLaws.{keyword_form}
-use Rattle.wx_events.specs.Texts.{text_in}
-use Rattle.wx_events.specs.Forms.{IsForm, Stood}
-use Rattle.wx_events.specs.CombineLaws.{as_form, nothing_form, row_of, rows_take}
-use Rattle.wx_events.specs.ListLaws.{list_form}
-use Rattle.wx_events.specs.Clean.{IsClean, AllClean}
-use Rattle.wx_events.specs.CleanLaws.{clean, keyword_clean, list_clean}
+use Rattle.wx_words.specs.Keywords.{with_word}
+use Rattle.wx_words.specs.KeywordLaws.{keyword_form}
+use Rattle.wx_words.specs.Texts.{text_in}
+use Rattle.wx_words.specs.Forms.{IsForm, Stood}
+use Rattle.wx_words.specs.CombineLaws.{as_form, nothing_form, row_of, rows_take}
+use Rattle.wx_words.specs.ListLaws.{list_form}
+use Rattle.wx_words.specs.Clean.{IsClean, AllClean}
+use Rattle.wx_words.specs.CleanLaws.{clean, keyword_clean, list_clean}
 use Rattle.wx_events.specs.Events.{priority_word, priorities, priority_words, read_priority, TagFits, tag_words, tag_rows, read_tag, EventFits, event_words, make_event, read_event}
 
 pub priority_found : (x : Priority) → with_word priority_word priorities (priority_word x) ≡ Some x

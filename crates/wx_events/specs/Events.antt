@@ -1,9 +1,9 @@
 -- Priorities and events as words.
 use Rattle.std.specs.Prelude.{ℕ, ◌^◌, ◌<◌, List, [], ◌∷◌, length, codes}
 use Rattle.std.specs.List.{AllByRecursion}
-use Rattle.wx_events.specs.Combine.{Reader, read_as, read_nothing, read_rows}
-use Rattle.wx_events.specs.Keywords.{read_keyword}
-use Rattle.wx_events.specs.Lists.{list_words, read_list}
+use Rattle.wx_words.specs.Combine.{Reader, read_as, read_nothing, read_rows}
+use Rattle.wx_words.specs.Keywords.{read_keyword}
+use Rattle.wx_words.specs.Lists.{list_words, read_list}
 use Rattle.wx_events.specs.declared.priority.Priority.{Priority}
 use Rattle.wx_events.specs.declared.priority.Priority.TheVariants.{Low, Normal, High, Urgent}
 use Rattle.wx_events.specs.declared.event.Tag.{Tag}

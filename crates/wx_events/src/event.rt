@@ -1,13 +1,10 @@
 // Events.
 ghost use Rattle.std.specs.Prelude.{◌≡◌, ◌==◌, length, IfOk};
-ghost use Rattle.wx_events.specs.Line.{Reads};
+ghost use Rattle.wx_words.specs.Line.{Reads};
 ghost use Rattle.wx_events.specs.Events.{read_tag};
 
-use crate::cursor::Words;
-use crate::list::{Copies, List, Memory};
-use crate::spelled::Spelled;
-use crate::text::Text;
 use std::alloc::Global;
+use wx_words::{Copies, List, Memory, Spelled, Text, Words};
 
 /// What an event says of itself.
 #[derive(Clone, Copy, Debug, PartialEq, Eq)]

@@ -1,30 +1,14 @@
-//! Events, texts, lists, and the words in which they are written.
+//! Events and their priorities, and what they are written with.
 #![tactic(auto)]
 
-mod cursor;
 mod event;
-mod keyword;
-mod list;
-mod lists;
-mod numbers;
-mod optional;
-mod path;
 mod priority;
-mod spelled;
-mod switches;
 #[cfg(test)]
 mod tests;
-mod text;
-mod texts;
 
-pub use cursor::{Words, cut};
 pub use event::{Event, Tag};
-pub use keyword::{Keyword, put_keyword, take_keyword, take_literal, with_word};
-pub use list::{Copies, List, Memory};
-pub use lists::put_items;
-pub use numbers::number_of;
-pub use path::TextPath;
 pub use priority::Priority;
-pub use spelled::Spelled;
-pub use text::Text;
-pub use texts::text_in;
+pub use wx_words::{
+    Copies, Keyword, List, Memory, Spelled, Text, TextPath, Words, cut, number_of, put_items,
+    put_keyword, take_keyword, take_literal, text_in, with_word,
+};

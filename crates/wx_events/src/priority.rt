@@ -2,12 +2,8 @@
 ghost use Rattle.std.specs.Prelude.{◌≡◌};
 ghost use Rattle.wx_events.specs.Priority.{rank, is_urgent};
 
-use crate::cursor::Words;
-use crate::keyword::{Keyword, put_keyword, take_keyword};
-use crate::list::Memory;
-use crate::spelled::Spelled;
-use crate::text::Text;
 use std::alloc::Global;
+use wx_words::{Keyword, Memory, Spelled, Text, Words, put_keyword, take_keyword};
 
 /// How pressing an event is, rising in this order.
 #[derive(Clone, Copy, Debug, Default, PartialEq, Eq, PartialOrd, Ord, Hash)]

@@ -1,10 +1,10 @@
 -- One act more.
 use Rattle.std.proofs.Common.{◌≡◌, ℕ, Option, None, Some, List, [], ◌∷◌, ◌++◌, refl, sym, ap, ◌∙◌, append_assoc}
 use Rattle.std.proofs.lemmas.List.{append-nil}
-use Rattle.wx_events.specs.Line.{◌>>=◌}
-use Rattle.wx_events.specs.Keywords.{with_word}
-use Rattle.wx_job.specs.declared.entry.Act.{Act}
-use Rattle.wx_job.specs.Words.{act_word, act_all}
+use Rattle.wx_words.specs.Line.{◌>>=◌}
+use Rattle.wx_words.specs.Keywords.{with_word}
+use Rattle.wx_journal.specs.declared.entry.Act.{Act}
+use Rattle.wx_journal.specs.Words.{act_word, act_all}
 use Rattle.wx_run.specs.Lines.{acts_in}
 
 -- acts in front of what was read

@@ -1,7 +1,7 @@
 -- One line more.
 use Rattle.std.proofs.Common.{◌≡◌, ℕ, ◌+◌, ◌<◌, None, Some, Result, Ok, Err, List, [], ◌∷◌, length, refl, sym, ap, ◌∙◌, arith, ne_eqb}
-use Rattle.wx_events.specs.Line.{parts}
-use Rattle.wx_events.specs.LineLaws.{some_part}
+use Rattle.wx_words.specs.Line.{parts}
+use Rattle.wx_words.specs.LineLaws.{some_part}
 use Rattle.wx_engine.specs.declared.script.Script.{Script}
 use Rattle.wx_run.specs.Scripts.{step, scan}
 

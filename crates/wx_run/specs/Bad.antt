@@ -1,6 +1,6 @@
 -- The first bad line, in the words of the rule.
 use Rattle.std.specs.Prelude.{ℕ, ◌≡◌, ◌+◌, ◌<◌, Option, None, Some, List, [], ◌∷◌, ◌++◌, length, ◌⊎◌}
-use Rattle.wx_events.specs.Line.{parts, ◌>>=◌}
+use Rattle.wx_words.specs.Line.{parts, ◌>>=◌}
 use Rattle.wx_engine.specs.declared.script.Script.{Script}
 use Rattle.wx_run.specs.Scripts.{start, step}
 

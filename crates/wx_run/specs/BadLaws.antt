@@ -1,6 +1,6 @@
 -- What a scan that fails or ends says of the lines.
 use Rattle.std.proofs.Common.{◌≡◌, ℕ, ◌+◌, ◌<◌, Bool, true, false, cond, eqb, Option, None, Some, Result, Ok, Err, List, [], ◌∷◌, ◌++◌, length, refl, ap, arith, inl, inr, ◌⊎◌}
-use Rattle.wx_events.specs.Line.{parts}
+use Rattle.wx_words.specs.Line.{parts}
 use Rattle.wx_engine.specs.declared.script.Script.{Script}
 use Rattle.wx_run.specs.Scripts.{start, step, scan, after_line, script_in}
 use Rattle.wx_run.specs.Bad.{begun_by, IsFirstBad}

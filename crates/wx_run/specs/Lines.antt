@@ -1,16 +1,16 @@
 -- What one line of a script says.
 use Rattle.std.specs.Prelude.{ℕ, ◌==◌, if◌then◌else◌, Option, Some, List, [], ◌∷◌, codes}
-use Rattle.wx_events.specs.Line.{words_of, ◌>>=◌}
-use Rattle.wx_events.specs.Combine.{Reader, read_pair, read_as, read_literal, read_nothing, read_rows}
-use Rattle.wx_events.specs.Numbers.{read_number, read_u32}
-use Rattle.wx_events.specs.Keywords.{with_word}
+use Rattle.wx_words.specs.Line.{words_of, ◌>>=◌}
+use Rattle.wx_words.specs.Combine.{Reader, read_pair, read_as, read_literal, read_nothing, read_rows}
+use Rattle.wx_words.specs.Numbers.{read_number, read_u32}
+use Rattle.wx_words.specs.Keywords.{with_word}
 use Rattle.wx_events.specs.Events.{read_priority}
 use Rattle.wx_events.specs.declared.priority.Priority.{Priority}
 use Rattle.wx_events.specs.declared.event.Event.{Event}
-use Rattle.wx_job.specs.Words.{act_word, act_all, ended}
-use Rattle.wx_job.specs.declared.entry.Act.{Act}
-use Rattle.wx_job.specs.declared.entry.TurnKind.{TurnKind}
-use Rattle.wx_job.specs.declared.entry.TurnKind.TheVariants.{Arrive, Work}
+use Rattle.wx_journal.specs.Words.{act_word, act_all, ended}
+use Rattle.wx_journal.specs.declared.entry.Act.{Act}
+use Rattle.wx_journal.specs.declared.entry.TurnKind.{TurnKind}
+use Rattle.wx_journal.specs.declared.entry.TurnKind.TheVariants.{Arrive, Work}
 use Rattle.wx_run.specs.declared.lines.Line.{Line}
 use Rattle.wx_run.specs.declared.lines.Line.TheVariants.{Nothing, Throttle, Size, Send, Turn as Turned, Fault, Acts}
 

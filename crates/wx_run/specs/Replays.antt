@@ -1,6 +1,6 @@
 -- What a replay writes, and how it ends.
 use Rattle.std.specs.Prelude.{ℕ, ◌≡◌, ◌<◌, ◌≤◌, ⊤, Result, Ok, Err, List, [], ◌∷◌, ◌++◌, length, codes, decimal}
-use Rattle.wx_job.specs.declared.entry.Entry.{Entry}
+use Rattle.wx_journal.specs.declared.entry.Entry.{Entry}
 use Rattle.wx_action.specs.declared.error.CriticalError.TheVariants.{IoError, Memory as NoMemory}
 use Rattle.wx_action.specs.Answer.{Answers}
 use Rattle.wx_action.specs.Printed.{Answer, printed}

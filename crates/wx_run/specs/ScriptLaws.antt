@@ -4,13 +4,13 @@ use Rattle.std.specs.Prelude.{◌==◌, ◌&&◌, nat_lt, nat_le, not, IfSome}
 use Rattle.std.specs.Str.{bytes_eq}
 use Rattle.std.specs.List.{AllByRecursion}
 use Rattle.std.proofs.lemmas.Bool.Decides.{nat_tests}
-use Rattle.wx_events.specs.Line.{parts, words_of, ◌>>=◌}
-use Rattle.wx_events.specs.OptionLaws.{bind_some}
-use Rattle.wx_events.specs.Combine.{Reader, read_pair, read_as, read_nothing, row_at, read_rows}
-use Rattle.wx_events.specs.Numbers.{read_number, read_u32}
-use Rattle.wx_job.specs.declared.entry.TurnKind.{TurnKind}
-use Rattle.wx_job.specs.declared.entry.TurnKind.TheVariants.{Arrive, Work}
-use Rattle.wx_job.specs.Words.{ended}
+use Rattle.wx_words.specs.Line.{parts, words_of, ◌>>=◌}
+use Rattle.wx_words.specs.OptionLaws.{bind_some}
+use Rattle.wx_words.specs.Combine.{Reader, read_pair, read_as, read_nothing, row_at, read_rows}
+use Rattle.wx_words.specs.Numbers.{read_number, read_u32}
+use Rattle.wx_journal.specs.declared.entry.TurnKind.{TurnKind}
+use Rattle.wx_journal.specs.declared.entry.TurnKind.TheVariants.{Arrive, Work}
+use Rattle.wx_journal.specs.Words.{ended}
 use Rattle.wx_action.specs.Told.{is_last}
 use Rattle.wx_engine.specs.declared.script.Script.{Script}
 use Rattle.wx_engine.specs.declared.script.ScriptTurn.TheVariants.{Turn, Fault}

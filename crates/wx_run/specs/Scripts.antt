@@ -1,6 +1,6 @@
 -- A script as its lines.
 use Rattle.std.specs.Prelude.{ℕ, ◌+◌, ◌==◌, ◌&&◌, nat_lt, nat_le, if◌then◌else◌, Option, None, Some, Result, Ok, Err, List, [], ◌∷◌, ◌++◌, length}
-use Rattle.wx_events.specs.Line.{parts, ◌>>=◌}
+use Rattle.wx_words.specs.Line.{parts, ◌>>=◌}
 use Rattle.wx_engine.specs.declared.script.Script.{Script}
 use Rattle.wx_engine.specs.declared.script.ScriptTurn.TheVariants.{Turn, Fault}
 use Rattle.wx_run.specs.Lines.{line_in}

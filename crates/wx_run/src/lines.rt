@@ -1,11 +1,11 @@
 // What one line of a script says.
 ghost use Rattle.std.specs.Prelude.{◌≡◌, [], IfOk};
-ghost use Rattle.wx_events.specs.Line.{Reads};
+ghost use Rattle.wx_words.specs.Line.{Reads};
 ghost use Rattle.wx_run.specs.Lines.{read_untagged, read_kind, read_set, read_turn, read_acts, read_form, line_in};
 
 use std::alloc::Global;
 use wx_events::{Event, List, Memory, Priority, Spelled, Words, take_literal, with_word};
-use wx_job::{Act, Turn, TurnKind};
+use wx_journal::{Act, Turn, TurnKind};
 
 /// What a line of a script says.
 #[derive(Drop, Debug)]

@@ -16,7 +16,7 @@ use std::alloc::Global;
 use wx_action::{Config, CriticalError, print_journal};
 use wx_engine::{Script, ScriptHooks, ScriptWorld, Watchexec};
 use wx_events::{Copies, Memory, Text, TextPath};
-use wx_job::Journal;
+use wx_journal::Journal;
 
 /// The settings that a script states.
 fn config_of(alloc: Global, script: &Script) -> Result<Config, Memory>

@@ -9,7 +9,7 @@ use crate::lines::{Line, line_in};
 use std::alloc::Global;
 use wx_engine::{Script, ScriptTurn};
 use wx_events::{Event, List, Memory, Priority, cut};
-use wx_job::Turn;
+use wx_journal::Turn;
 
 /// The number of the first bad line, counted from 1.
 #[derive(Clone, Copy, Debug, PartialEq, Eq)]

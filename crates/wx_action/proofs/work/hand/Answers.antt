@@ -1,5 +1,5 @@
 use Rattle.std.proofs.Common.{ap, ◌∙◌}
-use Rattle.wx_job.specs.declared.entry.Entry.TheVariants.{Hand}
+use Rattle.wx_journal.specs.declared.entry.Entry.TheVariants.{Hand}
 use Rattle.wx_action.specs.RunLaws.{own_of_run, window_to_hand}
 use Rattle.wx_action.proofs.HandLemmas.{hand_follows, promised_call, turns_hand}
 use Rattle.wx_action.proofs.work.hand.Goals as goal

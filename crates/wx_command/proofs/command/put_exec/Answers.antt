@@ -1,6 +1,6 @@
 use Rattle.std.proofs.Common.{◌≡◌, ℕ, List, ◌++◌, ◌∷◌, ap, ◌∙◌}
-use Rattle.wx_events.specs.Line.{spaced}
-use Rattle.wx_events.specs.Lists.{list_words}
+use Rattle.wx_words.specs.Line.{spaced}
+use Rattle.wx_words.specs.Lists.{list_words}
 use Rattle.wx_command.specs.Options.{options_words}
 use Rattle.wx_command.specs.Commands.{text_words, with_options}
 use Rattle.wx_command.specs.declared.program.Program.TheVariants.{Exec}

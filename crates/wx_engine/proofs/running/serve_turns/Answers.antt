@@ -1,5 +1,5 @@
 use Rattle.std.proofs.Common.{[], ap, arith, sym, ◌∙◌}
-use Rattle.wx_job.specs.declared.entry.Entry.TheVariants.{Turn as Turned}
+use Rattle.wx_journal.specs.declared.entry.Entry.TheVariants.{Turn as Turned}
 use Rattle.wx_action.specs.Told.{is_last, tell}
 use Rattle.wx_action.specs.TurnLaws.{promised_then}
 use Rattle.wx_engine.proofs.BeginLemmas.{calm_begun}

@@ -1,5 +1,5 @@
 use Rattle.std.proofs.Common.{List, sym, ap, ◌∙◌}
-use Rattle.wx_job.specs.declared.entry.Act.{Act}
+use Rattle.wx_journal.specs.declared.entry.Act.{Act}
 use Rattle.wx_engine.proofs.ActedLaws.{performed_more}
 use Rattle.wx_engine.proofs.script_hooks.perform.Goals as goal
 

@@ -1,5 +1,5 @@
 use Rattle.std.proofs.Common.{◌≡◌, ◌+◌, ◌≤◌, length}
-use Rattle.wx_events.specs.Line.{parts}
+use Rattle.wx_words.specs.Line.{parts}
 use Rattle.wx_run.specs.Scripts.{scan, script_in}
 use Rattle.wx_run.proofs.script.scan.Given as goal
 

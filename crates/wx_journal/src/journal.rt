@@ -1,0 +1,94 @@
+// The journal of a run.
+ghost use Rattle.std.specs.Prelude.{◌≡◌, ℕ, ◌+◌, ◌<◌, ◌≤◌, ◌^◌, ◌==◌, [], ◌∷◌, length, reverse, OnOk, IfOk};
+ghost use Rattle.std.specs.Slice.Iter.{iter_rest};
+
+use crate::entry::Entry;
+use std::alloc::Global;
+use std::marker::Model;
+use std::slice;
+use wx_events::Memory;
+
+/// The entries of a journal, in the order in which they came.
+pub type Entries<'a> = slice::Iter<'a, Entry>;
+
+/// The entries of a run so far. Contracts see the entries, the newest first, and the room that was taken for more.
+#[derive(Drop, Debug)]
+pub struct Journal {
+    entries: Vec<Entry>,
+}
+
+impl Model for Journal {
+    ghost use Rattle.std.specs.Prelude.{reverse, ◌-◌, vec_len, vec_capacity};
+    ghost use Rattle.wx_journal.specs.Written.{Written};
+
+    ghost Value = { Written };
+
+    ghost view = { λ j. record { past = reverse j.entries.items; spare = vec_capacity j.entries - vec_len j.entries } };
+}
+
+impl Journal {
+    /// A journal without entries. It fails only for want of memory.
+    pub fn new(alloc: Global) -> Result<Journal, Memory>
+        ensures { IfOk result (λ journal. journal.past ≡ []) }
+    {
+        Ok(Journal {
+            entries: Vec::new(alloc),
+        })
+    }
+
+    /// Takes room for `n` entries more. It fails only for want of memory.
+    pub fn reserve(&mut self, n: u64) -> Result<(), Memory>
+        ensures same { self.new.past ≡ self.old.past }
+        ensures room { OnOk result (n ≤ self.new.spare) }
+        ensures kept { self.old.spare ≤ self.new.spare }
+        ensures fits { length self.new.past + self.new.spare < 2 ^ 64 }
+    {
+        self.entries.reserve(n as usize)?;
+        Ok(())
+    }
+
+    /// Adds an entry in room that was taken.
+    pub fn push(&mut self, entry: Entry)
+        requires { 1 ≤ self.old.spare }
+        ensures past { self.new.past ≡ entry ∷ self.old.past }
+        ensures room { self.new.spare + 1 ≡ self.old.spare }
+    {
+        self.entries.push_reserved(entry);
+    }
+
+    /// How many entries there is room for.
+    pub fn spare(&self) -> u64
+        ensures spare { result ≡ self.now.spare }
+        ensures fits { length self.now.past + self.now.spare < 2 ^ 64 }
+    {
+        (self.entries.capacity() - self.entries.len()) as u64
+    }
+
+    /// How many entries there are.
+    pub fn len(&self) -> u64
+        ensures { result ≡ length self.now.past }
+    {
+        self.entries.len() as u64
+    }
+
+    /// Whether there is no entry.
+    pub fn is_empty(&self) -> bool
+        ensures { result ≡ (length self.now.past == 0) }
+    {
+        self.entries.is_empty()
+    }
+
+    /// The entries, in the order in which they came.
+    pub fn as_slice(&self) -> &[Entry]
+        ensures in_order { result.now ≡ reverse self.now.past }
+        ensures newest_first { self.now.past ≡ reverse result.now }
+    {
+        self.entries.as_slice()
+    }
+    /// The entries one by one, in the order in which they came.
+    pub fn iter(&self) -> Entries<'_>
+        ensures { iter_rest result ≡ reverse self.now.past }
+    {
+        self.entries.iter()
+    }
+}

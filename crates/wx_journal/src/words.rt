@@ -1,0 +1,489 @@
+// How entries are written.
+ghost use Rattle.std.specs.Prelude.{◌≡◌, [], ◌∷◌, ◌++◌, OnOk, IfOk};
+ghost use Rattle.std.specs.List.{flat_map};
+ghost use Rattle.wx_words.specs.Line.{spaced, joined, Reads};
+ghost use Rattle.wx_words.specs.Lists.{list_words};
+ghost use Rattle.wx_journal.specs.Words.{ranked_words, limit_words, switch_words, watch_words, kind_words, entry_words, read_watcher, read_path, read_arrive, read_kind};
+ghost use Rattle.wx_journal.specs.declared.entry.Entry.TheVariants.{Sent, Turn as Turned, Offer, Hand};
+
+use crate::entry::{Act, Entry, Offered, Turn, TurnKind, Word};
+use crate::watched::{WatchedPath, Watcher};
+use std::alloc::Global;
+use wx_events::{
+    Event, Keyword, List, Memory, Priority, Spelled, Text, TextPath, Words, put_items, put_keyword,
+    take_keyword,
+};
+
+const OFFERED: [Offered; 2] = [Offered::Queued, Offered::Full];
+
+impl Keyword for Offered {
+    ghost use Rattle.wx_journal.specs.Words.{offered_word, offered_all};
+    ghost use Rattle.wx_journal.specs.WordLaws.{offered_found, offered_word_clean};
+
+    ghost word = { offered_word };
+
+    ghost all = { offered_all };
+
+    ghost found = { offered_found };
+
+    ghost clean = { offered_word_clean };
+
+    fn word(self) -> &'static [u8] {
+        match self {
+            Offered::Queued => b"queued",
+            Offered::Full => b"full",
+        }
+    }
+
+    fn all() -> &'static [Offered] {
+        &OFFERED
+    }
+}
+
+impl Spelled for Offered {
+    ghost use Rattle.wx_journal.specs.Words.{offered_words, read_offered};
+    ghost use Rattle.wx_journal.specs.WordLaws.{offered_form, offered_clean};
+
+    ghost words = { offered_words };
+
+    ghost fits = { λ x. Unit {0} };
+
+    ghost read = { read_offered };
+
+    ghost form = { offered_form };
+
+    ghost clean = { offered_clean };
+
+    fn put_after(&self, out: &mut Text) -> Result<(), Memory> {
+        put_keyword(*self, out)
+    }
+
+    fn take(_alloc: Global, line: &mut Words) -> Result<Option<Offered>, Memory> {
+        Ok(take_keyword(line))
+    }
+}
+
+const WORDS: [Word; 1] = [Word::Idle];
+
+impl Keyword for Word {
+    ghost use Rattle.wx_journal.specs.Words.{said_word, said_all};
+    ghost use Rattle.wx_journal.specs.WordLaws.{said_found, said_word_clean};
+
+    ghost word = { said_word };
+
+    ghost all = { said_all };
+
+    ghost found = { said_found };
+
+    ghost clean = { said_word_clean };
+
+    fn word(self) -> &'static [u8] {
+        match self {
+            Word::Idle => b"idle",
+        }
+    }
+
+    fn all() -> &'static [Word] {
+        &WORDS
+    }
+}
+
+impl Spelled for Word {
+    ghost use Rattle.wx_journal.specs.Words.{said_words, read_said};
+    ghost use Rattle.wx_journal.specs.WordLaws.{said_form, said_clean};
+
+    ghost words = { said_words };
+
+    ghost fits = { λ x. Unit {0} };
+
+    ghost read = { read_said };
+
+    ghost form = { said_form };
+
+    ghost clean = { said_clean };
+
+    fn put_after(&self, out: &mut Text) -> Result<(), Memory> {
+        put_keyword(*self, out)
+    }
+
+    fn take(_alloc: Global, line: &mut Words) -> Result<Option<Word>, Memory> {
+        Ok(take_keyword(line))
+    }
+}
+
+const ACTS: [Act; 1] = [Act::Quit];
+
+impl Keyword for Act {
+    ghost use Rattle.wx_journal.specs.Words.{act_word, act_all};
+    ghost use Rattle.wx_journal.specs.WordLaws.{act_found, act_word_clean};
+
+    ghost word = { act_word };
+
+    ghost all = { act_all };
+
+    ghost found = { act_found };
+
+    ghost clean = { act_word_clean };
+
+    fn word(self) -> &'static [u8] {
+        match self {
+            Act::Quit => b"quit",
+        }
+    }
+
+    fn all() -> &'static [Act] {
+        &ACTS
+    }
+}
+
+impl Spelled for Act {
+    ghost use Rattle.wx_journal.specs.Words.{act_words, read_act};
+    ghost use Rattle.wx_journal.specs.WordLaws.{act_form, act_clean};
+
+    ghost words = { act_words };
+
+    ghost fits = { λ x. Unit {0} };
+
+    ghost read = { read_act };
+
+    ghost form = { act_form };
+
+    ghost clean = { act_clean };
+
+    fn put_after(&self, out: &mut Text) -> Result<(), Memory> {
+        put_keyword(*self, out)
+    }
+
+    fn take(_alloc: Global, line: &mut Words) -> Result<Option<Act>, Memory> {
+        Ok(take_keyword(line))
+    }
+}
+
+/// Takes the watcher at the front, or loses the place.
+#[tactic(auto, unfolding(crate::specs::Words::read_watcher))]
+fn take_watcher(alloc: Global, line: &mut Words) -> Result<Option<Watcher>, Memory>
+    ensures { IfOk result (λ x. Reads line.new x (read_watcher line.old)) }
+{
+    let Some(word) = line.next() else {
+        return Ok(None);
+    };
+    if word == b"native".as_slice() {
+        return Ok(Some(Watcher::Native));
+    }
+    if word != b"poll".as_slice() {
+        return Ok(None);
+    }
+    match u64::take(alloc, line)? {
+        Some(interval) => Ok(Some(Watcher::Poll(interval))),
+        None => Ok(None),
+    }
+}
+
+impl Spelled for Watcher {
+    ghost use Rattle.wx_journal.specs.Words.{WatcherFits, watcher_words};
+    ghost use Rattle.wx_journal.specs.WordLaws.{watcher_form, watcher_clean};
+
+    ghost words = { watcher_words };
+
+    ghost fits = { WatcherFits };
+
+    ghost read = { read_watcher };
+
+    ghost form = { watcher_form };
+
+    ghost clean = { watcher_clean };
+
+    #[tactic(auto, using(wx_words::specs::LineLaws::spaces))]
+    fn put_after(&self, out: &mut Text) -> Result<(), Memory> {
+        match self {
+            Watcher::Native => out.append(b" native"),
+            Watcher::Poll(interval) => {
+                out.append(b" poll")?;
+                interval.put_after(out)
+            }
+        }
+    }
+
+    fn take(alloc: Global, line: &mut Words) -> Result<Option<Watcher>, Memory> {
+        let mut ahead = line.fork();
+        let found = take_watcher(alloc, &mut ahead)?;
+        if found.is_some() {
+            *line = ahead;
+        }
+        Ok(found)
+    }
+}
+
+/// Takes the watched path at the front, or loses the place.
+#[tactic(auto, unfolding(crate::specs::Words::read_path))]
+fn take_path(alloc: Global, line: &mut Words) -> Result<Option<WatchedPath>, Memory>
+    ensures { IfOk result (λ x. Reads line.new x (read_path line.old)) }
+{
+    let Some(word) = line.next() else {
+        return Ok(None);
+    };
+    let recursive = word == b"r".as_slice();
+    if !recursive && word != b"n".as_slice() {
+        return Ok(None);
+    }
+    match TextPath::take(alloc, line)? {
+        Some(path) => Ok(Some(WatchedPath { path, recursive })),
+        None => Ok(None),
+    }
+}
+
+impl Spelled for WatchedPath {
+    ghost use Rattle.wx_journal.specs.Words.{PathFits, path_words};
+    ghost use Rattle.wx_journal.specs.WordLaws.{path_form, path_clean};
+
+    ghost words = { path_words };
+
+    ghost fits = { PathFits };
+
+    ghost read = { read_path };
+
+    ghost form = { path_form };
+
+    ghost clean = { path_clean };
+
+    #[tactic(auto, using(wx_words::specs::LineLaws::spaces))]
+    fn put_after(&self, out: &mut Text) -> Result<(), Memory> {
+        out.append(if self.recursive { b" r" } else { b" n" })?;
+        self.path.put_after(out)
+    }
+
+    fn take(alloc: Global, line: &mut Words) -> Result<Option<WatchedPath>, Memory> {
+        let mut ahead = line.fork();
+        let found = take_path(alloc, &mut ahead)?;
+        if found.is_some() {
+            *line = ahead;
+        }
+        Ok(found)
+    }
+}
+
+/// Appends the words of a priority and of an event, each with a space before it.
+#[tactic(auto, using(wx_words::specs::LineLaws::spaces))]
+fn put_ranked(priority: Priority, event: &Event, out: &mut Text) -> Result<(), Memory>
+    ensures { OnOk result (out.new ≡ out.old ++ spaced (ranked_words (priority, event.now))) }
+{
+    priority.put_after(out)?;
+    event.put_after(out)
+}
+
+/// Takes the event that arrives, or loses the place.
+fn take_arrive(alloc: Global, line: &mut Words) -> Result<Option<TurnKind>, Memory>
+    ensures { IfOk result (λ x. Reads line.new x (read_arrive line.old)) }
+{
+    let Some(priority) = Priority::take(alloc, line)? else {
+        return Ok(None);
+    };
+    let Some(event) = Event::take(alloc, line)? else {
+        return Ok(None);
+    };
+    Ok(Some(TurnKind::Arrive(event, priority)))
+}
+
+/// Takes what a turn brings, or loses the place.
+#[tactic(auto, unfolding(crate::specs::Words::read_kind))]
+fn take_kind(alloc: Global, line: &mut Words) -> Result<Option<TurnKind>, Memory>
+    ensures { IfOk result (λ x. Reads line.new x (read_kind line.old)) }
+{
+    let Some(word) = line.next() else {
+        return Ok(None);
+    };
+    if word == b"arrive".as_slice() {
+        take_arrive(alloc, line)
+    } else if word == b"work".as_slice() {
+        Ok(Some(TurnKind::Work))
+    } else if word == b"last".as_slice() {
+        Ok(Some(TurnKind::Last))
+    } else {
+        Ok(None)
+    }
+}
+
+impl Spelled for TurnKind {
+    ghost use Rattle.wx_journal.specs.Words.{KindFits};
+    ghost use Rattle.wx_journal.specs.WordLaws.{kind_form, kind_clean};
+
+    ghost words = { kind_words };
+
+    ghost fits = { KindFits };
+
+    ghost read = { read_kind };
+
+    ghost form = { kind_form };
+
+    ghost clean = { kind_clean };
+
+    #[tactic(auto, using(wx_words::specs::LineLaws::spaces))]
+    fn put_after(&self, out: &mut Text) -> Result<(), Memory> {
+        match self {
+            TurnKind::Arrive(event, priority) => {
+                out.append(b" arrive")?;
+                put_ranked(*priority, event, out)
+            }
+            TurnKind::Work => out.append(b" work"),
+            TurnKind::Last => out.append(b" last"),
+        }
+    }
+
+    fn take(alloc: Global, line: &mut Words) -> Result<Option<TurnKind>, Memory> {
+        let mut ahead = line.fork();
+        let found = take_kind(alloc, &mut ahead)?;
+        if found.is_some() {
+            *line = ahead;
+        }
+        Ok(found)
+    }
+}
+
+/// Appends the words of the throttle and of the sizes.
+#[tactic(auto, using(wx_words::specs::LineLaws::spaces))]
+fn put_limits(throttle: u64, size: u32, errors: u32, out: &mut Text) -> Result<(), Memory>
+    ensures { OnOk result (out.new ≡ out.old ++ spaced (limit_words throttle size errors)) }
+{
+    out.append(b" throttle")?;
+    throttle.put_after(out)?;
+    out.append(b" size")?;
+    size.put_after(out)?;
+    out.append(b" errors")?;
+    errors.put_after(out)
+}
+
+/// Appends the words of what is on or off.
+#[tactic(auto, using(wx_words::specs::LineLaws::spaces))]
+fn put_switches(
+    keyboard: bool,
+    follow: bool,
+    jobsignals: bool,
+    out: &mut Text,
+) -> Result<(), Memory>
+    ensures { OnOk result (out.new ≡ out.old ++ spaced (switch_words keyboard follow jobsignals)) }
+{
+    out.append(b" keyboard")?;
+    keyboard.put_after(out)?;
+    out.append(b" follow")?;
+    follow.put_after(out)?;
+    out.append(b" jobsignals")?;
+    jobsignals.put_after(out)
+}
+
+/// Appends the words of what is watched.
+#[tactic(auto, using(wx_words::specs::LineLaws::spaces))]
+fn put_watch(
+    watcher: Watcher,
+    cwd: &TextPath,
+    paths: &List<WatchedPath>,
+    out: &mut Text,
+) -> Result<(), Memory>
+    ensures { OnOk result (out.new ≡ out.old ++ spaced (watch_words watcher cwd.now paths.now)) }
+{
+    out.append(b" watcher")?;
+    watcher.put_after(out)?;
+    out.append(b" cwd")?;
+    cwd.put_after(out)?;
+    out.append(b" paths")?;
+    paths.put_after(out)
+}
+
+/// Appends the words of an event that was sent.
+#[tactic(auto, using(wx_words::specs::LineLaws::spaces))]
+fn put_sent(name: u64, event: &Event, priority: Priority, out: &mut Text) -> Result<(), Memory>
+    ensures { OnOk result (out.new ≡ out.old ++ joined (entry_words (Sent name event.now priority))) }
+{
+    out.append(b"sent")?;
+    name.put_after(out)?;
+    put_ranked(priority, event, out)
+}
+
+/// Appends the words of a turn.
+#[tactic(auto, using(wx_words::specs::LineLaws::spaces))]
+fn put_turn(turn: &Turn, out: &mut Text) -> Result<(), Memory>
+    ensures { OnOk result (out.new ≡ out.old ++ joined (entry_words (Turned turn.now))) }
+{
+    out.append(b"turn")?;
+    turn.at.put_after(out)?;
+    turn.kind.put_after(out)
+}
+
+/// Appends the words of an event that was offered.
+#[tactic(auto, using(wx_words::specs::LineLaws::spaces))]
+fn put_offer(
+    name: u64,
+    item: Option<u64>,
+    outcome: Offered,
+    event: &Event,
+    priority: Priority,
+    out: &mut Text,
+) -> Result<(), Memory>
+    ensures { OnOk result (out.new ≡ out.old ++ joined (entry_words (Offer name item outcome event.now priority))) }
+{
+    out.append(b"offer")?;
+    name.put_after(out)?;
+    item.put_after(out)?;
+    outcome.put_after(out)?;
+    put_ranked(priority, event, out)
+}
+
+/// Appends the words of a batch that was handed, and of the acts that were asked for.
+#[tactic(auto, using(wx_words::specs::LineLaws::spaces))]
+fn put_hand(n: u32, names: &List<u64>, acts: &List<Act>, out: &mut Text) -> Result<(), Memory>
+    ensures { OnOk result (out.new ≡ out.old ++ joined (entry_words (Hand n names.now acts.now))) }
+{
+    out.append(b"hand")?;
+    n.put_after(out)?;
+    names.put_after(out)?;
+    put_items(acts.as_slice(), out)
+}
+
+/// Appends the words of an entry with one space between them.
+#[tactic(auto, using(wx_words::specs::LineLaws::spaces))]
+pub fn put_entry(entry: &Entry, out: &mut Text) -> Result<(), Memory>
+    ensures { OnOk result (out.new ≡ out.old ++ joined (entry_words entry.now)) }
+{
+    match entry {
+        Entry::Begin {
+            throttle,
+            size,
+            errors,
+            keyboard,
+            follow,
+            jobsignals,
+            watcher,
+            cwd,
+            paths,
+        } => {
+            out.append(b"begin")?;
+            put_limits(*throttle, *size, *errors, out)?;
+            put_switches(*keyboard, *follow, *jobsignals, out)?;
+            put_watch(*watcher, cwd, paths, out)
+        }
+        Entry::Sent {
+            name,
+            event,
+            priority,
+        } => put_sent(*name, event, *priority, out),
+        Entry::Turn(turn) => put_turn(turn, out),
+        Entry::TurnFault(code) => put_word(b"turnfault", code, out),
+        Entry::Offer {
+            name,
+            item,
+            result: outcome,
+            event,
+            priority,
+        } => put_offer(*name, *item, *outcome, event, *priority, out),
+        Entry::Word(word) => put_word(b"word", word, out),
+        Entry::Take(name) => put_word(b"take", name, out),
+        Entry::Hand { n, names, acts } => put_hand(*n, names, acts, out),
+    }
+}
+
+/// Appends a word, and the words of this value behind it.
+fn put_word<T: Spelled>(word: &[u8], value: &T, out: &mut Text) -> Result<(), Memory>
+    ensures { OnOk result (out.new ≡ out.old ++ joined (word.now ∷ T.words value.now)) }
+{
+    out.append(word)?;
+    value.put_after(out)
+}

@@ -1,0 +1,7 @@
+use Rattle.std.proofs.Common.{◌∙◌}
+use Rattle.wx_words.proofs.ItemLaws.{put_more}
+use Rattle.wx_words.proofs.lists.put_items.Goals as goal
+
+pub loop-item-preserved : goal.loop-item-preserved
+loop-item-preserved g c =
+    c.in_ok-put_after.ensures ∙ rw c.loop-item.invariant (put_more g.T.Spelled.words c.args.out.now c.args.items.now c.loop-item.item-index c.item-item.result c.loop-item-test.true c.item-item.is)

@@ -1,0 +1,30 @@
+-- Lines, words and bytes.
+use Rattle.std.proofs.Common.{◌≡◌, true, eq-eqb, ◌<◌, length, arith, ℕ, List, [], ◌∷◌, ◌++◌, refl, sym, ap, ◌∙◌, append_assoc}
+use Rattle.std.specs.Prelude.{◌==◌, nat_eq}
+use Rattle.std.specs.Str.{bytes_eq}
+use Rattle.std.proofs.lemmas.Bool.{eqb-true}
+use Rattle.std.proofs.lemmas.List.Splits.{length-slice_split}
+use Rattle.wx_words.specs.Line.{spaced, parts}
+use Rattle.wx_words.specs.OptionLaws.{both}
+
+pub spaced-append : (vs ws : List (List ℕ)) → spaced (vs ++ ws) ≡ spaced vs ++ spaced ws
+spaced-append [] ws = refl
+spaced-append (v ∷ vs) ws = ap (λ (x : List ℕ). 32 ∷ x) (ap (λ (x : List ℕ). v ++ x) (spaced-append vs ws) ∙ sym (append_assoc v (spaced vs) (spaced ws)))
+
+pub ruleset spaces = (spaced-append)
+
+pub some_part : (c : ℕ) (line : List ℕ) → 0 < length (parts c line)
+some_part c line = omega (arith, length-slice_split (λ b. b == c) line)
+
+pub bytes_same : (a b : List ℕ) → bytes_eq a b ≡ true → a ≡ b
+bytes_same [] [] e = refl
+bytes_same [] (y ∷ ys) e = absurd cc
+bytes_same (x ∷ xs) [] e = absurd cc
+bytes_same (x ∷ xs) (y ∷ ys) e =
+    let h = both (nat_eq x y) (bytes_eq xs ys) e in
+    let p : x ≡ y = eqb-true x y h.0 in
+    let q : xs ≡ ys = bytes_same xs ys h.1 in cc
+
+pub bytes_again : (v : List ℕ) → bytes_eq v v ≡ true
+bytes_again [] = refl
+bytes_again (b ∷ v) = rw (eq-eqb b b refl, bytes_again v) refl

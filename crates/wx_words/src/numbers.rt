@@ -1,0 +1,106 @@
+// Numbers as words.
+ghost use Rattle.std.specs.Prelude.{◌≡◌, ℕ, ◌+◌, ◌<◌, ◌≤◌, ◌^◌, [], ◌∷◌, ◌++◌, List, Option, Some, None, OnOk, IfOk, decimal};
+ghost use Rattle.wx_words.specs.Line.{spaced, joined, Taken};
+ghost use Rattle.wx_words.specs.Texts.{text_in};
+ghost use Rattle.wx_words.specs.NumberLaws.{number_form, u32_form};
+ghost use Rattle.wx_words.specs.Numbers.{number_in, read_number, read_u32, with_digits};
+ghost use Rattle.wx_words.specs.CleanLaws.{number_words_clean, u32_clean};
+
+use crate::cursor::Words;
+use crate::list::Memory;
+use crate::spelled::Spelled;
+use crate::text::Text;
+use std::alloc::Global;
+
+/// The number that a word spells.
+pub fn number_of(word: &[u8]) -> Option<u64>
+    ensures { result ≡ number_in word.now }
+{
+    match word {
+        [] => None,
+        [_] => with_digits(word),
+        [48, ..] => None,
+        _ => with_digits(word),
+    }
+}
+
+/// The number that digits spell, with a zero in front or without.
+fn with_digits(word: &[u8]) -> Option<u64>
+    ensures { result ≡ with_digits 0 word.now }
+{
+    let mut value = 0u64;
+    for b in word {
+        if *b < 48 || 57 < *b {
+            return None;
+        }
+        let digit = (*b - 48) as u64;
+        if (u64::MAX - digit) / 10 < value {
+            return None;
+        }
+        value = value * 10 + digit;
+    }
+    Some(value)
+}
+
+impl Spelled for u64 {
+    ghost words = { λ n. decimal n ∷ [] };
+
+    ghost fits = { λ n. n < 2 ^ 64 };
+
+    ghost read = { read_number };
+
+    ghost form = { number_form text_in };
+
+    ghost clean = { number_words_clean };
+
+    fn put_after(&self, out: &mut Text) -> Result<(), Memory> {
+        out.push(32)?;
+        out.append_number(*self)
+    }
+
+    fn take(_alloc: Global, line: &mut Words) -> Result<Option<u64>, Memory> {
+        let mut ahead = line.fork();
+        let Some(word) = ahead.next() else {
+            return Ok(None);
+        };
+        let found = number_of(word);
+        if found.is_some() {
+            *line = ahead;
+        }
+        Ok(found)
+    }
+}
+
+impl Spelled for u32 {
+    ghost words = { λ n. decimal n ∷ [] };
+
+    ghost fits = { λ n. n < 2 ^ 32 };
+
+    ghost read = { read_u32 };
+
+    ghost form = { u32_form text_in };
+
+    ghost clean = { u32_clean };
+
+    fn put_after(&self, out: &mut Text) -> Result<(), Memory> {
+        (*self as u64).put_after(out)
+    }
+
+    fn take(_alloc: Global, line: &mut Words) -> Result<Option<u32>, Memory> {
+        Ok(take_u32(line))
+    }
+}
+
+/// Takes the number below 2 ^ 32 at the front.
+fn take_u32(line: &mut Words) -> Option<u32>
+    ensures { Taken line.old line.new result (read_u32 line.old) }
+{
+    let mut ahead = line.fork();
+    let n = number_of(ahead.next()?)?;
+    if n < 1 << 32 {
+        *line = ahead;
+        Some(n as u32)
+    } else {
+        None
+    }
+}

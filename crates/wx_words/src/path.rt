@@ -1,0 +1,95 @@
+// Paths.
+ghost use Rattle.std.specs.Prelude.{◌≡◌};
+
+use crate::cursor::Words;
+use crate::list::{Copies, Memory};
+use crate::spelled::Spelled;
+use crate::text::Text;
+use std::alloc::Global;
+use std::marker::Model;
+
+/// A path as a text, which contracts see as its bytes.
+#[derive(Drop, Debug)]
+pub struct TextPath {
+    text: Text,
+}
+
+impl Model for TextPath {
+    ghost use Rattle.std.specs.Prelude.{List, ℕ};
+
+    ghost Value = { List ℕ };
+
+    ghost view = { λ p. p.text };
+}
+
+impl TextPath {
+    /// The path that this text spells.
+    pub fn new(text: Text) -> TextPath
+        ensures { result ≡ text }
+    {
+        TextPath { text }
+    }
+
+    /// The text of this path.
+    pub fn text(&self) -> &Text
+        ensures { result.now ≡ self.now }
+    {
+        &self.text
+    }
+}
+
+impl Copies for TextPath {
+    fn copy(&self, alloc: Global) -> Result<TextPath, Memory> {
+        Ok(TextPath {
+            text: self.text.copy(alloc)?,
+        })
+    }
+}
+
+impl Spelled for TextPath {
+    ghost use Rattle.std.specs.Prelude.{[], ◌∷◌};
+    ghost use Rattle.wx_words.specs.Texts.{AllBytes, text_word, read_text};
+    ghost use Rattle.wx_words.specs.TextLaws.{text_form};
+    ghost use Rattle.wx_words.specs.CleanLaws.{text_words_clean};
+
+    ghost words = { λ t. text_word t ∷ [] };
+
+    ghost fits = { AllBytes };
+
+    ghost read = { read_text };
+
+    ghost form = { text_form };
+
+    ghost clean = { text_words_clean };
+
+    fn put_after(&self, out: &mut Text) -> Result<(), Memory> {
+        self.text.put_after(out)
+    }
+
+    fn take(alloc: Global, line: &mut Words) -> Result<Option<TextPath>, Memory> {
+        match Text::take(alloc, line)? {
+            Some(text) => Ok(Some(TextPath { text })),
+            None => Ok(None),
+        }
+    }
+}
+
+impl PartialEq for TextPath {
+    ghost use Rattle.std.specs.Prelude.{◌==◌};
+    ghost use Rattle.std.specs.Cmp.{partial_equiv_from_equiv};
+    ghost use Rattle.std.specs.Cmp.Lexicographic.{pointwise, nat_list_eq_equiv};
+
+    ghost eq = { pointwise ◌==◌ };
+
+    ghost laws = { partial_equiv_from_equiv nat_list_eq_equiv };
+
+    fn eq(&self, other: &TextPath) -> bool {
+        self.text == other.text
+    }
+}
+
+impl Eq for TextPath {
+    ghost use Rattle.std.specs.Cmp.Lexicographic.{nat_list_eq_equiv};
+
+    ghost laws = { nat_list_eq_equiv };
+}
