@@ -3,11 +3,13 @@
 
 mod event;
 mod priority;
+mod process;
 #[cfg(test)]
 mod tests;
 
 pub use event::{Event, Tag};
 pub use priority::Priority;
+pub use process::{ProcessEnd, Signal};
 pub use wx_words::{
     Copies, Keyword, List, Memory, Spelled, Text, TextPath, Words, cut, number_of, put_items,
     put_keyword, take_keyword, take_literal, text_in, with_word,
