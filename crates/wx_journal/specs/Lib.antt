@@ -1,3 +1,6 @@
-pub mod WordLaws
-pub mod Words
 pub mod Written
+pub mod Names
+pub mod Told
+pub mod Counted
+pub mod Words
+pub mod WordLaws

@@ -20,11 +20,11 @@ use Rattle.wx_journal.specs.declared.watched.WatchedPath.{WatchedPath}
 use Rattle.wx_journal.specs.declared.entry.Offered.{Offered}
 use Rattle.wx_journal.specs.declared.entry.Offered.TheVariants.{Queued, Full}
 use Rattle.wx_journal.specs.declared.entry.Word.{Word}
-use Rattle.wx_journal.specs.declared.entry.Word.TheVariants.{Idle}
+use Rattle.wx_journal.specs.declared.entry.Word.TheVariants.{Idle, Ignored}
 use Rattle.wx_journal.specs.declared.entry.Act.{Act}
 use Rattle.wx_journal.specs.declared.entry.Act.TheVariants.{Quit}
 use Rattle.wx_journal.specs.declared.entry.TurnKind.{TurnKind}
-use Rattle.wx_journal.specs.declared.entry.TurnKind.TheVariants.{Arrive, Work, Last}
+use Rattle.wx_journal.specs.declared.entry.TurnKind.TheVariants.{Arrive, Work, Job, Ended, Ask, Last}
 use Rattle.wx_journal.specs.Words.{offered_word, offered_all, offered_words, read_offered, said_word, said_all, said_words, read_said, act_word, act_all, act_words, read_act, WatcherFits, watcher_words, watcher_rows, read_watcher, depth_word, PathFits, path_words, make_path, path_rows, read_path, ranked_words, read_ranked, KindFits, kind_words, make_arrive, kind_rows, read_kind}
 
 -- ---- values of one word
@@ -45,9 +45,11 @@ offered_clean x fits = (offered_word_clean x, tt)
 
 pub said_found : (x : Word) → with_word said_word said_all (said_word x) ≡ Some x
 said_found Idle = refl
+said_found Ignored = refl
 
 pub said_word_clean : (x : Word) → IsClean (said_word x)
 said_word_clean Idle = clean (codes "idle") refl
+said_word_clean Ignored = clean (codes "ignored") refl
 
 pub said_form : IsForm text_in (λ (x : Word). Unit {0}) said_words read_said
 said_form = keyword_form text_in said_word said_all said_found
@@ -129,6 +131,9 @@ kind_form = record { again = again; takes = takes }
     again : (kind : TurnKind) (rest : List (List ℕ)) → KindFits kind → read_kind (kind_words kind ++ rest) ≡ Some (kind, rest)
     again (Arrive event priority) rest fits = row_again ranked_form make_arrive (priority, event) rest (tt, fits)
     again Work rest fits = refl
+    again (Job id) rest fits = absurd fits
+    again (Ended child) rest fits = absurd fits
+    again (Ask id ask) rest fits = absurd fits
     again Last rest fits = refl
 
     takes : (ws : List (List ℕ)) (kind : TurnKind) (rest : List (List ℕ)) → read_kind ws ≡ Some (kind, rest) → KindFits kind × Stood text_in (kind_words kind) ws rest
@@ -146,4 +151,7 @@ kind_form = record { again = again; takes = takes }
 pub kind_clean : (kind : TurnKind) → KindFits kind → AllClean (kind_words kind)
 kind_clean (Arrive event priority) fits = (clean (codes "arrive") refl, ranked_clean priority event fits)
 kind_clean Work fits = (clean (codes "work") refl, tt)
+kind_clean (Job id) fits = absurd fits
+kind_clean (Ended child) fits = absurd fits
+kind_clean (Ask id ask) fits = absurd fits
 kind_clean Last fits = (clean (codes "last") refl, tt)

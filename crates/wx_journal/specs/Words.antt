@@ -18,11 +18,11 @@ use Rattle.wx_journal.specs.declared.watched.WatchedPath.{WatchedPath}
 use Rattle.wx_journal.specs.declared.entry.Offered.{Offered}
 use Rattle.wx_journal.specs.declared.entry.Offered.TheVariants.{Queued, Full}
 use Rattle.wx_journal.specs.declared.entry.Word.{Word}
-use Rattle.wx_journal.specs.declared.entry.Word.TheVariants.{Idle}
+use Rattle.wx_journal.specs.declared.entry.Word.TheVariants.{Idle, Ignored}
 use Rattle.wx_journal.specs.declared.entry.Act.{Act}
 use Rattle.wx_journal.specs.declared.entry.Act.TheVariants.{Quit}
 use Rattle.wx_journal.specs.declared.entry.TurnKind.{TurnKind}
-use Rattle.wx_journal.specs.declared.entry.TurnKind.TheVariants.{Arrive, Work, Last}
+use Rattle.wx_journal.specs.declared.entry.TurnKind.TheVariants.{Arrive, Work, Job, Ended, Ask, Last}
 use Rattle.wx_journal.specs.declared.entry.Entry.{Entry}
 use Rattle.wx_journal.specs.declared.entry.Entry.TheVariants.{Begin, Sent, Turn as Turned, TurnFault, Offer, Word as Said, Take, Hand}
 
@@ -43,9 +43,10 @@ read_offered ws = read_keyword offered_word offered_all ws
 
 abbrev pub said_word : Word → List ℕ
 said_word Idle = codes "idle"
+said_word Ignored = codes "ignored"
 
 abbrev pub said_all : List Word
-said_all = Idle ∷ []
+said_all = Idle ∷ Ignored ∷ []
 
 abbrev pub said_words : Word → List (List ℕ)
 said_words x = said_word x ∷ []
@@ -114,11 +115,17 @@ read_ranked ws = read_pair read_priority read_event ws
 abbrev pub KindFits : TurnKind → Type 0
 KindFits (Arrive event priority) = EventFits event
 KindFits Work = Unit {0}
+KindFits (Job id) = ⊥
+KindFits (Ended child) = ⊥
+KindFits (Ask id ask) = ⊥
 KindFits Last = Unit {0}
 
 abbrev pub kind_words : TurnKind → List (List ℕ)
 kind_words (Arrive event priority) = codes "arrive" ∷ ranked_words (priority, event)
 kind_words Work = codes "work" ∷ []
+kind_words (Job id) = []
+kind_words (Ended child) = []
+kind_words (Ask id ask) = []
 kind_words Last = codes "last" ∷ []
 
 abbrev pub make_arrive : Priority × Event → TurnKind
@@ -157,6 +164,7 @@ entry_words (Offer name item result event priority) = codes "offer" ∷ decimal 
 entry_words (Said word) = codes "word" ∷ said_word word ∷ []
 entry_words (Take name) = codes "take" ∷ decimal name ∷ []
 entry_words (Hand n names acts) = codes "hand" ∷ decimal n ∷ (list_words name_words names ++ flat_map act_words acts)
+entry_words (_) = []
 
 -- ---- reading a whole line
 

@@ -1,9 +1,12 @@
 // The entries of a journal.
 ghost use Rattle.std.specs.Prelude.{◌≡◌, IfOk};
 
+use crate::child::{HostFault, SpawnTag};
 use crate::watched::{WatchedPath, Watcher};
 use std::alloc::Global;
-use wx_events::{Copies, Event, List, Memory, Priority, TextPath};
+use wx_command::Spawnable;
+use wx_control::{Ask, Control, Id, Level};
+use wx_events::{Copies, Event, List, Memory, Priority, ProcessEnd, TextPath};
 
 /// What a turn brings.
 #[derive(Drop, Debug)]
@@ -12,6 +15,12 @@ pub enum TurnKind {
     Arrive(Event, Priority),
     /// The worker acts.
     Work,
+    /// The job of this name takes a step.
+    Job(Id),
+    /// The child of this name has ended.
+    Ended(u64),
+    /// This is asked of the job of this name.
+    Ask(Id, Ask),
     /// There is no further turn.
     Last,
 }
@@ -35,6 +44,8 @@ pub enum Offered {
 pub enum Word {
     /// There was nothing to do.
     Idle,
+    /// What the turn is about isn't there.
+    Ignored,
 }
 
 /// What a handler asks of the engine.
@@ -94,6 +105,44 @@ pub enum Entry {
         names: List<u64>,
         acts: List<Act>,
     },
+    /// A job of this name was made.
+    Made(Id),
+    /// A control was asked of a job, and has this ticket.
+    Asked {
+        ticket: u64,
+        job: Id,
+        level: Level,
+        control: Control,
+    },
+    /// A job picked the control of this ticket.
+    Pick {
+        job: Id,
+        ticket: u64,
+    },
+    /// A job spawned a child, or failed to.
+    Spawn {
+        child: u64,
+        job: Id,
+        tag: SpawnTag,
+        what: Spawnable,
+        answer: Result<(), HostFault>,
+    },
+    /// A child was killed, or could not be.
+    Kill {
+        child: u64,
+        answer: Result<(), HostFault>,
+    },
+    /// A child was waited for: how it ended, or why that isn't known.
+    Wait {
+        child: u64,
+        answer: Result<ProcessEnd, HostFault>,
+    },
+    /// A child that still ran was let go.
+    Dropped(u64),
+    /// The control of this ticket was done.
+    Raise(u64),
+    /// The job of this name is gone.
+    Gone(Id),
 }
 
 impl Copies for TurnKind {
@@ -103,6 +152,9 @@ impl Copies for TurnKind {
                 Ok(TurnKind::Arrive(event.copy(alloc)?, *priority))
             }
             TurnKind::Work => Ok(TurnKind::Work),
+            TurnKind::Job(job) => Ok(TurnKind::Job(*job)),
+            TurnKind::Ended(child) => Ok(TurnKind::Ended(*child)),
+            TurnKind::Ask(job, ask) => Ok(TurnKind::Ask(*job, ask.copy(alloc)?)),
             TurnKind::Last => Ok(TurnKind::Last),
         }
     }

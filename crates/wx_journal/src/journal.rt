@@ -1,6 +1,7 @@
 // The journal of a run.
-ghost use Rattle.std.specs.Prelude.{◌≡◌, ℕ, ◌+◌, ◌<◌, ◌≤◌, ◌^◌, ◌==◌, [], ◌∷◌, length, reverse, OnOk, IfOk};
+ghost use Rattle.std.specs.Prelude.{◌≡◌, ℕ, ◌+◌, ◌<◌, ◌≤◌, ◌^◌, ◌==◌, if◌then◌else◌, [], ◌∷◌, length, reverse, OnOk, IfOk};
 ghost use Rattle.std.specs.Slice.Iter.{iter_rest};
+ghost use Rattle.wx_journal.specs.Names.{names_ticket, names_child, ticket_count, child_count};
 
 use crate::entry::Entry;
 use std::alloc::Global;
@@ -15,15 +16,20 @@ pub type Entries<'a> = slice::Iter<'a, Entry>;
 #[derive(Drop, Debug)]
 pub struct Journal {
     entries: Vec<Entry>,
+    tickets: u64,
+    children: u64,
 }
 
 impl Model for Journal {
     ghost use Rattle.std.specs.Prelude.{reverse, ◌-◌, vec_len, vec_capacity};
     ghost use Rattle.wx_journal.specs.Written.{Written};
+    ghost use Rattle.wx_journal.specs.Counted.{AreCounted};
 
     ghost Value = { Written };
 
     ghost view = { λ j. record { past = reverse j.entries.items; spare = vec_capacity j.entries - vec_len j.entries } };
+
+    ghost invariant = { λ j. AreCounted j.tickets j.children (reverse j.entries.items) };
 }
 
 impl Journal {
@@ -33,6 +39,8 @@ impl Journal {
     {
         Ok(Journal {
             entries: Vec::new(alloc),
+            tickets: 0,
+            children: 0,
         })
     }
 
@@ -53,6 +61,8 @@ impl Journal {
         ensures past { self.new.past ≡ entry ∷ self.old.past }
         ensures room { self.new.spare + 1 ≡ self.old.spare }
     {
+        self.tickets = counted(self.entries.as_slice(), self.tickets, names_ticket(&entry));
+        self.children = counted(self.entries.as_slice(), self.children, names_child(&entry));
         self.entries.push_reserved(entry);
     }
 
@@ -62,6 +72,20 @@ impl Journal {
         ensures fits { length self.now.past + self.now.spare < 2 ^ 64 }
     {
         (self.entries.capacity() - self.entries.len()) as u64
+    }
+
+    /// How many tickets have a name: the next one has this name.
+    pub fn tickets(&self) -> u64
+        ensures { result ≡ ticket_count self.now.past }
+    {
+        self.tickets
+    }
+
+    /// How many children have a name: the next one has this name.
+    pub fn children(&self) -> u64
+        ensures { result ≡ child_count self.now.past }
+    {
+        self.children
     }
 
     /// How many entries there are.
@@ -91,4 +115,26 @@ impl Journal {
     {
         self.entries.iter()
     }
+}
+
+/// Whether this entry names a ticket.
+fn names_ticket(entry: &Entry) -> bool
+    ensures { result ≡ names_ticket entry.now }
+{
+    matches!(entry, Entry::Asked { .. })
+}
+
+/// Whether this entry names a child.
+fn names_child(entry: &Entry) -> bool
+    ensures { result ≡ names_child entry.now }
+{
+    matches!(entry, Entry::Spawn { .. })
+}
+
+/// This count of some of the entries, with one more where that is so.
+fn counted(entries: &[Entry], count: u64, more: bool) -> u64
+    requires { count ≤ length entries.now }
+    ensures { result ≡ (if more then count + 1 else count) }
+{
+    if more { count + 1 } else { count }
 }

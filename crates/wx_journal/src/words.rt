@@ -63,7 +63,7 @@ impl Spelled for Offered {
     }
 }
 
-const WORDS: [Word; 1] = [Word::Idle];
+const WORDS: [Word; 2] = [Word::Idle, Word::Ignored];
 
 impl Keyword for Word {
     ghost use Rattle.wx_journal.specs.Words.{said_word, said_all};
@@ -80,6 +80,7 @@ impl Keyword for Word {
     fn word(self) -> &'static [u8] {
         match self {
             Word::Idle => b"idle",
+            Word::Ignored => b"ignored",
         }
     }
 
@@ -326,6 +327,7 @@ impl Spelled for TurnKind {
             }
             TurnKind::Work => out.append(b" work"),
             TurnKind::Last => out.append(b" last"),
+            TurnKind::Job(_) | TurnKind::Ended(_) | TurnKind::Ask(_, _) => Ok(()),
         }
     }
 
@@ -477,6 +479,15 @@ pub fn put_entry(entry: &Entry, out: &mut Text) -> Result<(), Memory>
         Entry::Word(word) => put_word(b"word", word, out),
         Entry::Take(name) => put_word(b"take", name, out),
         Entry::Hand { n, names, acts } => put_hand(*n, names, acts, out),
+        Entry::Made(_)
+        | Entry::Asked { .. }
+        | Entry::Pick { .. }
+        | Entry::Spawn { .. }
+        | Entry::Kill { .. }
+        | Entry::Wait { .. }
+        | Entry::Dropped(_)
+        | Entry::Raise(_)
+        | Entry::Gone(_) => Ok(()),
     }
 }
 
