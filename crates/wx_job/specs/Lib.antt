@@ -1,1 +1,8 @@
+pub mod States
 pub mod Progress
+pub mod History
+pub mod Table
+pub mod Case
+pub mod Stands
+pub mod Laws
+pub mod Kept

@@ -1,8 +1,17 @@
 //! Jobs: each drives one child by the controls that are asked of it, and lists all of it in the journal.
 #![tactic(auto)]
 
+mod case;
+mod choice;
+mod laws;
 mod outside;
+mod state;
+mod task;
 
+pub use state::CommandState;
+pub use task::{JobTask, start_job};
+pub use choice::Stepped;
+pub use laws::children_are_reaped;
 pub use outside::{Host, JobHooks, Outside};
 pub use wx_journal::{
     Act, Entries, Entry, HostFault, Journal, Named, Offered, SpawnTag, Turn, TurnKind, WatchedPath,

@@ -1,0 +1,97 @@
+-- An entry of one job leaves what is asked of every other.
+use Rattle.std.proofs.Common.{◌≡◌, ◌≢◌, ℕ, Bool, true, false, cond, List, ◌∷◌, Option, Some, None, Result, Ok, Err, refl, ap, sym, ◌∙◌, eq-eqb, ne_eqb}
+use Rattle.std.specs.Prelude.{◌==◌, if◌then◌else◌, not, ◌&&◌, ◌||◌}
+use Rattle.wx_events.specs.declared.process.ProcessEnd.{ProcessEnd}
+use Rattle.wx_command.specs.declared.spawnable.Spawnable.{Spawnable}
+use Rattle.wx_control.specs.declared.id.Id.{Id}
+use Rattle.wx_control.specs.declared.control.Control.{Control}
+use Rattle.wx_control.specs.declared.level.Level.{Level}
+use Rattle.wx_journal.specs.declared.child.SpawnTag.{SpawnTag}
+use Rattle.wx_journal.specs.declared.child.HostFault.{HostFault}
+use Rattle.wx_journal.specs.declared.entry.Entry.{Entry}
+use Rattle.wx_journal.specs.declared.entry.Entry.TheVariants.{Word as Said, Asked, Pick, Spawn, Kill, Wait, Dropped, Raise, Gone}
+use Rattle.wx_journal.specs.declared.entry.Word.{Word}
+use Rattle.wx_journal.specs.Names.{NamesItsOwn, moment}
+use Rattle.wx_job.specs.declared.state.CommandState.{CommandState}
+use Rattle.wx_job.specs.declared.state.CommandState.TheVariants.{Pending, Running, Finished}
+use Rattle.wx_job.specs.History.{same, child, unless, is_child, state, finish, SameHistory}
+use Rattle.wx_job.specs.Stands.{child_of}
+use Rattle.wx_job.proofs.Owners.{other-is, child_owner, state_owner}
+
+pub same_history : (i : Id) (p : List Entry) → SameHistory i p p
+same_history i p = record { lives_same = refl; waits_same = λ level. refl; child_same = refl; kept_same = refl; state_same = refl; previous_same = refl }
+
+pub history_then : (i : Id) (p q r : List Entry) → SameHistory i p q → SameHistory i q r → SameHistory i p r
+history_then i p q r a b = record {
+  lives_same = b.lives_same ∙ a.lives_same;
+  waits_same = λ level. b.waits_same level ∙ a.waits_same level;
+  child_same = b.child_same ∙ a.child_same;
+  kept_same = b.kept_same ∙ a.kept_same;
+  state_same = b.state_same ∙ a.state_same;
+  previous_same = b.previous_same ∙ a.previous_same;
+}
+
+-- entries that name a job
+pub frame_pick : (i id : Id) (t : ℕ) (p : List Entry) → i ≢ id → SameHistory i p (Pick id t ∷ p)
+frame_pick i id t p ne = record { lives_same = refl; waits_same = λ level. rw (other-is i id ne) refl; child_same = refl; kept_same = refl; state_same = refl; previous_same = refl }
+
+pub frame_asked : (i id : Id) (t : ℕ) (level : Level) (control : Control) (p : List Entry) → i ≢ id → SameHistory i p (Asked t id level control ∷ p)
+frame_asked i id t level control p ne = record { lives_same = refl; waits_same = λ l. rw (other-is i id ne) refl; child_same = refl; kept_same = refl; state_same = refl; previous_same = refl }
+
+pub frame_spawn_ok : (i id : Id) (c : ℕ) (tag : SpawnTag) (what : Spawnable) (a : Unit {0}) (p : List Entry) → i ≢ id → SameHistory i p (Spawn c id tag what (Ok a) ∷ p)
+frame_spawn_ok i id c tag what a p ne = record { lives_same = refl; waits_same = λ l. refl; child_same = rw (other-is i id ne) refl; kept_same = rw (other-is i id ne) refl; state_same = rw (other-is i id ne) refl; previous_same = rw (other-is i id ne) refl }
+
+pub frame_spawn_err : (i id : Id) (c : ℕ) (tag : SpawnTag) (what : Spawnable) (a : HostFault) (p : List Entry) → i ≢ id → SameHistory i p (Spawn c id tag what (Err a) ∷ p)
+frame_spawn_err i id c tag what a p ne = record { lives_same = refl; waits_same = λ l. refl; child_same = refl; kept_same = refl; state_same = rw (other-is i id ne) refl; previous_same = rw (other-is i id ne) refl }
+
+pub frame_gone : (i id : Id) (p : List Entry) → i ≢ id → SameHistory i p (Gone id ∷ p)
+frame_gone i id p ne = record { lives_same = rw (other-is i id ne) refl; waits_same = λ l. rw (other-is i id ne) refl; child_same = refl; kept_same = rw (other-is i id ne) refl; state_same = refl; previous_same = refl }
+
+-- entries that name nothing of a job
+pub frame_raise : (i : Id) (t : ℕ) (p : List Entry) → SameHistory i p (Raise t ∷ p)
+frame_raise i t p = record { lives_same = refl; waits_same = λ l. refl; child_same = refl; kept_same = refl; state_same = refl; previous_same = refl }
+
+pub frame_word : (i : Id) (w : Word) (p : List Entry) → SameHistory i p (Said w ∷ p)
+frame_word i w p = record { lives_same = refl; waits_same = λ l. refl; child_same = refl; kept_same = refl; state_same = refl; previous_same = refl }
+
+pub frame_kill : (i : Id) (c : ℕ) (a : Result (Unit {0}) HostFault) (p : List Entry) → SameHistory i p (Kill c a ∷ p)
+frame_kill i c a p = record { lives_same = refl; waits_same = λ l. refl; child_same = refl; kept_same = refl; state_same = refl; previous_same = refl }
+
+-- entries that name a child of another job
+pub not_child : (o : Option ℕ) (d : ℕ) → (o ≡ Some d → ⊥) → (is_child d o ≡ false) × (unless d o ≡ o)
+not_child None d never = (refl, refl)
+not_child (Some x) d never = let test : (x == d) ≡ false = ne_eqb x d (λ e. never (ap (λ n. Some n) e)) in (test, rw test refl)
+
+finish_other : (s : CommandState) (d : ℕ) (status : ProcessEnd) (at : ℕ) → (child_of s ≡ Some d → ⊥) → finish d status at s ≡ s
+finish_other Pending d status at never = refl
+finish_other (Running x started) d status at never = let test : (x == d) ≡ false = ne_eqb x d (λ e. never (ap (λ n. Some n) e)) in rw test refl
+finish_other (Finished before started finished) d status at never = refl
+
+-- a child has one owner
+pub apart : (i id : Id) (d : ℕ) (o : Option Id) → i ≢ id → o ≡ Some id → o ≡ Some i → ⊥
+apart i id d o ne its mine = let one : Some id ≡ Some i = sym its ∙ mine in ne (cc)
+
+pub frame_wait_ok : (i id : Id) (d : ℕ) (status : ProcessEnd) (p : List Entry) → i ≢ id → NamesItsOwn p → child id p ≡ Some d → SameHistory i p (Wait d (Ok status) ∷ p)
+frame_wait_ok i id d status p ne own runs =
+    let its = child_owner id d p own runs in
+    let never = not_child (child i p) d (λ e. apart i id d _ ne its (child_owner i d p own e)) in
+    record {
+      lives_same = refl;
+      waits_same = λ l. refl;
+      child_same = never.1;
+      kept_same = rw never.0 refl;
+      state_same = finish_other (state i p) d status (moment p) (λ e. apart i id d _ ne its (state_owner i d p own e));
+      previous_same = refl;
+    }
+
+pub frame_wait_err : (i id : Id) (d : ℕ) (fault : HostFault) (p : List Entry) → i ≢ id → NamesItsOwn p → child id p ≡ Some d → SameHistory i p (Wait d (Err fault) ∷ p)
+frame_wait_err i id d fault p ne own runs =
+    let its = child_owner id d p own runs in
+    let never = not_child (child i p) d (λ e. apart i id d _ ne its (child_owner i d p own e)) in
+    record { lives_same = refl; waits_same = λ l. refl; child_same = refl; kept_same = rw never.0 refl; state_same = refl; previous_same = refl }
+
+pub frame_drop : (i id : Id) (d : ℕ) (p : List Entry) → i ≢ id → NamesItsOwn p → child id p ≡ Some d → SameHistory i p (Dropped d ∷ p)
+frame_drop i id d p ne own runs =
+    let its = child_owner id d p own runs in
+    let never = not_child (child i p) d (λ e. apart i id d _ ne its (child_owner i d p own e)) in
+    record { lives_same = refl; waits_same = λ l. refl; child_same = never.1; kept_same = refl; state_same = refl; previous_same = refl }

@@ -1,0 +1,202 @@
+-- A task stands for the journal with one entry more.
+use Rattle.std.proofs.Common.{◌≡◌, ℕ, Bool, true, false, List, [], ◌∷◌, ◌++◌, Option, Some, None, Result, Ok, Err, refl, ap, sym, ◌∙◌, eq-eqb}
+use Rattle.std.specs.Prelude.{◌==◌, if◌then◌else◌, not, ◌&&◌, map}
+use Rattle.wx_events.specs.declared.process.ProcessEnd.{ProcessEnd}
+use Rattle.wx_command.specs.declared.spawnable.Spawnable.{Spawnable}
+use Rattle.wx_control.specs.declared.id.Id.{Id}
+use Rattle.wx_control.specs.declared.control.Control.{Control}
+use Rattle.wx_control.specs.declared.level.Level.TheVariants.{Normal, High, Urgent}
+use Rattle.wx_journal.specs.declared.child.SpawnTag.{SpawnTag}
+use Rattle.wx_journal.specs.declared.child.HostFault.{HostFault}
+use Rattle.wx_journal.specs.declared.entry.Entry.{Entry}
+use Rattle.wx_journal.specs.declared.entry.Entry.TheVariants.{Turn as Turned, Word as Said, Made, Asked, Pick, Spawn, Kill, Wait, Dropped, Raise, Gone}
+use Rattle.wx_journal.specs.declared.entry.Word.{Word}
+use Rattle.wx_journal.specs.declared.entry.TurnKind.TheVariants.{Ended}
+use Rattle.wx_journal.specs.Names.{moment}
+use Rattle.wx_job.specs.declared.state.CommandState.{CommandState}
+use Rattle.wx_job.specs.declared.state.CommandState.TheVariants.{Pending, Running, Finished}
+use Rattle.wx_job.specs.declared.task.Waiting.{Waiting}
+use Rattle.wx_job.specs.declared.task.JobTask.{JobTask}
+use Rattle.wx_job.specs.History.{same, lives, waits, child, kept, state, previous, finish, unless, is_child}
+use Rattle.wx_job.specs.Table.{Done, Goes, drop_plan, end_plan}
+use Rattle.wx_job.specs.Stands.{Stands, SameTask, IsEnding, child_of, running_of, ticketed, with_end}
+
+self : (id : Id) → same id id ≡ true
+self id = eq-eqb id.0 id.0 refl
+
+-- entries that say nothing of a job
+pub stands-raise : (k : JobTask) (p : List Entry) (t : ℕ) → Stands k p → Stands k (Raise t ∷ p)
+stands-raise k p t s = record { lives_kept = s.lives_kept; waits_kept = s.waits_kept; high_none = s.high_none; urgent_none = s.urgent_none; child_kept = s.child_kept; end_kept = s.end_kept; state_kept = s.state_kept; previous_kept = s.previous_kept }
+
+pub stands-kill : (k : JobTask) (p : List Entry) (c : ℕ) (a : Result (Unit {0}) HostFault) → Stands k p → Stands k (Kill c a ∷ p)
+stands-kill k p c a s = record { lives_kept = s.lives_kept; waits_kept = s.waits_kept; high_none = s.high_none; urgent_none = s.urgent_none; child_kept = s.child_kept; end_kept = s.end_kept; state_kept = s.state_kept; previous_kept = s.previous_kept }
+
+pub stands-word : (k : JobTask) (p : List Entry) (w : Word) → Stands k p → Stands k (Said w ∷ p)
+stands-word k p w s = record { lives_kept = s.lives_kept; waits_kept = s.waits_kept; high_none = s.high_none; urgent_none = s.urgent_none; child_kept = s.child_kept; end_kept = s.end_kept; state_kept = s.state_kept; previous_kept = s.previous_kept }
+
+-- the child that runs, by the journal
+child-is : (k : JobTask) (p : List Entry) (c : ℕ) → Stands k p → k.gone ≡ false → child_of k.state ≡ Some c → child k.id p ≡ Some c
+child-is k p c s here runs = sym s.child_kept ∙ rw here runs
+
+finish-child : (c : ℕ) (status : ProcessEnd) (at : ℕ) (s : CommandState) → child_of s ≡ Some c → child_of (finish c status at s) ≡ None
+finish-child c status at Pending e = cc
+finish-child c status at (Running d started) e = let is : d ≡ c = cc in rw (eq-eqb d c is) refl
+finish-child c status at (Finished before started finished) e = cc
+
+pub stands-wait-ok : (k : JobTask) (p : List Entry) (c : ℕ) (status : ProcessEnd) → Stands k p → k.gone ≡ false → child_of k.state ≡ Some c → Stands (record k { state = finish c status (moment p) k.state; kept = false }) (Wait c (Ok status) ∷ p)
+stands-wait-ok k p c status s here runs =
+    let is : child k.id p ≡ Some c = child-is k p c s here runs in
+    let found : (c == c) ≡ true = eq-eqb c c refl in
+    record {
+      lives_kept = s.lives_kept;
+      waits_kept = s.waits_kept;
+      high_none = s.high_none;
+      urgent_none = s.urgent_none;
+      child_kept = rw (here, is, found) (finish-child c status (moment p) k.state runs);
+      end_kept = rw (is, found) refl;
+      state_kept = ap (λ x. finish c status (moment p) x) s.state_kept;
+      previous_kept = s.previous_kept;
+    }
+
+pub stands-wait-err : (k : JobTask) (p : List Entry) (c : ℕ) (fault : HostFault) → Stands k p → k.gone ≡ false → child_of k.state ≡ Some c → Stands (record k { kept = false }) (Wait c (Err fault) ∷ p)
+stands-wait-err k p c fault s here runs =
+    let is : child k.id p ≡ Some c = child-is k p c s here runs in
+    let found : (c == c) ≡ true = eq-eqb c c refl in
+    record {
+      lives_kept = s.lives_kept;
+      waits_kept = s.waits_kept;
+      high_none = s.high_none;
+      urgent_none = s.urgent_none;
+      child_kept = s.child_kept;
+      end_kept = rw (is, found) refl;
+      state_kept = s.state_kept;
+      previous_kept = s.previous_kept;
+    }
+
+pub stands-spawn-ok : (k : JobTask) (p : List Entry) (c : ℕ) (tag : SpawnTag) (what : Spawnable) (a : Unit {0}) → Stands k p → k.gone ≡ false → Stands (record k { state = Running c (moment p); previous = Some k.state; kept = false }) (Spawn c k.id tag what (Ok a) ∷ p)
+stands-spawn-ok k p c tag what a s here = record {
+  lives_kept = s.lives_kept;
+  waits_kept = s.waits_kept;
+  high_none = s.high_none;
+  urgent_none = s.urgent_none;
+  child_kept = rw (here, self k.id) refl;
+  end_kept = rw (self k.id) refl;
+  state_kept = rw (self k.id) refl;
+  previous_kept = rw (self k.id) (ap (λ x. Some x) s.state_kept);
+}
+
+pub stands-spawn-err : (k : JobTask) (p : List Entry) (c : ℕ) (tag : SpawnTag) (what : Spawnable) (fault : HostFault) → Stands k p → k.gone ≡ false → child_of k.state ≡ None → Stands (record k { state = Pending; previous = Some k.state }) (Spawn c k.id tag what (Err fault) ∷ p)
+stands-spawn-err k p c tag what fault s here none = record {
+  lives_kept = s.lives_kept;
+  waits_kept = s.waits_kept;
+  high_none = s.high_none;
+  urgent_none = s.urgent_none;
+  child_kept = rw here (rw (here, none) at s.child_kept);
+  end_kept = s.end_kept;
+  state_kept = rw (self k.id) refl;
+  previous_kept = rw (self k.id) (ap (λ x. Some x) s.state_kept);
+}
+
+-- the control of the first ticket that waits is picked
+pub stands-pick : (k k' : JobTask) (p : List Entry) (w : Waiting) → Stands k p → k.waiting.items ≡ w ∷ k'.waiting.items → k' ≡ record k { waiting = k'.waiting } → Stands k' (Pick k.id w.ticket ∷ p)
+stands-pick k k' p w s is fields =
+    let waits_are : waits k.id Normal p ≡ ticketed w ∷ map ticketed k'.waiting.items = sym s.waits_kept ∙ ap (λ xs. map ticketed xs) is in
+    let found : (w.ticket == w.ticket) ≡ true = eq-eqb w.ticket w.ticket refl in
+    let stood : Stands (record k { waiting = k'.waiting }) (Pick k.id w.ticket ∷ p) = record {
+      lives_kept = s.lives_kept;
+      waits_kept = rw (self k.id, waits_are, found) refl;
+      high_none = rw (self k.id, s.high_none) refl;
+      urgent_none = rw (self k.id, s.urgent_none) refl;
+      child_kept = s.child_kept;
+      end_kept = s.end_kept;
+      state_kept = s.state_kept;
+      previous_kept = s.previous_kept;
+    } in
+    rw fields stood
+
+-- a control is asked
+map-append : (ws : List Waiting) (w : Waiting) → map ticketed (ws ++ w ∷ []) ≡ map ticketed ws ++ ticketed w ∷ []
+map-append [] w = refl
+map-append (x ∷ ws) w = ap (λ xs. ticketed x ∷ xs) (map-append ws w)
+
+pub stands-asked : (k k' : JobTask) (p : List Entry) (w : Waiting) → Stands k p → k'.waiting.items ≡ k.waiting.items ++ w ∷ [] → k' ≡ record k { waiting = k'.waiting } → Stands k' (Asked w.ticket k.id Normal w.control ∷ p)
+stands-asked k k' p w s items fields =
+    let stood : Stands (record k { waiting = k'.waiting }) (Asked w.ticket k.id Normal w.control ∷ p) = record {
+      lives_kept = s.lives_kept;
+      waits_kept = rw (self k.id, items) (map-append k.waiting.items w ∙ ap (λ xs. xs ++ ticketed w ∷ []) s.waits_kept);
+      high_none = rw (self k.id) s.high_none;
+      urgent_none = rw (self k.id) s.urgent_none;
+      child_kept = s.child_kept;
+      end_kept = s.end_kept;
+      state_kept = s.state_kept;
+      previous_kept = s.previous_kept;
+    } in
+    rw fields stood
+
+pub stands-same : (k k' : JobTask) (p : List Entry) → SameTask k k' → Stands k p → Stands k' p
+stands-same k k' p same s =
+    let stood : Stands (record k { waiting = k'.waiting }) p = record {
+      lives_kept = s.lives_kept;
+      waits_kept = rw same.items s.waits_kept;
+      high_none = s.high_none;
+      urgent_none = s.urgent_none;
+      child_kept = s.child_kept;
+      end_kept = s.end_kept;
+      state_kept = s.state_kept;
+      previous_kept = s.previous_kept;
+    } in
+    rw same.fields stood
+
+-- the end of the running child is kept
+pub stands-ended : (k : JobTask) (c at : ℕ) (p : List Entry) → IsEnding k c at p → running_of k ≡ Some c → Stands (with_end k) p
+stands-ended k c at p ending runs =
+    let s = ending.stands in
+    let is : child k.id ending.before ≡ Some c = sym s.child_kept ∙ runs in
+    let found : (c == c) ≡ true = eq-eqb c c refl in
+    rw ending.last (record {
+      lives_kept = s.lives_kept;
+      waits_kept = s.waits_kept;
+      high_none = s.high_none;
+      urgent_none = s.urgent_none;
+      child_kept = s.child_kept;
+      end_kept = rw (is, found) refl;
+      state_kept = s.state_kept;
+      previous_kept = s.previous_kept;
+    })
+
+-- the job is gone
+pub stands-gone : (k k' : JobTask) (p : List Entry) → Stands k p → k.gone ≡ false → child_of k.state ≡ None → k'.waiting.items ≡ [] → k' ≡ record k { waiting = k'.waiting; kept = false; gone = true } → Stands k' (Gone k.id ∷ p)
+stands-gone k k' p s here none empty fields =
+    let stood : Stands (record k { waiting = k'.waiting; kept = false; gone = true }) (Gone k.id ∷ p) = record {
+      lives_kept = rw (self k.id) refl;
+      waits_kept = rw (empty, self k.id) refl;
+      high_none = rw (self k.id) refl;
+      urgent_none = rw (self k.id) refl;
+      child_kept = rw (here, none) at s.child_kept;
+      end_kept = rw (self k.id) refl;
+      state_kept = s.state_kept;
+      previous_kept = s.previous_kept;
+    } in
+    rw fields stood
+
+pub stands-let-go : (k k' : JobTask) (p : List Entry) (c : ℕ) → Stands k p → k.gone ≡ false → child_of k.state ≡ Some c → k'.waiting.items ≡ [] → k' ≡ record k { waiting = k'.waiting; kept = false; gone = true } → Stands k' (Gone k.id ∷ Dropped c ∷ p)
+stands-let-go k k' p c s here runs empty fields =
+    let is : child k.id p ≡ Some c = child-is k p c s here runs in
+    let found : (c == c) ≡ true = eq-eqb c c refl in
+    let stood : Stands (record k { waiting = k'.waiting; kept = false; gone = true }) (Gone k.id ∷ Dropped c ∷ p) = record {
+      lives_kept = rw (self k.id) refl;
+      waits_kept = rw (empty, self k.id) refl;
+      high_none = rw (self k.id) refl;
+      urgent_none = rw (self k.id) refl;
+      child_kept = rw (is, found) refl;
+      end_kept = rw (self k.id) refl;
+      state_kept = s.state_kept;
+      previous_kept = s.previous_kept;
+    } in
+    rw fields stood
+
+-- what the end of a job owes, by what the task keeps
+pub end-is : (k : JobTask) (p : List Entry) (c : Option ℕ) → Stands k p → k.gone ≡ false → c ≡ child_of k.state → end_plan k.id p ≡ drop_plan c (Goes k.id Done)
+end-is k p c s here is = let alive : lives k.id p ≡ true = sym s.lives_kept ∙ rw here refl in let runs : child k.id p ≡ child_of k.state = sym s.child_kept ∙ rw here refl in rw (alive, runs, is) refl
+
+pub ruleset stands = (stands-asked, stands-raise, stands-kill, stands-word, stands-wait-ok, stands-wait-err, stands-spawn-ok, stands-spawn-err)

@@ -1,0 +1,84 @@
+-- What a call that followed a plan, or did nothing, leaves.
+use Rattle.std.proofs.Common.{◌≡◌, ◌≢◌, ℕ, ◌≤◌, ◌<◌, Bool, true, false, cond, List, [], ◌∷◌, Option, Some, None, Result, Ok, Err, refl, arith, ap, sym, subst, ◌∙◌}
+use Rattle.std.specs.Prelude.{OnOk, OnErr}
+use Rattle.wx_command.specs.declared.command.Command.{Command}
+use Rattle.wx_control.specs.declared.id.Id.{Id}
+use Rattle.wx_control.specs.declared.ask.Ask.{Ask}
+use Rattle.wx_control.specs.declared.ask.Sends.{Sends}
+use Rattle.wx_control.specs.Asks.{sends_of}
+use Rattle.wx_journal.specs.declared.entry.Entry.{Entry}
+use Rattle.wx_journal.specs.declared.entry.Entry.TheVariants.{Spawn, Raise}
+use Rattle.wx_job.specs.declared.state.CommandState.TheVariants.{Pending}
+use Rattle.wx_journal.specs.Names.{NamesItsOwn, ticket_count, count}
+use Rattle.wx_journal.specs.Told.{Rose}
+use Rattle.wx_job.specs.History.{lives, child, state, SameHistory}
+use Rattle.wx_job.specs.Table.{Plan, Done, step_plan, end_plan, send_plan}
+use Rattle.wx_job.specs.Case.{is_fault, Leads, Here, FollowsHost, FollowsAlone}
+use Rattle.wx_job.specs.Laws.{LeavesOthers, IsReaping, spawn_failed, AfterFaults}
+use Rattle.wx_job.proofs.Frame.{same_history}
+use Rattle.wx_job.proofs.Sound.{Sound, Reaping, is_done, is_going, KeepsOther, Followed, follow, faults_rose, sound_step, sound_end, sound_send}
+
+pub record Left (stands : List Entry → Type 0) (id : Id) (p p' : List Entry) : Type 0 where
+  pub leaves : LeavesOthers id p p'
+  pub reaped : IsReaping id p → IsReaping id p'
+  pub failed : AfterFaults id p → AfterFaults id p'
+  pub calm : stands p → stands p'
+
+-- a plan that owes something is that of a job that lives
+abbrev pub IsOfLiving : Id → Plan → List Entry → Type 0
+IsOfLiving id k p = is_done k ≡ false → lives id p ≡ true
+
+-- after a failed spawn the state is Pending
+spawn_pending : (id : Id) (p : List Entry) → spawn_failed id p ≡ true → state id p ≡ Pending
+spawn_pending id [] e = refl
+spawn_pending id (Raise ticket ∷ p) e = spawn_pending id p e
+spawn_pending id (Spawn c job tag what (Err fault) ∷ p) e = rw e refl
+spawn_pending id (Spawn c job tag what (Ok done) ∷ p) e = cc
+spawn_pending id (_ ∷ p) e = cc
+
+pub left_done : (stands : List Entry → Type 0) → KeepsOther stands → (id : Id) (k : Plan) (p : List Entry) (host hooks : Option (List Entry)) (n : ℕ) (p' : List Entry) (host' hooks' : Option (List Entry)) (n' : ℕ) → Leads k p host hooks n Done p' host' hooks' n' → NamesItsOwn p → Sound id (child id p) (ticket_count p) k → IsOfLiving id k p → Left stands id p p'
+left_done stands keep id k p host hooks n p' host' hooks' n' l own s living =
+    let f = follow stands keep id k p host hooks n Done p' host' hooks' n' l own s in record {
+      leaves = record { own = f.own; others = f.others };
+      reaped = λ r. let after = f.reaps (record { each = r.each; last = λ alive going. r.last alive; alive = living }) in record { each = after.each; last = λ alive. after.last alive refl };
+      failed = λ r. record { pending = spawn_pending id p'; runs = f.failing r.runs };
+      calm = f.calm;
+    }
+
+left_same : (stands : List Entry → Type 0) (id : Id) (p : List Entry) → NamesItsOwn p → Left stands id p p
+left_same stands id p own = record { leaves = record { own = own; others = λ i ne. same_history i p }; reaped = λ r. r; failed = λ r. r; calm = λ h. h }
+
+pub left : {A E : Type 0} (stands : List Entry → Type 0) → KeepsOther stands → (r : Result A E) (id : Id) (k : Plan) (p p' : List Entry) (host host' : Option (List Entry)) (n n' : ℕ) → OnOk r (FollowsHost k p host n Done p' host' n') → OnErr r (p' ≡ p) → NamesItsOwn p → Sound id (child id p) (ticket_count p) k → IsOfLiving id k p → Left stands id p p'
+left stands keep (Ok a) id k p p' host host' n n' ok err own s living = left_done stands keep id k p host None n p' host' None n' (ok k p host None n None Here) own s living
+left stands keep (Err a) id k p p' host host' n n' ok err own s living = rw err (left_same stands id p own)
+
+pub faults : {A E : Type 0} (r : Result A E) (k : Plan) (p p' : List Entry) (host host' : Option (List Entry)) (n n' : ℕ) → OnOk r (FollowsHost k p host n Done p' host' n') → OnErr r (p' ≡ p) → count is_fault p < count is_fault p' → Rose n n'
+faults (Ok a) k p p' host host' n n' ok err lt = (faults_rose k p host None n Done p' host' None n' (ok k p host None n None Here)).1 lt
+faults (Err a) k p p' host host' n n' ok err lt = let same : count is_fault p' ≡ count is_fault p = ap (λ q. count is_fault q) err in absurd (omega arith)
+
+of_living : (b : Bool) (k : Plan) → is_done (cond b k Done) ≡ false → b ≡ true
+of_living true k h = refl
+of_living false k h = cc
+
+pub step_living : (id : Id) (command : Command) (p : List Entry) → IsOfLiving id (step_plan id command p) p
+step_living id command p h = of_living (lives id p) _ h
+
+-- a step, whatever it answers
+pub step_left : {A E : Type 0} (stands : List Entry → Type 0) → KeepsOther stands → (r : Result A E) (id : Id) (command : Command) (p p' : List Entry) (host host' : Option (List Entry)) (n n' : ℕ) → OnOk r (FollowsHost (step_plan id command p) p host n Done p' host' n') → OnErr r (p' ≡ p) → NamesItsOwn p → Left stands id p p'
+step_left stands keep r id command p p' host host' n n' ok err own = left stands keep r id (step_plan id command p) p p' host host' n n' ok err own (sound_step id command p own) (step_living id command p)
+
+pub end_living : (id : Id) (p : List Entry) → IsOfLiving id (end_plan id p) p
+end_living id p h = of_living (lives id p) _ h
+
+-- the end of a job
+pub end_left : (stands : List Entry → Type 0) → KeepsOther stands → (id : Id) (p : List Entry) (host : Option (List Entry)) (n : ℕ) (k : Plan) (p' : List Entry) (host' : Option (List Entry)) (n' : ℕ) → end_plan id p ≡ k → FollowsHost k p host n Done p' host' n' → NamesItsOwn p → Left stands id p p'
+end_left stands keep id p host n k p' host' n' is led own =
+    left_done stands keep id (end_plan id p) p host None n p' host' None n' (subst (λ (j : Plan). Leads j p host None n Done p' host' None n') (sym is) (led k p host None n None Here)) own (sound_end id p) (end_living id p)
+
+pub send_living : (id : Id) (sends : Sends) (p : List Entry) → IsOfLiving id (send_plan id sends p) p
+send_living id sends p h = of_living (lives id p) _ h
+
+-- asks, whatever is answered
+pub send_left : {A E : Type 0} (r : Result A E) (id : Id) (ask : Ask) (p p' : List Entry) → OnOk r (FollowsAlone (send_plan id (sends_of ask) p) p Done p') → OnErr r (p' ≡ p) → NamesItsOwn p → Left (λ q. Unit {0}) id p p'
+send_left (Ok a) id ask p p' ok err own = left_done (λ q. Unit {0}) (λ q e o i h. tt) id (send_plan id (sends_of ask) p) p None None 0 p' None None 0 (ok _ p None None 0 None None 0 Here) own (sound_send id ask p) (send_living id (sends_of ask) p)
+send_left (Err a) id ask p p' ok err own = rw err (left_same (λ q. Unit {0}) id p own)

@@ -1,0 +1,109 @@
+-- What a journal says of a job. The history of a job begins at its last Made.
+use Rattle.std.specs.Prelude.{◌≡◌, ℕ, Bool, true, false, not, ◌&&◌, ◌||◌, ◌==◌, if◌then◌else◌, Option, None, Some, Ok, Err, List, [], ◌∷◌, ◌++◌}
+use Rattle.wx_events.specs.declared.process.ProcessEnd.{ProcessEnd}
+use Rattle.wx_control.specs.declared.id.Id.{Id}
+use Rattle.wx_control.specs.declared.control.Control.{Control}
+use Rattle.wx_control.specs.declared.level.Level.{Level}
+use Rattle.wx_control.specs.Levels.{rank}
+use Rattle.wx_journal.specs.declared.entry.Entry.{Entry}
+use Rattle.wx_journal.specs.declared.entry.Entry.TheVariants.{Turn as Turned, Made, Asked, Pick, Spawn, Wait, Dropped, Gone}
+use Rattle.wx_journal.specs.declared.entry.TurnKind.TheVariants as turn
+use Rattle.wx_journal.specs.declared.entry.TurnKind.{TurnKind}
+use Rattle.wx_journal.specs.Names.{moment}
+use Rattle.wx_job.specs.declared.state.CommandState.{CommandState}
+use Rattle.wx_job.specs.declared.state.CommandState.TheVariants.{Pending, Running, Finished}
+
+-- an entry that names a job is of this one
+abbrev pub same : Id → Id → Bool
+same job id = job.0 == id.0
+
+-- the job was made, and isn't gone
+abbrev pub lives : Id → List Entry → Bool
+lives id [] = false
+lives id (Made job ∷ p) = same job id || lives id p
+lives id (Gone job ∷ p) = not (same job id) && lives id p
+lives id (_ ∷ p) = lives id p
+
+-- the tickets that wait, each with its control, without this ticket
+abbrev pub without : ℕ → List (ℕ × Control) → List (ℕ × Control)
+without ticket [] = []
+without ticket (x ∷ xs) = if x.0 == ticket then xs else x ∷ without ticket xs
+
+-- the tickets that wait at a level: asked of the job and not picked, in order
+abbrev pub waits : Id → Level → List Entry → List (ℕ × Control)
+waits id level [] = []
+waits id level (Made job ∷ p) = if same job id then [] else waits id level p
+waits id level (Asked ticket job at control ∷ p) = if same job id && rank at == rank level then waits id level p ++ (ticket, control) ∷ [] else waits id level p
+waits id level (Pick job ticket ∷ p) = if same job id then without ticket (waits id level p) else waits id level p
+waits id level (Gone job ∷ p) = if same job id then [] else waits id level p
+waits id level (_ ∷ p) = waits id level p
+
+-- the child of this name no longer runs
+abbrev pub unless : ℕ → Option ℕ → Option ℕ
+unless c None = None
+unless c (Some d) = if d == c then None else Some d
+
+-- the child that runs: its Spawn answered ok, no Wait of it answered ok, and no Dropped names it
+abbrev pub child : Id → List Entry → Option ℕ
+child id [] = None
+child id (Made job ∷ p) = if same job id then None else child id p
+child id (Spawn c job tag what (Ok done) ∷ p) = if same job id then Some c else child id p
+child id (Wait c (Ok status) ∷ p) = unless c (child id p)
+child id (Dropped c ∷ p) = unless c (child id p)
+child id (_ ∷ p) = child id p
+
+abbrev pub is_child : ℕ → Option ℕ → Bool
+is_child c None = false
+is_child c (Some d) = d == c
+
+-- a turn names the end of the child that runs
+abbrev pub names_end : TurnKind → Option ℕ → Bool
+names_end (turn.Ended c) running = is_child c running
+names_end (_) running = false
+
+-- the end of the running child is kept: an Ended turn named it, and no Wait of it came since
+abbrev pub kept : Id → List Entry → Bool
+kept id [] = false
+kept id (Made job ∷ p) = if same job id then false else kept id p
+kept id (Turned t ∷ p) = names_end t.kind (child id p) || kept id p
+kept id (Spawn c job tag what (Ok done) ∷ p) = if same job id then false else kept id p
+kept id (Wait c answer ∷ p) = not (is_child c (child id p)) && kept id p
+kept id (Gone job ∷ p) = if same job id then false else kept id p
+kept id (_ ∷ p) = kept id p
+
+-- the state after this child ended
+abbrev pub finish : ℕ → ProcessEnd → ℕ → CommandState → CommandState
+finish c status at Pending = Pending
+finish c status at (Running d started) = if d == c then Finished status started at else Running d started
+finish c status at (Finished before started finished) = Finished before started finished
+
+-- the state, by the last Spawn or successful Wait
+abbrev pub state : Id → List Entry → CommandState
+state id [] = Pending
+state id (Made job ∷ p) = if same job id then Pending else state id p
+state id (Spawn c job tag what (Ok done) ∷ p) = if same job id then Running c (moment p) else state id p
+state id (Spawn c job tag what (Err fault) ∷ p) = if same job id then Pending else state id p
+state id (Wait c (Ok status) ∷ p) = finish c status (moment p) (state id p)
+state id (_ ∷ p) = state id p
+
+-- the state before the last Spawn
+abbrev pub previous : Id → List Entry → Option CommandState
+previous id [] = None
+previous id (Made job ∷ p) = if same job id then None else previous id p
+previous id (Spawn c job tag what answer ∷ p) = if same job id then Some (state id p) else previous id p
+previous id (_ ∷ p) = previous id p
+
+-- the job that spawned the child of this name
+abbrev pub owner : ℕ → List Entry → Option Id
+owner c [] = None
+owner c (Spawn d job tag what answer ∷ p) = if d == c then Some job else owner c p
+owner c (_ ∷ p) = owner c p
+
+-- all that is asked of the history of a job is the same in both journals
+pub record SameHistory (id : Id) (p p' : List Entry) : Type 0 where
+  pub lives_same : lives id p' ≡ lives id p
+  pub waits_same : (level : Level) → waits id level p' ≡ waits id level p
+  pub child_same : child id p' ≡ child id p
+  pub kept_same : kept id p' ≡ kept id p
+  pub state_same : state id p' ≡ state id p
+  pub previous_same : previous id p' ≡ previous id p

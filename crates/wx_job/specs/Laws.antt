@@ -1,0 +1,89 @@
+-- What holds of the history of every job.
+use Rattle.std.specs.Prelude.{◌≡◌, ◌≢◌, ℕ, Bool, true, false, if◌then◌else◌, Option, None, Some, Ok, Err, List, [], ◌∷◌}
+use Rattle.wx_command.specs.declared.command.Command.{Command}
+use Rattle.wx_control.specs.declared.id.Id.{Id}
+use Rattle.wx_control.specs.declared.ask.Ask.{Ask}
+use Rattle.wx_control.specs.Asks.{sends_of}
+use Rattle.wx_journal.specs.declared.entry.Entry.{Entry}
+use Rattle.wx_journal.specs.declared.entry.Entry.TheVariants.{Made, Asked, Pick, Spawn, Kill, Wait, Dropped, Raise, Gone}
+use Rattle.wx_journal.specs.Names.{NamesItsOwn}
+use Rattle.wx_job.specs.declared.state.CommandState.TheVariants.{Pending}
+use Rattle.wx_job.specs.History.{same, lives, child, state, unless, owner, SameHistory}
+use Rattle.wx_job.specs.Table.{Done, step_plan, send_plan, end_plan}
+use Rattle.wx_job.specs.Case.{Leads}
+
+-- the child that was spawned and not reaped: no Wait of it answered ok
+abbrev pub unreaped : Id → List Entry → Option ℕ
+unreaped id [] = None
+unreaped id (Made job ∷ p) = if same job id then None else unreaped id p
+unreaped id (Spawn c job tag what (Ok done) ∷ p) = if same job id then Some c else unreaped id p
+unreaped id (Wait c (Ok status) ∷ p) = unless c (unreaped id p)
+unreaped id (_ ∷ p) = unreaped id p
+
+-- each child of a job is reaped before the next spawn, save a last one
+abbrev pub AreReaped : Id → List Entry → Type 0
+AreReaped id [] = Unit {0}
+AreReaped id (Made job ∷ p) = same job id ≡ false → AreReaped id p
+AreReaped id (Spawn c job tag what answer ∷ p) = (same job id ≡ true → unreaped id p ≡ None) × AreReaped id p
+AreReaped id (_ ∷ p) = AreReaped id p
+
+-- Each child of a job was reaped before the next spawn, and while the job lives the last one, if it wasn't, is the one that
+-- runs.
+pub record IsReaping (id : Id) (p : List Entry) : Type 0 where
+  pub each : AreReaped id p
+  pub last : lives id p ≡ true → unreaped id p ≡ child id p
+
+-- the last call on a child was a spawn for this job, which failed, and only tickets were raised since
+abbrev pub spawn_failed : Id → List Entry → Bool
+spawn_failed id [] = false
+spawn_failed id (Raise ticket ∷ p) = spawn_failed id p
+spawn_failed id (Spawn c job tag what (Err fault) ∷ p) = same job id
+spawn_failed id (_ ∷ p) = false
+
+-- the child whose kill or wait failed, where this was the last call on a child, and only tickets were raised since
+abbrev pub reap_failed : List Entry → Option ℕ
+reap_failed [] = None
+reap_failed (Raise ticket ∷ p) = reap_failed p
+reap_failed (Kill c (Err fault) ∷ p) = Some c
+reap_failed (Wait c (Err fault) ∷ p) = Some c
+reap_failed (_ ∷ p) = None
+
+-- after a failed spawn the state is Pending, and after a failed kill or wait the child still runs
+pub record AfterFaults (id : Id) (p : List Entry) : Type 0 where
+  pub pending : spawn_failed id p ≡ true → state id p ≡ Pending
+  pub runs : (c : ℕ) → reap_failed p ≡ Some c → child id p ≡ Some c
+
+-- a child of this job
+abbrev pub is_owner : Id → Option Id → Bool
+is_owner id None = false
+is_owner id (Some job) = same job id
+
+-- an entry is about a job where it names the job or a child that this spawned
+abbrev pub is_about : Id → List Entry → Entry → Bool
+is_about id p (Made job) = same job id
+is_about id p (Asked ticket job level control) = same job id
+is_about id p (Pick job ticket) = same job id
+is_about id p (Spawn c job tag what answer) = same job id
+is_about id p (Kill c answer) = is_owner id (owner c p)
+is_about id p (Wait c answer) = is_owner id (owner c p)
+is_about id p (Dropped c) = is_owner id (owner c p)
+is_about id p (Gone job) = same job id
+is_about id p (_) = false
+
+-- The life of a job: it is made; then come asks, whole steps and its end, each by its plan, and between them entries that
+-- are not about it.
+pub data Lived (id : Id) (command : Command) : List Entry → Type 0 where
+  Begins : (p : List Entry) → NamesItsOwn p → Lived id command (Made id ∷ p)
+  Others : (e : Entry) (p : List Entry) → Lived id command p → NamesItsOwn (e ∷ p) → is_about id p e ≡ false → Lived id command (e ∷ p)
+  Asks : (ask : Ask) (p p' : List Entry) (host hooks host' hooks' : Option (List Entry)) (n n' : ℕ) → Lived id command p → Leads (send_plan id (sends_of ask) p) p host hooks n Done p' host' hooks' n' → Lived id command p'
+  Steps : (p p' : List Entry) (host hooks host' hooks' : Option (List Entry)) (n n' : ℕ) → Lived id command p → Leads (step_plan id command p) p host hooks n Done p' host' hooks' n' → Lived id command p'
+  Ends : (p p' : List Entry) (host hooks host' hooks' : Option (List Entry)) (n n' : ℕ) → Lived id command p → Leads (end_plan id p) p host hooks n Done p' host' hooks' n' → Lived id command p'
+
+-- what calls on one job leave alone: the names are the journal's own, and all other jobs are as they were
+pub record LeavesOthers (id : Id) (p p' : List Entry) : Type 0 where
+  pub own : NamesItsOwn p'
+  pub others : (other : Id) → other ≢ id → SameHistory other p p'
+
+-- in the life of a job each child is reaped before the next spawn, save a last one, which is let go
+abbrev pub ChildrenAreReaped : Type 0
+ChildrenAreReaped = (id : Id) (command : Command) (p : List Entry) → Lived id command p → IsReaping id p

@@ -1,0 +1,134 @@
+-- What a step of a job owes: the table of cases.
+use Rattle.std.specs.Prelude.{ℕ, Bool, true, false, if◌then◌else◌, Option, None, Some, List, [], ◌∷◌}
+use Rattle.wx_command.specs.declared.command.Command.{Command}
+use Rattle.wx_command.specs.declared.spawnable.Spawnable.{Spawnable}
+use Rattle.wx_command.specs.Spawnables.{spawnable_of}
+use Rattle.wx_control.specs.declared.id.Id.{Id}
+use Rattle.wx_control.specs.declared.control.Control.{Control}
+use Rattle.wx_control.specs.declared.control.Control.TheVariants.{Start, Stop}
+use Rattle.wx_control.specs.declared.level.Level.{Level}
+use Rattle.wx_control.specs.declared.level.Level.TheVariants.{Normal, High, Urgent}
+use Rattle.wx_control.specs.declared.ask.Sends.{Sends}
+use Rattle.wx_journal.specs.declared.child.SpawnTag.{SpawnTag}
+use Rattle.wx_journal.specs.declared.child.SpawnTag.TheVariants.{Default}
+use Rattle.wx_journal.specs.declared.entry.Entry.{Entry}
+use Rattle.wx_journal.specs.declared.entry.Word.{Word}
+use Rattle.wx_journal.specs.declared.entry.Word.TheVariants.{Idle as TheIdle}
+use Rattle.wx_job.specs.declared.choice.Choice.{Choice}
+use Rattle.wx_job.specs.declared.choice.Choice.TheVariants.{End, Next, Nothing}
+use Rattle.wx_job.specs.declared.choice.Stepped.{Stepped}
+use Rattle.wx_job.specs.declared.choice.Stepped.TheVariants.{Did, Idle, Gone}
+use Rattle.wx_job.specs.History.{lives, waits, child, kept}
+
+-- The entries that are still to come. Each has behind it what comes then; a call that can fail has this twice, for an
+-- answer ok and for a fault.
+pub data Plan : Type 0 where
+  -- nothing is owed
+  Done : Plan
+  -- the control of this ticket is picked
+  Picks : Id → ℕ → Plan → Plan
+  -- a child is spawned, killed, waited for
+  Spawns : Id → SpawnTag → Spawnable → Plan → Plan → Plan
+  Kills : ℕ → Plan → Plan → Plan
+  Waits : ℕ → Plan → Plan → Plan
+  -- a child is let go
+  Drops : ℕ → Plan → Plan
+  -- a ticket is raised
+  Raises : ℕ → Plan → Plan
+  -- a job is gone
+  Goes : Id → Plan → Plan
+  -- a control is asked
+  Asks : Id → Level → Control → Plan → Plan
+  -- a word is said
+  Says : Word → Plan → Plan
+
+-- reap the child: kill it, then wait for it; where either fails the ticket is raised and nothing else is done
+abbrev pub reap : ℕ → ℕ → Plan → Plan
+reap c ticket k = Kills c (Waits c k (Raises ticket Done)) (Raises ticket Done)
+
+-- spawn a fresh child, whatever comes of it
+abbrev pub fresh : Id → Command → Plan → Plan
+fresh id command k = Spawns id Default (spawnable_of command) k k
+
+-- The case of a control that was picked with this ticket, where this child runs, or none does.
+abbrev pub row : Id → Command → ℕ → Control → Option ℕ → Plan
+row id command ticket Start None = fresh id command (Raises ticket Done)
+row id command ticket Start (Some c) = Raises ticket Done
+row id command ticket Stop None = Raises ticket Done
+row id command ticket Stop (Some c) = reap c ticket (Raises ticket Done)
+
+-- the case spawns a child
+abbrev pub spawns : Control → Option ℕ → Bool
+spawns Start None = true
+spawns (_) (_) = false
+
+-- what is made ready for such a case, before its first call: what is spawned, twice, for the call and for its entry
+abbrev pub prepared : Command → Control → Option ℕ → Option (Spawnable × Spawnable)
+prepared command control running = if spawns control running then Some (spawnable_of command, spawnable_of command) else None
+
+-- the case of the end of a child
+abbrev pub ended : ℕ → Plan
+ended c = Waits c Done Done
+
+-- the first control that waits, with its ticket
+abbrev pub first : List (ℕ × Control) → List (ℕ × Control) → List (ℕ × Control) → Option (ℕ × Control)
+first (x ∷ urgent) high normal = Some x
+first [] (x ∷ high) normal = Some x
+first [] [] (x ∷ normal) = Some x
+first [] [] [] = None
+
+-- What a step picks, the first that applies: the kept end of the running child; a control that waits, the most pressing
+-- first; else nothing.
+abbrev pub choose_control : Option (ℕ × Control) → Choice
+choose_control None = Nothing
+choose_control (Some x) = Next x.0 x.1
+
+abbrev pub choose : Option ℕ → Bool → Option (ℕ × Control) → Choice
+choose None end x = choose_control x
+choose (Some c) end x = if end then End c else choose_control x
+
+abbrev pub pick : Id → List Entry → Choice
+pick id p = choose (child id p) (kept id p) (first (waits id Urgent p) (waits id High p) (waits id Normal p))
+
+-- the case of what is picked spawns a child
+abbrev pub is_spawning : Choice → Option ℕ → Bool
+is_spawning (End c) running = false
+is_spawning (Next ticket control) running = spawns control running
+is_spawning Nothing running = false
+
+-- what a step that picks this owes
+abbrev pub case : Id → Command → Option ℕ → Choice → Plan
+case id command running (End c) = ended c
+case id command running (Next ticket control) = Picks id ticket (row id command ticket control running)
+case id command running Nothing = Says TheIdle Done
+
+-- A step of a job that is gone owes nothing.
+abbrev pub step_plan : Id → Command → List Entry → Plan
+step_plan id command p = if lives id p then case id command (child id p) (pick id p) else Done
+
+-- what a step answers
+abbrev pub answer_of : Bool → Choice → Stepped
+answer_of true choice = Gone
+answer_of false (End c) = Did
+answer_of false (Next ticket control) = Did
+answer_of false Nothing = Idle
+
+-- the controls of an ask
+abbrev pub ask_second : Id → Level → Option Control → Plan
+ask_second id level None = Done
+ask_second id level (Some control) = Asks id level control Done
+
+abbrev pub ask_plan : Id → Sends → Plan
+ask_plan id sends = Asks id sends.level sends.first (ask_second id sends.level sends.second)
+
+-- nothing is asked of a job that is gone
+abbrev pub send_plan : Id → Sends → List Entry → Plan
+send_plan id sends p = if lives id p then ask_plan id sends else Done
+
+-- the end of a job: a child that runs is let go, and the job is gone
+abbrev pub drop_plan : Option ℕ → Plan → Plan
+drop_plan None k = k
+drop_plan (Some c) k = Drops c k
+
+abbrev pub end_plan : Id → List Entry → Plan
+end_plan id p = if lives id p then drop_plan (child id p) (Goes id Done) else Done

@@ -1,0 +1,337 @@
+// The cases of a job: what it does with what it picked.
+ghost use Rattle.std.specs.Prelude.{◌≡◌, ℕ, ◌+◌, ◌<◌, ◌≤◌, ◌∷◌, [], OnOk, OnErr, IfOk, List, Option, Some, None, true, false, map};
+ghost use Rattle.std.specs.Bool.{OnTrue, OnFalse};
+ghost use Rattle.wx_control.specs.declared.control.Control.TheVariants.{Start, Stop};
+ghost use Rattle.wx_command.specs.declared.spawnable.Spawnable.{Spawnable as the-Spawnable};
+ghost use Rattle.wx_command.specs.Spawnables.{spawnable_of};
+ghost use Rattle.wx_journal.specs.declared.entry.Entry.{Entry};
+ghost use Rattle.wx_journal.specs.declared.child.SpawnTag.{SpawnTag as the-SpawnTag};
+ghost use Rattle.wx_journal.specs.Names.{moment};
+ghost use Rattle.wx_job.specs.declared.choice.Choice.TheVariants.{End, Next};
+ghost use Rattle.wx_job.specs.History.{finish};
+ghost use Rattle.wx_job.specs.Table.{Plan, Done, Raises, Kills, Waits, reap, fresh, row, ended, spawns, prepared, is_spawning, case};
+ghost use Rattle.wx_job.specs.Case.{FollowsHost};
+ghost use Rattle.wx_job.specs.Kept.{Kept};
+ghost use Rattle.wx_job.specs.Stands.{Stands, child_of, running_of, choice_of, ticketed};
+
+use crate::choice::Choice;
+use crate::outside::Host;
+use crate::state::CommandState;
+use crate::task::{JobTask, Waiting};
+use std::alloc::Global;
+use wx_command::Spawnable;
+use wx_control::{Control, Flag};
+use wx_events::{Memory, ProcessEnd};
+use wx_journal::{Entry, HostFault, Journal, SpawnTag, Word};
+
+#[tactic(auto, using(crate::proofs::Sets::steps))]
+impl JobTask {
+    /// Raises a ticket.
+    fn raise<H: Host>(&self, ticket: u64, done: &Flag, host: &mut H, journal: &mut Journal)
+        requires stands { Stands self.now journal.old.past }
+        requires journal_room { 1 ≤ journal.old.spare }
+        requires host_room { 1 ≤ H.spare host.old }
+        ensures stands { Stands self.now journal.new.past }
+        ensures follows { (k : Plan) → FollowsHost (Raises ticket k) journal.old.past (H.told host.old) (H.host_faults host.old) k journal.new.past (H.told host.new) (H.host_faults host.new) }
+        ensures kept { Kept H.Plan (H.plan host.old) (H.plan host.new) (H.progress host.old) (H.progress host.new) (H.place host.old) (H.place host.new) }
+        ensures moment { moment journal.new.past ≡ moment journal.old.past }
+        ensures journal_room { journal.old.spare ≤ journal.new.spare + 1 }
+        ensures host_room { H.spare host.old ≤ H.spare host.new + 1 }
+    {
+        host.raise(ticket, done);
+        journal.push(Entry::Raise(ticket));
+    }
+
+    /// Kills the child.
+    fn kill<H: Host>(&self, child: u64, host: &mut H, journal: &mut Journal) -> Result<(), HostFault>
+        requires stands { Stands self.now journal.old.past }
+        requires journal_room { 1 ≤ journal.old.spare }
+        requires host_room { 1 ≤ H.spare host.old }
+        ensures stands { Stands self.now journal.new.past }
+        ensures ok { OnOk result ((k : Plan) (f : Plan) → FollowsHost (Kills child k f) journal.old.past (H.told host.old) (H.host_faults host.old) k journal.new.past (H.told host.new) (H.host_faults host.new)) }
+        ensures err { OnErr result ((k : Plan) (f : Plan) → FollowsHost (Kills child k f) journal.old.past (H.told host.old) (H.host_faults host.old) f journal.new.past (H.told host.new) (H.host_faults host.new)) }
+        ensures kept { Kept H.Plan (H.plan host.old) (H.plan host.new) (H.progress host.old) (H.progress host.new) (H.place host.old) (H.place host.new) }
+        ensures moment { moment journal.new.past ≡ moment journal.old.past }
+        ensures journal_room { journal.old.spare ≤ journal.new.spare + 1 }
+        ensures host_room { H.spare host.old ≤ H.spare host.new + 1 }
+    {
+        let answer = host.kill(child);
+        journal.push(Entry::Kill { child, answer });
+        answer
+    }
+
+    /// Waits for the child's end, which is kept no longer.
+    fn wait<H: Host>(&mut self, child: u64, at: u64, host: &mut H, journal: &mut Journal) -> Result<ProcessEnd, HostFault>
+        requires stands { Stands self.old journal.old.past }
+        requires runs { child_of self.old.state ≡ Some child }
+        requires here { self.old.gone ≡ false }
+        requires at { moment journal.old.past ≡ at }
+        requires journal_room { 1 ≤ journal.old.spare }
+        requires host_room { 1 ≤ H.spare host.old }
+        ensures stands { Stands self.new journal.new.past }
+        ensures ok { OnOk result ((k : Plan) (f : Plan) → FollowsHost (Waits child k f) journal.old.past (H.told host.old) (H.host_faults host.old) k journal.new.past (H.told host.new) (H.host_faults host.new)) }
+        ensures err { OnErr result ((k : Plan) (f : Plan) → FollowsHost (Waits child k f) journal.old.past (H.told host.old) (H.host_faults host.old) f journal.new.past (H.told host.new) (H.host_faults host.new)) }
+        ensures fields { self.new ≡ record self.old { state = self.new.state; kept = self.new.kept } }
+        ensures runs { OnErr result (self.new.state ≡ self.old.state) }
+        ensures kept { Kept H.Plan (H.plan host.old) (H.plan host.new) (H.progress host.old) (H.progress host.new) (H.place host.old) (H.place host.new) }
+        ensures moment { moment journal.new.past ≡ moment journal.old.past }
+        ensures journal_room { journal.old.spare ≤ journal.new.spare + 1 }
+        ensures host_room { H.spare host.old ≤ H.spare host.new + 1 }
+    {
+        let answer = host.wait(child);
+        journal.push(Entry::Wait { child, answer });
+        self.kept = false;
+        if let Ok(status) = answer {
+            self.state = finished(child, status, at, self.state);
+        }
+        answer
+    }
+
+    /// Kills the child and waits for it. It answers whether both were done; where they weren't it raises the ticket.
+    fn reap<H: Host>(&mut self, child: u64, ticket: u64, done: &Flag, at: u64, host: &mut H, journal: &mut Journal) -> bool
+        requires stands { Stands self.old journal.old.past }
+        requires runs { child_of self.old.state ≡ Some child }
+        requires here { self.old.gone ≡ false }
+        requires at { moment journal.old.past ≡ at }
+        requires journal_room { 3 ≤ journal.old.spare }
+        requires host_room { 3 ≤ H.spare host.old }
+        ensures stands { Stands self.new journal.new.past }
+        ensures done { OnTrue result ((k : Plan) → FollowsHost (reap child ticket k) journal.old.past (H.told host.old) (H.host_faults host.old) k journal.new.past (H.told host.new) (H.host_faults host.new)) }
+        ensures not_done { OnFalse result ((k : Plan) → FollowsHost (reap child ticket k) journal.old.past (H.told host.old) (H.host_faults host.old) Done journal.new.past (H.told host.new) (H.host_faults host.new)) }
+        ensures fields { self.new ≡ record self.old { state = self.new.state; kept = self.new.kept } }
+        ensures runs { OnFalse result (self.new.state ≡ self.old.state) }
+        ensures kept { Kept H.Plan (H.plan host.old) (H.plan host.new) (H.progress host.old) (H.progress host.new) (H.place host.old) (H.place host.new) }
+        ensures moment { moment journal.new.past ≡ moment journal.old.past }
+        ensures journal_room { journal.old.spare ≤ journal.new.spare + 3 }
+        ensures host_room { H.spare host.old ≤ H.spare host.new + 3 }
+    {
+        if self.kill(child, host, journal).is_err() {
+            self.raise(ticket, done, host, journal);
+            return false;
+        }
+        if self.wait(child, at, host, journal).is_err() {
+            self.raise(ticket, done, host, journal);
+            return false;
+        }
+        true
+    }
+
+    /// Spawns a child. What is spawned is given twice, for the call and for its entry.
+    fn spawn<H: Host>(&mut self, what: Spawnable, listed: Spawnable, at: u64, host: &mut H, journal: &mut Journal)
+        requires stands { Stands self.old journal.old.past }
+        requires runs { child_of self.old.state ≡ None }
+        requires here { self.old.gone ≡ false }
+        requires at { moment journal.old.past ≡ at }
+        requires what { what ≡ spawnable_of self.old.command }
+        requires listed { listed ≡ what }
+        requires journal_room { 1 ≤ journal.old.spare }
+        requires host_room { 1 ≤ H.spare host.old }
+        ensures stands { Stands self.new journal.new.past }
+        ensures follows { (k : Plan) → FollowsHost (fresh self.old.id self.old.command k) journal.old.past (H.told host.old) (H.host_faults host.old) k journal.new.past (H.told host.new) (H.host_faults host.new) }
+        ensures fields { self.new ≡ record self.old { state = self.new.state; previous = self.new.previous; kept = self.new.kept } }
+        ensures kept { Kept H.Plan (H.plan host.old) (H.plan host.new) (H.progress host.old) (H.progress host.new) (H.place host.old) (H.place host.new) }
+        ensures moment { moment journal.new.past ≡ moment journal.old.past }
+        ensures journal_room { journal.old.spare ≤ journal.new.spare + 1 }
+        ensures host_room { H.spare host.old ≤ H.spare host.new + 1 }
+    {
+        let child = journal.children();
+        let answer = host.spawn(child, self.id, what, SpawnTag::Default);
+        journal.push(Entry::Spawn {
+            child,
+            job: self.id,
+            tag: SpawnTag::Default,
+            what: listed,
+            answer,
+        });
+        self.previous = Some(self.state);
+        if answer.is_ok() {
+            self.state = CommandState::Running { child, started: at };
+            self.kept = false;
+        } else {
+            self.state = CommandState::Pending;
+        }
+    }
+
+    /// The case of Start. What is spawned is given where no child runs.
+    fn start<H: Host>(&mut self, ticket: u64, done: &Flag, what: Option<(Spawnable, Spawnable)>, at: u64, host: &mut H, journal: &mut Journal)
+        requires stands { Stands self.old journal.old.past }
+        requires here { self.old.gone ≡ false }
+        requires at { moment journal.old.past ≡ at }
+        requires what { what ≡ prepared self.old.command Start (child_of self.old.state) }
+        requires journal_room { 2 ≤ journal.old.spare }
+        requires host_room { 2 ≤ H.spare host.old }
+        ensures stands { Stands self.new journal.new.past }
+        ensures follows { FollowsHost (row self.old.id self.old.command ticket Start (child_of self.old.state)) journal.old.past (H.told host.old) (H.host_faults host.old) Done journal.new.past (H.told host.new) (H.host_faults host.new) }
+        ensures fields { self.new ≡ record self.old { state = self.new.state; previous = self.new.previous; kept = self.new.kept } }
+        ensures kept { Kept H.Plan (H.plan host.old) (H.plan host.new) (H.progress host.old) (H.progress host.new) (H.place host.old) (H.place host.new) }
+    {
+        if let Some((what, listed)) = what {
+            self.spawn(what, listed, at, host, journal);
+        }
+        self.raise(ticket, done, host, journal);
+    }
+
+    /// The case of Stop.
+    fn stop<H: Host>(&mut self, ticket: u64, done: &Flag, at: u64, host: &mut H, journal: &mut Journal)
+        requires stands { Stands self.old journal.old.past }
+        requires here { self.old.gone ≡ false }
+        requires at { moment journal.old.past ≡ at }
+        requires journal_room { 4 ≤ journal.old.spare }
+        requires host_room { 4 ≤ H.spare host.old }
+        ensures stands { Stands self.new journal.new.past }
+        ensures follows { FollowsHost (row self.old.id self.old.command ticket Stop (child_of self.old.state)) journal.old.past (H.told host.old) (H.host_faults host.old) Done journal.new.past (H.told host.new) (H.host_faults host.new) }
+        ensures fields { self.new ≡ record self.old { state = self.new.state; previous = self.new.previous; kept = self.new.kept } }
+        ensures kept { Kept H.Plan (H.plan host.old) (H.plan host.new) (H.progress host.old) (H.progress host.new) (H.place host.old) (H.place host.new) }
+    {
+        if let Some(child) = child_of(self.state) {
+            if !self.reap(child, ticket, done, at, host, journal) {
+                return;
+            }
+        }
+        self.raise(ticket, done, host, journal);
+    }
+
+    /// The case of the end of the child.
+    fn end_child<H: Host>(&mut self, child: u64, at: u64, host: &mut H, journal: &mut Journal)
+        requires stands { Stands self.old journal.old.past }
+        requires runs { child_of self.old.state ≡ Some child }
+        requires here { self.old.gone ≡ false }
+        requires at { moment journal.old.past ≡ at }
+        requires journal_room { 1 ≤ journal.old.spare }
+        requires host_room { 1 ≤ H.spare host.old }
+        ensures stands { Stands self.new journal.new.past }
+        ensures follows { FollowsHost (ended child) journal.old.past (H.told host.old) (H.host_faults host.old) Done journal.new.past (H.told host.new) (H.host_faults host.new) }
+        ensures fields { self.new ≡ record self.old { state = self.new.state; kept = self.new.kept } }
+        ensures kept { Kept H.Plan (H.plan host.old) (H.plan host.new) (H.progress host.old) (H.progress host.new) (H.place host.old) (H.place host.new) }
+    {
+        let _answer = self.wait(child, at, host, journal);
+    }
+
+    /// What a step picks.
+    pub(crate) fn choose(&self) -> Choice
+        requires here { self.now.gone ≡ false }
+        ensures chosen { result ≡ choice_of self.now }
+        ensures ends { (c : ℕ) → choice_of self.now ≡ End c → child_of self.now.state ≡ Some c }
+    {
+        if self.kept {
+            if let Some(child) = child_of(self.state) {
+                return Choice::End(child);
+            }
+        }
+        match self.waiting.first() {
+            Some(waiting) => Choice::Next {
+                ticket: waiting.ticket,
+                control: waiting.control,
+            },
+            None => Choice::Nothing,
+        }
+    }
+
+    /// What the case of a control spawns, twice, where it spawns. It takes no memory where it doesn't.
+    fn prepare(&self, alloc: Global, control: Control) -> Result<Option<(Spawnable, Spawnable)>, Memory>
+        ensures ok { IfOk result (λ what. what ≡ prepared self.now.command control (child_of self.now.state)) }
+        ensures err { OnErr result (spawns control (child_of self.now.state) ≡ true) }
+    {
+        if control != Control::Start || child_of(self.state).is_some() {
+            return Ok(None);
+        }
+        let what = self.command.to_spawnable(alloc)?;
+        let listed = self.command.to_spawnable(alloc)?;
+        Ok(Some((what, listed)))
+    }
+
+    /// Picks the first control that waits.
+    fn pick(&mut self, ticket: u64, control: Control, journal: &mut Journal) -> Waiting
+        requires stands { Stands self.old journal.old.past }
+        requires here { self.old.gone ≡ false }
+        requires chosen { choice_of self.old ≡ Next ticket control }
+        requires journal_room { 1 ≤ journal.old.spare }
+        ensures stands { Stands self.new journal.new.past }
+        ensures picked { ticketed result ≡ (ticket, control) }
+        ensures entry { journal.new.past ≡ Entry.Pick self.old.id ticket ∷ journal.old.past }
+        ensures fields { self.new ≡ record self.old { waiting = self.new.waiting } }
+        ensures journal_room { journal.old.spare ≤ journal.new.spare + 1 }
+    {
+        let waiting = self.waiting.remove(0);
+        journal.push(Entry::Pick {
+            job: self.id,
+            ticket: waiting.ticket,
+        });
+        waiting
+    }
+
+    /// The case of a control that was picked.
+    fn control<H: Host>(&mut self, control: Control, waiting: &Waiting, what: Option<(Spawnable, Spawnable)>, at: u64, host: &mut H, journal: &mut Journal)
+        requires stands { Stands self.old journal.old.past }
+        requires here { self.old.gone ≡ false }
+        requires at { moment journal.old.past ≡ at }
+        requires what { what ≡ prepared self.old.command control (child_of self.old.state) }
+        requires journal_room { 4 ≤ journal.old.spare }
+        requires host_room { 4 ≤ H.spare host.old }
+        ensures stands { Stands self.new journal.new.past }
+        ensures follows { FollowsHost (row self.old.id self.old.command waiting.now.ticket control (child_of self.old.state)) journal.old.past (H.told host.old) (H.host_faults host.old) Done journal.new.past (H.told host.new) (H.host_faults host.new) }
+        ensures fields { self.new ≡ record self.old { state = self.new.state; previous = self.new.previous; kept = self.new.kept } }
+        ensures kept { Kept H.Plan (H.plan host.old) (H.plan host.new) (H.progress host.old) (H.progress host.new) (H.place host.old) (H.place host.new) }
+    {
+        match control {
+            Control::Start => self.start(waiting.ticket, &waiting.done, what, at, host, journal),
+            Control::Stop => self.stop(waiting.ticket, &waiting.done, at, host, journal),
+        }
+    }
+
+    /// Does what was picked. Want of memory comes before anything was done.
+    pub(crate) fn act<H: Host>(&mut self, alloc: Global, choice: Choice, at: u64, host: &mut H, journal: &mut Journal) -> Result<(), Memory>
+        requires stands { Stands self.old journal.old.past }
+        requires here { self.old.gone ≡ false }
+        requires chosen { choice ≡ choice_of self.old }
+        requires at { moment journal.old.past ≡ at }
+        requires journal_room { 5 ≤ journal.old.spare }
+        requires host_room { 4 ≤ H.spare host.old }
+        requires ends { (c : ℕ) → choice ≡ End c → child_of self.old.state ≡ Some c }
+        ensures stands { Stands self.new journal.new.past }
+        ensures ok { OnOk result (FollowsHost (case self.old.id self.old.command (child_of self.old.state) choice) journal.old.past (H.told host.old) (H.host_faults host.old) Done journal.new.past (H.told host.new) (H.host_faults host.new)) }
+        ensures fields { self.new ≡ record self.old { waiting = self.new.waiting; state = self.new.state; previous = self.new.previous; kept = self.new.kept } }
+        ensures kept { Kept H.Plan (H.plan host.old) (H.plan host.new) (H.progress host.old) (H.progress host.new) (H.place host.old) (H.place host.new) }
+        ensures task { OnErr result (self.new ≡ self.old) }
+        ensures journal { OnErr result (journal.new ≡ journal.old) }
+        ensures host { OnErr result (host.new ≡ host.old) }
+        ensures memory { OnErr result (is_spawning choice (child_of self.old.state) ≡ true) }
+    {
+        match choice {
+            Choice::End(child) => self.end_child(child, at, host, journal),
+            Choice::Next { ticket, control } => {
+                let what = self.prepare(alloc, control)?;
+                let waiting = self.pick(ticket, control, journal);
+                self.control(control, &waiting, what, at, host, journal);
+            }
+            Choice::Nothing => journal.push(Entry::Word(Word::Idle)),
+        }
+        Ok(())
+    }
+}
+
+/// The child of a state.
+pub(crate) fn child_of(state: CommandState) -> Option<u64>
+    ensures { result ≡ child_of state }
+{
+    match state {
+        CommandState::Running { child, .. } => Some(child),
+        _ => None,
+    }
+}
+
+/// The state after this child ended.
+fn finished(child: u64, status: ProcessEnd, at: u64, state: CommandState) -> CommandState
+    ensures { result ≡ finish child status at state }
+{
+    match state {
+        CommandState::Running { child: running, started } if running == child => {
+            CommandState::Finished {
+                status,
+                started,
+                finished: at,
+            }
+        }
+        other => other,
+    }
+}

@@ -1,0 +1,23 @@
+// What a step does.
+use wx_control::Control;
+
+/// What a step of a job picks.
+#[derive(Clone, Copy, Debug, PartialEq, Eq)]
+pub(crate) enum Choice {
+    /// The end of the running child, which was kept.
+    End(u64),
+    /// This control, with its ticket.
+    Next { ticket: u64, control: Control },
+    Nothing,
+}
+
+/// What a step did.
+#[derive(Clone, Copy, Debug, PartialEq, Eq)]
+pub enum Stepped {
+    /// It did a case.
+    Did,
+    /// There was nothing to do.
+    Idle,
+    /// The job is gone.
+    Gone,
+}

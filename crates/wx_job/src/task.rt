@@ -1,0 +1,331 @@
+// What is kept of a job.
+ghost use Rattle.std.specs.Prelude.{◌≡◌, ℕ, ◌<◌, ◌≤◌, ◌∷◌, vec_len, vec_capacity, OnOk, OnErr, IfOk, List, Option, Some, None, option_map, true, false};
+ghost use Rattle.wx_control.specs.Asks.{sends_of};
+ghost use Rattle.wx_control.specs.declared.level.Level.TheVariants.{Normal};
+ghost use Rattle.wx_journal.specs.declared.entry.Entry.{Entry};
+ghost use Rattle.wx_journal.specs.declared.entry.Entry.TheVariants.{Turn as Turned, Made};
+ghost use Rattle.wx_journal.specs.declared.entry.TurnKind.TheVariants.{Ended};
+ghost use Rattle.wx_journal.specs.Names.{moment, count, NamesItsOwn};
+ghost use Rattle.wx_journal.specs.Told.{Rose};
+ghost use Rattle.wx_job.specs.History.{child as running, state, previous};
+ghost use Rattle.wx_job.specs.Table.{Plan, Done, Asks, send_plan, pick, is_spawning, Goes, answer_of, step_plan, drop_plan, end_plan};
+ghost use Rattle.wx_job.specs.Case.{Leads, FollowsHost, FollowsAlone, is_fault};
+ghost use Rattle.wx_job.specs.Kept.{Kept};
+ghost use Rattle.wx_job.specs.Laws.{LeavesOthers, IsReaping, AfterFaults};
+ghost use Rattle.wx_job.specs.Stands.{Stands, SameJob, SameTask, IsEnding, child_of, id_of, command_of, gone_of, running_of, with_end};
+
+use crate::case::child_of;
+use crate::choice::{Choice, Stepped};
+use crate::outside::{Host, JobHooks};
+use crate::state::CommandState;
+use std::alloc::Global;
+use wx_command::Command;
+use wx_control::{Ask, Control, Flag, Id, Job, Level, Ticket};
+use wx_events::{Copies, Memory};
+use wx_journal::{Entry, Journal};
+
+/// A control that waits.
+#[derive(Drop, Debug)]
+pub(crate) struct Waiting {
+    pub(crate) ticket: u64,
+    pub(crate) control: Control,
+    pub(crate) done: Flag,
+}
+
+/// A job, with the child that it drives. It stands for its job in a journal where it keeps what the journal says of it.
+#[derive(Drop, Debug)]
+pub struct JobTask {
+    pub(crate) id: Id,
+    pub(crate) command: Command,
+    /// Raised when the job is gone.
+    pub(crate) flag: Flag,
+    pub(crate) waiting: Vec<Waiting>,
+    pub(crate) state: CommandState,
+    pub(crate) previous: Option<CommandState>,
+    /// The running child has ended, and wasn't waited for yet.
+    pub(crate) kept: bool,
+    pub(crate) gone: bool,
+}
+
+
+/// A job of this name that runs this command, and a handle on it. It stands for its job behind the entry that it was
+/// made. It fails only for want of memory.
+pub fn start_job(alloc: Global, id: Id, command: Command) -> Result<(Job, JobTask), Memory>
+    ensures handle { IfOk result (λ made. (made.0.id ≡ id) × (made.0.command ≡ command)) }
+    ensures task { IfOk result (λ made. (id_of made.1 ≡ id) × (command_of made.1 ≡ command) × (gone_of made.1 ≡ false)) }
+    ensures stands { IfOk result (λ made. (p : List Entry) → Stands made.1 (Made id ∷ p)) }
+{
+    let flag = Flag::new(alloc, false)?;
+    let job = Job::new(id, command.copy(alloc)?, flag.copy(alloc)?);
+    let task = JobTask {
+        id,
+        command,
+        flag,
+        waiting: Vec::new(alloc),
+        state: CommandState::Pending,
+        previous: None,
+        kept: false,
+        gone: false,
+    };
+    Ok((job, task))
+}
+
+#[tactic(auto, using(crate::proofs::Sets::steps))]
+impl JobTask {
+    /// Asks this of the job: its controls wait, one entry each, numbered on from the journal. A job that is gone writes
+    /// nothing. It answers the ticket of the last control, over `last` where that is given. It fails only for want of
+    /// memory.
+    pub fn send(&mut self, alloc: Global, ask: Ask, last: Option<Flag>, journal: &mut Journal) -> Result<Ticket, Memory>
+        requires stands { Stands self.old journal.old.past }
+        ensures stands { Stands self.new journal.new.past }
+        ensures job { SameJob self.old self.new }
+        ensures gone { gone_of self.new ≡ gone_of self.old }
+        ensures leads { OnOk result (FollowsAlone (send_plan (id_of self.old) (sends_of ask) journal.old.past) journal.old.past Done journal.new.past) }
+        ensures task { OnErr result (SameTask self.old self.new) }
+        ensures past { OnErr result (journal.new.past ≡ journal.old.past) }
+        ensures leaves { NamesItsOwn journal.old.past → LeavesOthers (id_of self.old) journal.old.past journal.new.past }
+        ensures reaped { NamesItsOwn journal.old.past → IsReaping (id_of self.old) journal.old.past → IsReaping (id_of self.old) journal.new.past }
+    {
+        self.put(alloc, ask, last, journal)
+    }
+
+    /// One step: what is picked is done. It answers `Gone` where the job is gone, `Idle` where nothing could be picked,
+    /// and else `Did`. Want of memory comes only where a child would be spawned, and before anything was done. `at` is
+    /// the moment of the journal's last turn, in nanoseconds.
+    pub fn step<H: Host, K: JobHooks>(&mut self, alloc: Global, at: u64, host: &mut H, hooks: &mut K, journal: &mut Journal) -> Result<Stepped, Memory>
+        requires stands { Stands self.old journal.old.past }
+        requires at { moment journal.old.past ≡ at }
+        requires journal_room { 16 ≤ journal.old.spare }
+        requires host_room { 16 ≤ H.spare host.old }
+        requires hooks_room { 16 ≤ K.spare hooks.old }
+        ensures stands { Stands self.new journal.new.past }
+        ensures job { SameJob self.old self.new }
+        ensures leads { OnOk result (Leads (step_plan (id_of self.old) (command_of self.old) journal.old.past) journal.old.past (H.told host.old) (K.told hooks.old) (H.host_faults host.old) Done journal.new.past (H.told host.new) (K.told hooks.new) (H.host_faults host.new)) }
+        ensures answer { IfOk result (λ stepped. stepped ≡ answer_of (gone_of self.old) (pick (id_of self.old) journal.old.past)) }
+        ensures gone { gone_of self.new ≡ gone_of self.old }
+        ensures memory { OnErr result (is_spawning (pick (id_of self.old) journal.old.past) (running (id_of self.old) journal.old.past) ≡ true) }
+        ensures task { OnErr result (self.new ≡ self.old) }
+        ensures journal { OnErr result (journal.new ≡ journal.old) }
+        ensures host { OnErr result (host.new ≡ host.old) }
+        ensures hooks { hooks.new ≡ hooks.old }
+        ensures kept { Kept H.Plan (H.plan host.old) (H.plan host.new) (H.progress host.old) (H.progress host.new) (H.place host.old) (H.place host.new) }
+        ensures leaves { NamesItsOwn journal.old.past → LeavesOthers (id_of self.old) journal.old.past journal.new.past }
+        ensures reaped { NamesItsOwn journal.old.past → IsReaping (id_of self.old) journal.old.past → IsReaping (id_of self.old) journal.new.past }
+        ensures failed { NamesItsOwn journal.old.past → AfterFaults (id_of self.old) journal.old.past → AfterFaults (id_of self.old) journal.new.past }
+        ensures hooks_stand { NamesItsOwn journal.old.past → K.stands hooks.old journal.old.past → K.stands hooks.new journal.new.past }
+        ensures faults { count is_fault journal.old.past < count is_fault journal.new.past → Rose (H.host_faults host.old) (H.host_faults host.new) }
+    {
+        self.walk(alloc, at, host, journal)
+    }
+
+    /// Keeps the end of the running child, and does one step. The journal's last entry is the turn that told this end.
+    /// It answers as `step` does; the end is kept also where memory is wanted.
+    pub fn ended<H: Host, K: JobHooks>(&mut self, alloc: Global, child: u64, at: u64, host: &mut H, hooks: &mut K, journal: &mut Journal) -> Result<Stepped, Memory>
+        requires stands { IsEnding self.old child at journal.old.past }
+        requires runs { running_of self.old ≡ Some child }
+        requires journal_room { 16 ≤ journal.old.spare }
+        requires host_room { 16 ≤ H.spare host.old }
+        requires hooks_room { 16 ≤ K.spare hooks.old }
+        ensures stands { Stands self.new journal.new.past }
+        ensures job { SameJob self.old self.new }
+        ensures leads { OnOk result (Leads (step_plan (id_of self.old) (command_of self.old) journal.old.past) journal.old.past (H.told host.old) (K.told hooks.old) (H.host_faults host.old) Done journal.new.past (H.told host.new) (K.told hooks.new) (H.host_faults host.new)) }
+        ensures answer { IfOk result (λ stepped. stepped ≡ answer_of (gone_of self.old) (pick (id_of self.old) journal.old.past)) }
+        ensures gone { gone_of self.new ≡ gone_of self.old }
+        ensures memory { OnErr result (is_spawning (pick (id_of self.old) journal.old.past) (running (id_of self.old) journal.old.past) ≡ true) }
+        ensures task { OnErr result (self.new ≡ with_end self.old) }
+        ensures journal { OnErr result (journal.new ≡ journal.old) }
+        ensures host { OnErr result (host.new ≡ host.old) }
+        ensures hooks { hooks.new ≡ hooks.old }
+        ensures kept { Kept H.Plan (H.plan host.old) (H.plan host.new) (H.progress host.old) (H.progress host.new) (H.place host.old) (H.place host.new) }
+        ensures leaves { NamesItsOwn journal.old.past → LeavesOthers (id_of self.old) journal.old.past journal.new.past }
+        ensures reaped { NamesItsOwn journal.old.past → IsReaping (id_of self.old) journal.old.past → IsReaping (id_of self.old) journal.new.past }
+        ensures failed { NamesItsOwn journal.old.past → AfterFaults (id_of self.old) journal.old.past → AfterFaults (id_of self.old) journal.new.past }
+        ensures hooks_stand { NamesItsOwn journal.old.past → K.stands hooks.old journal.old.past → K.stands hooks.new journal.new.past }
+        ensures faults { count is_fault journal.old.past < count is_fault journal.new.past → Rose (H.host_faults host.old) (H.host_faults host.new) }
+    {
+        self.keep_end(child, at, journal);
+        self.step(alloc, at, host, hooks, journal)
+    }
+
+    /// The end of the job: a running child is let go, and the job is gone. A job that is gone stays as it is.
+    pub fn end<H: Host>(&mut self, host: &mut H, journal: &mut Journal)
+        requires stands { Stands self.old journal.old.past }
+        requires journal_room { 2 ≤ journal.old.spare }
+        requires host_room { 2 ≤ H.spare host.old }
+        ensures stands { Stands self.new journal.new.past }
+        ensures job { SameJob self.old self.new }
+        ensures leads { (hooks : Option (List Entry)) → Leads (end_plan (id_of self.old) journal.old.past) journal.old.past (H.told host.old) hooks (H.host_faults host.old) Done journal.new.past (H.told host.new) hooks (H.host_faults host.new) }
+        ensures gone { gone_of self.new ≡ true }
+        ensures kept { Kept H.Plan (H.plan host.old) (H.plan host.new) (H.progress host.old) (H.progress host.new) (H.place host.old) (H.place host.new) }
+        ensures leaves { NamesItsOwn journal.old.past → LeavesOthers (id_of self.old) journal.old.past journal.new.past }
+        ensures reaped { NamesItsOwn journal.old.past → IsReaping (id_of self.old) journal.old.past → IsReaping (id_of self.old) journal.new.past }
+    {
+        if self.gone {
+            return;
+        }
+        self.let_go(child_of(self.state), host, journal);
+    }
+
+    /// How far the command is.
+    pub fn state(&self) -> &CommandState
+        ensures { (p : List Entry) → Stands self.now p → result.now ≡ state (id_of self.now) p }
+    {
+        &self.state
+    }
+
+    /// How far the command was before the last spawn, where there was one.
+    pub fn previous(&self) -> Option<&CommandState>
+        ensures { (p : List Entry) → Stands self.now p → option_map (λ s. s.now) result ≡ previous (id_of self.now) p }
+    {
+        self.previous.as_ref()
+    }
+
+    /// Whether the job is gone.
+    pub fn is_gone(&self) -> bool
+        ensures { result ≡ gone_of self.now }
+    {
+        self.gone
+    }
+
+    /// The child that runs.
+    pub fn running_child(&self) -> Option<u64>
+        ensures { result ≡ running_of self.now }
+    {
+        if self.gone { None } else { child_of(self.state) }
+    }
+
+    /// How many tickets are parked until the child ends: no control parks one yet.
+    pub fn parked(&self) -> u64
+        ensures { result ≡ 0 }
+    {
+        0
+    }
+
+    /// The controls of an ask wait.
+    fn put(&mut self, alloc: Global, ask: Ask, last: Option<Flag>, journal: &mut Journal) -> Result<Ticket, Memory>
+        requires stands { Stands self.old journal.old.past }
+        ensures stands { Stands self.new journal.new.past }
+        ensures job { SameJob self.old self.new }
+        ensures gone { gone_of self.new ≡ gone_of self.old }
+        ensures leads { OnOk result (FollowsAlone (send_plan (id_of self.old) (sends_of ask) journal.old.past) journal.old.past Done journal.new.past) }
+        ensures task { OnErr result (SameTask self.old self.new) }
+        ensures past { OnErr result (journal.new.past ≡ journal.old.past) }
+    {
+        if self.gone {
+            return self.ticket(alloc, &self.flag);
+        }
+        let sends = ask.controls();
+        let done = match last {
+            Some(flag) => flag,
+            None => Flag::new(alloc, false)?,
+        };
+        let ticket = self.ticket(alloc, &done)?;
+        journal.reserve(1)?;
+        self.waiting.reserve(1)?;
+        self.ask(sends.first, done, journal);
+        Ok(ticket)
+    }
+
+    /// A ticket over this flag.
+    fn ticket(&self, alloc: Global, done: &Flag) -> Result<Ticket, Memory>
+        ensures { IfOk result (λ ticket. (ticket.gone ≡ self.now.flag) × (ticket.done ≡ done.now)) }
+    {
+        Ok(Ticket {
+            gone: self.flag.copy(alloc)?,
+            done: done.copy(alloc)?,
+        })
+    }
+
+    /// A control waits at the level Normal.
+    fn ask(&mut self, control: Control, done: Flag, journal: &mut Journal)
+        requires stands { Stands self.old journal.old.past }
+        requires room { vec_len self.old.waiting < vec_capacity self.old.waiting }
+        requires journal_room { 1 ≤ journal.old.spare }
+        ensures stands { Stands self.new journal.new.past }
+        ensures follows { (k : Plan) → FollowsAlone (Asks self.old.id Normal control k) journal.old.past k journal.new.past }
+        ensures fields { self.new ≡ record self.old { waiting = self.new.waiting } }
+    {
+        let ticket = journal.tickets();
+        self.waiting.push_reserved(Waiting {
+            ticket,
+            control,
+            done,
+        });
+        journal.push(Entry::Asked {
+            ticket,
+            job: self.id,
+            level: Level::Normal,
+            control,
+        });
+    }
+
+    /// Keeps the end of the running child.
+    fn keep_end(&mut self, child: u64, at: u64, journal: &Journal)
+        requires stands { IsEnding self.old child at journal.now.past }
+        requires runs { running_of self.old ≡ Some child }
+        ensures stands { Stands self.new journal.now.past }
+        ensures fields { self.new ≡ with_end self.old }
+    {
+        let _ = &journal;
+        self.kept = true;
+    }
+
+    /// Lets go of the child that runs, where one does, and the job is gone.
+    fn let_go<H: Host>(&mut self, child: Option<u64>, host: &mut H, journal: &mut Journal)
+        requires stands { Stands self.old journal.old.past }
+        requires runs { child_of self.old.state ≡ child }
+        requires here { self.old.gone ≡ false }
+        requires journal_room { 2 ≤ journal.old.spare }
+        requires host_room { 2 ≤ H.spare host.old }
+        ensures stands { Stands self.new journal.new.past }
+        ensures follows { FollowsHost (drop_plan child (Goes self.old.id Done)) journal.old.past (H.told host.old) (H.host_faults host.old) Done journal.new.past (H.told host.new) (H.host_faults host.new) }
+        ensures fields { self.new ≡ record self.old { waiting = self.new.waiting; kept = false; gone = true } }
+        ensures kept { Kept H.Plan (H.plan host.old) (H.plan host.new) (H.progress host.old) (H.progress host.new) (H.place host.old) (H.place host.new) }
+    {
+        if let Some(child) = child {
+            host.drop_child(child);
+            journal.push(Entry::Dropped(child));
+        }
+        host.gone(self.id, &self.flag);
+        journal.push(Entry::Gone(self.id));
+        self.waiting.clear();
+        self.kept = false;
+        self.gone = true;
+    }
+
+    /// A step, where nothing is asked of the hooks.
+    fn walk<H: Host>(&mut self, alloc: Global, at: u64, host: &mut H, journal: &mut Journal) -> Result<Stepped, Memory>
+        requires stands { Stands self.old journal.old.past }
+        requires at { moment journal.old.past ≡ at }
+        requires journal_room { 5 ≤ journal.old.spare }
+        requires host_room { 4 ≤ H.spare host.old }
+        ensures stands { Stands self.new journal.new.past }
+        ensures job { SameJob self.old self.new }
+        ensures follows { OnOk result (FollowsHost (step_plan (id_of self.old) (command_of self.old) journal.old.past) journal.old.past (H.told host.old) (H.host_faults host.old) Done journal.new.past (H.told host.new) (H.host_faults host.new)) }
+        ensures answer { IfOk result (λ stepped. stepped ≡ answer_of (gone_of self.old) (pick (id_of self.old) journal.old.past)) }
+        ensures gone { gone_of self.new ≡ gone_of self.old }
+        ensures memory { OnErr result (is_spawning (pick (id_of self.old) journal.old.past) (running (id_of self.old) journal.old.past) ≡ true) }
+        ensures task { OnErr result (self.new ≡ self.old) }
+        ensures journal { OnErr result (journal.new ≡ journal.old) }
+        ensures host { OnErr result (host.new ≡ host.old) }
+        ensures past { OnErr result (journal.new.past ≡ journal.old.past) }
+        ensures kept { Kept H.Plan (H.plan host.old) (H.plan host.new) (H.progress host.old) (H.progress host.new) (H.place host.old) (H.place host.new) }
+    {
+        if self.gone {
+            return Ok(Stepped::Gone);
+        }
+        let choice = self.choose();
+        self.act(alloc, choice, at, host, journal)?;
+        Ok(stepped(choice))
+    }
+}
+
+/// What a step answers that did this.
+fn stepped(choice: Choice) -> Stepped
+    ensures { result ≡ answer_of false choice }
+{
+    match choice {
+        Choice::Nothing => Stepped::Idle,
+        _ => Stepped::Did,
+    }
+}
