@@ -19,3 +19,5 @@ pub mod Switches
 pub mod SwitchLaws
 pub mod Clean
 pub mod CleanLaws
+pub mod Dotted
+pub mod DottedLaws
