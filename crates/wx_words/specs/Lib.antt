@@ -21,3 +21,5 @@ pub mod Clean
 pub mod CleanLaws
 pub mod Dotted
 pub mod DottedLaws
+pub mod Signed
+pub mod SignedLaws

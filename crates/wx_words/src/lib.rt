@@ -8,6 +8,7 @@ mod lists;
 mod numbers;
 mod optional;
 mod path;
+mod signed;
 mod spelled;
 mod switches;
 #[cfg(test)]
@@ -21,6 +22,7 @@ pub use list::{Copies, List, Memory};
 pub use lists::put_items;
 pub use numbers::number_of;
 pub use path::TextPath;
+pub use signed::signed_of;
 pub use spelled::Spelled;
 pub use text::Text;
 pub use texts::text_in;
