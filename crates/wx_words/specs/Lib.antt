@@ -23,3 +23,5 @@ pub mod Dotted
 pub mod DottedLaws
 pub mod Signed
 pub mod SignedLaws
+pub mod NonZero
+pub mod NonZeroLaws

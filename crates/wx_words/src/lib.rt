@@ -5,6 +5,7 @@ mod cursor;
 mod keyword;
 mod list;
 mod lists;
+mod non_zero;
 mod numbers;
 mod optional;
 mod path;
