@@ -144,3 +144,95 @@ impl Spelled for Signal {
         Ok(Some(signal))
     }
 }
+
+/// Takes the end whose parts are at the front, or loses the place.
+#[tactic(auto, unfolding(crate::specs::Ends::read_end_parts))]
+fn take_end(alloc: Global, parts: &mut Words) -> Result<Option<ProcessEnd>, Memory>
+    ensures { IfOk result (λ end. Reads parts.new end (read_end_parts parts.old)) }
+{
+    let Some(part) = parts.next() else {
+        return Ok(None);
+    };
+    if part == b"success".as_slice() {
+        Ok(Some(ProcessEnd::Success))
+    } else if part == b"error".as_slice() {
+        let Some(n) = NonZeroI64::take(alloc, parts)? else {
+            return Ok(None);
+        };
+        Ok(Some(ProcessEnd::ExitError(n)))
+    } else if part == b"signal".as_slice() {
+        let Some(signal) = take_signal(alloc, parts)? else {
+            return Ok(None);
+        };
+        Ok(Some(ProcessEnd::ExitSignal(signal)))
+    } else if part == b"stop".as_slice() {
+        let Some(n) = NonZeroI32::take(alloc, parts)? else {
+            return Ok(None);
+        };
+        Ok(Some(ProcessEnd::ExitStop(n)))
+    } else if part == b"exception".as_slice() {
+        let Some(n) = NonZeroI32::take(alloc, parts)? else {
+            return Ok(None);
+        };
+        Ok(Some(ProcessEnd::Exception(n)))
+    } else if part == b"continued".as_slice() {
+        Ok(Some(ProcessEnd::Continued))
+    } else {
+        Ok(None)
+    }
+}
+
+impl Spelled for ProcessEnd {
+    ghost use Rattle.wx_events.specs.Ends.{EndFits, end_words, read_end};
+    ghost use Rattle.wx_events.specs.EndLaws.{end_form, end_clean};
+
+    ghost words = { end_words };
+
+    ghost fits = { EndFits };
+
+    ghost read = { read_end };
+
+    ghost form = { end_form };
+
+    ghost clean = { end_clean };
+
+    #[tactic(auto, using(crate::specs::EndLaws::signal_behind))]
+    fn put_after(&self, out: &mut Text) -> Result<(), Memory> {
+        match self {
+            ProcessEnd::Success => out.append(b" success"),
+            ProcessEnd::ExitError(n) => {
+                out.append(b" error.")?;
+                out.append_signed(n.get())
+            }
+            ProcessEnd::ExitSignal(signal) => {
+                out.append(b" signal.")?;
+                put_signal(*signal, out)
+            }
+            ProcessEnd::ExitStop(n) => {
+                out.append(b" stop.")?;
+                out.append_signed(n.get() as i64)
+            }
+            ProcessEnd::Exception(n) => {
+                out.append(b" exception.")?;
+                out.append_signed(n.get() as i64)
+            }
+            ProcessEnd::Continued => out.append(b" continued"),
+        }
+    }
+
+    fn take(alloc: Global, line: &mut Words) -> Result<Option<ProcessEnd>, Memory> {
+        let mut ahead = line.fork();
+        let Some(word) = ahead.next() else {
+            return Ok(None);
+        };
+        let mut parts = Words::dotted(word);
+        let Some(end) = take_end(alloc, &mut parts)? else {
+            return Ok(None);
+        };
+        if !parts.is_done() {
+            return Ok(None);
+        }
+        *line = ahead;
+        Ok(Some(end))
+    }
+}
