@@ -19,3 +19,9 @@ pub mod Switches
 pub mod SwitchLaws
 pub mod Clean
 pub mod CleanLaws
+pub mod Dotted
+pub mod DottedLaws
+pub mod Signed
+pub mod SignedLaws
+pub mod NonZero
+pub mod NonZeroLaws

@@ -5,9 +5,11 @@ mod cursor;
 mod keyword;
 mod list;
 mod lists;
+mod non_zero;
 mod numbers;
 mod optional;
 mod path;
+mod signed;
 mod spelled;
 mod switches;
 #[cfg(test)]
