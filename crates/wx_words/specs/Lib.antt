@@ -17,5 +17,7 @@ pub mod Optional
 pub mod OptionalLaws
 pub mod Switches
 pub mod SwitchLaws
+pub mod Done
+pub mod DoneLaws
 pub mod Clean
 pub mod CleanLaws
