@@ -22,6 +22,13 @@ read_as make read ws = do
   a ← read ws
   Some (make a.0, a.1)
 
+-- the same where not every value has another name
+abbrev pub read_some : {A X : Type 0} → (A → Option X) → Reader A → Reader X
+read_some make read ws = do
+  a ← read ws
+  x ← make a.0
+  Some (x, a.1)
+
 -- a number below a limit
 abbrev pub read_below : ℕ → Reader ℕ → Reader ℕ
 read_below limit read ws = do

@@ -6,7 +6,7 @@ use Rattle.std.proofs.lemmas.Option.{some_pair_parts}
 use Rattle.wx_words.specs.Line.{◌>>=◌}
 use Rattle.wx_words.specs.LineLaws.{bytes_same, bytes_again}
 use Rattle.wx_words.specs.OptionLaws.{bind_some, guarded}
-use Rattle.wx_words.specs.Combine.{Reader, pair_words, read_pair, read_as, read_nothing, read_literal, row_at, read_rows}
+use Rattle.wx_words.specs.Combine.{Reader, pair_words, read_pair, read_as, read_some, read_nothing, read_literal, row_at, read_rows}
 use Rattle.wx_words.specs.Forms.{Stood, IsForm}
 use Rattle.wx_words.specs.FormLaws.{stood-one, stood-then, same_read}
 
@@ -62,6 +62,19 @@ as_form {V} {see} {A} {X} {fa} {wa} {ra} form make back there again = record { a
         let t = form.takes ws a.0.0 a.0.1 a.1 in
         same_read (λ (y : X) (r : Words). fa (back y) × Stood see (wa (back y)) ws r) (make a.0.0) x a.0.1 rest a.2
         (subst (λ (b : A). fa b × Stood see (wa b) ws a.0.1) (sym (again a.0.0)) t)
+
+-- the same where not every value is one of the other type
+pub some_form : {V : Type 0} {see : List ℕ → V} {A X : Type 0} {fa : A → Type 0} {wa : A → Words} {ra : Reader A} → IsForm see fa wa ra → (make : A → Option X) (back : X → A) → ((x : X) → make (back x) ≡ Some x) → ((a : A) (x : X) → make a ≡ Some x → back x ≡ a)
+    → IsForm see (λ x. fa (back x)) (λ x. wa (back x)) (read_some make ra)
+some_form {V} {see} {A} {X} {fa} {wa} {ra} form make back there again = record { again = λ x rest fits. rw (form.again (back x) rest fits, there x) refl; takes = takes }
+  where
+    takes : (ws : Words) (x : X) (rest : Words) → read_some make ra ws ≡ Some (x, rest) → fa (back x) × Stood see (wa (back x)) ws rest
+    takes ws x rest e =
+        let a = bind_some (ra ws) (λ b. make b.0 >>= λ y. Some (y, b.1)) (x, rest) e in
+        let b = bind_some (make a.0.0) (λ y. Some (y, a.0.1)) (x, rest) a.2 in
+        let t = form.takes ws a.0.0 a.0.1 a.1 in
+        same_read (λ (y : X) (r : Words). fa (back y) × Stood see (wa (back y)) ws r) b.0 x a.0.1 rest b.2
+        (subst (λ (c : A). fa c × Stood see (wa c) ws a.0.1) (sym (again a.0.0 b.0 b.1)) t)
 
 -- ---- one for each first word
 

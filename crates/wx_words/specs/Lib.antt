@@ -21,3 +21,9 @@ pub mod Done
 pub mod DoneLaws
 pub mod Clean
 pub mod CleanLaws
+pub mod Dotted
+pub mod DottedLaws
+pub mod Signed
+pub mod SignedLaws
+pub mod NonZero
+pub mod NonZeroLaws

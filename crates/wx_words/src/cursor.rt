@@ -1,23 +1,25 @@
 // The words of a line.
 ghost use Rattle.std.specs.Prelude.{◌≡◌, ◌<◌, [], ◌∷◌, length, ◌==◌, MatchOption, IfSome};
 ghost use Rattle.wx_words.specs.Line.{words_of, parts};
+ghost use Rattle.wx_words.specs.Dotted.{parts_of};
 
 use std::marker::Model;
 
-/// A cursor over a line, which contracts see as the words that are left.
+/// A cursor over the words of a line, or over the parts of a word, which contracts see as those that are left.
 #[derive(Drop)]
 pub struct Words<'a> {
     left: &'a [u8],
     done: bool,
+    separator: u8,
 }
 
 impl<'a> Model for Words<'a> {
     ghost use Rattle.std.specs.Prelude.{List, ℕ, [], if◌then◌else◌};
-    ghost use Rattle.wx_words.specs.Line.{words_of};
+    ghost use Rattle.wx_words.specs.Line.{parts};
 
     ghost Value = { List (List ℕ) };
 
-    ghost view = { λ w. if w.done then [] else words_of w.left.now };
+    ghost view = { λ w. if w.done then [] else parts w.separator w.left.now };
 }
 
 impl<'a> Words<'a> {
@@ -28,6 +30,18 @@ impl<'a> Words<'a> {
         Words {
             left: line,
             done: false,
+            separator: 32,
+        }
+    }
+
+    /// A cursor at the first part of this word, whose parts stand between dots.
+    pub fn dotted(word: &'a [u8]) -> Words<'a>
+        ensures { result ≡ parts_of word.now }
+    {
+        Words {
+            left: word,
+            done: false,
+            separator: 46,
         }
     }
 
@@ -38,6 +52,7 @@ impl<'a> Words<'a> {
         Words {
             left: self.left,
             done: self.done,
+            separator: self.separator,
         }
     }
 
@@ -49,7 +64,7 @@ impl<'a> Words<'a> {
             return None;
         }
         let left = self.left;
-        match cut(left, 32) {
+        match cut(left, self.separator) {
             None => {
                 self.done = true;
                 Some(left)

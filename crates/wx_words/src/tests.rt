@@ -6,6 +6,7 @@ use crate::path::TextPath;
 use crate::spelled::Spelled;
 use crate::text::Text;
 use std::alloc::Global;
+use std::num::{NonZeroI32, NonZeroI64};
 use std::test::Fail;
 
 /// The words of this value with one space between them.
@@ -97,6 +98,89 @@ fn reads_numbers(rt: HostRuntime) -> Result<(), Fail> {
     assert_eq!(rt; small, Some(4_294_967_295));
     let large: Option<u32> = read_line(alloc, b"4294967296")?;
     assert_eq!(rt; large, None);
+    Ok(())
+}
+
+#[test]
+fn signed_numbers(rt: HostRuntime) -> Result<(), Fail> {
+    let alloc = rt.alloc();
+    let table: [(&[u8], i64); 6] = [
+        (b"0", 0),
+        (b"7", 7),
+        (b"-1", -1),
+        (b"-10", -10),
+        (b"9223372036854775807", 9_223_372_036_854_775_807),
+        (b"-9223372036854775808", -9_223_372_036_854_775_808),
+    ];
+    for (word, n) in table {
+        let line = line_of(alloc, &n)?;
+        assert_eq!(rt; line.as_slice(), word);
+        let found: Option<i64> = read_line(alloc, word)?;
+        assert_eq!(rt; found, Some(n));
+    }
+    for n in [2_147_483_647, -2_147_483_648] {
+        let line = line_of(alloc, &n)?;
+        let found: Option<i32> = read_line(alloc, line.as_slice())?;
+        assert_eq!(rt; found, Some(n));
+    }
+    Ok(())
+}
+
+#[test]
+fn refuses_bad_signed_numbers(rt: HostRuntime) -> Result<(), Fail> {
+    let alloc = rt.alloc();
+    let table: [&[u8]; 10] = [
+        b"",
+        b"-",
+        b"-0",
+        b"--1",
+        b"+1",
+        b"-01",
+        b"01",
+        b"1-",
+        b"9223372036854775808",
+        b"-9223372036854775809",
+    ];
+    for word in table {
+        let found: Option<i64> = read_line(alloc, word)?;
+        assert_eq!(rt; found, None, "at {word:?}");
+    }
+    for word in [b"2147483648".as_slice(), b"-2147483649".as_slice()] {
+        let found: Option<i32> = read_line(alloc, word)?;
+        assert_eq!(rt; found, None, "at {word:?}");
+    }
+    Ok(())
+}
+
+#[test]
+fn numbers_other_than_zero(rt: HostRuntime) -> Result<(), Fail> {
+    let alloc = rt.alloc();
+    let one: Option<NonZeroI64> = read_line(alloc, b"1")?;
+    assert_eq!(rt; one, NonZeroI64::new(1));
+    let low: Option<NonZeroI32> = read_line(alloc, b"-2147483648")?;
+    assert_eq!(rt; low, NonZeroI32::new(-2_147_483_648));
+    let line = line_of(alloc, &NonZeroI32::new(-3).ok_or("no zero")?)?;
+    assert_eq!(rt; line.as_slice(), b"-3".as_slice());
+    let line = line_of(alloc, &NonZeroI64::new(-4).ok_or("no zero")?)?;
+    assert_eq!(rt; line.as_slice(), b"-4".as_slice());
+    let zero: Option<NonZeroI64> = read_line(alloc, b"0")?;
+    assert_eq!(rt; zero, None);
+    let zero: Option<NonZeroI32> = read_line(alloc, b"0")?;
+    assert_eq!(rt; zero, None);
+    Ok(())
+}
+
+#[test]
+fn parts_between_dots(rt: HostRuntime) -> Result<(), Fail> {
+    let mut parts = Words::dotted(b"a.b..c d");
+    assert_eq!(rt; parts.next(), Some(b"a".as_slice()));
+    assert_eq!(rt; parts.next(), Some(b"b".as_slice()));
+    assert_eq!(rt; parts.next(), Some(b"".as_slice()));
+    let mut ahead = parts.fork();
+    assert_eq!(rt; ahead.next(), Some(b"c d".as_slice()));
+    assert!(rt; ahead.is_done());
+    assert_eq!(rt; parts.next(), Some(b"c d".as_slice()));
+    assert!(rt; parts.is_done());
     Ok(())
 }
 

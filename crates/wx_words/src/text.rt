@@ -1,4 +1,5 @@
 ghost use Rattle.std.specs.Prelude.{◌≡◌, ℕ, ◌+◌, ◌<◌, ◌≤◌, ◌^◌, [], ◌∷◌, ◌++◌, length, take, drop, remove, IfOk, OnOk, OnErr, IsTrue, ◌↔◌, decimal};
+ghost use Rattle.std.specs.Fmt.{signed_decimal};
 ghost use Rattle.std.specs.Cmp.Lexicographic.{pointwise, nat_list_eq_equiv};
 ghost use Rattle.std.specs.Cmp.{partial_equiv_from_equiv};
 ghost use Rattle.std.specs.Prelude.{◌==◌};
@@ -78,6 +79,14 @@ impl Text {
     /// Appends a number in decimal.
     pub fn append_number(&mut self, n: u64) -> Result<(), Memory>
         ensures { OnOk result (self.new ≡ self.old ++ decimal n) }
+    {
+        let mut buffer = Buffer::new();
+        self.append(buffer.format(n).as_bytes())
+    }
+
+    /// Appends a signed number in decimal.
+    pub fn append_signed(&mut self, n: i64) -> Result<(), Memory>
+        ensures { OnOk result (self.new ≡ self.old ++ signed_decimal n) }
     {
         let mut buffer = Buffer::new();
         self.append(buffer.format(n).as_bytes())
