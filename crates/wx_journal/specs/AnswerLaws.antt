@@ -12,8 +12,10 @@ use Rattle.wx_words.specs.Clean.{AllClean}
 use Rattle.wx_words.specs.CleanLaws.{clean, number_clean}
 use Rattle.wx_words.specs.Done.{ok_words}
 use Rattle.wx_words.specs.DoneLaws.{ok_form, ok_clean}
+use Rattle.wx_events.specs.Ends.{EndFits, end_words, read_end_parts, read_end}
+use Rattle.wx_events.specs.EndLaws.{end_form, end_clean}
 use Rattle.wx_journal.specs.declared.child.HostFault.{HostFault}
-use Rattle.wx_journal.specs.Answers.{AnswerFits, answer_words, make_fault, fault_rows, read_fault, first_of, read_answer, DoneFits, done_words, read_done}
+use Rattle.wx_journal.specs.Answers.{AnswerFits, answer_words, make_fault, fault_rows, read_fault, first_of, read_answer, Done, DoneFits, done_words, read_done, Waited, WaitedFits, waited_words, read_waited}
 
 abbrev FaultFits : HostFault → Type 0
 FaultFits fault = DoneFits (Err fault)
@@ -61,5 +63,17 @@ answer_clean fits words each (Err fault) ok = (clean (codes "fault") refl, (numb
 pub done_form : IsForm text_in DoneFits done_words read_done
 done_form = answer_form ok_form (λ ws. refl)
 
-pub done_clean : (answer : Result (Unit {0}) HostFault) → DoneFits answer → AllClean (done_words answer)
+pub done_clean : (answer : Done) → DoneFits answer → AllClean (done_words answer)
 done_clean = answer_clean (λ u. Unit {0}) ok_words ok_clean
+
+-- ---- the answers of waits
+
+no_end : (ws : List (List ℕ)) → read_end (codes "fault" ∷ ws) ≡ None
+unfolding read_end_parts
+no_end ws = refl
+
+pub waited_form : IsForm text_in WaitedFits waited_words read_waited
+waited_form = answer_form end_form no_end
+
+pub waited_clean : (answer : Waited) → WaitedFits answer → AllClean (waited_words answer)
+waited_clean = answer_clean EndFits end_words end_clean

@@ -3,6 +3,8 @@ use Rattle.std.specs.Prelude.{ℕ, ◌^◌, ◌<◌, Option, None, Some, Result,
 use Rattle.wx_words.specs.Combine.{Reader, read_as, read_rows}
 use Rattle.wx_words.specs.Numbers.{read_u32}
 use Rattle.wx_words.specs.Done.{ok_words, read_ok}
+use Rattle.wx_events.specs.Ends.{EndFits, end_words, read_end}
+use Rattle.wx_events.specs.declared.process.ProcessEnd.{ProcessEnd}
 use Rattle.wx_journal.specs.declared.child.HostFault.{HostFault}
 
 -- a value, or a fault whose code is one of the code
@@ -35,11 +37,28 @@ read_answer read ws = first_of (read_as Ok read ws) (read_as Err read_fault ws)
 
 -- ---- the answers of calls that give no value
 
-abbrev pub DoneFits : Result (Unit {0}) HostFault → Type 0
+abbrev pub Done : Type 0
+Done = Result (Unit {0}) HostFault
+
+abbrev pub DoneFits : Done → Type 0
 DoneFits answer = AnswerFits (λ u. Unit {0}) answer
 
-abbrev pub done_words : Result (Unit {0}) HostFault → List (List ℕ)
+abbrev pub done_words : Done → List (List ℕ)
 done_words answer = answer_words ok_words answer
 
-abbrev pub read_done : Reader (Result (Unit {0}) HostFault)
+abbrev pub read_done : Reader Done
 read_done ws = read_answer read_ok ws
+
+-- ---- the answers of waits
+
+abbrev pub Waited : Type 0
+Waited = Result ProcessEnd HostFault
+
+abbrev pub WaitedFits : Waited → Type 0
+WaitedFits answer = AnswerFits EndFits answer
+
+abbrev pub waited_words : Waited → List (List ℕ)
+waited_words answer = answer_words end_words answer
+
+abbrev pub read_waited : Reader Waited
+read_waited ws = read_answer read_end ws

@@ -1,5 +1,5 @@
 -- How a whole line is read as an entry.
-use Rattle.std.specs.Prelude.{ℕ, zero, suc, Bool, Option, None, Some, Result, List, [], ◌∷◌, ◌++◌, length, codes}
+use Rattle.std.specs.Prelude.{ℕ, zero, suc, Bool, Option, None, Some, List, [], ◌∷◌, ◌++◌, length, codes}
 use Rattle.wx_words.specs.Line.{◌>>=◌}
 use Rattle.wx_words.specs.Combine.{Reader, read_pair, read_as, read_literal, read_rows}
 use Rattle.wx_words.specs.Numbers.{read_number, read_u32}
@@ -17,11 +17,10 @@ use Rattle.wx_control.specs.Controls.{read_control}
 use Rattle.wx_control.specs.declared.id.Id.{Id}
 use Rattle.wx_control.specs.declared.level.Level.{Level}
 use Rattle.wx_control.specs.declared.control.Control.{Control}
-use Rattle.wx_journal.specs.Answers.{read_done}
+use Rattle.wx_journal.specs.Answers.{Done, read_done, Waited, read_waited}
 use Rattle.wx_journal.specs.Kinds.{read_ranked, read_kind}
 use Rattle.wx_journal.specs.Words.{read_offered, read_said, read_act, read_tag, read_watcher, read_path, ended}
 use Rattle.wx_journal.specs.declared.child.SpawnTag.{SpawnTag}
-use Rattle.wx_journal.specs.declared.child.HostFault.{HostFault}
 use Rattle.wx_journal.specs.declared.watched.Watcher.{Watcher}
 use Rattle.wx_journal.specs.declared.watched.WatchedPath.{WatchedPath}
 use Rattle.wx_journal.specs.declared.entry.Offered.{Offered}
@@ -108,17 +107,23 @@ make_pick p = Pick p.0 p.1
 abbrev pub read_pick : Reader Entry
 read_pick ws = read_as make_pick (read_pair read_id read_number) ws
 
-abbrev pub make_spawn : ℕ × (Id × (SpawnTag × (Spawnable × Result (Unit {0}) HostFault))) → Entry
+abbrev pub make_spawn : ℕ × (Id × (SpawnTag × (Spawnable × Done))) → Entry
 make_spawn p = Spawn p.0 p.1.0 p.1.1.0 p.1.1.1.0 p.1.1.1.1
 
 abbrev pub read_spawn : Reader Entry
 read_spawn ws = read_as make_spawn (read_pair read_number (read_pair read_id (read_pair read_tag (read_pair read_spawnable read_done)))) ws
 
-abbrev pub make_kill : ℕ × Result (Unit {0}) HostFault → Entry
+abbrev pub make_kill : ℕ × Done → Entry
 make_kill p = Kill p.0 p.1
 
 abbrev pub read_kill : Reader Entry
 read_kill ws = read_as make_kill (read_pair read_number read_done) ws
+
+abbrev pub make_wait : ℕ × Waited → Entry
+make_wait p = Wait p.0 p.1
+
+abbrev pub read_wait : Reader Entry
+read_wait ws = read_as make_wait (read_pair read_number read_waited) ws
 
 abbrev pub read_drop : Reader Entry
 read_drop ws = read_as Dropped read_number ws
@@ -135,7 +140,7 @@ run_rows = (codes "begin", read_begin) ∷ (codes "sent", read_sent) ∷ (codes 
 
 -- and of an entry of a job
 abbrev pub job_rows : List (List ℕ × Reader Entry)
-job_rows = (codes "made", read_made) ∷ (codes "asked", read_asked) ∷ (codes "pick", read_pick) ∷ (codes "spawn", read_spawn) ∷ (codes "kill", read_kill) ∷ (codes "drop", read_drop) ∷ (codes "raise", read_raise) ∷ (codes "gone", read_gone) ∷ []
+job_rows = (codes "made", read_made) ∷ (codes "asked", read_asked) ∷ (codes "pick", read_pick) ∷ (codes "spawn", read_spawn) ∷ (codes "kill", read_kill) ∷ (codes "wait", read_wait) ∷ (codes "drop", read_drop) ∷ (codes "raise", read_raise) ∷ (codes "gone", read_gone) ∷ []
 
 -- the entry whose words these are
 unfoldable pub read_entry : List (List ℕ) → Option Entry

@@ -12,7 +12,7 @@ use Rattle.wx_command.specs.Spawnables.{spawnable_words}
 use Rattle.wx_control.specs.Ids.{id_words}
 use Rattle.wx_control.specs.Levels.{level_word}
 use Rattle.wx_control.specs.Controls.{control_words}
-use Rattle.wx_journal.specs.Answers.{done_words}
+use Rattle.wx_journal.specs.Answers.{done_words, waited_words}
 use Rattle.wx_journal.specs.Kinds.{ranked_words, kind_words}
 use Rattle.wx_journal.specs.declared.child.SpawnTag.{SpawnTag}
 use Rattle.wx_journal.specs.declared.child.SpawnTag.TheVariants.{Default}
@@ -146,7 +146,7 @@ entry_words (Asked ticket job level control) = codes "asked" ∷ decimal ticket 
 entry_words (Pick job ticket) = codes "pick" ∷ decimal job.0 ∷ decimal ticket ∷ []
 entry_words (Spawn child job tag what answer) = codes "spawn" ∷ decimal child ∷ decimal job.0 ∷ tag_word tag ∷ (spawnable_words what ++ done_words answer)
 entry_words (Kill child answer) = codes "kill" ∷ decimal child ∷ done_words answer
-entry_words (Wait child answer) = []
+entry_words (Wait child answer) = codes "wait" ∷ decimal child ∷ waited_words answer
 entry_words (Dropped child) = codes "drop" ∷ decimal child ∷ []
 entry_words (Raise ticket) = codes "raise" ∷ decimal ticket ∷ []
 entry_words (Gone job) = codes "gone" ∷ id_words job

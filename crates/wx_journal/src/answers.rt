@@ -1,7 +1,10 @@
 // What a call on a child answers, as words.
 ghost use Rattle.std.specs.Prelude.{◌≡◌, ◌++◌, OnOk, IfOk};
 ghost use Rattle.wx_words.specs.Line.{spaced, Taken, Reads};
-ghost use Rattle.wx_journal.specs.Answers.{answer_words, read_fault, read_answer};
+ghost use Rattle.wx_words.specs.Texts.{text_in};
+ghost use Rattle.wx_words.specs.Forms.{IsForm};
+ghost use Rattle.wx_words.specs.Clean.{AllClean};
+ghost use Rattle.wx_journal.specs.Answers.{answer_words, read_fault, read_answer, Done, DoneFits, done_words, read_done, Waited, WaitedFits, waited_words, read_waited};
 
 use crate::child::HostFault;
 use std::alloc::Global;
@@ -58,3 +61,11 @@ pub fn take_answer<T: Spelled>(
         None => Ok(None),
     }
 }
+
+/// Answers are read again from their words, what is read was spelled so, and no word has a space.
+pub fn answers_are_read_again()
+    ensures done { IsForm text_in DoneFits done_words read_done }
+    ensures waited { IsForm text_in WaitedFits waited_words read_waited }
+    ensures done_clean { (x : Done) → DoneFits x → AllClean (done_words x) }
+    ensures waited_clean { (x : Waited) → WaitedFits x → AllClean (waited_words x) }
+{}

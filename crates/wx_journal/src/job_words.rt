@@ -98,7 +98,7 @@ pub fn put_job_entry(entry: &Entry, out: &mut Text) -> Result<(), Memory>
             answer,
         } => put_spawn(*child, *job, *tag, what, answer, out),
         Entry::Kill { child, answer } => put_answered(b"kill", *child, answer, out),
-        Entry::Wait { .. } => Ok(()),
+        Entry::Wait { child, answer } => put_answered(b"wait", *child, answer, out),
         Entry::Dropped(child) => put_word(b"drop", child, out),
         Entry::Raise(ticket) => put_word(b"raise", ticket, out),
         Entry::Gone(job) => put_word(b"gone", job, out),

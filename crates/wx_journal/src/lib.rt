@@ -10,7 +10,7 @@ mod kinds;
 mod watched;
 mod words;
 
-pub use answers::{put_answer, take_answer};
+pub use answers::{answers_are_read_again, put_answer, take_answer};
 pub use child::{HostFault, SpawnTag};
 pub use entry::{Act, Entry, Named, Offered, Turn, TurnKind, Word};
 pub use journal::{Entries, Journal};
