@@ -7,6 +7,8 @@ mod entry;
 mod job_words;
 mod journal;
 mod kinds;
+#[cfg(test)]
+mod tests;
 mod watched;
 mod words;
 
