@@ -1,12 +1,11 @@
 -- Signals and the ends of processes are read again from their words.
-use Rattle.std.proofs.Common.{◌≡◌, ℕ, Some, List, [], ◌∷◌, ◌++◌, refl}
+use Rattle.std.proofs.Common.{◌≡◌, ℕ, Some, List, ◌++◌, refl}
 use Rattle.std.specs.Prelude.{codes}
 use Rattle.std.specs.Int.NonZero.{non_zero_i32_get, non_zero_i64_get}
 use Rattle.wx_words.specs.Texts.{text_in}
 use Rattle.wx_words.specs.Forms.{IsForm, Stood}
 use Rattle.wx_words.specs.CombineLaws.{nothing_form, row_of, row_again, rows_take}
-use Rattle.wx_words.specs.Dotted.{after_dots, dotted}
-use Rattle.wx_words.specs.DottedLaws.{NoDot, undotted, AreParts, parts_behind, as_it_stands, dotted_form, dotted_clean}
+use Rattle.wx_words.specs.DottedLaws.{undotted, AreParts, parts_behind, as_it_stands, dotted_form, dotted_clean}
 use Rattle.wx_words.specs.SignedLaws.{i32_form, i64_undotted, i32_undotted, i32_clean}
 use Rattle.wx_words.specs.NonZeroLaws.{non_zero_i64_form, non_zero_i32_form, non_zero_i64_clean, non_zero_i32_clean}
 use Rattle.wx_words.specs.Clean.{AllClean}
@@ -68,7 +67,7 @@ signal_parts_form = record { again = again; takes = takes }
       ),
     )
 
-pub signal_are_parts : (s : Signal) → SignalFits s → AreParts (signal_parts s)
+signal_are_parts : (s : Signal) → SignalFits s → AreParts (signal_parts s)
 signal_are_parts Hangup fits = (undotted (codes "hangup") refl, tt)
 signal_are_parts ForceStop fits = (undotted (codes "forcestop") refl, tt)
 signal_are_parts Interrupt fits = (undotted (codes "interrupt") refl, tt)
@@ -97,19 +96,6 @@ signal_form = dotted_form text_in signal_parts_form signal_are_parts
 
 pub signal_clean : (s : Signal) → SignalFits s → AllClean (signal_words s)
 signal_clean s fits = dotted_clean (signal_parts s) (signal_parts_clean s fits)
-
--- a signal behind a part stands behind a dot
-pub signal_behind : (s : Signal) → after_dots (signal_parts s) ≡ 46 ∷ dotted (signal_parts s)
-signal_behind Hangup = refl
-signal_behind ForceStop = refl
-signal_behind Interrupt = refl
-signal_behind Quit = refl
-signal_behind Terminate = refl
-signal_behind User1 = refl
-signal_behind User2 = refl
-signal_behind Continue = refl
-signal_behind TerminalSuspend = refl
-signal_behind (Custom n) = refl
 
 -- ---- ends
 

@@ -196,7 +196,6 @@ impl Spelled for ProcessEnd {
 
     ghost clean = { end_clean };
 
-    #[tactic(auto, using(crate::specs::EndLaws::signal_behind))]
     fn put_after(&self, out: &mut Text) -> Result<(), Memory> {
         match self {
             ProcessEnd::Success => out.append(b" success"),

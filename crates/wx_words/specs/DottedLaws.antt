@@ -9,7 +9,6 @@ use Rattle.std.proofs.lemmas.Bool.{eqb-true}
 use Rattle.std.proofs.lemmas.List.{append-nil, nil_from_length, map-id}
 use Rattle.std.proofs.lemmas.List.Elements.{All-from_recursion}
 use Rattle.std.proofs.lemmas.List.Splits.{slice_split_none, slice_split_at, join_with_byte-slice_split}
-use Rattle.wx_words.specs.Line.{parts}
 use Rattle.wx_words.specs.Combine.{Reader}
 use Rattle.wx_words.specs.Dotted.{after_dots, dotted, parts_of, whole, read_dotted}
 use Rattle.wx_words.specs.Forms.{IsForm, Stood}
@@ -51,11 +50,6 @@ AreParts (p ∷ ps) = NoDot p × AllByRecursion NoDot ps
 pub parts_behind : (p : List ℕ) (ps : List (List ℕ)) → NoDot p → AreParts ps → AreParts (p ∷ ps)
 parts_behind p [] h all = absurd all
 parts_behind p (q ∷ ps) h all = (h, all)
-
--- parts behind a part stand behind a dot
-pub dotted_behind : (p : List ℕ) (ps : List (List ℕ)) → AreParts ps → dotted (p ∷ ps) ≡ p ++ 46 ∷ dotted ps
-dotted_behind p [] all = absurd all
-dotted_behind p (q ∷ ps) all = refl
 
 parts_back : (p : List ℕ) (ps : List (List ℕ)) → NoDot p → AllByRecursion NoDot ps → parts_of (p ++ after_dots ps) ≡ p ∷ ps
 parts_back p [] h all = ap parts_of (append-nil p) ∙ slice_split_none (λ b. b == 46) p (All-from_recursion (λ b. (b == 46) ≡ false) p h)

@@ -10,7 +10,7 @@ abbrev pub below_zero : ℕ → Option ℤ
 below_zero zero = None
 below_zero (suc n) = Some (negsuc n)
 
--- the signed number that a word spells
+-- the signed number that a word spells, whose absolute value is below 2 ^ 64
 abbrev pub signed_in : List ℕ → Option ℤ
 signed_in [] = None
 signed_in (c ∷ digits) = if c == 45 then number_in digits >>= below_zero else option_map pos (number_in (c ∷ digits))

@@ -1,6 +1,6 @@
 -- A signed number is read from its one spelling, and from no other word.
-use Rattle.std.proofs.Common.{◌≡◌, ℕ, zero, suc, ◌^◌, ◌<◌, ◌≤◌, Bool, true, false, cond, Option, None, Some, List, [], ◌∷◌, ◌++◌, refl, sym, ap, subst, ◌∙◌, arith, inl, inr, ltb-true, lt-ltb, eqb-true}
-use Rattle.std.specs.Prelude.{ℤ, pos, negsuc, decimal, option_map, nat_lt, ◌==◌, FitsSigned}
+use Rattle.std.proofs.Common.{◌≡◌, ℕ, zero, suc, ◌^◌, ◌<◌, ◌≤◌, Bool, true, false, cond, None, Some, List, [], ◌∷◌, ◌++◌, refl, sym, ap, subst, ◌∙◌, arith, inl, inr, ltb-true, lt-ltb, eqb-true}
+use Rattle.std.specs.Prelude.{ℤ, pos, negsuc, decimal, option_map, ◌==◌, FitsSigned}
 use Rattle.std.specs.Fmt.{signed_decimal}
 use Rattle.std.specs.Int.{w32, w64}
 use Rattle.wx_words.specs.Line.{◌>>=◌}

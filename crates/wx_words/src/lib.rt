@@ -24,7 +24,6 @@ pub use list::{Copies, List, Memory};
 pub use lists::put_items;
 pub use numbers::number_of;
 pub use path::TextPath;
-pub use signed::signed_of;
 pub use spelled::Spelled;
 pub use text::Text;
 pub use texts::text_in;

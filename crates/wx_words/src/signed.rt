@@ -14,7 +14,7 @@ use crate::text::Text;
 use std::alloc::Global;
 
 /// The signed number that a word spells, whose absolute value has 64 bits at most.
-pub fn signed_of(word: &[u8]) -> Option<i128>
+fn signed_of(word: &[u8]) -> Option<i128>
     ensures { result ≡ signed_in word.now }
 {
     match word {
