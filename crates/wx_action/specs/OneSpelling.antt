@@ -25,12 +25,24 @@ use Rattle.wx_journal.specs.declared.watched.Watcher.{Watcher}
 use Rattle.wx_journal.specs.declared.watched.WatchedPath.{WatchedPath}
 use Rattle.wx_journal.specs.declared.entry.Act.{Act}
 use Rattle.wx_journal.specs.declared.entry.Entry.{Entry}
-use Rattle.wx_journal.specs.declared.entry.Entry.TheVariants.{Begin, Sent, Turn as Turned, TurnFault, Offer, Word as Said, Take, Hand}
+use Rattle.wx_journal.specs.declared.entry.Entry.TheVariants.{Begin, Sent, Turn as Turned, TurnFault, Offer, Word as Said, Take, Hand, Made, Asked, Pick, Spawn, Kill, Wait, Dropped, Raise, Gone}
 use Rattle.wx_action.specs.declared.error.CriticalError.{CriticalError}
 use Rattle.wx_action.specs.declared.error.CriticalError.TheVariants.{IoError, Memory}
 use Rattle.wx_action.specs.Journal.{window}
-use Rattle.wx_journal.specs.Words.{WatcherFits, PathFits, path_words, KindFits, act_words, read_act, limit_words, switch_words, watch_words, name_words, entry_words, read_behind, make_begin, make_sent, make_turn, make_offer, read_all, read_batch, ended, read_entry}
-use Rattle.wx_journal.specs.WordLaws.{offered_form, offered_word_clean, said_form, said_word_clean, act_form, act_clean, watcher_form, watcher_clean, path_form, path_clean, ranked_form, ranked_clean, kind_form, kind_clean}
+use Rattle.wx_command.specs.Spawnables.{SpawnableFits, spawnable_words}
+use Rattle.wx_command.specs.SpawnableLaws.{spawnable_form, spawnable_clean}
+use Rattle.wx_control.specs.Ids.{IdFits}
+use Rattle.wx_control.specs.IdLaws.{id_form, id_clean}
+use Rattle.wx_control.specs.LevelLaws.{level_form, level_word_clean}
+use Rattle.wx_control.specs.Controls.{ControlFits}
+use Rattle.wx_control.specs.ControlLaws.{control_form, control_clean}
+use Rattle.wx_journal.specs.Answers.{DoneFits, done_words, WaitedFits}
+use Rattle.wx_journal.specs.AnswerLaws.{done_form, done_clean, waited_form, waited_clean}
+use Rattle.wx_journal.specs.Kinds.{KindFits}
+use Rattle.wx_journal.specs.KindLaws.{ranked_form, ranked_clean, kind_form, kind_clean}
+use Rattle.wx_journal.specs.Words.{WatcherFits, PathFits, path_words, act_words, read_act, limit_words, switch_words, watch_words, name_words, entry_words, ended}
+use Rattle.wx_journal.specs.WordLaws.{offered_form, offered_word_clean, said_form, said_word_clean, act_form, act_clean, tag_form, tag_word_clean, watcher_form, watcher_clean, path_form, path_clean}
+use Rattle.wx_journal.specs.Readers.{read_behind, make_begin, make_sent, make_turn, make_offer, make_asked, make_pick, make_spawn, make_kill, make_wait, read_all, read_batch, read_entry}
 use Rattle.wx_action.specs.Printed.{Answer, line_of, entry_line, critical_words, answer_words, end_words, printed}
 
 abbrev pub NamesFit : List ℕ → Type 0
@@ -46,6 +58,15 @@ EntryFits (Offer name item result event priority) = (name < 2 ^ 64) × OptionalF
 EntryFits (Said word) = Unit {0}
 EntryFits (Take name) = name < 2 ^ 64
 EntryFits (Hand n names acts) = (n < 2 ^ 32) × NamesFit names
+EntryFits (Made job) = IdFits job
+EntryFits (Asked ticket job level control) = (ticket < 2 ^ 64) × IdFits job × ControlFits control
+EntryFits (Pick job ticket) = IdFits job × (ticket < 2 ^ 64)
+EntryFits (Spawn child job tag what answer) = (child < 2 ^ 64) × IdFits job × SpawnableFits what × DoneFits answer
+EntryFits (Kill child answer) = (child < 2 ^ 64) × DoneFits answer
+EntryFits (Wait child answer) = (child < 2 ^ 64) × WaitedFits answer
+EntryFits (Dropped child) = child < 2 ^ 64
+EntryFits (Raise ticket) = ticket < 2 ^ 64
+EntryFits (Gone job) = IdFits job
 
 -- and so are those of a journal
 abbrev pub JournalFits : List Entry → Type 0
@@ -88,6 +109,16 @@ entry_clean (Offer name item result event priority) fits = (clean (codes "offer"
 entry_clean (Said word) fits = (clean (codes "word") refl, (said_word_clean word, tt))
 entry_clean (Take name) fits = (clean (codes "take") refl, (number_clean name fits, tt))
 entry_clean (Hand n names acts) fits = (clean (codes "hand") refl, (number_clean n (omega (arith, fits.0)), each_append IsClean (list_words name_words names) (flat_map act_words acts) (names_clean names fits.1) (items_clean (λ x. Unit {0}) act_words act_clean acts (each_unit acts))))
+entry_clean (Made job) fits = (clean (codes "made") refl, id_clean job fits)
+entry_clean (Asked ticket job level control) fits = (clean (codes "asked") refl, (number_clean ticket fits.0, ((id_clean job fits.1).0, (level_word_clean level, control_clean control fits.2))))
+entry_clean (Pick job ticket) fits = (clean (codes "pick") refl, ((id_clean job fits.0).0, (number_clean ticket fits.1, tt)))
+entry_clean (Spawn child job tag what answer) fits =
+    (clean (codes "spawn") refl, (number_clean child fits.0, ((id_clean job fits.1).0, (tag_word_clean tag, each_append IsClean (spawnable_words what) (done_words answer) (spawnable_clean what fits.2) (done_clean answer fits.3)))))
+entry_clean (Kill child answer) fits = (clean (codes "kill") refl, (number_clean child fits.0, done_clean answer fits.1))
+entry_clean (Wait child answer) fits = (clean (codes "wait") refl, (number_clean child fits.0, waited_clean answer fits.1))
+entry_clean (Dropped child) fits = (clean (codes "drop") refl, (number_clean child fits, tt))
+entry_clean (Raise ticket) fits = (clean (codes "raise") refl, (number_clean ticket fits, tt))
+entry_clean (Gone job) fits = (clean (codes "gone") refl, id_clean job fits)
 
 answer_clean : (a : Answer) → AnswerFits a → AllClean (answer_words a)
 answer_clean (Ok u) fits = (clean (codes "ok") refl, tt)
@@ -136,6 +167,17 @@ entry_again (Offer name item result event priority) fits =
 entry_again (Said word) fits = whole_again said_form Said word tt
 entry_again (Take name) fits = whole_again (number_form text_in) Take name fits
 entry_again (Hand n names acts) fits = rw (batch_again n names (flat_map act_words acts) fits.0 fits.1, acts_again acts _ (acts_length acts)) refl
+entry_again (Made job) fits = whole_again id_form Made job fits
+entry_again (Asked ticket job level control) fits =
+    whole_again (pair_form (number_form text_in) (pair_form id_form (pair_form level_form control_form))) make_asked (ticket, (job, (level, control))) (fits.0, (fits.1, (tt, fits.2)))
+entry_again (Pick job ticket) fits = whole_again (pair_form id_form (number_form text_in)) make_pick (job, ticket) fits
+entry_again (Spawn child job tag what answer) fits =
+    whole_again (pair_form (number_form text_in) (pair_form id_form (pair_form tag_form (pair_form spawnable_form done_form)))) make_spawn (child, (job, (tag, (what, answer)))) (fits.0, (fits.1, (tt, (fits.2, fits.3))))
+entry_again (Kill child answer) fits = whole_again (pair_form (number_form text_in) done_form) make_kill (child, answer) fits
+entry_again (Wait child answer) fits = whole_again (pair_form (number_form text_in) waited_form) make_wait (child, answer) fits
+entry_again (Dropped child) fits = whole_again (number_form text_in) Dropped child fits
+entry_again (Raise ticket) fits = whole_again (number_form text_in) Raise ticket fits
+entry_again (Gone job) fits = whole_again id_form Gone job fits
 
 -- ---- answers
 
@@ -176,6 +218,15 @@ window_small (Turned t ∷ j) all = let rest = window_small j all.1 in (omega (a
 window_small (TurnFault code ∷ j) all = let rest = window_small j all.1 in (omega (arith, rest.0), rest.1)
 window_small (Offer name item result event priority ∷ j) all = let rest = window_small j all.1 in (omega (arith, rest.0), rest.1)
 window_small (Said word ∷ j) all = let rest = window_small j all.1 in (omega (arith, rest.0), rest.1)
+window_small (Made job ∷ j) all = let rest = window_small j all.1 in (omega (arith, rest.0), rest.1)
+window_small (Asked ticket job level control ∷ j) all = let rest = window_small j all.1 in (omega (arith, rest.0), rest.1)
+window_small (Pick job ticket ∷ j) all = let rest = window_small j all.1 in (omega (arith, rest.0), rest.1)
+window_small (Spawn child job tag what answer ∷ j) all = let rest = window_small j all.1 in (omega (arith, rest.0), rest.1)
+window_small (Kill child answer ∷ j) all = let rest = window_small j all.1 in (omega (arith, rest.0), rest.1)
+window_small (Wait child answer ∷ j) all = let rest = window_small j all.1 in (omega (arith, rest.0), rest.1)
+window_small (Dropped child ∷ j) all = let rest = window_small j all.1 in (omega (arith, rest.0), rest.1)
+window_small (Raise ticket ∷ j) all = let rest = window_small j all.1 in (omega (arith, rest.0), rest.1)
+window_small (Gone job ∷ j) all = let rest = window_small j all.1 in (omega (arith, rest.0), rest.1)
 
 window_fits : (j : List Entry) → JournalFits j → NamesFit (window j)
 window_fits j fits = let small = window_small j fits.1 in (omega (arith, small.0, fits.0), small.1)
@@ -216,6 +267,15 @@ entry_is_line (Offer n i r e p) fits = line _ _ (entry_clean (Offer n i r e p) f
 entry_is_line (Said w) fits = line _ _ (entry_clean (Said w) fits)
 entry_is_line (Take n) fits = line _ _ (entry_clean (Take n) fits)
 entry_is_line (Hand n names acts) fits = line _ _ (entry_clean (Hand n names acts) fits)
+entry_is_line (Made j) fits = line _ _ (entry_clean (Made j) fits)
+entry_is_line (Asked t j l c) fits = line _ _ (entry_clean (Asked t j l c) fits)
+entry_is_line (Pick j t) fits = line _ _ (entry_clean (Pick j t) fits)
+entry_is_line (Spawn c j t w a) fits = line _ _ (entry_clean (Spawn c j t w a) fits)
+entry_is_line (Kill c a) fits = line _ _ (entry_clean (Kill c a) fits)
+entry_is_line (Wait c a) fits = line _ _ (entry_clean (Wait c a) fits)
+entry_is_line (Dropped c) fits = line _ _ (entry_clean (Dropped c) fits)
+entry_is_line (Raise t) fits = line _ _ (entry_clean (Raise t) fits)
+entry_is_line (Gone j) fits = line _ _ (entry_clean (Gone j) fits)
 
 end_is_line : (a : Answer) (lost : List ℕ) → AnswerFits a → NamesFit lost → IsLine (end_words a lost)
 end_is_line a lost fa fl = line (codes "end") _ (end_clean a lost fa fl)

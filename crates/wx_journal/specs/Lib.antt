@@ -2,5 +2,10 @@ pub mod Written
 pub mod Names
 pub mod Told
 pub mod Counted
+pub mod Answers
+pub mod AnswerLaws
+pub mod Kinds
+pub mod KindLaws
 pub mod Words
 pub mod WordLaws
+pub mod Readers

@@ -1,4 +1,4 @@
--- Both laws of each value that stands in an entry.
+-- Both laws of the values of one word, of watchers and of paths.
 use Rattle.std.proofs.Common.{◌≡◌, ℕ, Bool, true, false, Some, List, ◌++◌, refl}
 use Rattle.std.specs.Prelude.{codes}
 use Rattle.wx_words.specs.Texts.{AllBytes, text_in}
@@ -6,14 +6,12 @@ use Rattle.wx_words.specs.TextLaws.{text_form}
 use Rattle.wx_words.specs.NumberLaws.{number_form}
 use Rattle.wx_words.specs.Keywords.{with_word}
 use Rattle.wx_words.specs.KeywordLaws.{keyword_form}
-use Rattle.wx_words.specs.CombineLaws.{pair_form, nothing_form, row_of, row_again, rows_take}
+use Rattle.wx_words.specs.CombineLaws.{nothing_form, row_of, row_again, rows_take}
 use Rattle.wx_words.specs.Forms.{IsForm, Stood}
 use Rattle.wx_words.specs.Clean.{IsClean, AllClean}
 use Rattle.wx_words.specs.CleanLaws.{clean, number_clean, text_clean}
-use Rattle.wx_events.specs.Events.{EventFits}
-use Rattle.wx_events.specs.EventLaws.{priority_form, priority_word_clean, event_form, event_clean}
-use Rattle.wx_events.specs.declared.priority.Priority.{Priority}
-use Rattle.wx_events.specs.declared.event.Event.{Event}
+use Rattle.wx_journal.specs.declared.child.SpawnTag.{SpawnTag}
+use Rattle.wx_journal.specs.declared.child.SpawnTag.TheVariants.{Default}
 use Rattle.wx_journal.specs.declared.watched.Watcher.{Watcher}
 use Rattle.wx_journal.specs.declared.watched.Watcher.TheVariants.{Native, Poll}
 use Rattle.wx_journal.specs.declared.watched.WatchedPath.{WatchedPath}
@@ -23,9 +21,7 @@ use Rattle.wx_journal.specs.declared.entry.Word.{Word}
 use Rattle.wx_journal.specs.declared.entry.Word.TheVariants.{Idle, Ignored}
 use Rattle.wx_journal.specs.declared.entry.Act.{Act}
 use Rattle.wx_journal.specs.declared.entry.Act.TheVariants.{Quit}
-use Rattle.wx_journal.specs.declared.entry.TurnKind.{TurnKind}
-use Rattle.wx_journal.specs.declared.entry.TurnKind.TheVariants.{Arrive, Work, Job, Ended, Ask, Last}
-use Rattle.wx_journal.specs.Words.{offered_word, offered_all, offered_words, read_offered, said_word, said_all, said_words, read_said, act_word, act_all, act_words, read_act, WatcherFits, watcher_words, watcher_rows, read_watcher, depth_word, PathFits, path_words, make_path, path_rows, read_path, ranked_words, read_ranked, KindFits, kind_words, make_arrive, kind_rows, read_kind}
+use Rattle.wx_journal.specs.Words.{offered_word, offered_all, offered_words, read_offered, said_word, said_all, said_words, read_said, act_word, act_all, act_words, read_act, tag_word, tag_all, tag_words, read_tag, WatcherFits, watcher_words, watcher_rows, read_watcher, depth_word, PathFits, path_words, make_path, path_rows, read_path}
 
 -- ---- values of one word
 
@@ -68,6 +64,18 @@ act_form = keyword_form text_in act_word act_all act_found
 
 pub act_clean : (x : Act) → Unit {0} → AllClean (act_words x)
 act_clean x fits = (act_word_clean x, tt)
+
+pub tag_found : (x : SpawnTag) → with_word tag_word tag_all (tag_word x) ≡ Some x
+tag_found Default = refl
+
+pub tag_word_clean : (x : SpawnTag) → IsClean (tag_word x)
+tag_word_clean Default = clean (codes "default") refl
+
+pub tag_form : IsForm text_in (λ (x : SpawnTag). Unit {0}) tag_words read_tag
+tag_form = keyword_form text_in tag_word tag_all tag_found
+
+pub tag_clean : (x : SpawnTag) → Unit {0} → AllClean (tag_words x)
+tag_clean x fits = (tag_word_clean x, tt)
 
 -- ---- watchers and paths
 
@@ -115,43 +123,3 @@ depth_clean false = clean (codes "n") refl
 
 pub path_clean : (x : WatchedPath) → PathFits x → AllClean (path_words x)
 path_clean x fits = (depth_clean x.recursive, (text_clean x.path, tt))
-
--- ---- turns
-
-pub ranked_form : IsForm text_in (λ (p : Priority × Event). Unit {0} × EventFits p.1) ranked_words read_ranked
-ranked_form = pair_form priority_form event_form
-
-pub ranked_clean : (priority : Priority) (event : Event) → EventFits event → AllClean (ranked_words (priority, event))
-ranked_clean priority event fits = (priority_word_clean priority, event_clean event fits)
-
-pub kind_form : IsForm text_in KindFits kind_words read_kind
-unfolding read_kind
-kind_form = record { again = again; takes = takes }
-  where
-    again : (kind : TurnKind) (rest : List (List ℕ)) → KindFits kind → read_kind (kind_words kind ++ rest) ≡ Some (kind, rest)
-    again (Arrive event priority) rest fits = row_again ranked_form make_arrive (priority, event) rest (tt, fits)
-    again Work rest fits = refl
-    again (Job id) rest fits = absurd fits
-    again (Ended child) rest fits = absurd fits
-    again (Ask id ask) rest fits = absurd fits
-    again Last rest fits = refl
-
-    takes : (ws : List (List ℕ)) (kind : TurnKind) (rest : List (List ℕ)) → read_kind ws ≡ Some (kind, rest) → KindFits kind × Stood text_in (kind_words kind) ws rest
-    takes = rows_take text_in KindFits kind_words kind_rows (
-      row_of ranked_form make_arrive (codes "arrive") KindFits kind_words (λ p fits. fits.1) (λ p. refl),
-      (
-        row_of (nothing_form text_in) (λ u. Work) (codes "work") KindFits kind_words (λ u fits. tt) (λ u. refl),
-        (
-          row_of (nothing_form text_in) (λ u. Last) (codes "last") KindFits kind_words (λ u fits. tt) (λ u. refl),
-          tt,
-        ),
-      ),
-    )
-
-pub kind_clean : (kind : TurnKind) → KindFits kind → AllClean (kind_words kind)
-kind_clean (Arrive event priority) fits = (clean (codes "arrive") refl, ranked_clean priority event fits)
-kind_clean Work fits = (clean (codes "work") refl, tt)
-kind_clean (Job id) fits = absurd fits
-kind_clean (Ended child) fits = absurd fits
-kind_clean (Ask id ask) fits = absurd fits
-kind_clean Last fits = (clean (codes "last") refl, tt)

@@ -1,12 +1,18 @@
 //! The journal of a run: its entries, their words, and the list of them.
 #![tactic(auto)]
 
+mod answers;
 mod child;
 mod entry;
+mod job_words;
 mod journal;
+mod kinds;
+#[cfg(test)]
+mod tests;
 mod watched;
 mod words;
 
+pub use answers::{answers_are_read_again, put_answer, take_answer};
 pub use child::{HostFault, SpawnTag};
 pub use entry::{Act, Entry, Named, Offered, Turn, TurnKind, Word};
 pub use journal::{Entries, Journal};

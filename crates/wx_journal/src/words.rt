@@ -3,10 +3,12 @@ ghost use Rattle.std.specs.Prelude.{◌≡◌, [], ◌∷◌, ◌++◌, OnOk, If
 ghost use Rattle.std.specs.List.{flat_map};
 ghost use Rattle.wx_words.specs.Line.{spaced, joined, Reads};
 ghost use Rattle.wx_words.specs.Lists.{list_words};
-ghost use Rattle.wx_journal.specs.Words.{ranked_words, limit_words, switch_words, watch_words, kind_words, entry_words, read_watcher, read_path, read_arrive, read_kind};
+ghost use Rattle.wx_journal.specs.Words.{limit_words, switch_words, watch_words, entry_words, read_watcher, read_path};
 ghost use Rattle.wx_journal.specs.declared.entry.Entry.TheVariants.{Sent, Turn as Turned, Offer, Hand};
 
-use crate::entry::{Act, Entry, Offered, Turn, TurnKind, Word};
+use crate::entry::{Act, Entry, Offered, Turn, Word};
+use crate::job_words::put_job_entry;
+use crate::kinds::put_ranked;
 use crate::watched::{WatchedPath, Watcher};
 use std::alloc::Global;
 use wx_events::{
@@ -263,84 +265,6 @@ impl Spelled for WatchedPath {
     }
 }
 
-/// Appends the words of a priority and of an event, each with a space before it.
-#[tactic(auto, using(wx_words::specs::LineLaws::spaces))]
-fn put_ranked(priority: Priority, event: &Event, out: &mut Text) -> Result<(), Memory>
-    ensures { OnOk result (out.new ≡ out.old ++ spaced (ranked_words (priority, event.now))) }
-{
-    priority.put_after(out)?;
-    event.put_after(out)
-}
-
-/// Takes the event that arrives, or loses the place.
-fn take_arrive(alloc: Global, line: &mut Words) -> Result<Option<TurnKind>, Memory>
-    ensures { IfOk result (λ x. Reads line.new x (read_arrive line.old)) }
-{
-    let Some(priority) = Priority::take(alloc, line)? else {
-        return Ok(None);
-    };
-    let Some(event) = Event::take(alloc, line)? else {
-        return Ok(None);
-    };
-    Ok(Some(TurnKind::Arrive(event, priority)))
-}
-
-/// Takes what a turn brings, or loses the place.
-#[tactic(auto, unfolding(crate::specs::Words::read_kind))]
-fn take_kind(alloc: Global, line: &mut Words) -> Result<Option<TurnKind>, Memory>
-    ensures { IfOk result (λ x. Reads line.new x (read_kind line.old)) }
-{
-    let Some(word) = line.next() else {
-        return Ok(None);
-    };
-    if word == b"arrive".as_slice() {
-        take_arrive(alloc, line)
-    } else if word == b"work".as_slice() {
-        Ok(Some(TurnKind::Work))
-    } else if word == b"last".as_slice() {
-        Ok(Some(TurnKind::Last))
-    } else {
-        Ok(None)
-    }
-}
-
-impl Spelled for TurnKind {
-    ghost use Rattle.wx_journal.specs.Words.{KindFits};
-    ghost use Rattle.wx_journal.specs.WordLaws.{kind_form, kind_clean};
-
-    ghost words = { kind_words };
-
-    ghost fits = { KindFits };
-
-    ghost read = { read_kind };
-
-    ghost form = { kind_form };
-
-    ghost clean = { kind_clean };
-
-    #[tactic(auto, using(wx_words::specs::LineLaws::spaces))]
-    fn put_after(&self, out: &mut Text) -> Result<(), Memory> {
-        match self {
-            TurnKind::Arrive(event, priority) => {
-                out.append(b" arrive")?;
-                put_ranked(*priority, event, out)
-            }
-            TurnKind::Work => out.append(b" work"),
-            TurnKind::Last => out.append(b" last"),
-            TurnKind::Job(_) | TurnKind::Ended(_) | TurnKind::Ask(_, _) => Ok(()),
-        }
-    }
-
-    fn take(alloc: Global, line: &mut Words) -> Result<Option<TurnKind>, Memory> {
-        let mut ahead = line.fork();
-        let found = take_kind(alloc, &mut ahead)?;
-        if found.is_some() {
-            *line = ahead;
-        }
-        Ok(found)
-    }
-}
-
 /// Appends the words of the throttle and of the sizes.
 #[tactic(auto, using(wx_words::specs::LineLaws::spaces))]
 fn put_limits(throttle: u64, size: u32, errors: u32, out: &mut Text) -> Result<(), Memory>
@@ -479,20 +403,12 @@ pub fn put_entry(entry: &Entry, out: &mut Text) -> Result<(), Memory>
         Entry::Word(word) => put_word(b"word", word, out),
         Entry::Take(name) => put_word(b"take", name, out),
         Entry::Hand { n, names, acts } => put_hand(*n, names, acts, out),
-        Entry::Made(_)
-        | Entry::Asked { .. }
-        | Entry::Pick { .. }
-        | Entry::Spawn { .. }
-        | Entry::Kill { .. }
-        | Entry::Wait { .. }
-        | Entry::Dropped(_)
-        | Entry::Raise(_)
-        | Entry::Gone(_) => Ok(()),
+        _ => put_job_entry(entry, out),
     }
 }
 
 /// Appends a word, and the words of this value behind it.
-fn put_word<T: Spelled>(word: &[u8], value: &T, out: &mut Text) -> Result<(), Memory>
+pub fn put_word<T: Spelled>(word: &[u8], value: &T, out: &mut Text) -> Result<(), Memory>
     ensures { OnOk result (out.new ≡ out.old ++ joined (word.now ∷ T.words value.now)) }
 {
     out.append(word)?;

@@ -17,6 +17,8 @@ pub mod Optional
 pub mod OptionalLaws
 pub mod Switches
 pub mod SwitchLaws
+pub mod Done
+pub mod DoneLaws
 pub mod Clean
 pub mod CleanLaws
 pub mod Dotted

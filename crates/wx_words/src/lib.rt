@@ -2,6 +2,7 @@
 #![tactic(auto)]
 
 mod cursor;
+mod done;
 mod keyword;
 mod list;
 mod lists;
