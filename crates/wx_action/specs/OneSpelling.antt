@@ -46,6 +46,7 @@ EntryFits (Offer name item result event priority) = (name < 2 ^ 64) × OptionalF
 EntryFits (Said word) = Unit {0}
 EntryFits (Take name) = name < 2 ^ 64
 EntryFits (Hand n names acts) = (n < 2 ^ 32) × NamesFit names
+EntryFits (_) = ⊥
 
 -- and so are those of a journal
 abbrev pub JournalFits : List Entry → Type 0
@@ -88,6 +89,7 @@ entry_clean (Offer name item result event priority) fits = (clean (codes "offer"
 entry_clean (Said word) fits = (clean (codes "word") refl, (said_word_clean word, tt))
 entry_clean (Take name) fits = (clean (codes "take") refl, (number_clean name fits, tt))
 entry_clean (Hand n names acts) fits = (clean (codes "hand") refl, (number_clean n (omega (arith, fits.0)), each_append IsClean (list_words name_words names) (flat_map act_words acts) (names_clean names fits.1) (items_clean (λ x. Unit {0}) act_words act_clean acts (each_unit acts))))
+entry_clean (_) fits = absurd fits
 
 answer_clean : (a : Answer) → AnswerFits a → AllClean (answer_words a)
 answer_clean (Ok u) fits = (clean (codes "ok") refl, tt)
@@ -136,6 +138,7 @@ entry_again (Offer name item result event priority) fits =
 entry_again (Said word) fits = whole_again said_form Said word tt
 entry_again (Take name) fits = whole_again (number_form text_in) Take name fits
 entry_again (Hand n names acts) fits = rw (batch_again n names (flat_map act_words acts) fits.0 fits.1, acts_again acts _ (acts_length acts)) refl
+entry_again (_) fits = absurd fits
 
 -- ---- answers
 
@@ -176,6 +179,7 @@ window_small (Turned t ∷ j) all = let rest = window_small j all.1 in (omega (a
 window_small (TurnFault code ∷ j) all = let rest = window_small j all.1 in (omega (arith, rest.0), rest.1)
 window_small (Offer name item result event priority ∷ j) all = let rest = window_small j all.1 in (omega (arith, rest.0), rest.1)
 window_small (Said word ∷ j) all = let rest = window_small j all.1 in (omega (arith, rest.0), rest.1)
+window_small (_ ∷ j) all = absurd all.0
 
 window_fits : (j : List Entry) → JournalFits j → NamesFit (window j)
 window_fits j fits = let small = window_small j fits.1 in (omega (arith, small.0, fits.0), small.1)
@@ -216,6 +220,7 @@ entry_is_line (Offer n i r e p) fits = line _ _ (entry_clean (Offer n i r e p) f
 entry_is_line (Said w) fits = line _ _ (entry_clean (Said w) fits)
 entry_is_line (Take n) fits = line _ _ (entry_clean (Take n) fits)
 entry_is_line (Hand n names acts) fits = line _ _ (entry_clean (Hand n names acts) fits)
+entry_is_line (_) fits = absurd fits
 
 end_is_line : (a : Answer) (lost : List ℕ) → AnswerFits a → NamesFit lost → IsLine (end_words a lost)
 end_is_line a lost fa fl = line (codes "end") _ (end_clean a lost fa fl)

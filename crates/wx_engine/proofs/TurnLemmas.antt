@@ -3,10 +3,11 @@ use Rattle.std.proofs.Common.{◌≡◌, ℕ, ◌+◌, ◌≤◌, Bool, false, O
 use Rattle.wx_journal.specs.declared.entry.Entry.{Entry}
 use Rattle.wx_journal.specs.declared.entry.Entry.TheVariants.{Turn as Turned, TurnFault}
 use Rattle.wx_journal.specs.declared.entry.Turn.{Turn}
+use Rattle.wx_journal.specs.Names.{moment, NamesItsOwn}
+use Rattle.wx_journal.specs.Told.{tell, tells, is_hooks, is_turn}
 use Rattle.wx_action.specs.Start.{Start}
-use Rattle.wx_action.specs.Journal.{moment, turn_count, turn_fault}
+use Rattle.wx_action.specs.Journal.{turn_count, turn_fault}
 use Rattle.wx_action.specs.Due.{agenda, Open, IsRun}
-use Rattle.wx_action.specs.Told.{tell, tells, is_hooks, is_turn, NamesItsOwn}
 use Rattle.wx_action.specs.Laws.{NoneUrgentWaits, MomentsRise}
 use Rattle.wx_action.specs.Leads.{Follows, Then, Same, More, Promised}
 use Rattle.wx_action.specs.Turns.{SameTurns, StaysInTurn}

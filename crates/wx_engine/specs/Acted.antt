@@ -4,9 +4,9 @@ use Rattle.wx_journal.specs.declared.entry.Act.{Act}
 use Rattle.wx_journal.specs.declared.entry.Act.TheVariants.{Quit}
 use Rattle.wx_journal.specs.declared.entry.Entry.{Entry}
 use Rattle.wx_journal.specs.declared.entry.Entry.TheVariants.{Begin, Sent, Turn, TurnFault, Offer, Word, Take, Hand}
+use Rattle.wx_journal.specs.Told.{is_hooks, Obeys, Same, More}
 use Rattle.wx_action.specs.Handled.{with_quit}
 use Rattle.wx_action.specs.Journal.{hand_count}
-use Rattle.wx_action.specs.Told.{is_hooks, Obeys, Same, More}
 
 -- what a handler with these acts has after these too, one by one
 abbrev pub performed : List Act → List Act → List Act

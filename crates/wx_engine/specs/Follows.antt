@@ -2,8 +2,8 @@
 use Rattle.std.specs.Prelude.{◌≡◌, ◌≤◌, true, List, [], ◌∷◌, length}
 use Rattle.std.specs.List.{filter, list_all}
 use Rattle.wx_journal.specs.declared.entry.Entry.{Entry}
+use Rattle.wx_journal.specs.Told.{is_turn}
 use Rattle.wx_action.specs.Start.{Start, default_config, IsSize}
-use Rattle.wx_action.specs.Told.{is_turn}
 use Rattle.wx_engine.specs.declared.script.Script.{Script}
 use Rattle.wx_engine.specs.Turns.{comes, Rises, Given, first_given}
 use Rattle.wx_engine.specs.Acted.{FollowsActs}

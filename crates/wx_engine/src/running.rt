@@ -1,11 +1,13 @@
 // A run of the engine.
 ghost use Rattle.std.specs.Prelude.{◌≡◌, ◌∷◌, ◌++◌, [], ◌+◌, ◌<◌, ◌≤◌, false, length, List, ℕ, Option, None, OnOk, OnErr, IfOk, IfErr, codes};
 ghost use Rattle.wx_journal.specs.declared.entry.Entry.{Entry as AnEntry};
+ghost use Rattle.wx_journal.specs.Names.{moment};
+ghost use Rattle.wx_journal.specs.Told.{is_world, is_hooks, is_turn, tells, Obeys, Rose};
 ghost use Rattle.wx_action.specs.declared.error.CriticalError.TheVariants.{Memory as WantOfMemory};
 ghost use Rattle.wx_action.specs.Start.{Start, IsStart};
-ghost use Rattle.wx_action.specs.Journal.{moment, turn_count, turn_fault};
+ghost use Rattle.wx_action.specs.Journal.{turn_count, turn_fault};
 ghost use Rattle.wx_action.specs.Due.{agenda, begin_of, Open, IsRun};
-ghost use Rattle.wx_action.specs.Told.{is_world, is_hooks, is_turn, is_last, tells, Obeys, Rose};
+ghost use Rattle.wx_action.specs.Told.{is_last};
 ghost use Rattle.wx_action.specs.Laws.{IsBatched, AreBatches, NoneUrgentWaits, MomentsRise};
 ghost use Rattle.wx_action.specs.Answer.{Answers};
 ghost use Rattle.wx_action.specs.Leads.{StaysApart, FollowsAlone, Follows, Promised};

@@ -2,10 +2,10 @@
 ghost use Rattle.std.specs.Prelude.{◌≡◌, ◌∷◌, ◌++◌, [], ◌+◌, ◌≤◌, true, false, length, List, OnOk, OnErr, IfOk, IfErr, Err};
 ghost use Rattle.wx_events.specs.declared.event.Event.{Event as AnEvent};
 ghost use Rattle.wx_events.specs.declared.priority.Priority.{Priority as APriority};
+ghost use Rattle.wx_journal.specs.Told.{is_world, is_hooks, is_turn, tells, Obeys, Rose};
 ghost use Rattle.wx_action.specs.Start.{Start, IsSize, IsStart, default_config, is_absolute};
 ghost use Rattle.wx_action.specs.Journal.{turn_count};
 ghost use Rattle.wx_action.specs.Due.{IsRun};
-ghost use Rattle.wx_action.specs.Told.{is_world, is_hooks, is_turn, tells, Obeys, Rose};
 ghost use Rattle.wx_action.specs.Laws.{IsBatched, AreBatches, NoneUrgentWaits, MomentsRise};
 ghost use Rattle.wx_action.specs.Answer.{Answers};
 ghost use Rattle.wx_engine.specs.Sent.{Refuses};

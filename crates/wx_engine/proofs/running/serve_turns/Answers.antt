@@ -1,6 +1,7 @@
 use Rattle.std.proofs.Common.{[], ap, arith, sym, ◌∙◌}
 use Rattle.wx_journal.specs.declared.entry.Entry.TheVariants.{Turn as Turned}
-use Rattle.wx_action.specs.Told.{is_last, tell}
+use Rattle.wx_journal.specs.Told.{tell}
+use Rattle.wx_action.specs.Told.{is_last}
 use Rattle.wx_action.specs.TurnLaws.{promised_then}
 use Rattle.wx_engine.proofs.BeginLemmas.{calm_begun}
 use Rattle.wx_engine.proofs.TurnLemmas.{turn_follows, fault_follows, turn_calm, fault_calm, turn_promised, fault_promised, served}

@@ -1,6 +1,7 @@
 use Rattle.std.proofs.Common.{◌≡◌, ◌≤◌, ◌+◌, None, false}
 use Rattle.std.specs.Prelude.{codes}
-use Rattle.wx_action.specs.Journal.{moment, turn_count, turn_fault}
+use Rattle.wx_journal.specs.Names.{moment}
+use Rattle.wx_action.specs.Journal.{turn_count, turn_fault}
 use Rattle.wx_action.specs.Due.{agenda, Open}
 use Rattle.wx_action.specs.Laws.{MomentsRise}
 use Rattle.wx_action.specs.Leads.{Follows, Promised}
