@@ -108,14 +108,14 @@ impl Watchexec {
         // The journal is a run that this answer may have, and each error has its cause.
         ensures run { IsRun self journal.new.past }
         ensures answer { Answers self journal.new.past result }
-        ensures cause { IfErr result (λ error. HasCause error (W.turn_faults world.old) (W.turn_faults world.new)) }
-        ensures completes { (Rose (W.turn_faults world.old) (W.turn_faults world.new) → ⊥) → IsOkOrMemory result }
+        ensures cause { IfErr result (λ error. HasCause error (W.progress world.old).turn_faults (W.progress world.new).turn_faults) }
+        ensures completes { (Rose (W.progress world.old).turn_faults (W.progress world.new).turn_faults → ⊥) → IsOkOrMemory result }
 
         // It lists what was told: the turns, and the calls on world and hooks.
         ensures world { W.told world.new ≡ tells is_world journal.new.past (W.told world.old) }
         ensures hooks { H.told hooks.new ≡ tells is_hooks journal.new.past (H.told hooks.old) }
-        ensures turns { W.turns world.new ≡ tells is_turn journal.new.past (W.turns world.old) }
-        ensures count { turn_count journal.new.past ≤ W.left world.old + 1 }
+        ensures turns { (W.progress world.new).turns ≡ tells is_turn journal.new.past (W.progress world.old).turns }
+        ensures count { turn_count journal.new.past ≤ (W.progress world.old).left + 1 }
 
         // The laws of runs.
         ensures batched { IsBatched journal.new.past }
