@@ -1,4 +1,4 @@
--- An event is offered to the queue, or listed as sent.
+-- An event is offered to the queue, or listed as sent, or a word is said.
 use Rattle.std.proofs.Common.{◌≡◌, ℕ, ◌+◌, ◌<◌, false, List, ◌∷◌, length, arith, refl, ap, sym, subst}
 use Rattle.std.specs.Prelude.{None}
 use Rattle.wx_events.specs.declared.event.Event.{Event}
@@ -7,14 +7,16 @@ use Rattle.prio_channel.specs.Channel.{Channel}
 use Rattle.prio_channel.specs.BagLaws.{same-length}
 use Rattle.std.proofs.lemmas.Bool.{eqb-true}
 use Rattle.wx_journal.specs.declared.entry.Entry.{Entry}
-use Rattle.wx_journal.specs.declared.entry.Entry.TheVariants.{Sent, Offer}
+use Rattle.wx_journal.specs.declared.entry.Entry.TheVariants.{Sent, Offer, Word as Said}
 use Rattle.wx_journal.specs.declared.entry.Named.{Named}
+use Rattle.wx_journal.specs.declared.entry.Word.{Word}
 use Rattle.wx_journal.specs.declared.entry.Offered.{Offered}
 use Rattle.wx_journal.specs.declared.entry.Offered.TheVariants.{Queued, Full}
+use Rattle.wx_journal.specs.Names.{event_count}
 use Rattle.wx_action.specs.declared.state.Worker.{Worker}
 use Rattle.wx_action.specs.Start.{Start}
-use Rattle.wx_action.specs.Journal.{event_count, bag}
-use Rattle.wx_action.specs.Due.{Agenda, agenda, Due, Offers, Sends}
+use Rattle.wx_action.specs.Journal.{bag}
+use Rattle.wx_action.specs.Due.{Agenda, agenda, Due, Offers, Says, Sends}
 use Rattle.wx_action.specs.Leads.{FollowsAlone, Then, StaysApart, More}
 use Rattle.wx_action.specs.Turns.{StaysInTurn}
 use Rattle.wx_action.specs.RunLaws.{own_of_run}
@@ -27,6 +29,29 @@ pub record Steps (s : Start) (w : Worker) (p p' : List Entry) : Type 0 where
   pub follows : FollowsAlone s p p'
   pub apart : StaysApart p p'
   pub turns : StaysInTurn p p'
+
+-- a word is said
+pub said_done : (s : Start) (w : Worker) (p p' : List Entry) (word : Word) (more : Agenda) → Ready s w p → agenda s p ≡ Says word more → p' ≡ Said word ∷ p → Steps s w p p'
+said_done s w p p' word more ready due grown =
+    let d : Due s p (Said word) = rw due refl in
+    rw grown (record {
+      ready = record {
+        run = (d, ready.run);
+        stands = record {
+          config_kept = ready.stands.config_kept;
+          queue_kept = ready.stands.queue_kept;
+          size_kept = ready.stands.size_kept;
+          open_kept = ready.stands.open_kept;
+          named_kept = ready.stands.named_kept;
+          names_kept = ready.stands.names_kept;
+          events_kept = ready.stands.events_kept;
+          first_kept = ready.stands.first_kept;
+        };
+      };
+      follows = λ world hooks p₀ world₀ hooks₀ l. Then (Said word) p world hooks l d;
+      apart = λ p₀ a. More _ p a (own_of_run s p ready.run) refl;
+      turns = λ p₀ t. record { count = t.count; fault = t.fault; now = t.now; rise = t.rise; told = t.told };
+    })
 
 pub offer_done : (s : Start) (w : Worker) (p p' : List Entry) (event : Event) (priority : Priority) (more : Agenda) (new : Channel Named) (result : Offered) → Ready s w p → agenda s p ≡ Offers event priority more
     → IsOffered w.queue (record { name = w.named; event = event }, priority) new result → new.size ≡ w.queue.size → new.closed ≡ false → p' ≡ Offer w.named None result event priority ∷ p

@@ -1,12 +1,28 @@
--- Quits that follow each other.
-use Rattle.std.proofs.Common.{◌≡◌, false, List, [], ◌∷◌, length, refl, ap, arith, ne_eqb}
-use Rattle.std.specs.Prelude.{◌==◌}
+-- The last act.
+use Rattle.std.proofs.Common.{◌≡◌, suc, ◌-◌, Bool, true, false, List, [], ◌∷◌, ◌++◌, length, slice_get, refl, ap, ◌∙◌, arith}
+use Rattle.std.specs.Prelude.{Option, None, Some}
 use Rattle.wx_journal.specs.declared.entry.Act.{Act}
 use Rattle.wx_journal.specs.declared.entry.Act.TheVariants.{Quit}
-use Rattle.wx_action.specs.Handled.{with_quit}
+use Rattle.wx_action.specs.Due.{is_quit}
+use Rattle.wx_action.specs.Handled.{ends_with_quit}
 
--- there is no other act, so where one stands a quit stands last
-pub with_quit_again : (acts : List Act) → (length acts == 0) ≡ false → with_quit acts ≡ acts
-with_quit_again [] some = absurd cc
-with_quit_again (Quit ∷ []) some = refl
-with_quit_again (Quit ∷ next ∷ acts) some = ap (λ (rest : List Act). Quit ∷ rest) (with_quit_again (next ∷ acts) (ne_eqb _ 0 (λ e. absurd (omega arith))))
+-- a quit that was added stands last
+pub quit_last : (acts : List Act) → ends_with_quit (acts ++ Quit ∷ []) ≡ true
+quit_last [] = refl
+quit_last (act ∷ []) = refl
+quit_last (act ∷ next ∷ acts) = quit_last (next ∷ acts)
+
+is_quit_at : Option Act → Bool
+is_quit_at None = false
+is_quit_at (Some act) = is_quit act
+
+quit_at_end : (acts : List Act) → is_quit_at (slice_get acts (length acts - 1)) ≡ ends_with_quit acts
+unfolding is_quit_at
+quit_at_end [] = refl
+quit_at_end (act ∷ []) = refl
+quit_at_end (act ∷ next ∷ acts) = let e : length (act ∷ next ∷ acts) - 1 ≡ suc (length (next ∷ acts) - 1) = omega arith in rw e (quit_at_end (next ∷ acts))
+
+-- the act at the last place
+pub at_end : (acts : List Act) (act : Act) → Some act ≡ slice_get acts (length acts - 1) → is_quit act ≡ ends_with_quit acts
+unfolding is_quit_at
+at_end acts act is = ap is_quit_at is ∙ quit_at_end acts

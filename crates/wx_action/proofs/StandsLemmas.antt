@@ -12,9 +12,10 @@ use Rattle.wx_journal.specs.declared.entry.Entry.TheVariants.{Sent, Offer}
 use Rattle.wx_journal.specs.declared.entry.Named.{Named}
 use Rattle.wx_journal.specs.declared.entry.Offered.{Offered}
 use Rattle.wx_journal.specs.declared.entry.Offered.TheVariants.{Queued, Full}
+use Rattle.wx_journal.specs.Names.{event_count}
 use Rattle.wx_action.specs.declared.state.Worker.{Worker}
 use Rattle.wx_action.specs.Start.{Start}
-use Rattle.wx_action.specs.Journal.{settings, event_count, bag, offered, window}
+use Rattle.wx_action.specs.Journal.{settings, bag, offered, window}
 use Rattle.wx_action.specs.Due.{IsRun}
 use Rattle.wx_action.specs.Handled.{AreEvents, lookup}
 use Rattle.wx_action.specs.Stands.{Stands, IsOffered}

@@ -9,6 +9,7 @@ use Rattle.prio_channel.specs.BagLaws.{same-length}
 use Rattle.wx_journal.specs.declared.entry.Entry.{Entry}
 use Rattle.wx_journal.specs.declared.entry.Entry.TheVariants.{Word as Said, Take}
 use Rattle.wx_journal.specs.declared.entry.Named.{Named}
+use Rattle.wx_journal.specs.Names.{moment}
 use Rattle.wx_action.specs.declared.state.Worker.{Worker}
 use Rattle.wx_action.specs.declared.work.Collected.{Collected}
 use Rattle.wx_action.specs.declared.work.Collected.TheVariants.{Hand, Kept}
@@ -16,14 +17,14 @@ use Rattle.wx_action.specs.declared.work.Collected.TheVariants as collected
 use Rattle.wx_journal.specs.declared.entry.Word.TheVariants.{Idle}
 use Rattle.wx_action.specs.Batch.{Waiting}
 use Rattle.wx_action.specs.Start.{Start}
-use Rattle.wx_action.specs.Journal.{moment, bag, window, first, is_over, is_over_of}
+use Rattle.wx_action.specs.Journal.{bag, window, first, is_over, is_over_of}
 use Rattle.wx_action.specs.Due.{agenda, Due, Open, Says, Takes as TakesNext, Hands, work, rest}
 use Rattle.wx_action.specs.Handled.{lookup}
 use Rattle.wx_action.specs.Leads.{Then, More}
 use Rattle.wx_action.specs.Stands.{Stands, Ready, Collects}
 use Rattle.wx_action.specs.BagLaws.{is_taken}
 use Rattle.wx_action.specs.RunLaws.{own_of_run}
-use Rattle.wx_action.proofs.ArriveLemmas.{Steps}
+use Rattle.wx_action.proofs.ArriveLemmas.{Steps, said_done}
 use Rattle.wx_action.proofs.StandsLemmas.{events-append}
 
 -- a queue that is empty, where the bag isn't
@@ -83,25 +84,4 @@ idle_done s w p p' at ready due over empty grown =
     let later : is_over s p at ≡ false = rw (← ready.stands.config_kept, ← ready.stands.names_kept, ← ready.stands.first_kept) over in
     let none : (length (bag p) == 0) ≡ true = rw (← same-length w.queue.items (bag p) ready.stands.queue_kept) empty in
     let owed : agenda s p ≡ Says Idle Open = due ∙ rw (later, none) refl in
-    let d : Due s p (Said Idle) = rw owed refl in
-    record {
-      steps = rw grown (record {
-        ready = record {
-          run = (d, ready.run);
-          stands = record {
-            config_kept = ready.stands.config_kept;
-            queue_kept = ready.stands.queue_kept;
-            size_kept = ready.stands.size_kept;
-            open_kept = ready.stands.open_kept;
-            named_kept = ready.stands.named_kept;
-            names_kept = ready.stands.names_kept;
-            events_kept = ready.stands.events_kept;
-            first_kept = ready.stands.first_kept;
-          };
-        };
-        follows = λ world hooks p₀ world₀ hooks₀ l. Then (Said Idle) p world hooks l d;
-        apart = λ p₀ a. More _ p a (own_of_run s p ready.run) refl;
-        turns = λ p₀ t. record { count = t.count; fault = t.fault; now = t.now; rise = t.rise; told = t.told };
-      });
-      collected = (grown, ap (agenda s) grown ∙ ap rest owed);
-    }
+    record { steps = said_done s w p p' Idle Open ready owed grown; collected = (grown, ap (agenda s) grown ∙ ap rest owed) }

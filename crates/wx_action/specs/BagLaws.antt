@@ -8,12 +8,12 @@ use Rattle.prio_channel.specs.Channel.{AllAtMost}
 use Rattle.prio_channel.specs.SameBag.{SameBag, Takes}
 use Rattle.prio_channel.specs.BagLaws.{take-bag, same-trans, all-same}
 use Rattle.wx_journal.specs.declared.entry.Entry.{Entry}
-use Rattle.wx_journal.specs.declared.entry.Entry.TheVariants.{Begin, Sent, Turn as Turned, TurnFault, Offer, Word as Said, Take, Hand}
+use Rattle.wx_journal.specs.declared.entry.Entry.TheVariants.{Sent, Offer, Take, Hand, Asked, Pick, Spawn, Kill, Wait, Dropped, Raise}
 use Rattle.wx_journal.specs.declared.entry.Offered.TheVariants.{Queued, Full}
 use Rattle.wx_journal.specs.declared.entry.Named.{Named}
-use Rattle.wx_action.specs.Journal.{event_count, listed, named, without, bag, is_urgent_named, is_urgent_in}
+use Rattle.wx_journal.specs.Names.{event_count, NamesItsOwn}
+use Rattle.wx_action.specs.Journal.{listed, named, without, bag, is_urgent_named, is_urgent_in}
 use Rattle.wx_action.specs.Due.{IsGreatest}
-use Rattle.wx_action.specs.Told.{NamesItsOwn}
 
 abbrev Item : Type 0
 Item = Named × Priority
@@ -69,6 +69,21 @@ listed-rise m v look (x ∷ xs) b h = (ap (λ (t : Bool). cond t v (look x.0.nam
 listed-new : (m : ℕ) (v : Option (Event × Priority)) (look : ℕ → Option (Event × Priority)) → cond (m == m) v (look m) ≡ v
 listed-new m v look = ap (λ (t : Bool). cond t v (look m)) (eq-eqb m m refl)
 
+-- without its newest entry a journal names no more than before
+pub own_before : (e : Entry) (p : List Entry) → NamesItsOwn (e ∷ p) → NamesItsOwn p
+own_before (Sent name event priority) p own = own.1
+own_before (Offer name item result event priority) p own = own.2
+own_before (Take name) p own = own.1
+own_before (Hand n names acts) p own = own.1
+own_before (Asked ticket job level control) p own = own.1
+own_before (Pick job ticket) p own = own.1
+own_before (Spawn child job tag what answer) p own = own.1
+own_before (Kill child answer) p own = own.1
+own_before (Wait child answer) p own = own.1
+own_before (Dropped child) p own = own.1
+own_before (Raise ticket) p own = own.1
+own_before (_) p own = own
+
 -- what is known of the bag of a journal that names only what its own entries made
 pub record BagFacts (p : List Entry) : Type 0 where
   pub rising : AreRising (bag p)
@@ -87,13 +102,10 @@ with_item xs look m event priority r b l =
 
 pub bag_facts : (p : List Entry) → NamesItsOwn p → BagFacts p
 bag_facts [] own = record { rising = tt; below = tt; are_listed = tt }
-bag_facts (Begin t s e k f j w c paths ∷ p) own = let h = bag_facts p own in record { rising = h.rising; below = h.below; are_listed = h.are_listed }
 bag_facts (Sent name event priority ∷ p) own =
     let h = bag_facts p own.1 in
     let n = with_item (bag p) (λ m. listed m p) (event_count p) event priority h.rising h.below h.are_listed in
     subst (λ (m : ℕ). BagFacts (Sent m event priority ∷ p)) (sym own.0) (record { rising = n.0; below = n.1; are_listed = n.2 })
-bag_facts (Turned t ∷ p) own = let h = bag_facts p own in record { rising = h.rising; below = h.below; are_listed = h.are_listed }
-bag_facts (TurnFault code ∷ p) own = let h = bag_facts p own in record { rising = h.rising; below = h.below; are_listed = h.are_listed }
 bag_facts (Offer name item Queued event priority ∷ p) own =
     let h = bag_facts p own.2 in
     let n = with_item (bag p) (λ m. listed m p) (event_count p) event priority h.rising h.below h.are_listed in
@@ -105,14 +117,13 @@ bag_facts (Offer name item Full event priority ∷ p) own =
       below = below-rise _ _ (bag p) (omega arith) h.below;
       are_listed = listed-rise (event_count p) (Some (event, priority)) (λ m. listed m p) (bag p) h.below h.are_listed;
     })
-bag_facts (Said word ∷ p) own = let h = bag_facts p own in record { rising = h.rising; below = h.below; are_listed = h.are_listed }
 bag_facts (Take name ∷ p) own =
     let h = bag_facts p own.1 in record {
       rising = rising-without name (bag p) h.rising;
       below = all-without (λ z. z.0.name < event_count p) name (bag p) h.below;
       are_listed = all-without (λ z. listed z.0.name p ≡ Some (z.0.event, z.1)) name (bag p) h.are_listed;
     }
-bag_facts (Hand n names acts ∷ p) own = let h = bag_facts p own.1 in record { rising = h.rising; below = h.below; are_listed = h.are_listed }
+bag_facts (e ∷ p) own = let h = bag_facts p (own_before e p own) in record { rising = h.rising; below = h.below; are_listed = h.are_listed }
 
 -- ---- an item is found by its name
 

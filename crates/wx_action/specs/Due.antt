@@ -10,11 +10,12 @@ use Rattle.wx_journal.specs.declared.entry.Act.{Act}
 use Rattle.wx_journal.specs.declared.entry.Act.TheVariants.{Quit}
 use Rattle.wx_journal.specs.declared.entry.Named.{Named}
 use Rattle.wx_journal.specs.declared.entry.TurnKind.{TurnKind}
-use Rattle.wx_journal.specs.declared.entry.TurnKind.TheVariants.{Arrive, Work, Last}
+use Rattle.wx_journal.specs.declared.entry.TurnKind.TheVariants.{Arrive, Work, Job, Ended as ChildEnded, Ask, Last}
 use Rattle.wx_journal.specs.declared.entry.Word.{Word}
-use Rattle.wx_journal.specs.declared.entry.Word.TheVariants.{Idle}
+use Rattle.wx_journal.specs.declared.entry.Word.TheVariants.{Idle, Ignored}
+use Rattle.wx_journal.specs.Names.{moment, event_count}
 use Rattle.wx_action.specs.Start.{Start}
-use Rattle.wx_action.specs.Journal.{settings, moment, event_count, is_urgent_named, named, bag, offered, window, is_over}
+use Rattle.wx_action.specs.Journal.{settings, is_urgent_named, named, bag, offered, window, is_over}
 
 -- What a turn still owes. An answer or an event that was taken decides how it goes on.
 pub data Agenda : Type 0 where
@@ -50,9 +51,13 @@ rest (other) = other
 abbrev pub work : Start → List Entry → ℕ → Agenda
 work s p at = if is_over s p at then Hands else (if length (bag p) == 0 then Says Idle Open else Takes)
 
+-- What a turn of this kind owes. No job is made yet, so one that names a job or a child names none that is there.
 abbrev pub turn_agenda : Start → TurnKind → ℕ → List Entry → Agenda
 turn_agenda s (Arrive event priority) at p = Offers event priority Open
 turn_agenda s Work at p = work s p at
+turn_agenda s (Job id) at p = Says Ignored Open
+turn_agenda s (ChildEnded child) at p = Says Ignored Open
+turn_agenda s (Ask id ask) at p = Says Ignored Open
 turn_agenda s Last at p = Ended
 
 -- An event that was taken is handed at once, with the window, where it is urgent or the throttle is over.

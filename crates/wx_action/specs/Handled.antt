@@ -1,5 +1,5 @@
 -- What contracts see of the handler that is lent to an action.
-use Rattle.std.specs.Prelude.{◌≡◌, ℕ, Bool, Option, Some, if◌then◌else◌, List, [], ◌∷◌}
+use Rattle.std.specs.Prelude.{◌≡◌, ℕ, Bool, false, Option, Some, if◌then◌else◌, List, [], ◌∷◌, ◌++◌}
 use Rattle.wx_events.specs.declared.event.Event.{Event}
 use Rattle.wx_events.specs.declared.priority.Priority.{Priority}
 use Rattle.wx_journal.specs.declared.entry.Entry.{Entry}
@@ -16,11 +16,15 @@ pub record Handled : Type 0 where
   pub acts : List Act
   pub handed : Bool
 
+-- whether the last of these acts is a quit
+abbrev pub ends_with_quit : List Act → Bool
+ends_with_quit [] = false
+ends_with_quit (act ∷ []) = is_quit act
+ends_with_quit (act ∷ next ∷ acts) = ends_with_quit (next ∷ acts)
+
 -- the acts with a quit behind them: one that stands last already is not repeated
 abbrev pub with_quit : List Act → List Act
-with_quit [] = Quit ∷ []
-with_quit (act ∷ []) = if is_quit act then act ∷ [] else act ∷ Quit ∷ []
-with_quit (act ∷ next ∷ acts) = act ∷ with_quit (next ∷ acts)
+with_quit acts = if ends_with_quit acts then acts else acts ++ Quit ∷ []
 
 -- what a journal lists under a name
 abbrev pub lookup : List Entry → ℕ → Option (Event × Priority)

@@ -3,6 +3,7 @@ use Rattle.std.specs.Prelude.{ℕ, ◌+◌, Bool, false, not, ◌&&◌, ◌==◌
 use Rattle.wx_events.specs.declared.event.Event.{Event}
 use Rattle.wx_events.specs.declared.priority.Priority.{Priority}
 use Rattle.wx_events.specs.Priority.{is_urgent}
+use Rattle.wx_journal.specs.Names.{moment}
 use Rattle.wx_journal.specs.declared.entry.Entry.{Entry}
 use Rattle.wx_journal.specs.declared.entry.Entry.TheVariants.{Sent, Turn as Turned, TurnFault, Offer, Take, Hand}
 use Rattle.wx_journal.specs.declared.entry.Named.{Named}
@@ -14,19 +15,6 @@ use Rattle.wx_action.specs.Start.{Start}
 -- the settings that stand: nothing changes those of the start yet
 abbrev pub settings : Start → List Entry → Config
 settings s p = s.config
-
--- the moment of the last turn, 0 before the first
-abbrev pub moment : List Entry → ℕ
-moment [] = 0
-moment (Turned t ∷ p) = t.at
-moment (_ ∷ p) = moment p
-
--- how many events have a name: names are given in the order of the entries that list an event
-abbrev pub event_count : List Entry → ℕ
-event_count [] = 0
-event_count (Sent name event priority ∷ p) = event_count p + 1
-event_count (Offer name item result event priority ∷ p) = event_count p + 1
-event_count (_ ∷ p) = event_count p
 
 -- the event of this name, with its priority
 abbrev pub listed : ℕ → List Entry → Option (Event × Priority)

@@ -3,8 +3,9 @@ use Rattle.std.specs.Prelude.{◌≡◌, ℕ, ◌<◌, ◌≤◌, Bool, true, fa
 use Rattle.std.specs.List.{AllByRecursion, flat_map}
 use Rattle.wx_journal.specs.declared.entry.Entry.{Entry}
 use Rattle.wx_journal.specs.declared.entry.Entry.TheVariants.{Turn as Turned, Hand}
+use Rattle.wx_journal.specs.Names.{moment}
 use Rattle.wx_action.specs.Start.{Start}
-use Rattle.wx_action.specs.Journal.{moment, is_urgent_named, passed, batches, window, is_over}
+use Rattle.wx_action.specs.Journal.{is_urgent_named, passed, batches, window, is_over}
 
 -- batches, one behind the other
 abbrev pub joined : List (List ℕ) → List ℕ

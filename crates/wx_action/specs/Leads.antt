@@ -1,9 +1,10 @@
 -- What a call did to a journal, and what it told.
 use Rattle.std.specs.Prelude.{◌≡◌, Bool, false, Option, List, ◌∷◌}
 use Rattle.wx_journal.specs.declared.entry.Entry.{Entry}
+use Rattle.wx_journal.specs.Names.{NamesItsOwn}
+use Rattle.wx_journal.specs.Told.{tell_if, is_world, is_hooks, Obeys}
 use Rattle.wx_action.specs.Start.{Start}
 use Rattle.wx_action.specs.Due.{Due}
-use Rattle.wx_action.specs.Told.{tell_if, is_world, is_hooks, NamesItsOwn, Obeys}
 
 -- From one journal to a longer one, with what world and hooks were told: each entry on top was due at those before it,
 -- and was told by just the one that it is a call on.

@@ -7,19 +7,20 @@ use Rattle.std.proofs.lemmas.List.{append-nil}
 use Rattle.wx_events.specs.declared.event.Event.{Event}
 use Rattle.wx_events.specs.declared.priority.Priority.{Priority}
 use Rattle.wx_journal.specs.declared.entry.Entry.{Entry}
-use Rattle.wx_journal.specs.declared.entry.Entry.TheVariants.{Begin, Sent, Turn as Turned, TurnFault, Offer, Word as Said, Take, Hand}
+use Rattle.wx_journal.specs.declared.entry.Entry.TheVariants.{Begin, Sent, Turn as Turned, TurnFault, Offer, Take, Hand, Made, Asked, Pick, Spawn, Kill, Wait, Dropped, Raise, Gone}
 use Rattle.wx_journal.specs.declared.entry.Act.{Act}
 use Rattle.wx_journal.specs.declared.entry.Named.{Named}
 use Rattle.wx_journal.specs.declared.entry.Offered.{Offered}
 use Rattle.wx_journal.specs.declared.entry.Turn.{Turn}
 use Rattle.wx_journal.specs.declared.entry.TurnKind.{TurnKind}
-use Rattle.wx_journal.specs.declared.entry.TurnKind.TheVariants.{Arrive, Work, Last}
+use Rattle.wx_journal.specs.declared.entry.TurnKind.TheVariants.{Work, Last}
 use Rattle.wx_journal.specs.declared.entry.Word.TheVariants.{Idle}
+use Rattle.wx_journal.specs.Names.{moment, event_count, NamesItsOwn}
+use Rattle.wx_journal.specs.Told.{is_hooks}
 use Rattle.wx_action.specs.Start.{Start}
-use Rattle.wx_action.specs.Journal.{moment, event_count, listed, named, bag, window, batches, is_over, is_urgent_named, is_urgent_in}
+use Rattle.wx_action.specs.Journal.{listed, named, bag, window, batches, is_over, is_urgent_named, is_urgent_in}
 use Rattle.wx_action.specs.Due.{Agenda, Begins, Sends, Open, Offers, Says, Takes, Hands, Ended, sends, rest, turn_agenda, has_quit, agenda, Admits, IsRun, IsGreatest}
-use Rattle.wx_action.specs.Told.{NamesItsOwn}
-use Rattle.wx_action.specs.BagLaws.{AreBelow, bag_facts}
+use Rattle.wx_action.specs.BagLaws.{AreBelow, own_before, bag_facts}
 use Rattle.wx_action.specs.Laws.{joined, IsBatched, NoneUrgent, UrgentLast, is_last_urgent, urgent_in, IsBatch, AreBatches, NoneUrgentWaits}
 
 -- ---- what an agenda that admits an entry says of it
@@ -64,6 +65,31 @@ admits_hand s p Takes n names acts d = let h = d.1 in absurd cc
 admits_hand s p Hands n names acts d = (let h = d.1 in cc, refl)
 admits_hand s p Ended n names acts d = absurd d
 
+-- the entries of jobs, which no agenda admits yet
+abbrev IsOfJobs : Entry → Type 0
+IsOfJobs (Made job) = Unit {0}
+IsOfJobs (Asked ticket job level control) = Unit {0}
+IsOfJobs (Pick job ticket) = Unit {0}
+IsOfJobs (Spawn child job tag what answer) = Unit {0}
+IsOfJobs (Kill child answer) = Unit {0}
+IsOfJobs (Wait child answer) = Unit {0}
+IsOfJobs (Dropped child) = Unit {0}
+IsOfJobs (Raise ticket) = Unit {0}
+IsOfJobs (Gone job) = Unit {0}
+IsOfJobs (_) = ⊥
+
+none_of_jobs : (s : Start) (p : List Entry) (k : Agenda) (e : Entry) → IsOfJobs e → Admits s p k e → ⊥
+none_of_jobs s p Begins e of_jobs d = subst IsOfJobs d of_jobs
+none_of_jobs s p (Sends v q more) e of_jobs d = subst IsOfJobs d of_jobs
+none_of_jobs s p Open (Turned t) of_jobs d = of_jobs
+none_of_jobs s p Open (TurnFault code) of_jobs d = of_jobs
+none_of_jobs s p Open (_) of_jobs d = d
+none_of_jobs s p (Offers v q more) e of_jobs d = subst IsOfJobs d of_jobs
+none_of_jobs s p (Says word more) e of_jobs d = subst IsOfJobs d of_jobs
+none_of_jobs s p Takes e of_jobs d = subst IsOfJobs d.1 of_jobs
+none_of_jobs s p Hands e of_jobs d = subst IsOfJobs d.1 of_jobs
+none_of_jobs s p Ended e of_jobs d = d
+
 -- ---- a run names only what its own entries made
 
 found_name : (a b : ℕ) → (a == b) ≡ true → a ≡ b
@@ -88,24 +114,17 @@ each-append P (x ∷ names) name h p = (h.0, each-append P names name h.1 p)
 -- the names in the window are those of events
 pub window_below : (p : List Entry) → NamesItsOwn p → AllByRecursion (λ name. name < event_count p) (window p)
 window_below [] own = tt
-window_below (Begin t s e k f j w c paths ∷ p) own = window_below p own
 window_below (Sent name event priority ∷ p) own = below-rise _ _ (window p) (omega arith) (window_below p own.1)
-window_below (Turned t ∷ p) own = window_below p own
-window_below (TurnFault code ∷ p) own = window_below p own
 window_below (Offer name item result event priority ∷ p) own = below-rise _ _ (window p) (omega arith) (window_below p own.2)
-window_below (Said word ∷ p) own = window_below p own
 window_below (Take name ∷ p) own = each-append (λ m. m < event_count p) (window p) name (window_below p own.1) own.0
 window_below (Hand n names acts ∷ p) own = tt
+window_below (e ∷ p) own = window_below p (own_before e p own)
 
 pub own_of_run : (s : Start) (p : List Entry) → IsRun s p → NamesItsOwn p
 own_of_run s [] r = tt
-own_of_run s (Begin t z e k f j w c paths ∷ p) r = own_of_run s p r.1
 own_of_run s (Sent name event priority ∷ p) r = (admits_sent s p (agenda s p) name event priority r.0, own_of_run s p r.1)
-own_of_run s (Turned t ∷ p) r = own_of_run s p r.1
-own_of_run s (TurnFault code ∷ p) r = own_of_run s p r.1
 own_of_run s (Offer name item result event priority ∷ p) r =
     let d = admits_offer s p (agenda s p) name item result event priority r.0 in (d.0, d.1, own_of_run s p r.1)
-own_of_run s (Said word ∷ p) r = own_of_run s p r.1
 own_of_run s (Take name ∷ p) r =
     let own = own_of_run s p r.1 in
     (named_below (event_count p) name (bag p) _ (bag_facts p own).below (admits_take s p (agenda s p) name r.0), own)
@@ -113,6 +132,14 @@ own_of_run s (Hand n names acts ∷ p) r =
     let own = own_of_run s p r.1 in
     let d = admits_hand s p (agenda s p) n names acts r.0 in
     (subst (AllByRecursion (λ name. name < event_count p)) (sym d.0) (window_below p own), own)
+own_of_run s (Asked ticket job level control ∷ p) r = absurd (none_of_jobs s p (agenda s p) _ tt r.0)
+own_of_run s (Pick job ticket ∷ p) r = absurd (none_of_jobs s p (agenda s p) _ tt r.0)
+own_of_run s (Spawn child job tag what answer ∷ p) r = absurd (none_of_jobs s p (agenda s p) _ tt r.0)
+own_of_run s (Kill child answer ∷ p) r = absurd (none_of_jobs s p (agenda s p) _ tt r.0)
+own_of_run s (Wait child answer ∷ p) r = absurd (none_of_jobs s p (agenda s p) _ tt r.0)
+own_of_run s (Dropped child ∷ p) r = absurd (none_of_jobs s p (agenda s p) _ tt r.0)
+own_of_run s (Raise ticket ∷ p) r = absurd (none_of_jobs s p (agenda s p) _ tt r.0)
+own_of_run s (_ ∷ p) r = own_of_run s p r.1
 
 -- ---- the passed events are the batches and then the window
 
@@ -122,17 +149,12 @@ joined-append (x ∷ xs) names = ap (λ (t : List ℕ). x ++ t) (joined-append x
 
 pub run_is_batched : (s : Start) (p : List Entry) → IsRun s p → IsBatched p
 run_is_batched s [] r = refl
-run_is_batched s (Begin t z e k f j w c paths ∷ p) r = run_is_batched s p r.1
-run_is_batched s (Sent name event priority ∷ p) r = run_is_batched s p r.1
-run_is_batched s (Turned t ∷ p) r = run_is_batched s p r.1
-run_is_batched s (TurnFault code ∷ p) r = run_is_batched s p r.1
-run_is_batched s (Offer name item result event priority ∷ p) r = run_is_batched s p r.1
-run_is_batched s (Said word ∷ p) r = run_is_batched s p r.1
 run_is_batched s (Take name ∷ p) r =
     ap (λ (names : List ℕ). names ++ name ∷ []) (run_is_batched s p r.1) ∙ append_assoc (joined (batches p)) (window p) (name ∷ [])
 run_is_batched s (Hand n names acts ∷ p) r =
     let d = admits_hand s p (agenda s p) n names acts r.0 in
     run_is_batched s p r.1 ∙ ap (λ (t : List ℕ). joined (batches p) ++ t) (sym d.0) ∙ sym (joined-append (batches p) names) ∙ sym (append-nil (joined (batches p ++ names ∷ [])))
+run_is_batched s (_ ∷ p) r = run_is_batched s p r.1
 
 -- ---- urgent events
 
@@ -196,27 +218,12 @@ waits_rest s p p' Takes keep other h = keep h
 waits_rest s p p' Hands keep other h = absurd (other refl)
 waits_rest s p p' Ended keep other h = keep h
 
--- an agenda that admits these entries owes no batch
-no_batch_sent : (s : Start) (p : List Entry) (k : Agenda) (name : ℕ) (event : Event) (priority : Priority) → Admits s p k (Sent name event priority) → k ≡ Hands → ⊥
-no_batch_sent s p k name event priority d e = let h : Admits s p Hands (Sent name event priority) = subst (λ (j : Agenda). Admits s p j (Sent name event priority)) e d in let g = h.1 in cc
-
-no_batch_offer : (s : Start) (p : List Entry) (k : Agenda) (name : ℕ) (item : Option ℕ) (result : Offered) (event : Event) (priority : Priority) → Admits s p k (Offer name item result event priority) → k ≡ Hands → ⊥
-no_batch_offer s p k name item result event priority d e = let h : Admits s p Hands (Offer name item result event priority) = subst (λ (j : Agenda). Admits s p j (Offer name item result event priority)) e d in let g = h.1 in cc
-
-no_batch_said : (s : Start) (p : List Entry) (k : Agenda) (word : _) → Admits s p k (Said word) → k ≡ Hands → ⊥
-no_batch_said s p k word d e = let h : Admits s p Hands (Said word) = subst (λ (j : Agenda). Admits s p j (Said word)) e d in let g = h.1 in cc
-
-no_batch_take : (s : Start) (p : List Entry) (k : Agenda) (name : ℕ) → Admits s p k (Take name) → k ≡ Hands → ⊥
-no_batch_take s p k name d e = let h : Admits s p Hands (Take name) = subst (λ (j : Agenda). Admits s p j (Take name)) e d in let g = h.1 in cc
-
-no_batch_turned : (s : Start) (p : List Entry) (k : Agenda) (t : _) → Admits s p k (Turned t) → k ≡ Hands → ⊥
-no_batch_turned s p k t d e = let h : Admits s p Hands (Turned t) = subst (λ (j : Agenda). Admits s p j (Turned t)) e d in let g = h.1 in cc
-
-no_batch_fault : (s : Start) (p : List Entry) (k : Agenda) (code : ℕ) → Admits s p k (TurnFault code) → k ≡ Hands → ⊥
-no_batch_fault s p k code d e = let h : Admits s p Hands (TurnFault code) = subst (λ (j : Agenda). Admits s p j (TurnFault code)) e d in let g = h.1 in cc
-
-no_batch_begin : (s : Start) (p : List Entry) (k : Agenda) (t z e : ℕ) (f g j : Bool) (w : _) (c : List ℕ) (paths : _) → Admits s p k (Begin t z e f g j w c paths) → k ≡ Hands → ⊥
-no_batch_begin s p k t z e f g j w c paths d same = let h : Admits s p Hands (Begin t z e f g j w c paths) = subst (λ (i : Agenda). Admits s p i (Begin t z e f g j w c paths)) same d in let l = h.1 in cc
+-- an agenda that admits an entry that is no call on the hooks owes no batch
+no_batch : (s : Start) (p : List Entry) (k : Agenda) (e : Entry) → is_hooks e ≡ false → Admits s p k e → k ≡ Hands → ⊥
+no_batch s p k e other d same =
+    let h : Admits s p Hands e = subst (λ (j : Agenda). Admits s p j e) same d in
+    let both : true ≡ false = sym (ap is_hooks h.1) ∙ other in
+    absurd cc
 
 -- a window that isn't empty, where the throttle is over
 window_some : (names : List ℕ) (b : Bool) → (not (length names == 0) && b) ≡ true → 0 < length names
@@ -233,9 +240,9 @@ waits_work s p t false true e h = (h, refl)
 waits_work s p t false false e h = h
 
 waits_turn : (s : Start) (p : List Entry) (t : Turn) (kind : TurnKind) → NoneUrgentWaits p → Waits s (Turned t ∷ p) (turn_agenda s kind t.at p)
-waits_turn s p t (Arrive event priority) h = (h, refl)
 waits_turn s p t Work h = waits_work s p t (is_over s p t.at) (length (bag p) == 0) refl h
 waits_turn s p t Last h = h
+waits_turn s p t (_) h = (h, refl)
 
 waits_take : (s : Start) (p : List Entry) (name : ℕ) (urgent over : Bool) → is_urgent_named name p ≡ urgent → is_over s (Take name ∷ p) (moment p) ≡ over → NoneUrgentWaits p → Waits s (Take name ∷ p) (cond (urgent || over) Hands Open)
 waits_take s p name true over u o h = record {
@@ -256,46 +263,40 @@ waits_hand s p n names acts false = tt
 
 waits : (s : Start) (p : List Entry) → IsRun s p → Waits s p (agenda s p)
 waits s [] r = tt
-waits s (Begin t z e f g j w c paths ∷ p) r = waits_sends s (Begin t z e f g j w c paths ∷ p) s.events (calm s p (agenda s p) (waits s p r.1) (no_batch_begin s p (agenda s p) t z e f g j w c paths r.0))
+waits s (Begin t z e f g j w c paths ∷ p) r = waits_sends s (Begin t z e f g j w c paths ∷ p) s.events (calm s p (agenda s p) (waits s p r.1) (no_batch s p (agenda s p) (Begin t z e f g j w c paths) refl r.0))
 waits s (Sent name event priority ∷ p) r =
     let own = own_of_run s p r.1 in
     let new = admits_sent s p (agenda s p) name event priority r.0 in
     waits_rest s p (Sent name event priority ∷ p) (agenda s p)
     (λ h. subst (λ (m : ℕ). NoneUrgentWaits (Sent m event priority ∷ p)) (sym new) (calm-rise (event_count p) (Some (event, priority)) p (window p) (window_below p own) h))
-    (no_batch_sent s p (agenda s p) name event priority r.0) (waits s p r.1)
-waits s (Turned t ∷ p) r = waits_turn s p t t.kind (calm s p (agenda s p) (waits s p r.1) (no_batch_turned s p (agenda s p) t r.0))
-waits s (TurnFault code ∷ p) r = calm s p (agenda s p) (waits s p r.1) (no_batch_fault s p (agenda s p) code r.0)
+    (no_batch s p (agenda s p) (Sent name event priority) refl r.0) (waits s p r.1)
+waits s (Turned t ∷ p) r = waits_turn s p t t.kind (calm s p (agenda s p) (waits s p r.1) (no_batch s p (agenda s p) (Turned t) refl r.0))
+waits s (TurnFault code ∷ p) r = calm s p (agenda s p) (waits s p r.1) (no_batch s p (agenda s p) (TurnFault code) refl r.0)
 waits s (Offer name item result event priority ∷ p) r =
     let own = own_of_run s p r.1 in
     let new = (admits_offer s p (agenda s p) name item result event priority r.0).0 in
     waits_rest s p (Offer name item result event priority ∷ p) (agenda s p)
     (λ h. subst (λ (m : ℕ). NoneUrgentWaits (Offer m item result event priority ∷ p)) (sym new) (calm-rise (event_count p) (Some (event, priority)) p (window p) (window_below p own) h))
-    (no_batch_offer s p (agenda s p) name item result event priority r.0) (waits s p r.1)
-waits s (Said word ∷ p) r = waits_rest s p (Said word ∷ p) (agenda s p) (λ h. h) (no_batch_said s p (agenda s p) word r.0) (waits s p r.1)
-waits s (Take name ∷ p) r = waits_take s p name (is_urgent_named name p) (is_over s (Take name ∷ p) (moment p)) refl refl (calm s p (agenda s p) (waits s p r.1) (no_batch_take s p (agenda s p) name r.0))
+    (no_batch s p (agenda s p) (Offer name item result event priority) refl r.0) (waits s p r.1)
+waits s (Take name ∷ p) r = waits_take s p name (is_urgent_named name p) (is_over s (Take name ∷ p) (moment p)) refl refl (calm s p (agenda s p) (waits s p r.1) (no_batch s p (agenda s p) (Take name) refl r.0))
 waits s (Hand n names acts ∷ p) r = waits_hand s p n names acts (has_quit acts)
+waits s (e ∷ p) r = waits_rest s p (e ∷ p) (agenda s p) (λ h. h) (no_batch s p (agenda s p) e refl r.0) (waits s p r.1)
 
 -- each batch of a run is one
 pub run_has_batches : (s : Start) (p : List Entry) → IsRun s p → AreBatches s p
 run_has_batches s [] r = tt
-run_has_batches s (Begin t z e f g j w c paths ∷ p) r = run_has_batches s p r.1
-run_has_batches s (Sent name event priority ∷ p) r = run_has_batches s p r.1
-run_has_batches s (Turned t ∷ p) r = run_has_batches s p r.1
-run_has_batches s (TurnFault code ∷ p) r = run_has_batches s p r.1
-run_has_batches s (Offer name item result event priority ∷ p) r = run_has_batches s p r.1
-run_has_batches s (Said word ∷ p) r = run_has_batches s p r.1
-run_has_batches s (Take name ∷ p) r = run_has_batches s p r.1
 run_has_batches s (Hand n names acts ∷ p) r =
     let d = admits_hand s p (agenda s p) n names acts r.0 in
     let w : Waits s p Hands = subst (Waits s p) d.1 (waits s p r.1) in
     (subst (IsBatch s p) (sym d.0) w, run_has_batches s p r.1)
+run_has_batches s (_ ∷ p) r = run_has_batches s p r.1
 
 -- no urgent event waits in a run that owes something else than a batch, nor directly after a turn
 pub none_waits : (s : Start) (p : List Entry) → IsRun s p → (agenda s p ≡ Hands → ⊥) → NoneUrgentWaits p
 none_waits s p r other = calm s p (agenda s p) (waits s p r) other
 
 pub none_waits_at_turn : (s : Start) (t : _) (p : List Entry) → IsRun s (Turned t ∷ p) → NoneUrgentWaits (Turned t ∷ p)
-none_waits_at_turn s t p r = calm s p (agenda s p) (waits s p r.1) (no_batch_turned s p (agenda s p) t r.0)
+none_waits_at_turn s t p r = calm s p (agenda s p) (waits s p r.1) (no_batch s p (agenda s p) (Turned t) refl r.0)
 
 -- a window that is to be handed isn't empty
 pub window_to_hand : (s : Start) (p : List Entry) → IsRun s p → agenda s p ≡ Hands → 0 < length (window p)

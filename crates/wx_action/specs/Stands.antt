@@ -11,13 +11,14 @@ use Rattle.wx_journal.specs.declared.entry.Offered.TheVariants.{Queued, Full}
 use Rattle.wx_journal.specs.declared.entry.TurnKind.{TurnKind}
 use Rattle.wx_journal.specs.declared.entry.TurnKind.TheVariants.{Work}
 use Rattle.wx_journal.specs.declared.entry.Word.TheVariants.{Idle}
+use Rattle.wx_journal.specs.Names.{event_count}
 use Rattle.wx_action.specs.declared.state.Worker.{Worker}
 use Rattle.wx_action.specs.declared.work.Collected.{Collected}
 use Rattle.wx_action.specs.declared.work.Collected.TheVariants as collected
 use Rattle.wx_action.specs.declared.work.Worked.{Worked}
 use Rattle.wx_action.specs.declared.work.Worked.TheVariants as worked
 use Rattle.wx_action.specs.Start.{Start}
-use Rattle.wx_action.specs.Journal.{settings, event_count, bag, window, first}
+use Rattle.wx_action.specs.Journal.{settings, bag, window, first}
 use Rattle.wx_action.specs.Due.{agenda, Open, Hands, Ended, IsRun}
 use Rattle.wx_action.specs.Handled.{AreEvents, lookup}
 

@@ -4,12 +4,12 @@ use Rattle.wx_journal.specs.declared.entry.Entry.{Entry}
 use Rattle.wx_journal.specs.declared.entry.Entry.TheVariants.{Turn as Turned}
 use Rattle.wx_journal.specs.declared.entry.Turn.{Turn}
 use Rattle.wx_journal.specs.declared.entry.TurnKind.{TurnKind}
-use Rattle.wx_journal.specs.declared.entry.TurnKind.TheVariants.{Arrive, Work, Last}
+use Rattle.wx_journal.specs.declared.entry.TurnKind.TheVariants.{Work}
+use Rattle.wx_journal.specs.Names.{moment, NamesItsOwn}
+use Rattle.wx_journal.specs.Told.{is_hooks, More as MoreObeyed}
 use Rattle.wx_action.specs.declared.state.Worker.{Worker}
 use Rattle.wx_action.specs.Start.{Start}
-use Rattle.wx_action.specs.Journal.{moment}
 use Rattle.wx_action.specs.Due.{Open, agenda, turn_agenda, IsRun}
-use Rattle.wx_action.specs.Told.{NamesItsOwn, is_hooks, More as MoreObeyed}
 use Rattle.wx_action.specs.Laws.{NoneUrgentWaits}
 use Rattle.wx_action.specs.Leads.{Apart, Same, More, Promised}
 use Rattle.wx_action.specs.Stands.{Ready, AtTurn}
@@ -24,9 +24,8 @@ pub record IsDrawn (s : Start) (w : Worker) (at : ℕ) (kind : TurnKind) (p : Li
 
 -- another turn changes nothing of what is asked of a journal
 same_agenda : (s : Start) (t : Turn) (kind : TurnKind) (at : ℕ) (before : List Entry) → turn_agenda s kind at before ≡ turn_agenda s kind at (Turned t ∷ before)
-same_agenda s t (Arrive event priority) at before = refl
 same_agenda s t Work at before = refl
-same_agenda s t Last at before = refl
+same_agenda s t (_) at before = refl
 
 pub at_turn : (s : Start) (w : Worker) (at : ℕ) (kind : TurnKind) (p : List Entry) → AtTurn s w at kind p → IsDrawn s w at kind p
 at_turn s w at kind p a =

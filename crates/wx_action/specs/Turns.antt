@@ -1,8 +1,9 @@
 -- The turns of a journal stay as they are over entries that are none.
 use Rattle.std.specs.Prelude.{◌≡◌, Option, List}
 use Rattle.wx_journal.specs.declared.entry.Entry.{Entry}
-use Rattle.wx_action.specs.Journal.{moment, turn_count, turn_fault}
-use Rattle.wx_action.specs.Told.{tells, is_turn}
+use Rattle.wx_journal.specs.Names.{moment}
+use Rattle.wx_journal.specs.Told.{tells, is_turn}
+use Rattle.wx_action.specs.Journal.{turn_count, turn_fault}
 use Rattle.wx_action.specs.Laws.{MomentsRise}
 
 -- the second journal has the turns of the first

@@ -1,6 +1,7 @@
 // The handler that is lent to an action: it shows the batch, and collects acts.
 ghost use Rattle.std.specs.Prelude.{◌≡◌, ◌∷◌, ◌++◌, [], ◌<◌, ◌≤◌, ◌+◌, Bool, true, false, length};
-ghost use Rattle.wx_action.specs.Handled.{with_quit, AreEvents, lookup};
+ghost use Rattle.wx_action.specs.Due.{is_quit};
+ghost use Rattle.wx_action.specs.Handled.{ends_with_quit, with_quit, AreEvents, lookup};
 ghost use Rattle.wx_journal.specs.declared.entry.Entry.TheVariants.{Hand};
 
 use crate::batch::Batch;
@@ -39,6 +40,24 @@ impl<'a> Model for ActionHandler<'a> {
     ghost invariant = { λ h. IsKept h.journal.now.past h.names.items h.events h.acts.items (vec_capacity h.acts) h.second };
 }
 
+/// Whether an act is a quit.
+fn is_quit(act: Act) -> bool
+    ensures { result ≡ is_quit act }
+{
+    matches!(act, Act::Quit)
+}
+
+/// Whether the last of these acts is a quit.
+#[tactic(auto, using(crate::proofs::QuitLemmas::at_end))]
+fn ends_with_quit(acts: &[Act]) -> bool
+    ensures { result ≡ ends_with_quit acts.now }
+{
+    match acts.last() {
+        Some(act) => is_quit(*act),
+        None => false,
+    }
+}
+
 impl<'a> ActionHandler<'a> {
     /// A handler that shows this batch, which isn't empty, and holds no act. It takes no memory.
     pub(crate) fn new(journal: &'a Journal, batch: Batch) -> ActionHandler<'a>
@@ -75,10 +94,11 @@ impl<'a> ActionHandler<'a> {
 
     /// Asks for the end of the run. Of several such acts the last stands; one that directly follows another is not
     /// listed again. It takes no memory.
+    #[tactic(auto, using(crate::proofs::QuitLemmas::quit_last))]
     pub fn quit(&mut self)
         ensures { self.new ≡ record self.old { acts = with_quit self.old.acts } }
     {
-        if !self.acts.as_slice().is_empty() {
+        if ends_with_quit(self.acts.as_slice()) {
             return;
         }
         self.acts.push_reserved(Act::Quit);

@@ -1,10 +1,12 @@
 // The traits of the outside: what the engine asks of its world, and of the hooks that its user hands in.
-ghost use Rattle.std.specs.Prelude.{◌≡◌, ◌∷◌, [], ◌≤◌, ◌<◌, ◌+◌, OnOk, OnErr, IfOk, is_err, List, ℕ, Bool, true, false, Option};
+ghost use Rattle.std.specs.Prelude.{◌≡◌, ◌∷◌, [], ◌≤◌, ◌<◌, ◌+◌, IfOk, is_err, true, false};
 ghost use Rattle.wx_journal.specs.declared.entry.Entry.{Entry};
-ghost use Rattle.wx_action.specs.Told.{tell, turned, gives_last, moment_after, is_hooks, Counts, NamesItsOwn};
+ghost use Rattle.wx_journal.specs.Names.{NamesItsOwn};
+ghost use Rattle.wx_journal.specs.Told.{tell, Counts};
+ghost use Rattle.wx_action.specs.Told.{turned, gives_last, moment_after};
 
 use crate::handler::ActionHandler;
-use wx_events::Memory;
+use wx_job::{Host, JobHooks};
 use wx_journal::{Entry, Turn};
 
 /// The world has no turn to give: the code of the fault.
@@ -17,60 +19,6 @@ pub struct Turned {
     pub turn: Turn,
 }
 
-/// What the parts of the outside mean to contracts. It has no call: each call of the traits that stand on it says
-/// what it keeps of these.
-pub trait Outside {
-    /// The type of what no call changes.
-    ghost Plan: { Type 0 };
-
-    /// What no call changes.
-    ghost plan: { Self → Plan };
-
-    /// The entries that were told so far, the newest first, where it tells.
-    ghost told: { Self → Option (List Entry) };
-
-    /// The turns, and their faults, that were given so far, the newest first, where it tells them.
-    ghost turns: { Self → Option (List Entry) };
-
-    /// How many entries there is room to tell.
-    ghost spare: { Self → ℕ };
-
-    /// How many turns are left.
-    ghost left: { Self → ℕ };
-
-    /// The moment of the last turn that was given.
-    ghost moment: { Self → ℕ };
-
-    /// How often a call on a child failed. No count of this trait ever falls.
-    ghost host_faults: { Self → ℕ };
-
-    /// How often a turn failed.
-    ghost turn_faults: { Self → ℕ };
-
-    /// How often a backend could not be made.
-    ghost maker_faults: { Self → ℕ };
-
-    /// Where the object lies that is lent to it, where one is.
-    ghost place: { Self → List ℕ } = { λ _. [] };
-}
-
-/// What runs children.
-pub trait Host: Outside {
-    /// Takes room to tell `n` entries more. It fails only for want of memory.
-    fn reserve(&mut self, n: u64) -> Result<(), Memory>
-        ensures room { OnOk result (n ≤ Self.spare self.new) }
-        ensures kept { Self.spare self.old ≤ Self.spare self.new }
-        ensures plan { Self.plan self.new ≡ Self.plan self.old }
-        ensures told { Self.told self.new ≡ Self.told self.old }
-        ensures turns { Self.turns self.new ≡ Self.turns self.old }
-        ensures left { Self.left self.new ≡ Self.left self.old }
-        ensures moment { Self.moment self.new ≡ Self.moment self.old }
-        ensures host_faults { Self.host_faults self.new ≡ Self.host_faults self.old }
-        ensures turn_faults { Self.turn_faults self.new ≡ Self.turn_faults self.old }
-        ensures maker_faults { Self.maker_faults self.new ≡ Self.maker_faults self.old }
-        ensures place { Self.place self.new ≡ Self.place self.old };
-}
-
 /// What gives the turns of a run.
 pub trait World: Host {
     /// The next turn, or the fault for which there is none. It is the last turn exactly where no turn is left; else
@@ -78,60 +26,18 @@ pub trait World: Host {
     fn turn(&mut self) -> Result<Turned, TurnFault>
         requires { 1 ≤ Self.spare self.old }
         ensures told { Self.told self.new ≡ tell (turned result) (Self.told self.old) }
-        ensures turns { Self.turns self.new ≡ tell (turned result) (Self.turns self.old) }
+        ensures turns { (Self.progress self.new).turns ≡ tell (turned result) (Self.progress self.old).turns }
         ensures room { Self.spare self.old ≤ Self.spare self.new + 1 }
         ensures plan { Self.plan self.new ≡ Self.plan self.old }
-        ensures last { gives_last result ≡ true → Self.left self.old ≡ 0 }
-        ensures ends { Self.left self.old ≡ 0 → gives_last result ≡ true }
-        ensures falls { gives_last result ≡ false → Self.left self.new < Self.left self.old }
-        ensures later { IfOk result (λ given. Self.moment self.old ≤ given.turn.at) }
-        ensures moment { Self.moment self.new ≡ moment_after (Self.moment self.old) result }
-        ensures faults { Counts (is_err result) (Self.turn_faults self.old) (Self.turn_faults self.new) }
+        ensures last { gives_last result ≡ true → (Self.progress self.old).left ≡ 0 }
+        ensures ends { (Self.progress self.old).left ≡ 0 → gives_last result ≡ true }
+        ensures falls { gives_last result ≡ false → (Self.progress self.new).left < (Self.progress self.old).left }
+        ensures later { IfOk result (λ given. (Self.progress self.old).moment ≤ given.turn.at) }
+        ensures moment { (Self.progress self.new).moment ≡ moment_after (Self.progress self.old).moment result }
+        ensures faults { Counts (is_err result) (Self.progress self.old).turn_faults (Self.progress self.new).turn_faults }
+        ensures maker_faults { (Self.progress self.old).maker_faults ≤ (Self.progress self.new).maker_faults }
         ensures host_faults { Self.host_faults self.old ≤ Self.host_faults self.new }
-        ensures maker_faults { Self.maker_faults self.old ≤ Self.maker_faults self.new }
         ensures place { Self.place self.new ≡ Self.place self.old };
-}
-
-/// What jobs call. It has a plan, which no call changes, and a rule: whether a call on it may come after a journal.
-/// It stands for the journals whose calls leave just this object. It is short once it was refused memory for what it
-/// was to do.
-pub trait JobHooks {
-    /// The type of the plan.
-    ghost Plan: { Type 0 };
-
-    /// What no call changes.
-    ghost plan: { Self → Plan };
-
-    /// Whether an entry, which is a call on these hooks, may come after these.
-    ghost rule: { Plan → List Entry → Entry → Type 0 };
-
-    /// Whether the calls in this journal left just this object.
-    ghost stands: { Self → List Entry → Type 0 };
-
-    /// Whether something was refused for want of memory.
-    ghost short: { Self → Bool };
-
-    /// The entries that were told so far, the newest first, where it tells.
-    ghost told: { Self → Option (List Entry) };
-
-    /// How many entries there is room to tell.
-    ghost spare: { Self → ℕ };
-
-    /// Where the object lies that is lent to it, where one is.
-    ghost place: { Self → List ℕ } = { λ _. [] };
-
-    /// Takes room to tell `n` entries more. It fails only for want of memory.
-    fn reserve(&mut self, n: u64) -> Result<(), Memory>
-        ensures room { OnOk result (n ≤ spare self.new) }
-        ensures kept { spare self.old ≤ spare self.new }
-        ensures plan { plan self.new ≡ plan self.old }
-        ensures told { told self.new ≡ told self.old }
-        ensures short { short self.new ≡ short self.old }
-        ensures stands { (p : List Entry) → stands self.old p → stands self.new p }
-        ensures place { place self.new ≡ place self.old };
-
-    /// What is no call on it leaves what it stands for.
-    ghost stands_other: { (x : Self) (p : List Entry) (e : Entry) → NamesItsOwn p → is_hooks e ≡ false → stands x p → stands x (e ∷ p) };
 }
 
 /// What the engine calls.

@@ -4,9 +4,11 @@ ghost use Rattle.wx_events.specs.declared.event.Event.{Event as AnEvent};
 ghost use Rattle.wx_events.specs.declared.priority.Priority.{Priority as APriority};
 ghost use Rattle.prio_channel.specs.SameBag.{SameBag};
 ghost use Rattle.wx_journal.specs.declared.entry.Entry.{Entry};
+ghost use Rattle.wx_journal.specs.declared.entry.Word.TheVariants.{Ignored};
+ghost use Rattle.wx_journal.specs.Names.{event_count};
 ghost use Rattle.wx_action.specs.Start.{Start, IsSize};
-ghost use Rattle.wx_action.specs.Journal.{bag, event_count};
-ghost use Rattle.wx_action.specs.Due.{agenda, Open, Sends, rest, Offers, begin_of};
+ghost use Rattle.wx_action.specs.Journal.{bag};
+ghost use Rattle.wx_action.specs.Due.{agenda, Open, Sends, rest, Offers, Says, begin_of};
 ghost use Rattle.wx_action.specs.Leads.{FollowsAlone, StaysApart};
 ghost use Rattle.wx_action.specs.Turns.{StaysInTurn};
 ghost use Rattle.wx_action.specs.Stands.{Stands, Ready, IsOffered};
@@ -16,7 +18,7 @@ use crate::config::Config;
 use prio_channel::PrioQueue;
 use std::alloc::Global;
 use wx_events::{Copies, Event, Memory, Priority};
-use wx_journal::{Entry, Journal, Named, Offered};
+use wx_journal::{Entry, Journal, Named, Offered, Word};
 
 /// What an engine keeps between turns: its settings, the queue, how many events have a name, the window, and the moment
 /// at which the window's first event was taken, in nanoseconds.
@@ -110,6 +112,23 @@ impl Worker {
             event,
             priority,
         });
+        Ok(())
+    }
+
+    /// Says of a turn that what it is about isn't there. It fails only for want of memory, and leaves all as it was then.
+    pub fn ignored(&mut self, journal: &mut Journal) -> Result<(), Memory>
+        ghost start: { Start }
+        requires due { agenda start journal.old.past ≡ Says Ignored Open }
+        requires ready { Ready start self.old journal.old.past }
+        ensures ready { Ready start self.new journal.new.past }
+        ensures follows { FollowsAlone start journal.old.past journal.new.past }
+        ensures apart { StaysApart journal.old.past journal.new.past }
+        ensures turns { StaysInTurn journal.old.past journal.new.past }
+        ensures done { OnOk result (agenda start journal.new.past ≡ Open) }
+        ensures err { OnErr result (journal.new.past ≡ journal.old.past) }
+    {
+        journal.reserve(1)?;
+        journal.push(Entry::Word(Word::Ignored));
         Ok(())
     }
 }

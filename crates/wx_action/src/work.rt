@@ -1,9 +1,10 @@
 // A Work turn: an event is taken, and the window is handed where it is due.
 ghost use Rattle.std.specs.Prelude.{◌≡◌, ◌∷◌, [], ◌+◌, ◌<◌, ◌≤◌, ◌==◌, ◌||◌, nat_le, true, false, if◌then◌else◌, length, List, Option, IfOk, IfErr, OnErr};
 ghost use Rattle.wx_journal.specs.declared.entry.Entry.{Entry};
+ghost use Rattle.wx_journal.specs.Names.{moment};
 ghost use Rattle.wx_action.specs.declared.error.CriticalError.TheVariants.{Memory as WantOfMemory};
 ghost use Rattle.wx_action.specs.Start.{Start};
-ghost use Rattle.wx_action.specs.Journal.{moment, bag, is_over, is_over_of};
+ghost use Rattle.wx_action.specs.Journal.{bag, is_over, is_over_of};
 ghost use Rattle.wx_action.specs.Due.{agenda, work, has_quit, Open, Takes, Hands, Ended};
 ghost use Rattle.wx_action.specs.Leads.{StaysApart, FollowsAlone, FollowsHooks, Follows, Promised};
 ghost use Rattle.wx_action.specs.Laws.{NoneUrgentWaits};
@@ -13,10 +14,11 @@ ghost use Rattle.wx_action.specs.Stands.{Stands, Ready, AtWork, Collects, Works}
 use crate::batch::Batch;
 use crate::error::CriticalError;
 use crate::handler::ActionHandler;
-use crate::outside::{Hooks, Host};
+use crate::outside::Hooks;
 use crate::state::Worker;
 use std::alloc::Global;
 use std::mem;
+use wx_job::Host;
 use wx_journal::{Act, Entry, Journal, Word};
 
 /// What a Work turn collected.

@@ -1,12 +1,18 @@
 -- A turn is drawn and served.
-use Rattle.std.proofs.Common.{◌≡◌, ℕ, ◌+◌, ◌≤◌, Bool, false, Option, List, [], ◌∷◌, refl, subst}
+use Rattle.std.proofs.Common.{◌≡◌, ℕ, ◌+◌, ◌≤◌, ◌⊎◌, inl, inr, Bool, false, Option, List, [], ◌∷◌, refl, subst}
+use Rattle.wx_control.specs.declared.id.Id.{Id}
+use Rattle.wx_control.specs.declared.ask.Ask.{Ask as Asked}
 use Rattle.wx_journal.specs.declared.entry.Entry.{Entry}
 use Rattle.wx_journal.specs.declared.entry.Entry.TheVariants.{Turn as Turned, TurnFault}
 use Rattle.wx_journal.specs.declared.entry.Turn.{Turn}
+use Rattle.wx_journal.specs.declared.entry.TurnKind.{TurnKind}
+use Rattle.wx_journal.specs.declared.entry.TurnKind.TheVariants.{Job, Ended, Ask}
+use Rattle.wx_journal.specs.declared.entry.Word.TheVariants.{Ignored}
+use Rattle.wx_journal.specs.Names.{moment, NamesItsOwn}
+use Rattle.wx_journal.specs.Told.{tell, tells, is_hooks, is_turn}
 use Rattle.wx_action.specs.Start.{Start}
-use Rattle.wx_action.specs.Journal.{moment, turn_count, turn_fault}
-use Rattle.wx_action.specs.Due.{agenda, Open, IsRun}
-use Rattle.wx_action.specs.Told.{tell, tells, is_hooks, is_turn, NamesItsOwn}
+use Rattle.wx_action.specs.Journal.{turn_count, turn_fault}
+use Rattle.wx_action.specs.Due.{agenda, turn_agenda, Open, Says, IsRun}
 use Rattle.wx_action.specs.Laws.{NoneUrgentWaits, MomentsRise}
 use Rattle.wx_action.specs.Leads.{Follows, Then, Same, More, Promised}
 use Rattle.wx_action.specs.Turns.{SameTurns, StaysInTurn}
@@ -63,3 +69,9 @@ served t p mid p' grown stays =
 -- a journal has its own turns
 pub same_turns : (p : List Entry) → SameTurns p p
 same_turns p = record { count = refl; fault = refl; now = refl; rise = λ r. r; told = λ before. refl }
+
+-- a turn that names a job or a child owes the word that it is ignored
+pub owes_ignored : (s : Start) (kind : TurnKind) (at : ℕ) (p : List Entry) → ((job : Id) × (kind ≡ Job job)) ⊎ (((child : ℕ) × (kind ≡ Ended child)) ⊎ ((job : Id) × (ask : Asked) × (kind ≡ Ask job ask))) → turn_agenda s kind at p ≡ Says Ignored Open
+owes_ignored s kind at p (inl (job, is)) = rw is refl
+owes_ignored s kind at p (inr (inl (child, is))) = rw is refl
+owes_ignored s kind at p (inr (inr (job, ask, is))) = rw is refl

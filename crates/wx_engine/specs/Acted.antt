@@ -3,10 +3,10 @@ use Rattle.std.specs.Prelude.{◌≡◌, ℕ, min, false, Option, None, Some, Li
 use Rattle.wx_journal.specs.declared.entry.Act.{Act}
 use Rattle.wx_journal.specs.declared.entry.Act.TheVariants.{Quit}
 use Rattle.wx_journal.specs.declared.entry.Entry.{Entry}
-use Rattle.wx_journal.specs.declared.entry.Entry.TheVariants.{Begin, Sent, Turn, TurnFault, Offer, Word, Take, Hand}
+use Rattle.wx_journal.specs.declared.entry.Entry.TheVariants.{Hand}
+use Rattle.wx_journal.specs.Told.{is_hooks, Obeys, Same, More}
 use Rattle.wx_action.specs.Handled.{with_quit}
 use Rattle.wx_action.specs.Journal.{hand_count}
-use Rattle.wx_action.specs.Told.{is_hooks, Obeys, Same, More}
 
 -- what a handler with these acts has after these too, one by one
 abbrev pub performed : List Act → List Act → List Act
@@ -32,14 +32,8 @@ StandsFor plan next p = next ≡ min (hand_count p) (length plan)
 
 -- an entry that is no call on the hooks keeps it
 pub keeps_stand : (plan : List (List Act)) (next : ℕ) (p : List Entry) (e : Entry) → is_hooks e ≡ false → StandsFor plan next p → StandsFor plan next (e ∷ p)
-keeps_stand plan next p (Begin throttle size errors keyboard follow jobsignals watcher cwd paths) other stands = stands
-keeps_stand plan next p (Sent name event priority) other stands = stands
-keeps_stand plan next p (Turn t) other stands = stands
-keeps_stand plan next p (TurnFault code) other stands = stands
-keeps_stand plan next p (Offer name item result event priority) other stands = stands
-keeps_stand plan next p (Word w) other stands = stands
-keeps_stand plan next p (Take name) other stands = stands
-keeps_stand plan next p (Hand n names acts) other stands = cc
+keeps_stand plan next p (Hand n names acts) other stands = absurd cc
+keeps_stand plan next p (_) other stands = stands
 
 -- in each of these calls
 abbrev pub FollowsActs : List (List Act) → List Entry → Type 0
@@ -50,11 +44,5 @@ FollowsActs plan (_ ∷ p) = FollowsActs plan p
 -- a journal whose calls pass the rule
 pub follows_acts : (plan : List (List Act)) (p : List Entry) → Obeys (acts_rule plan) [] p → FollowsActs plan p
 follows_acts plan _ Same = tt
-follows_acts plan _ (More (Begin throttle size errors keyboard follow jobsignals watcher cwd paths) p before rule) = follows_acts plan p before
-follows_acts plan _ (More (Sent name event priority) p before rule) = follows_acts plan p before
-follows_acts plan _ (More (Turn t) p before rule) = follows_acts plan p before
-follows_acts plan _ (More (TurnFault code) p before rule) = follows_acts plan p before
-follows_acts plan _ (More (Offer name item result event priority) p before rule) = follows_acts plan p before
-follows_acts plan _ (More (Word w) p before rule) = follows_acts plan p before
-follows_acts plan _ (More (Take name) p before rule) = follows_acts plan p before
 follows_acts plan _ (More (Hand n names acts) p before rule) = (rule refl, follows_acts plan p before)
+follows_acts plan _ (More (_) p before rule) = follows_acts plan p before

@@ -4,12 +4,12 @@ use Rattle.std.proofs.lemmas.List.{append-nil}
 use Rattle.std.specs.List.{filter, list_all}
 use Rattle.wx_journal.specs.declared.entry.Entry.{Entry}
 use Rattle.wx_journal.specs.declared.entry.Turn.{Turn as Timed}
+use Rattle.wx_journal.specs.Told.{tell_if, tells, is_turn}
 use Rattle.wx_action.specs.Start.{IsStart}
-use Rattle.wx_action.specs.Told.{tell_if, tells, is_turn}
 use Rattle.wx_engine.specs.declared.script.Script.{Script}
 use Rattle.wx_engine.specs.declared.script.ScriptTurn.{ScriptTurn}
 use Rattle.wx_engine.specs.declared.script.ScriptTurn.TheVariants.{Turn, Fault}
-use Rattle.wx_engine.specs.Turns.{comes, risen, Rises, Given, first_given}
+use Rattle.wx_engine.specs.Turns.{comes, risen, Rises, Given, first_given, turns_of, FollowsGiven}
 use Rattle.wx_engine.specs.Follows.{IsScript, start_of, given_of, FollowsTurns}
 
 -- what is told is the old list with the calls in front
@@ -23,14 +23,14 @@ tells_filter mine (e ∷ p) before =
 
 -- a world that gives the script's turns, told the first ones, and told those of this run
 pub follows_turns : (s : Script) (plan : Given) (told p : List Entry)
-    → plan ≡ given_of s → told ≡ first_given plan (length told) → Some told ≡ tells is_turn p (Some []) → FollowsTurns s p
+    → plan ≡ given_of s → FollowsGiven plan told → Some (turns_of told) ≡ tells is_turn p (Some []) → FollowsTurns s p
 follows_turns s plan told p is follows tells_run =
-    subst (λ (turns : List Entry). turns ≡ first_given (given_of s) (length turns)) same (follows ∙ ap (λ (g : Given). first_given g (length told)) is)
+    subst (λ (turns : List Entry). turns ≡ first_given (given_of s) (length turns)) same (follows ∙ ap (λ (g : Given). first_given g (length (turns_of told))) is)
   where
-    whole : Some told ≡ Some (filter is_turn p)
-    whole = tells_run ∙ tells_filter is_turn p [] ∙ ap Some (append-nil (filter is_turn p))
+    whole : Some (turns_of told) ≡ Some (turns_of p)
+    whole = tells_run ∙ tells_filter is_turn p [] ∙ ap Some (append-nil (turns_of p))
 
-    same : told ≡ filter is_turn p
+    same : turns_of told ≡ turns_of p
     same = cc whole
 
 -- the engine may start from a script

@@ -1,11 +1,10 @@
 -- What it means that a run follows a script.
 use Rattle.std.specs.Prelude.{◌≡◌, ◌≤◌, true, List, [], ◌∷◌, length}
-use Rattle.std.specs.List.{filter, list_all}
+use Rattle.std.specs.List.{list_all}
 use Rattle.wx_journal.specs.declared.entry.Entry.{Entry}
 use Rattle.wx_action.specs.Start.{Start, default_config, IsSize}
-use Rattle.wx_action.specs.Told.{is_turn}
 use Rattle.wx_engine.specs.declared.script.Script.{Script}
-use Rattle.wx_engine.specs.Turns.{comes, Rises, Given, first_given}
+use Rattle.wx_engine.specs.Turns.{comes, Rises, Given, FollowsGiven}
 use Rattle.wx_engine.specs.Acted.{FollowsActs}
 
 -- what holds of each script that is read
@@ -29,7 +28,7 @@ given_of s = record { turns = s.turns; last = s.last }
 
 -- the turns of the run are the script's first ones
 abbrev pub FollowsTurns : Script → List Entry → Type 0
-FollowsTurns s p = filter is_turn p ≡ first_given (given_of s) (length (filter is_turn p))
+FollowsTurns s p = FollowsGiven (given_of s) p
 
 -- the run follows the script: in its turns, and in what is asked for in each call of the action handler
 pub record Follows (s : Script) (p : List Entry) : Type 0 where

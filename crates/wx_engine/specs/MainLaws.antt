@@ -1,9 +1,9 @@
 -- What a run that led from the empty journal to this one told.
 use Rattle.std.proofs.Common.{◌≡◌, Option, List, [], refl, ap}
 use Rattle.wx_journal.specs.declared.entry.Entry.{Entry}
+use Rattle.wx_journal.specs.Told.{tell_if, tells, is_world, is_hooks}
 use Rattle.wx_action.specs.Start.{Start}
 use Rattle.wx_action.specs.Due.{IsRun}
-use Rattle.wx_action.specs.Told.{tell_if, tells, is_world, is_hooks}
 use Rattle.wx_action.specs.Leads.{Leads, Here, Then}
 
 -- the world was told its entries, and no other

@@ -1,9 +1,9 @@
 -- What a run of the engine told of its turns, and why it ended early.
 use Rattle.std.specs.Prelude.{◌≡◌, ℕ, Option, List}
 use Rattle.wx_journal.specs.declared.entry.Entry.{Entry}
+use Rattle.wx_journal.specs.Told.{tells, is_turn, Rose}
 use Rattle.wx_action.specs.declared.error.CriticalError.{CriticalError}
 use Rattle.wx_action.specs.declared.error.CriticalError.TheVariants.{IoError, Memory}
-use Rattle.wx_action.specs.Told.{tells, is_turn, Rose}
 
 -- where the world told the turns of the one journal it then tells those of the other
 abbrev pub TellsTurns : List Entry → Option (List Entry) → List Entry → Option (List Entry) → Type 0

@@ -1,8 +1,10 @@
 -- The turns of a script, and what a world that follows it gives.
-use Rattle.std.specs.Prelude.{◌≡◌, ℕ, zero, suc, Bool, true, not, nat_le, if◌then◌else◌, Option, None, Some, List, [], ◌∷◌, slice_get}
+use Rattle.std.specs.Prelude.{◌≡◌, ℕ, zero, suc, Bool, true, not, nat_le, if◌then◌else◌, Option, None, Some, List, [], ◌∷◌, length, slice_get}
+use Rattle.std.specs.List.{filter}
 use Rattle.wx_journal.specs.declared.entry.Entry.{Entry}
 use Rattle.wx_journal.specs.declared.entry.Entry.TheVariants.{Turn as Turned, TurnFault}
 use Rattle.wx_journal.specs.declared.entry.TurnKind.TheVariants.{Last}
+use Rattle.wx_journal.specs.Told.{is_turn}
 use Rattle.wx_action.specs.Told.{is_last}
 use Rattle.wx_engine.specs.declared.script.ScriptTurn.{ScriptTurn}
 use Rattle.wx_engine.specs.declared.script.ScriptTurn.TheVariants.{Turn, Fault}
@@ -44,3 +46,11 @@ given plan k = entry_or_last plan.last (slice_get plan.turns k)
 abbrev pub first_given : Given → ℕ → List Entry
 first_given plan zero = []
 first_given plan (suc n) = given plan n ∷ first_given plan n
+
+-- the turns and turn faults among these entries
+abbrev pub turns_of : List Entry → List Entry
+turns_of p = filter is_turn p
+
+-- they are the first ones that are given
+abbrev pub FollowsGiven : Given → List Entry → Type 0
+FollowsGiven plan p = turns_of p ≡ first_given plan (length (turns_of p))

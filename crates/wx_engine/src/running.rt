@@ -1,11 +1,13 @@
 // A run of the engine.
 ghost use Rattle.std.specs.Prelude.{◌≡◌, ◌∷◌, ◌++◌, [], ◌+◌, ◌<◌, ◌≤◌, false, length, List, ℕ, Option, None, OnOk, OnErr, IfOk, IfErr, codes};
 ghost use Rattle.wx_journal.specs.declared.entry.Entry.{Entry as AnEntry};
+ghost use Rattle.wx_journal.specs.Names.{moment};
+ghost use Rattle.wx_journal.specs.Told.{is_world, is_hooks, is_turn, tells, Obeys, Rose};
 ghost use Rattle.wx_action.specs.declared.error.CriticalError.TheVariants.{Memory as WantOfMemory};
 ghost use Rattle.wx_action.specs.Start.{Start, IsStart};
-ghost use Rattle.wx_action.specs.Journal.{moment, turn_count, turn_fault};
+ghost use Rattle.wx_action.specs.Journal.{turn_count, turn_fault};
 ghost use Rattle.wx_action.specs.Due.{agenda, begin_of, Open, IsRun};
-ghost use Rattle.wx_action.specs.Told.{is_world, is_hooks, is_turn, is_last, tells, Obeys, Rose};
+ghost use Rattle.wx_action.specs.Told.{is_last};
 ghost use Rattle.wx_action.specs.Laws.{IsBatched, AreBatches, NoneUrgentWaits, MomentsRise};
 ghost use Rattle.wx_action.specs.Answer.{Answers};
 ghost use Rattle.wx_action.specs.Leads.{StaysApart, FollowsAlone, Follows, Promised};
@@ -101,6 +103,10 @@ fn serve<W: World, H: Hooks>(
             Ok(Worked::On)
         }
         TurnKind::Work => worker(alloc, state, at, world, hooks, journal),
+        TurnKind::Job(_) | TurnKind::Ended(_) | TurnKind::Ask(_, _) => {
+            state.ignored(journal)?;
+            Ok(Worked::On)
+        }
         TurnKind::Last => Ok(Worked::End),
     }
 }
@@ -119,16 +125,16 @@ fn serve_turns<W: World, H: Hooks>(
     requires ready { Ready start state.old journal.old.past }
     requires open { agenda start journal.old.past ≡ Open }
     requires fault { turn_fault journal.old.past ≡ None }
-    requires now { moment journal.old.past ≤ W.moment world.old }
+    requires now { moment journal.old.past ≤ (W.progress world.old).moment }
     requires rise { MomentsRise journal.old.past }
     requires about { about ≡ codes "turn" }
     ensures answers { Answers start journal.new.past result }
     ensures follows { Follows start journal.old.past (W.told world.old) (H.told hooks.old) journal.new.past (W.told world.new) (H.told hooks.new) }
     ensures calm { NoneUrgentWaits journal.new.past }
     ensures rise { MomentsRise journal.new.past }
-    ensures turns { TellsTurns journal.old.past (W.turns world.old) journal.new.past (W.turns world.new) }
-    ensures count { turn_count journal.new.past ≤ turn_count journal.old.past + W.left world.old + 1 }
-    ensures cause { IfErr result (λ error. HasCause error (W.turn_faults world.old) (W.turn_faults world.new)) }
+    ensures turns { TellsTurns journal.old.past (W.progress world.old).turns journal.new.past (W.progress world.new).turns }
+    ensures count { turn_count journal.new.past ≤ turn_count journal.old.past + (W.progress world.old).left + 1 }
+    ensures cause { IfErr result (λ error. HasCause error (W.progress world.old).turn_faults (W.progress world.new).turn_faults) }
     ensures promised { Promised (H.short hooks.new) (H.rule (H.plan hooks.old)) (H.stands hooks.old) (H.stands hooks.new) journal.old.past journal.new.past }
     ensures short { H.short hooks.new ≡ false → H.short hooks.old ≡ false }
     ensures plan { H.plan hooks.new ≡ H.plan hooks.old }
@@ -174,9 +180,9 @@ pub(crate) fn run<W: World, H: Hooks>(
     ensures follows { Follows start [] (W.told world.old) (H.told hooks.old) journal.new.past (W.told world.new) (H.told hooks.new) }
     ensures calm { NoneUrgentWaits journal.new.past }
     ensures rise { MomentsRise journal.new.past }
-    ensures turns { TellsTurns [] (W.turns world.old) journal.new.past (W.turns world.new) }
-    ensures count { turn_count journal.new.past ≤ W.left world.old + 1 }
-    ensures cause { IfErr result (λ error. HasCause error (W.turn_faults world.old) (W.turn_faults world.new)) }
+    ensures turns { TellsTurns [] (W.progress world.old).turns journal.new.past (W.progress world.new).turns }
+    ensures count { turn_count journal.new.past ≤ (W.progress world.old).left + 1 }
+    ensures cause { IfErr result (λ error. HasCause error (W.progress world.old).turn_faults (W.progress world.new).turn_faults) }
     ensures promised { Promised (H.short hooks.new) (H.rule (H.plan hooks.old)) (H.stands hooks.old) (H.stands hooks.new) [] journal.new.past }
     ensures short { H.short hooks.new ≡ false → H.short hooks.old ≡ false }
     ensures plan { H.plan hooks.new ≡ H.plan hooks.old }

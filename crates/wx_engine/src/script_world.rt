@@ -3,17 +3,19 @@ ghost use Rattle.std.specs.Prelude.{◌≡◌, [], true, Some, IfOk, length, dro
 ghost use Rattle.std.specs.List.{list_all};
 ghost use Rattle.wx_journal.specs.declared.entry.TurnKind.TheVariants.{Last};
 ghost use Rattle.wx_engine.specs.Follows.{given_of};
-ghost use Rattle.wx_engine.specs.Turns.{comes, risen, Rises, entry_of, Given, first_given};
+ghost use Rattle.wx_engine.specs.Turns.{comes, risen, Rises, entry_of, Given, turns_of, FollowsGiven};
 
 use crate::script::{Script, ScriptTurn};
 use crate::supply::Supply;
 use std::alloc::Global;
 use wx_action::{Host, Outside, TurnFault, Turned, World};
-use wx_events::{Copies, List, Memory};
-use wx_journal::{Entry, Journal, Turn, TurnKind};
+use wx_command::Spawnable;
+use wx_control::{Flag, Id};
+use wx_events::{Copies, List, Memory, ProcessEnd};
+use wx_journal::{Entry, HostFault, Journal, SpawnTag, Turn, TurnKind};
 
-/// A world that gives the turns of a script, in order, and then last turns at the last moment. It tells its entries,
-/// which are the script's first ones.
+/// A world that gives the turns of a script, in order, and then last turns at the last moment. Each call on a child goes
+/// well, and each child ends with success. It tells its entries, and the turns among them are the script's first ones.
 #[derive(Drop, Debug)]
 pub struct ScriptWorld {
     turns: List<ScriptTurn>,
@@ -22,8 +24,8 @@ pub struct ScriptWorld {
     told: Journal,
     moment: u64,
     faults: u64,
-    pub ghost follows: { told.past ≡ first_given (record { turns = turns; last = last }) (length told.past) },
-    ghost rest: { left ≡ drop (length told.past) turns },
+    pub ghost follows: { FollowsGiven (record { turns = turns; last = last }) told.past },
+    ghost rest: { left ≡ drop (length (turns_of told.past)) turns },
     ghost come: { list_all comes left ≡ true },
     ghost rises: { risen moment left ≡ Some last },
 }
@@ -56,24 +58,61 @@ impl Outside for ScriptWorld {
 
     ghost told = { λ s. Some s.told.past };
 
-    ghost turns = { λ s. Some s.told.past };
-
     ghost spare = { λ s. s.told.spare };
 
-    ghost left = { λ s. length s.left };
-
-    ghost moment = { λ s. s.moment };
+    ghost progress = { λ s. record { turns = Some (turns_of s.told.past); left = length s.left; moment = s.moment; turn_faults = s.faults; maker_faults = 0 } };
 
     ghost host_faults = { λ _. 0 };
-
-    ghost turn_faults = { λ s. s.faults };
-
-    ghost maker_faults = { λ _. 0 };
 }
 
 impl Host for ScriptWorld {
     fn reserve(&mut self, n: u64) -> Result<(), Memory> {
         self.told.reserve(n)
+    }
+
+    fn spawn(
+        &mut self,
+        child: u64,
+        job: Id,
+        what: Spawnable,
+        tag: SpawnTag,
+    ) -> Result<(), HostFault> {
+        self.told.push(Entry::Spawn {
+            child,
+            job,
+            tag,
+            what,
+            answer: Ok(()),
+        });
+        Ok(())
+    }
+
+    fn kill(&mut self, child: u64) -> Result<(), HostFault> {
+        self.told.push(Entry::Kill {
+            child,
+            answer: Ok(()),
+        });
+        Ok(())
+    }
+
+    fn wait(&mut self, child: u64) -> Result<ProcessEnd, HostFault> {
+        self.told.push(Entry::Wait {
+            child,
+            answer: Ok(ProcessEnd::Success),
+        });
+        Ok(ProcessEnd::Success)
+    }
+
+    fn drop_child(&mut self, child: u64) {
+        self.told.push(Entry::Dropped(child));
+    }
+
+    fn raise(&mut self, ticket: u64, _flag: &Flag) {
+        self.told.push(Entry::Raise(ticket));
+    }
+
+    fn gone(&mut self, job: Id, _flag: &Flag) {
+        self.told.push(Entry::Gone(job));
     }
 }
 

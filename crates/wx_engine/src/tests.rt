@@ -9,8 +9,10 @@ use crate::{Script, ScriptHooks, ScriptTurn, ScriptWorld, SendRefused, Watchexec
 use std::alloc::Global;
 use std::test::Fail;
 use wx_action::{Config, Host, JobHooks, World, print_journal};
-use wx_events::{Copies, Event, List, Memory, Priority, Tag, Text, TextPath, cut};
-use wx_journal::{Act, Journal, Turn, TurnKind};
+use wx_command::{SpawnOptions, Spawnable};
+use wx_control::{Ask, Control, Flag, Id};
+use wx_events::{Copies, Event, List, Memory, Priority, ProcessEnd, Tag, Text, TextPath, cut};
+use wx_journal::{Act, Entry, Journal, SpawnTag, Turn, TurnKind, Word};
 
 /// Two turns with a fault between them, and one call that quits.
 fn script(alloc: Global) -> Result<Script, Memory>
@@ -53,6 +55,7 @@ fn next(world: &mut ScriptWorld) -> Result<Result<(u64, u32), u32>, Memory> {
             TurnKind::Arrive(_, _) => Ok((given.turn.at, 0)),
             TurnKind::Work => Ok((given.turn.at, 1)),
             TurnKind::Last => Ok((given.turn.at, 2)),
+            TurnKind::Job(_) | TurnKind::Ended(_) | TurnKind::Ask(_, _) => Ok((given.turn.at, 3)),
         },
         Err(fault) => Err(fault.0),
     })
@@ -81,6 +84,27 @@ fn hooks_are_made(rt: HostRuntime) -> Result<(), Fail> {
     Ok(())
 }
 
+#[test]
+fn calls_on_children_go_well(rt: HostRuntime) -> Result<(), Fail> {
+    let alloc = rt.alloc();
+    let script = script(alloc)?;
+    let mut world = ScriptWorld::new(alloc, &script)?;
+    world.reserve(6)?;
+    let what = Spawnable {
+        words: List::new(alloc),
+        options: SpawnOptions::default(),
+    };
+    let flag = Flag::new(alloc, false)?;
+    assert_eq!(rt; world.spawn(0, Id(1), what, SpawnTag::Default), Ok(()));
+    assert_eq!(rt; world.kill(0), Ok(()));
+    assert_eq!(rt; world.wait(0), Ok(ProcessEnd::Success));
+    world.drop_child(0);
+    world.raise(0, &flag);
+    world.gone(Id(1), &flag);
+    assert_eq!(rt; next(&mut world)?, Ok((5, 0)));
+    Ok(())
+}
+
 /// An event without tags.
 fn event(alloc: Global) -> Event
     ensures { result ≡ record { tags = [] } }
@@ -94,15 +118,20 @@ fn event(alloc: Global) -> Event
 fn arrive(alloc: Global, at: u64, priority: Priority) -> ScriptTurn
     ensures { result ≡ Comes (record { at = at; kind = Arrive (record { tags = [] }) priority }) }
 {
-    let kind = TurnKind::Arrive(event(alloc), priority);
-    ScriptTurn::Turn(Turn { at, kind })
+    turn(at, TurnKind::Arrive(event(alloc), priority))
 }
 
 /// A turn in which the worker acts.
 fn work(at: u64) -> ScriptTurn
     ensures { result ≡ Comes (record { at = at; kind = Work }) }
 {
-    let kind = TurnKind::Work;
+    turn(at, TurnKind::Work)
+}
+
+/// A turn of this kind.
+fn turn(at: u64, kind: TurnKind) -> ScriptTurn
+    ensures { result ≡ Comes (record { at = at; kind = kind }) }
+{
     ScriptTurn::Turn(Turn { at, kind })
 }
 
@@ -181,6 +210,18 @@ fn hurries(alloc: Global) -> Result<Script, Memory>
     script.turns.push(arrive(alloc, 3, Priority::Urgent))?;
     script.turns.push(work(4))?;
     script.last = 4;
+    Ok(script)
+}
+
+/// Turns that name a job and a child, of which there are none.
+fn strays(alloc: Global) -> Result<Script, Memory>
+    ensures { IfOk result IsScript }
+{
+    let mut script = empty(alloc);
+    let ask = Ask::One(Control::Start);
+    script.turns.push(turn(0, TurnKind::Job(Id(1))))?;
+    script.turns.push(turn(0, TurnKind::Ended(0)))?;
+    script.turns.push(turn(0, TurnKind::Ask(Id(1), ask)))?;
     Ok(script)
 }
 
@@ -274,6 +315,25 @@ fn runs_follow_their_scripts(rt: HostRuntime) -> Result<(), Fail> {
         let (_, rest) = cut(text.as_slice(), 10).ok_or("a beginning")?;
         assert_eq!(rt; rest, lines, "at {case:?}");
         assert_eq!(rt; len, count, "at {case:?}");
+    }
+    Ok(())
+}
+
+#[test]
+fn turns_of_no_job_are_ignored(rt: HostRuntime) -> Result<(), Fail> {
+    let alloc = rt.alloc();
+    let script = strays(alloc)?;
+    let engine = engine_with(alloc, script.throttle, script.size)?;
+    let mut world = ScriptWorld::new(alloc, &script)?;
+    let mut hooks = ScriptHooks::new(alloc, &script)?;
+    let mut journal = Journal::new(alloc)?;
+    let answer = engine.main(alloc, &mut world, &mut hooks, &mut journal);
+    assert!(rt; answer.is_ok());
+    // a beginning, three turns with a word after each, and the last turn
+    assert_eq!(rt; journal.len(), 8);
+    for (i, entry) in journal.as_slice().iter().enumerate() {
+        let is_ignored = matches!(entry, Entry::Word(Word::Ignored));
+        assert_eq!(rt; is_ignored, [2, 4, 6].contains(&i), "at {i}");
     }
     Ok(())
 }

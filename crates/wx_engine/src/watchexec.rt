@@ -2,10 +2,10 @@
 ghost use Rattle.std.specs.Prelude.{◌≡◌, ◌∷◌, ◌++◌, [], ◌+◌, ◌≤◌, true, false, length, List, OnOk, OnErr, IfOk, IfErr, Err};
 ghost use Rattle.wx_events.specs.declared.event.Event.{Event as AnEvent};
 ghost use Rattle.wx_events.specs.declared.priority.Priority.{Priority as APriority};
+ghost use Rattle.wx_journal.specs.Told.{is_world, is_hooks, is_turn, tells, Obeys, Rose};
 ghost use Rattle.wx_action.specs.Start.{Start, IsSize, IsStart, default_config, is_absolute};
 ghost use Rattle.wx_action.specs.Journal.{turn_count};
 ghost use Rattle.wx_action.specs.Due.{IsRun};
-ghost use Rattle.wx_action.specs.Told.{is_world, is_hooks, is_turn, tells, Obeys, Rose};
 ghost use Rattle.wx_action.specs.Laws.{IsBatched, AreBatches, NoneUrgentWaits, MomentsRise};
 ghost use Rattle.wx_action.specs.Answer.{Answers};
 ghost use Rattle.wx_engine.specs.Sent.{Refuses};
@@ -108,14 +108,14 @@ impl Watchexec {
         // The journal is a run that this answer may have, and each error has its cause.
         ensures run { IsRun self journal.new.past }
         ensures answer { Answers self journal.new.past result }
-        ensures cause { IfErr result (λ error. HasCause error (W.turn_faults world.old) (W.turn_faults world.new)) }
-        ensures completes { (Rose (W.turn_faults world.old) (W.turn_faults world.new) → ⊥) → IsOkOrMemory result }
+        ensures cause { IfErr result (λ error. HasCause error (W.progress world.old).turn_faults (W.progress world.new).turn_faults) }
+        ensures completes { (Rose (W.progress world.old).turn_faults (W.progress world.new).turn_faults → ⊥) → IsOkOrMemory result }
 
         // It lists what was told: the turns, and the calls on world and hooks.
         ensures world { W.told world.new ≡ tells is_world journal.new.past (W.told world.old) }
         ensures hooks { H.told hooks.new ≡ tells is_hooks journal.new.past (H.told hooks.old) }
-        ensures turns { W.turns world.new ≡ tells is_turn journal.new.past (W.turns world.old) }
-        ensures count { turn_count journal.new.past ≤ W.left world.old + 1 }
+        ensures turns { (W.progress world.new).turns ≡ tells is_turn journal.new.past (W.progress world.old).turns }
+        ensures count { turn_count journal.new.past ≤ (W.progress world.old).left + 1 }
 
         // The laws of runs.
         ensures batched { IsBatched journal.new.past }

@@ -5,3 +5,6 @@ ghost-arrive g a = g.start
 
 abbrev pub ghost-worker : goal.ghost-worker
 ghost-worker g a = g.start
+
+abbrev pub ghost-ignored : goal.ghost-ignored
+ghost-ignored g a = g.start

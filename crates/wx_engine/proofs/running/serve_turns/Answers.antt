@@ -1,6 +1,7 @@
 use Rattle.std.proofs.Common.{[], ap, arith, sym, ◌∙◌}
 use Rattle.wx_journal.specs.declared.entry.Entry.TheVariants.{Turn as Turned}
-use Rattle.wx_action.specs.Told.{is_last, tell}
+use Rattle.wx_journal.specs.Told.{tell}
+use Rattle.wx_action.specs.Told.{is_last}
 use Rattle.wx_action.specs.TurnLaws.{promised_then}
 use Rattle.wx_engine.proofs.BeginLemmas.{calm_begun}
 use Rattle.wx_engine.proofs.TurnLemmas.{turn_follows, fault_follows, turn_calm, fault_calm, turn_promised, fault_promised, served}
@@ -60,29 +61,29 @@ pub turns-smaller : goal.turns-smaller
 turns-smaller g c =
     let kind_is = rw c.in_ok-kind.was at c.copy-kind.ensures in
     let comes = ap is_last (sym kind_is) ∙ c.in_ok-serve.ensures.last c.in-On.is in
-    let left_is = ap (λ w. g.W.Outside.left w) c.serve.ensures.world in
-    omega (arith, c.in-Ok.ensures.falls comes, c.in_ok-reserve-2.ensures.left, left_is)
+    let left_is = ap (λ w. (g.W.Outside.progress w).left) c.serve.ensures.world in
+    omega (arith, c.in-Ok.ensures.falls comes, ap (λ k. k.left) c.in_ok-reserve-2.ensures.progress, left_is)
 
 pub turns-preserved : goal.turns-preserved
 turns-preserved g c =
     let v = served c.in-Ok.given.turn c.turns.journal.past c.push-in-turns.new.self.past c.serve.new.journal.past (rw c.in_ok-reserve.ensures.same at c.push-in-turns.ensures.past) c.serve.ensures.turns in
     let kind_is = rw c.in_ok-kind.was at c.copy-kind.ensures in
     let comes = ap is_last (sym kind_is) ∙ c.in_ok-serve.ensures.last c.in-On.is in
-    let left_is = ap (λ w. g.W.Outside.left w) c.serve.ensures.world in
-    let moment_is = ap (λ w. g.W.Outside.moment w) c.serve.ensures.world in
-    let faults_is = ap (λ w. g.W.Outside.turn_faults w) c.serve.ensures.world in
+    let left_is = ap (λ w. (g.W.Outside.progress w).left) c.serve.ensures.world in
+    let moment_is = ap (λ w. (g.W.Outside.progress w).moment) c.serve.ensures.world in
+    let faults_is = ap (λ w. (g.W.Outside.progress w).turn_faults) c.serve.ensures.world in
     record {
       about = c.turns.invariant.about;
       ready = c.serve.ensures.ready;
       open_is = rw c.in-On.is at c.in_ok-serve.ensures.works;
       fault = v.fault ∙ c.turns.invariant.fault;
       now = omega (arith, v.now, moment_is, c.in-Ok.ensures.moment);
-      rise = v.rise (omega (arith, c.turns.invariant.now, c.in-Ok.ensures.later, c.in_ok-reserve-2.ensures.moment)) c.turns.invariant.rise;
+      rise = v.rise (omega (arith, c.turns.invariant.now, c.in-Ok.ensures.later, ap (λ k. k.moment) c.in_ok-reserve-2.ensures.progress)) c.turns.invariant.rise;
       follows = λ q wq hq l. c.serve.ensures.follows q wq hq (turn_follows g.start _ _ _ c.in-Ok.given.turn c.turns.journal.past c.push-in-turns.new.self.past _ _ _ c.turns.invariant.follows c.turns.invariant.open_is (rw c.in_ok-reserve.ensures.same at c.push-in-turns.ensures.past) (rw c.in_ok-reserve-2.ensures.told at c.in-Ok.ensures.told) q wq hq l);
       turns = λ before e.
-          ap (λ w. g.W.Outside.turns w) c.serve.ensures.world ∙ c.in-Ok.ensures.turns ∙ ap (λ l. tell (Turned c.in-Ok.given.turn) l) (c.in_ok-reserve-2.ensures.turns ∙ c.turns.invariant.turns before e) ∙ sym (v.told before);
-      count = omega (arith, v.count, c.turns.invariant.count, c.in-Ok.ensures.falls comes, c.in_ok-reserve-2.ensures.left, left_is);
-      faults = omega (arith, c.turns.invariant.faults, c.in-Ok.ensures.faults.later, c.in_ok-reserve-2.ensures.turn_faults, faults_is);
+          ap (λ w. (g.W.Outside.progress w).turns) c.serve.ensures.world ∙ c.in-Ok.ensures.turns ∙ ap (λ l. tell (Turned c.in-Ok.given.turn) l) (ap (λ k. k.turns) c.in_ok-reserve-2.ensures.progress ∙ c.turns.invariant.turns before e) ∙ sym (v.told before);
+      count = omega (arith, v.count, c.turns.invariant.count, c.in-Ok.ensures.falls comes, ap (λ k. k.left) c.in_ok-reserve-2.ensures.progress, left_is);
+      faults = omega (arith, c.turns.invariant.faults, c.in-Ok.ensures.faults.later, ap (λ k. k.turn_faults) c.in_ok-reserve-2.ensures.progress, faults_is);
       promised = promised_then (g.H.JobHooks.short c.turns.hooks) (g.H.JobHooks.short c.serve.new.hooks) _ (g.H.JobHooks.rule (g.H.JobHooks.plan c.turns.hooks)) (g.H.JobHooks.stands c.args.hooks.now) (g.H.JobHooks.stands c.turns.hooks) (g.H.JobHooks.stands c.serve.new.hooks) c.args.journal.now.past c.push-in-turns.new.self.past c.serve.new.journal.past
           c.serve.ensures.short (ap (λ k. g.H.JobHooks.rule k) c.turns.invariant.plan)
           (turn_promised g.start _ _ _ _ c.in-Ok.given.turn _ c.turns.journal.past _ (g.met.H.JobHooks.stands_other c.turns.hooks) c.turns.invariant.ready.run c.turns.invariant.promised (rw c.in_ok-reserve.ensures.same at c.push-in-turns.ensures.past))

@@ -1,6 +1,7 @@
 use Rattle.std.proofs.Common.{◌≡◌, ◌≤◌, ◌+◌, None, false}
 use Rattle.std.specs.Prelude.{codes}
-use Rattle.wx_action.specs.Journal.{moment, turn_count, turn_fault}
+use Rattle.wx_journal.specs.Names.{moment}
+use Rattle.wx_action.specs.Journal.{turn_count, turn_fault}
 use Rattle.wx_action.specs.Due.{agenda, Open}
 use Rattle.wx_action.specs.Laws.{MomentsRise}
 use Rattle.wx_action.specs.Leads.{Follows, Promised}
@@ -17,12 +18,12 @@ invariant-turns g l = record {
   ready : Ready g.start l.state l.journal.past;
   open_is : agenda g.start l.journal.past ≡ Open;
   fault : turn_fault l.journal.past ≡ None;
-  now : moment l.journal.past ≤ g.W.Outside.moment l.world;
+  now : moment l.journal.past ≤ (g.W.Outside.progress l.world).moment;
   rise : MomentsRise l.journal.past;
   follows : Follows g.start l.fn.journal.past (g.W.Outside.told l.fn.world) (g.H.JobHooks.told l.fn.hooks) l.journal.past (g.W.Outside.told l.world) (g.H.JobHooks.told l.hooks);
-  turns : TellsTurns l.fn.journal.past (g.W.Outside.turns l.fn.world) l.journal.past (g.W.Outside.turns l.world);
-  count : turn_count l.journal.past + g.W.Outside.left l.world ≤ turn_count l.fn.journal.past + g.W.Outside.left l.fn.world;
-  faults : g.W.Outside.turn_faults l.fn.world ≤ g.W.Outside.turn_faults l.world;
+  turns : TellsTurns l.fn.journal.past (g.W.Outside.progress l.fn.world).turns l.journal.past (g.W.Outside.progress l.world).turns;
+  count : turn_count l.journal.past + (g.W.Outside.progress l.world).left ≤ turn_count l.fn.journal.past + (g.W.Outside.progress l.fn.world).left;
+  faults : (g.W.Outside.progress l.fn.world).turn_faults ≤ (g.W.Outside.progress l.world).turn_faults;
   promised : Promised (g.H.JobHooks.short l.hooks) (g.H.JobHooks.rule (g.H.JobHooks.plan l.fn.hooks)) (g.H.JobHooks.stands l.fn.hooks) (g.H.JobHooks.stands l.hooks) l.fn.journal.past l.journal.past;
   short : g.H.JobHooks.short l.hooks ≡ false → g.H.JobHooks.short l.fn.hooks ≡ false;
   plan : g.H.JobHooks.plan l.hooks ≡ g.H.JobHooks.plan l.fn.hooks;
@@ -32,4 +33,4 @@ invariant-turns g l = record {
 }
 
 abbrev pub decreases-turns : goal.decreases-turns
-decreases-turns g l = g.W.Outside.left l.world
+decreases-turns g l = (g.W.Outside.progress l.world).left

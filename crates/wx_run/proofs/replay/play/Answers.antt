@@ -1,6 +1,6 @@
 use Rattle.std.proofs.Common.{rules, ◌∙◌, ap, Some, List, refl}
 use Rattle.wx_journal.specs.declared.entry.Entry.{Entry}
-use Rattle.wx_action.specs.Told.{tells, is_turn}
+use Rattle.wx_journal.specs.Told.{tells, is_turn}
 use Rattle.wx_engine.specs.Acted.{FollowsActs, follows_acts}
 use Rattle.wx_engine.specs.FollowLaws.{follows_turns}
 use Rattle.wx_engine.specs.Follows.{Follows}

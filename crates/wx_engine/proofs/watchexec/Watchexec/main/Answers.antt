@@ -1,6 +1,6 @@
 use Rattle.std.proofs.Common.{[]}
+use Rattle.wx_journal.specs.Told.{Same}
 use Rattle.wx_action.specs.Leads.{Here}
-use Rattle.wx_action.specs.Told.{Same}
 use Rattle.wx_action.specs.RunLaws.{run_is_batched, run_has_batches}
 use Rattle.wx_engine.specs.MainLaws.{leads_world, leads_hooks, leads_run}
 use Rattle.wx_engine.proofs.watchexec.Watchexec.main.Goals as goal
