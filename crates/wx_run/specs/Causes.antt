@@ -1,9 +1,6 @@
 -- Counts of faults, what an error says of them, and what a whole reading says of the bytes.
-use Rattle.std.specs.Prelude.{ℕ, ◌≡◌, ◌+◌, ◌-◌, ◌^◌, ◌≤◌, ◌<◌, min, List, ◌++◌, length, take, OnErr, Result, Option, None, Some, ⊤}
-
--- the count rose, or stands at the end of its range
-abbrev pub Rose : ℕ → ℕ → Type 0
-Rose before now = min (before + 1) (2 ^ 64 - 1) ≤ now
+use Rattle.std.specs.Prelude.{ℕ, ◌≡◌, ◌≤◌, ◌<◌, List, ◌++◌, length, take, OnErr, Result, Option, None, Some, ⊤}
+use Rattle.wx_journal.specs.Told.{Rose}
 
 -- the count never falls, and an error raised it
 pub record HasCause {T E : Type 0} (before now : ℕ) (result : Result T E) : Type 0 where

@@ -1,11 +1,14 @@
 -- What a replay writes, and how it ends.
-use Rattle.std.specs.Prelude.{ℕ, ◌≡◌, ◌<◌, ◌≤◌, ⊤, Result, Ok, Err, List, [], ◌∷◌, ◌++◌, length, codes, decimal}
+use Rattle.std.specs.Prelude.{ℕ, ◌≡◌, ◌<◌, ◌≤◌, ⊤, Option, IfSome, Result, Ok, Err, List, [], ◌∷◌, ◌++◌, length, codes, decimal}
+use Rattle.std.specs.Io.KnownBytes.{Appends, Consumes, IsAtEnd}
 use Rattle.wx_journal.specs.declared.entry.Entry.{Entry}
+use Rattle.wx_journal.specs.Told.{Rose}
 use Rattle.wx_action.specs.declared.error.CriticalError.TheVariants.{IoError, Memory as NoMemory}
 use Rattle.wx_action.specs.Answer.{Answers}
 use Rattle.wx_action.specs.Printed.{Answer, printed}
 use Rattle.wx_engine.specs.declared.script.Script.{Script}
 use Rattle.wx_engine.specs.Follows.{start_of, Follows}
+use Rattle.wx_run.specs.Causes.{AddsFront}
 use Rattle.wx_run.specs.Scripts.{script_in}
 use Rattle.wx_run.specs.declared.status.Status.{Status}
 use Rattle.wx_run.specs.declared.status.Status.TheVariants.{Done, Critical, Usage, NoScript, ReadFault, WriteFault, Memory}
@@ -48,6 +51,22 @@ IsWritten Usage = ⊥
 IsWritten ReadFault = ⊥
 IsWritten WriteFault = ⊥
 IsWritten Memory = ⊥
+
+-- What a replay did with its source, by its status. Where it wrote a text whole it read these bytes, to their end if they
+-- are within the limit.
+pub record HasRead {S : Type 0} (limit : ℕ) (left : S → Option (List ℕ)) (faults : S → ℕ) (old new : S) (status : Status) : Type 0 where
+  pub read : IsWritten status → (bytes : List ℕ) × Consumes (left old) (left new) bytes × (length bytes ≤ limit → IsAtEnd (left new))
+  pub fault : status ≡ ReadFault → Rose (faults old) (faults new)
+
+-- What a replay did with its sink, by its status. Where the bytes of the source are known it wrote the text that is due
+-- for them: whole, or where a write failed a part, from its front. Where it couldn't read, or had no memory, it wrote
+-- nothing.
+pub record HasWritten {K : Type 0} (limit : ℕ) (known : Option (List ℕ)) (held : K → Option (List ℕ)) (faults : K → ℕ) (old new : K) (status : Status) : Type 0 where
+  pub whole : IsWritten status → IfSome known (λ bytes. (text : List ℕ) × Replays limit bytes text status × Appends (held old) (held new) text)
+  pub part : status ≡ WriteFault → IfSome known (λ bytes. (text : List ℕ) × (due : Status) × Replays limit bytes text due × AddsFront (held old) (held new) text)
+  pub fault : status ≡ WriteFault → Rose (faults old) (faults new)
+  pub unread : status ≡ ReadFault → new ≡ old
+  pub no_memory : status ≡ Memory → new ≡ old
 
 -- the number by which a program ends
 abbrev pub code_of : Status → ℕ

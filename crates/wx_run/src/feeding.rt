@@ -1,6 +1,7 @@
 ghost use Rattle.std.specs.Prelude.{ℕ, ◌≡◌, ◌+◌, ◌-◌, ◌<◌, ◌≤◌, length, List, OnOk, IfOk, OnErr, IsErrOf};
 ghost use Rattle.std.specs.Io.KnownBytes.{Consumes, Appends, IsAtEnd};
-ghost use Rattle.wx_run.specs.Causes.{Rose, HasCause, AddsFront, IsWhole, IsLonger};
+ghost use Rattle.wx_journal.specs.Told.{Rose};
+ghost use Rattle.wx_run.specs.Causes.{HasCause, AddsFront, IsWhole, IsLonger};
 
 use crate::sink::{Sink, WriteFault};
 use crate::source::Source;

@@ -1,10 +1,11 @@
 // A script from its bytes to the journal of its run.
-ghost use Rattle.std.specs.Prelude.{ℕ, ◌≡◌, ◌≢◌, ◌↔◌, ◌⊎◌, ◌≤◌, ◌<◌, ◌++◌, ◌∷◌, [], length, List as Listed, IfOk, IfSome, codes, decimal};
-ghost use Rattle.std.specs.Io.KnownBytes.{Appends, Consumes, IsAtEnd};
+ghost use Rattle.std.specs.Prelude.{◌≡◌, ◌≢◌, ◌↔◌, ◌⊎◌, ◌++◌, ◌∷◌, [], IfOk, codes, decimal};
+ghost use Rattle.std.specs.Io.KnownBytes.{Appends};
+ghost use Rattle.wx_journal.specs.Told.{Rose};
 ghost use Rattle.wx_action.specs.Start.{default_config};
 ghost use Rattle.wx_engine.specs.Follows.{IsScript, start_of};
-ghost use Rattle.wx_run.specs.Causes.{Rose, AddsFront};
-ghost use Rattle.wx_run.specs.Replays.{replay_words, IsReplay, ReplaysRead, Replays, IsWritten};
+ghost use Rattle.wx_run.specs.Causes.{AddsFront};
+ghost use Rattle.wx_run.specs.Replays.{replay_words, IsReplay, ReplaysRead, IsWritten, HasRead, HasWritten};
 ghost use Rattle.wx_run.specs.Scripts.{script_in};
 
 use crate::feeding::{LIMIT, Unread, read_all, write_all};
@@ -107,12 +108,8 @@ fn write_out<K: Sink>(sink: &mut K, text: &[u8], status: Status) -> Status
 /// Reads a script to its end, runs it, and writes the journal of the run.
 pub fn replay<S: Source, K: Sink>(alloc: Global, source: &mut S, sink: &mut K) -> Status
     ensures usage { result ≢ Status.Usage }
-    ensures read { IsWritten result → (read : Listed ℕ) × Consumes (S.left source.old) (S.left source.new) read × (length read ≤ LIMIT → IsAtEnd (S.left source.new)) }
-    ensures written { IsWritten result → IfSome (S.left source.old) (λ bytes. (text : Listed ℕ) × Replays LIMIT bytes text result × Appends (K.held sink.old) (K.held sink.new) text) }
-    ensures part { result ≡ Status.WriteFault → IfSome (S.left source.old) (λ bytes. (text : Listed ℕ) × (status : Status) × Replays LIMIT bytes text status × AddsFront (K.held sink.old) (K.held sink.new) text) }
-    ensures read_fault { result ≡ Status.ReadFault → Rose (S.faults source.old) (S.faults source.new) × (sink.new ≡ sink.old) }
-    ensures write_fault { result ≡ Status.WriteFault → Rose (K.faults sink.old) (K.faults sink.new) }
-    ensures memory { result ≡ Status.Memory → sink.new ≡ sink.old }
+    ensures read { HasRead LIMIT S.left S.faults source.old source.new result }
+    ensures written { HasWritten LIMIT (S.left source.old) K.held K.faults sink.old sink.new result }
 {
     let text = match read_all(alloc, source) {
         Ok(text) => text,
@@ -140,12 +137,8 @@ pub fn wx_main<S: Source, K: Sink>(
 ) -> Status
     ensures usage { (result ≡ Status.Usage) ↔ (words.now ≢ replay_words) }
     ensures untouched { result ≡ Status.Usage → (source.new ≡ source.old) × (sink.new ≡ sink.old) }
-    ensures read { IsWritten result → (read : Listed ℕ) × Consumes (S.left source.old) (S.left source.new) read × (length read ≤ LIMIT → IsAtEnd (S.left source.new)) }
-    ensures written { IsWritten result → IfSome (S.left source.old) (λ bytes. (text : Listed ℕ) × Replays LIMIT bytes text result × Appends (K.held sink.old) (K.held sink.new) text) }
-    ensures part { result ≡ Status.WriteFault → IfSome (S.left source.old) (λ bytes. (text : Listed ℕ) × (status : Status) × Replays LIMIT bytes text status × AddsFront (K.held sink.old) (K.held sink.new) text) }
-    ensures read_fault { result ≡ Status.ReadFault → Rose (S.faults source.old) (S.faults source.new) × (sink.new ≡ sink.old) }
-    ensures write_fault { result ≡ Status.WriteFault → Rose (K.faults sink.old) (K.faults sink.new) }
-    ensures memory { result ≡ Status.Memory → sink.new ≡ sink.old }
+    ensures read { HasRead LIMIT S.left S.faults source.old source.new result }
+    ensures written { HasWritten LIMIT (S.left source.old) K.held K.faults sink.old sink.new result }
 {
     match words {
         [word] if word.as_slice() == b"replay".as_slice() => replay(alloc, source, sink),

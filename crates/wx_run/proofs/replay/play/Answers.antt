@@ -3,6 +3,7 @@ use Rattle.wx_journal.specs.declared.entry.Entry.{Entry}
 use Rattle.wx_journal.specs.Told.{tells, is_turn}
 use Rattle.wx_engine.specs.Acted.{FollowsActs, follows_acts}
 use Rattle.wx_engine.specs.FollowLaws.{follows_turns}
+use Rattle.wx_engine.specs.Turns.{turns_of}
 use Rattle.wx_engine.specs.Follows.{Follows}
 use Rattle.wx_run.proofs.replay.play.Goals as goal
 
@@ -14,7 +15,7 @@ returns-clause-text c =
       turns = follows_turns c.args.script.now _ c.main-answer.new.world.told.past j
           (c.main-answer.ensures.world_plan ∙ c.in_ok-world.ensures.plan)
           c.main-answer.new.world.follows
-          (c.main-answer.ensures.turns ∙ ap (λ (before : List Entry). tells is_turn j (Some before)) c.in_ok-world.ensures.told);
+          (c.main-answer.ensures.turns ∙ ap (λ (before : List Entry). tells is_turn j (Some (turns_of before))) c.in_ok-world.ensures.told);
       acts = acts;
     } in
     search (rules, follows)
