@@ -16,7 +16,7 @@ use Rattle.wx_journal.specs.Told.{is_hooks, Rose, Counts}
 use Rattle.wx_job.specs.declared.choice.Choice.{Choice}
 use Rattle.wx_job.specs.declared.choice.Choice.TheVariants.{End, Next, Nothing}
 use Rattle.wx_job.specs.History.{same, lives, waits, child, kept, unless, SameHistory}
-use Rattle.wx_job.specs.Table.{Plan, Done, Picks, Spawns, Kills, Waits, Drops, Raises, Goes, Asks, Says, reap, fresh, row, first, choose, choose_control, pick, case, step_plan, ask_plan, send_plan, end_plan, drop_plan}
+use Rattle.wx_job.specs.Table.{Plan, Done, Picks, Spawns, Kills, Waits, Drops, Raises, Goes, Makes, Asks, Says, reap, fresh, row, first, choose, choose_control, pick, case, step_plan, ask_plan, send_plan, end_plan, drop_plan}
 use Rattle.wx_job.specs.Case.{Admits, is_fault, next, Leads, Here, Then}
 use Rattle.wx_job.specs.Laws.{unreaped, AreReaped, reap_failed}
 use Rattle.wx_job.proofs.Owners.{self, owner_below, child_owner, waits_asked, AreAsked}
@@ -33,6 +33,7 @@ Sound id c n (Waits d k f) = (c ≡ Some d) × Sound id None n k × Sound id c n
 Sound id c n (Drops d k) = (c ≡ Some d) × (k ≡ Goes id Done)
 Sound id c n (Raises t k) = (t < n) × Sound id c n k
 Sound id c n (Goes job k) = (job ≡ id) × (k ≡ Done)
+Sound id c n (Makes job k) = ⊥
 Sound id c n (Asks job level control k) = (job ≡ id) × Sound id c (n + 1) k
 Sound id c n (Says word k) = Sound id c n k
 
@@ -77,11 +78,11 @@ sound_step id command p own =
     (sound_case id command (child id p) n (pick id p)
       (named_choice (child id p) n (kept id p) _ (λ d. named_control d n (waits id Urgent p) (waits id High p) (waits id Normal p) (waits_asked id Urgent p own) (waits_asked id High p own) (waits_asked id Normal p own))))
 
-pub sound_ask : (id : Id) (ask : Ask) (c : Option ℕ) (n : ℕ) → Sound id c n (ask_plan id (sends_of ask))
+pub sound_ask : (id : Id) (ask : Ask) (c : Option ℕ) (n : ℕ) → Sound id c n (ask_plan id (sends_of ask) Done)
 sound_ask id (One control) c n = (refl, tt)
 
 pub sound_send : (id : Id) (ask : Ask) (p : List Entry) → Sound id (child id p) (ticket_count p) (send_plan id (sends_of ask) p)
-sound_send id ask p = sound_if id (child id p) (ticket_count p) (lives id p) (ask_plan id (sends_of ask)) (sound_ask id ask (child id p) (ticket_count p))
+sound_send id ask p = sound_if id (child id p) (ticket_count p) (lives id p) (ask_plan id (sends_of ask) Done) (sound_ask id ask (child id p) (ticket_count p))
 
 sound_drop : (id : Id) (n : ℕ) (c : Option ℕ) → Sound id c n (drop_plan c (Goes id Done))
 sound_drop id n None = (refl, refl)
@@ -252,6 +253,7 @@ one id p (Waits c k f) e d own s = rw d.1 (one_wait id p c d.0 k f own s)
 one id p (Drops c k) e d own s = rw (d, s.1) (one_drop id p c own s.0)
 one id p (Raises t k) e d own s = rw d (one_raise id p t k own s)
 one id p (Goes job k) e d own s = rw (d, s.1) (subst (λ (j : Id). Entered id p (Goes j Done) (Gone j)) (sym s.0) (one_gone id p own))
+one id p (Makes job k) e d own s = absurd s
 one id p (Asks job level control k) e d own s = rw d (subst (λ (j : Id). Entered id p (Asks j level control k) (Asked (ticket_count p) j level control)) (sym s.0) (one_asked id p level control k own (refl, s.1)))
 one id p (Says w k) e d own s = rw d (one_word id p w k own s)
 

@@ -3,10 +3,10 @@ use Rattle.std.specs.Prelude.{◌≡◌, ℕ, Bool, true, false, if◌then◌els
 use Rattle.wx_events.specs.declared.process.ProcessEnd.{ProcessEnd}
 use Rattle.wx_journal.specs.declared.child.HostFault.{HostFault}
 use Rattle.wx_journal.specs.declared.entry.Entry.{Entry}
-use Rattle.wx_journal.specs.declared.entry.Entry.TheVariants.{Word as Said, Asked, Pick, Spawn, Kill, Wait, Dropped, Raise, Gone}
+use Rattle.wx_journal.specs.declared.entry.Entry.TheVariants.{Word as Said, Made, Asked, Pick, Spawn, Kill, Wait, Dropped, Raise, Gone}
 use Rattle.wx_journal.specs.Names.{ticket_count, child_count}
 use Rattle.wx_journal.specs.Told.{tell_if, is_world, is_hooks, Counts}
-use Rattle.wx_job.specs.Table.{Plan, Done, Picks, Spawns, Kills, Waits, Drops, Raises, Goes, Asks, Says}
+use Rattle.wx_job.specs.Table.{Plan, Done, Picks, Spawns, Kills, Waits, Drops, Raises, Goes, Makes, Asks, Says}
 
 -- the entries that a plan lets come next after these; a call's answer is free
 abbrev pub Admits : List Entry → Plan → Entry → Type 0
@@ -18,6 +18,7 @@ Admits p (Waits c k f) e = (answer : Result ProcessEnd HostFault) × (e ≡ Wait
 Admits p (Drops c k) e = e ≡ Dropped c
 Admits p (Raises ticket k) e = e ≡ Raise ticket
 Admits p (Goes id k) e = e ≡ Gone id
+Admits p (Makes id k) e = e ≡ Made id
 Admits p (Asks id level control k) e = e ≡ Asked (ticket_count p) id level control
 Admits p (Says word k) e = e ≡ Said word
 
@@ -38,6 +39,7 @@ next (Waits c k f) e = if is_fault e then f else k
 next (Drops c k) e = k
 next (Raises ticket k) e = k
 next (Goes id k) e = k
+next (Makes id k) e = k
 next (Asks id level control k) e = k
 next (Says word k) e = k
 

@@ -37,6 +37,8 @@ pub data Plan : Type 0 where
   Raises : ℕ → Plan → Plan
   -- a job is gone
   Goes : Id → Plan → Plan
+  -- a job is made
+  Makes : Id → Plan → Plan
   -- a control is asked
   Asks : Id → Level → Control → Plan → Plan
   -- a word is said
@@ -113,17 +115,17 @@ answer_of false (End c) = Did
 answer_of false (Next ticket control) = Did
 answer_of false Nothing = Idle
 
--- the controls of an ask
-abbrev pub ask_second : Id → Level → Option Control → Plan
-ask_second id level None = Done
-ask_second id level (Some control) = Asks id level control Done
+-- the controls of an ask, and what comes then
+abbrev pub ask_second : Id → Level → Option Control → Plan → Plan
+ask_second id level None k = k
+ask_second id level (Some control) k = Asks id level control k
 
-abbrev pub ask_plan : Id → Sends → Plan
-ask_plan id sends = Asks id sends.level sends.first (ask_second id sends.level sends.second)
+abbrev pub ask_plan : Id → Sends → Plan → Plan
+ask_plan id sends k = Asks id sends.level sends.first (ask_second id sends.level sends.second k)
 
 -- nothing is asked of a job that is gone
 abbrev pub send_plan : Id → Sends → List Entry → Plan
-send_plan id sends p = if lives id p then ask_plan id sends else Done
+send_plan id sends p = if lives id p then ask_plan id sends Done else Done
 
 -- the end of a job: a child that runs is let go, and the job is gone
 abbrev pub drop_plan : Option ℕ → Plan → Plan

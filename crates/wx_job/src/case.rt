@@ -164,6 +164,8 @@ impl JobTask {
         ensures follows { FollowsHost (row self.old.id self.old.command ticket Start (child_of self.old.state)) journal.old.past (H.told host.old) (H.host_faults host.old) Done journal.new.past (H.told host.new) (H.host_faults host.new) }
         ensures fields { self.new ≡ record self.old { state = self.new.state; previous = self.new.previous; kept = self.new.kept } }
         ensures kept { Kept H.Plan (H.plan host.old) (H.plan host.new) (H.progress host.old) (H.progress host.new) (H.place host.old) (H.place host.new) }
+        ensures journal_room { journal.old.spare ≤ journal.new.spare + 2 }
+        ensures host_room { H.spare host.old ≤ H.spare host.new + 2 }
     {
         if let Some((what, listed)) = what {
             self.spawn(what, listed, at, host, journal);
@@ -182,6 +184,8 @@ impl JobTask {
         ensures follows { FollowsHost (row self.old.id self.old.command ticket Stop (child_of self.old.state)) journal.old.past (H.told host.old) (H.host_faults host.old) Done journal.new.past (H.told host.new) (H.host_faults host.new) }
         ensures fields { self.new ≡ record self.old { state = self.new.state; previous = self.new.previous; kept = self.new.kept } }
         ensures kept { Kept H.Plan (H.plan host.old) (H.plan host.new) (H.progress host.old) (H.progress host.new) (H.place host.old) (H.place host.new) }
+        ensures journal_room { journal.old.spare ≤ journal.new.spare + 4 }
+        ensures host_room { H.spare host.old ≤ H.spare host.new + 4 }
     {
         if let Some(child) = child_of(self.state) {
             if !self.reap(child, ticket, done, at, host, journal) {
@@ -203,6 +207,8 @@ impl JobTask {
         ensures follows { FollowsHost (ended child) journal.old.past (H.told host.old) (H.host_faults host.old) Done journal.new.past (H.told host.new) (H.host_faults host.new) }
         ensures fields { self.new ≡ record self.old { state = self.new.state; kept = self.new.kept } }
         ensures kept { Kept H.Plan (H.plan host.old) (H.plan host.new) (H.progress host.old) (H.progress host.new) (H.place host.old) (H.place host.new) }
+        ensures journal_room { journal.old.spare ≤ journal.new.spare + 1 }
+        ensures host_room { H.spare host.old ≤ H.spare host.new + 1 }
     {
         let _answer = self.wait(child, at, host, journal);
     }
@@ -272,6 +278,8 @@ impl JobTask {
         ensures follows { FollowsHost (row self.old.id self.old.command waiting.now.ticket control (child_of self.old.state)) journal.old.past (H.told host.old) (H.host_faults host.old) Done journal.new.past (H.told host.new) (H.host_faults host.new) }
         ensures fields { self.new ≡ record self.old { state = self.new.state; previous = self.new.previous; kept = self.new.kept } }
         ensures kept { Kept H.Plan (H.plan host.old) (H.plan host.new) (H.progress host.old) (H.progress host.new) (H.place host.old) (H.place host.new) }
+        ensures journal_room { journal.old.spare ≤ journal.new.spare + 4 }
+        ensures host_room { H.spare host.old ≤ H.spare host.new + 4 }
     {
         match control {
             Control::Start => self.start(waiting.ticket, &waiting.done, what, at, host, journal),
@@ -296,6 +304,8 @@ impl JobTask {
         ensures journal { OnErr result (journal.new ≡ journal.old) }
         ensures host { OnErr result (host.new ≡ host.old) }
         ensures memory { OnErr result (is_spawning choice (child_of self.old.state) ≡ true) }
+        ensures journal_room { journal.old.spare ≤ journal.new.spare + 5 }
+        ensures host_room { H.spare host.old ≤ H.spare host.new + 4 }
     {
         match choice {
             Choice::End(child) => self.end_child(child, at, host, journal),

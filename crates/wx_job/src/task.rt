@@ -1,5 +1,5 @@
 // What is kept of a job.
-ghost use Rattle.std.specs.Prelude.{◌≡◌, ℕ, ◌<◌, ◌≤◌, ◌∷◌, vec_len, vec_capacity, OnOk, OnErr, IfOk, List, Option, Some, None, option_map, true, false};
+ghost use Rattle.std.specs.Prelude.{◌≡◌, ℕ, ◌+◌, ◌<◌, ◌≤◌, ◌∷◌, vec_len, vec_capacity, OnOk, OnErr, IfOk, List, Option, Some, None, option_map, true, false};
 ghost use Rattle.wx_control.specs.Asks.{sends_of};
 ghost use Rattle.wx_control.specs.declared.level.Level.TheVariants.{Normal};
 ghost use Rattle.wx_journal.specs.declared.entry.Entry.{Entry};
@@ -85,6 +85,7 @@ impl JobTask {
         ensures past { OnErr result (journal.new.past ≡ journal.old.past) }
         ensures leaves { NamesItsOwn journal.old.past → LeavesOthers (id_of self.old) journal.old.past journal.new.past }
         ensures reaped { NamesItsOwn journal.old.past → IsReaping (id_of self.old) journal.old.past → IsReaping (id_of self.old) journal.new.past }
+        ensures journal_room { journal.old.spare ≤ journal.new.spare + 2 }
     {
         self.put(alloc, ask, last, journal)
     }
@@ -114,6 +115,8 @@ impl JobTask {
         ensures failed { NamesItsOwn journal.old.past → AfterFaults (id_of self.old) journal.old.past → AfterFaults (id_of self.old) journal.new.past }
         ensures hooks_stand { NamesItsOwn journal.old.past → K.stands hooks.old journal.old.past → K.stands hooks.new journal.new.past }
         ensures faults { count is_fault journal.old.past < count is_fault journal.new.past → Rose (H.host_faults host.old) (H.host_faults host.new) }
+        ensures journal_room { journal.old.spare ≤ journal.new.spare + 16 }
+        ensures host_room { H.spare host.old ≤ H.spare host.new + 16 }
     {
         self.walk(alloc, at, host, journal)
     }
@@ -142,6 +145,8 @@ impl JobTask {
         ensures failed { NamesItsOwn journal.old.past → AfterFaults (id_of self.old) journal.old.past → AfterFaults (id_of self.old) journal.new.past }
         ensures hooks_stand { NamesItsOwn journal.old.past → K.stands hooks.old journal.old.past → K.stands hooks.new journal.new.past }
         ensures faults { count is_fault journal.old.past < count is_fault journal.new.past → Rose (H.host_faults host.old) (H.host_faults host.new) }
+        ensures journal_room { journal.old.spare ≤ journal.new.spare + 16 }
+        ensures host_room { H.spare host.old ≤ H.spare host.new + 16 }
     {
         self.keep_end(child, at, journal);
         self.step(alloc, at, host, hooks, journal)
@@ -159,6 +164,8 @@ impl JobTask {
         ensures kept { Kept H.Plan (H.plan host.old) (H.plan host.new) (H.progress host.old) (H.progress host.new) (H.place host.old) (H.place host.new) }
         ensures leaves { NamesItsOwn journal.old.past → LeavesOthers (id_of self.old) journal.old.past journal.new.past }
         ensures reaped { NamesItsOwn journal.old.past → IsReaping (id_of self.old) journal.old.past → IsReaping (id_of self.old) journal.new.past }
+        ensures journal_room { journal.old.spare ≤ journal.new.spare + 2 }
+        ensures host_room { H.spare host.old ≤ H.spare host.new + 2 }
     {
         if self.gone {
             return;
@@ -210,6 +217,7 @@ impl JobTask {
         ensures leads { OnOk result (FollowsAlone (send_plan (id_of self.old) (sends_of ask) journal.old.past) journal.old.past Done journal.new.past) }
         ensures task { OnErr result (SameTask self.old self.new) }
         ensures past { OnErr result (journal.new.past ≡ journal.old.past) }
+        ensures journal_room { journal.old.spare ≤ journal.new.spare + 2 }
     {
         if self.gone {
             return self.ticket(alloc, &self.flag);
@@ -244,6 +252,7 @@ impl JobTask {
         ensures stands { Stands self.new journal.new.past }
         ensures follows { (k : Plan) → FollowsAlone (Asks self.old.id Normal control k) journal.old.past k journal.new.past }
         ensures fields { self.new ≡ record self.old { waiting = self.new.waiting } }
+        ensures journal_room { journal.old.spare ≤ journal.new.spare + 1 }
     {
         let ticket = journal.tickets();
         self.waiting.push_reserved(Waiting {
@@ -281,6 +290,8 @@ impl JobTask {
         ensures follows { FollowsHost (drop_plan child (Goes self.old.id Done)) journal.old.past (H.told host.old) (H.host_faults host.old) Done journal.new.past (H.told host.new) (H.host_faults host.new) }
         ensures fields { self.new ≡ record self.old { waiting = self.new.waiting; kept = false; gone = true } }
         ensures kept { Kept H.Plan (H.plan host.old) (H.plan host.new) (H.progress host.old) (H.progress host.new) (H.place host.old) (H.place host.new) }
+        ensures journal_room { journal.old.spare ≤ journal.new.spare + 2 }
+        ensures host_room { H.spare host.old ≤ H.spare host.new + 2 }
     {
         if let Some(child) = child {
             host.drop_child(child);
@@ -310,6 +321,8 @@ impl JobTask {
         ensures host { OnErr result (host.new ≡ host.old) }
         ensures past { OnErr result (journal.new.past ≡ journal.old.past) }
         ensures kept { Kept H.Plan (H.plan host.old) (H.plan host.new) (H.progress host.old) (H.progress host.new) (H.place host.old) (H.place host.new) }
+        ensures journal_room { journal.old.spare ≤ journal.new.spare + 5 }
+        ensures host_room { H.spare host.old ≤ H.spare host.new + 4 }
     {
         if self.gone {
             return Ok(Stepped::Gone);
