@@ -26,25 +26,25 @@ same_child : (id : Id) (c : ℕ) (p : List Entry) → NamesItsOwn p → is_owner
 same_child id c p own other = (not_child (child id p) c (λ e. not_owned id (owner c p) other (child_owner id c p own e))).1
 
 other_reaping : (id : Id) (e : Entry) (p : List Entry) → NamesItsOwn (e ∷ p) → is_about id p e ≡ false → IsReaping id p → IsReaping id (e ∷ p)
-other_reaping id (Begin t s z k f j w d paths) p own other r = record { each = r.each; last = r.last }
-other_reaping id (Sent name event priority) p own other r = record { each = r.each; last = r.last }
-other_reaping id (Turned t) p own other r = record { each = r.each; last = r.last }
-other_reaping id (TurnFault code) p own other r = record { each = r.each; last = r.last }
-other_reaping id (Offer name item result event priority) p own other r = record { each = r.each; last = r.last }
-other_reaping id (Said word) p own other r = record { each = r.each; last = r.last }
-other_reaping id (Take name) p own other r = record { each = r.each; last = r.last }
-other_reaping id (Hand n names acts) p own other r = record { each = r.each; last = r.last }
-other_reaping id (Made job) p own other r = record { each = λ e. r.each; last = λ alive. rw other (r.last (rw other at alive)) }
-other_reaping id (Asked ticket job level control) p own other r = record { each = r.each; last = r.last }
-other_reaping id (Pick job ticket) p own other r = record { each = r.each; last = r.last }
-other_reaping id (Spawn c job tag what (Ok done)) p own other r = record { each = (λ e. (let both : true ≡ false = sym e ∙ other in absurd cc), r.each); last = λ alive. rw other (r.last alive) }
-other_reaping id (Spawn c job tag what (Err fault)) p own other r = record { each = (λ e. (let both : true ≡ false = sym e ∙ other in absurd cc), r.each); last = r.last }
-other_reaping id (Kill c answer) p own other r = record { each = r.each; last = r.last }
-other_reaping id (Wait c (Ok status)) p own other r = record { each = r.each; last = λ alive. same_unreaped id c p own.1 other ∙ r.last alive ∙ sym (same_child id c p own.1 other) }
-other_reaping id (Wait c (Err fault)) p own other r = record { each = r.each; last = r.last }
-other_reaping id (Dropped c) p own other r = record { each = r.each; last = λ alive. r.last alive ∙ sym (same_child id c p own.1 other) }
-other_reaping id (Raise ticket) p own other r = record { each = r.each; last = r.last }
-other_reaping id (Gone job) p own other r = record { each = r.each; last = λ alive. r.last (rw other at alive) }
+other_reaping id (Begin t s z k f j w d paths) p own other r = record { each = r.each; last = r.last; none = r.none }
+other_reaping id (Sent name event priority) p own other r = record { each = r.each; last = r.last; none = r.none }
+other_reaping id (Turned t) p own other r = record { each = r.each; last = r.last; none = r.none }
+other_reaping id (TurnFault code) p own other r = record { each = r.each; last = r.last; none = r.none }
+other_reaping id (Offer name item result event priority) p own other r = record { each = r.each; last = r.last; none = r.none }
+other_reaping id (Said word) p own other r = record { each = r.each; last = r.last; none = r.none }
+other_reaping id (Take name) p own other r = record { each = r.each; last = r.last; none = r.none }
+other_reaping id (Hand n names acts) p own other r = record { each = r.each; last = r.last; none = r.none }
+other_reaping id (Made job) p own other r = record { each = λ e. r.each; last = λ alive. rw other (r.last (rw other at alive)); none = λ dead. rw other (r.none (rw other at dead)) }
+other_reaping id (Asked ticket job level control) p own other r = record { each = r.each; last = r.last; none = r.none }
+other_reaping id (Pick job ticket) p own other r = record { each = r.each; last = r.last; none = r.none }
+other_reaping id (Spawn c job tag what (Ok done)) p own other r = record { each = (λ e. (let both : true ≡ false = sym e ∙ other in absurd cc), r.each); last = λ alive. rw other (r.last alive); none = λ dead. rw other (r.none dead) }
+other_reaping id (Spawn c job tag what (Err fault)) p own other r = record { each = (λ e. (let both : true ≡ false = sym e ∙ other in absurd cc), r.each); last = r.last; none = r.none }
+other_reaping id (Kill c answer) p own other r = record { each = r.each; last = r.last; none = r.none }
+other_reaping id (Wait c (Ok status)) p own other r = record { each = r.each; last = λ alive. same_unreaped id c p own.1 other ∙ r.last alive ∙ sym (same_child id c p own.1 other); none = λ dead. same_child id c p own.1 other ∙ r.none dead }
+other_reaping id (Wait c (Err fault)) p own other r = record { each = r.each; last = r.last; none = r.none }
+other_reaping id (Dropped c) p own other r = record { each = r.each; last = λ alive. r.last alive ∙ sym (same_child id c p own.1 other); none = λ dead. same_child id c p own.1 other ∙ r.none dead }
+other_reaping id (Raise ticket) p own other r = record { each = r.each; last = r.last; none = r.none }
+other_reaping id (Gone job) p own other r = record { each = r.each; last = λ alive. r.last (rw other at alive); none = λ dead. r.none (rw other at dead) }
 
 record IsGood (id : Id) (p : List Entry) : Type 0 where
   own : NamesItsOwn p
@@ -52,7 +52,7 @@ record IsGood (id : Id) (p : List Entry) : Type 0 where
 
 life : (id : Id) (command : Command) (p : List Entry) → Lived id command p → IsGood id p
 life id command p l = elim l as (λ p _. IsGood id p) [
-    Begins p own ↦ record { own = own; reaping = record { each = λ e. (let both : true ≡ false = sym (self id) ∙ e in absurd cc); last = λ alive. rw (self id) refl } }
+    Begins p own ↦ record { own = own; reaping = record { each = λ e. (let both : true ≡ false = sym (self id) ∙ e in absurd cc); last = λ alive. rw (self id) refl; none = λ dead. rw (self id) refl } }
     | Others e p (l → h) own other ↦ record { own = own; reaping = other_reaping id e p own other h.reaping }
     | Asks ask p p' host hooks host' hooks' n n' (l → h) way ↦
       let left = left_done (λ q. Unit {0}) (λ q e o i x. tt) id (send_plan id (sends_of ask) p) p host hooks n p' host' hooks' n' way h.own (sound_send id ask p) (send_living id (sends_of ask) p) in

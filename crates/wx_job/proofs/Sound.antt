@@ -32,7 +32,7 @@ Sound id c n (Kills d k f) = (c ≡ Some d) × Sound id c n k × Sound id c n f
 Sound id c n (Waits d k f) = (c ≡ Some d) × Sound id None n k × Sound id c n f
 Sound id c n (Drops d k) = (c ≡ Some d) × (k ≡ Goes id Done)
 Sound id c n (Raises t k) = (t < n) × Sound id c n k
-Sound id c n (Goes job k) = (job ≡ id) × (k ≡ Done)
+Sound id c n (Goes job k) = (job ≡ id) × (c ≡ None) × (k ≡ Done)
 Sound id c n (Makes job k) = ⊥
 Sound id c n (Asks job level control k) = (job ≡ id) × Sound id c (n + 1) k
 Sound id c n (Says word k) = Sound id c n k
@@ -85,7 +85,7 @@ pub sound_send : (id : Id) (ask : Ask) (p : List Entry) → Sound id (child id p
 sound_send id ask p = sound_if id (child id p) (ticket_count p) (lives id p) (ask_plan id (sends_of ask) Done) (sound_ask id ask (child id p) (ticket_count p))
 
 sound_drop : (id : Id) (n : ℕ) (c : Option ℕ) → Sound id c n (drop_plan c (Goes id Done))
-sound_drop id n None = (refl, refl)
+sound_drop id n None = (refl, refl, refl)
 sound_drop id n (Some d) = (refl, refl)
 
 pub sound_end : (id : Id) (p : List Entry) → Sound id (child id p) (ticket_count p) (end_plan id p)
@@ -102,11 +102,13 @@ abbrev pub is_going : Plan → Bool
 is_going (Goes id k) = true
 is_going (_) = false
 
--- each child was reaped before the next spawn, the last one is the one that runs, and the job lives while it owes anything
+-- Each child was reaped before the next spawn, the last one is the one that runs, the job lives while it owes anything, and
+-- no child runs where it is gone.
 pub record Reaping (id : Id) (k : Plan) (p : List Entry) : Type 0 where
   pub each : AreReaped id p
   pub last : lives id p ≡ true → is_going k ≡ false → unreaped id p ≡ child id p
   pub alive : is_done k ≡ false → lives id p ≡ true
+  pub none : lives id p ≡ false → child id p ≡ None
 
 -- the child whose kill or wait failed runs
 abbrev pub FailingRuns : Id → List Entry → Type 0
@@ -114,6 +116,10 @@ FailingRuns id p = (c : ℕ) → reap_failed p ≡ Some c → child id p ≡ Som
 
 no_fault : {A : Type 0} (c : ℕ) → ◌≡◌ {A = Option ℕ} None (Some c) → A
 no_fault c e = cc
+
+-- a job that lives isn't gone
+lives_on : {b : Bool} {A : Type 0} → b ≡ true → b ≡ false → A
+lives_on alive dead = let both : true ≡ false = sym alive ∙ dead in absurd cc
 
 pub record Entered (id : Id) (p : List Entry) (k : Plan) (e : Entry) : Type 0 where
   pub own : NamesItsOwn (e ∷ p)
@@ -136,7 +142,7 @@ one_pick id p t k own s = record {
   others = λ i ne. frame_pick i id t p ne;
   sound = s.2;
   calm = refl;
-  reaps = λ r. record { each = r.each; last = λ l g. r.last l refl; alive = λ d. r.alive refl };
+  reaps = λ r. record { each = r.each; last = λ l g. r.last l refl; alive = λ d. r.alive refl; none = λ dead. lives_on (r.alive refl) dead };
   failing = λ h c e. no_fault c e;
 }
 
@@ -146,7 +152,7 @@ one_raise id p t k own s = record {
   others = λ i ne. frame_raise i t p;
   sound = s.1;
   calm = refl;
-  reaps = λ r. record { each = r.each; last = λ l g. r.last l refl; alive = λ d. r.alive refl };
+  reaps = λ r. record { each = r.each; last = λ l g. r.last l refl; alive = λ d. r.alive refl; none = λ dead. lives_on (r.alive refl) dead };
   failing = λ h c e. h c e;
 }
 
@@ -156,7 +162,7 @@ one_word id p w k own s = record {
   others = λ i ne. frame_word i w p;
   sound = s;
   calm = refl;
-  reaps = λ r. record { each = r.each; last = λ l g. r.last l refl; alive = λ d. r.alive refl };
+  reaps = λ r. record { each = r.each; last = λ l g. r.last l refl; alive = λ d. r.alive refl; none = λ dead. lives_on (r.alive refl) dead };
   failing = λ h c e. no_fault c e;
 }
 
@@ -166,7 +172,7 @@ one_asked id p level control k own s = record {
   others = λ i ne. frame_asked i id (ticket_count p) level control p ne;
   sound = s.1;
   calm = refl;
-  reaps = λ r. record { each = r.each; last = λ l g. r.last l refl; alive = λ d. r.alive refl };
+  reaps = λ r. record { each = r.each; last = λ l g. r.last l refl; alive = λ d. r.alive refl; none = λ dead. lives_on (r.alive refl) dead };
   failing = λ h c e. no_fault c e;
 }
 
@@ -176,7 +182,7 @@ one_kill id p d (Ok a) k f own s = record {
   others = λ i ne. frame_kill i d (Ok a) p;
   sound = s.1;
   calm = refl;
-  reaps = λ r. record { each = r.each; last = λ l g. r.last l refl; alive = λ e. r.alive refl };
+  reaps = λ r. record { each = r.each; last = λ l g. r.last l refl; alive = λ e. r.alive refl; none = λ dead. lives_on (r.alive refl) dead };
   failing = λ h c e. no_fault c e;
 }
 one_kill id p d (Err a) k f own s = record {
@@ -184,7 +190,7 @@ one_kill id p d (Err a) k f own s = record {
   others = λ i ne. frame_kill i d (Err a) p;
   sound = s.2;
   calm = refl;
-  reaps = λ r. record { each = r.each; last = λ l g. r.last l refl; alive = λ e. r.alive refl };
+  reaps = λ r. record { each = r.each; last = λ l g. r.last l refl; alive = λ e. r.alive refl; none = λ dead. lives_on (r.alive refl) dead };
   failing = λ h c e. s.0 ∙ e;
 }
 
@@ -194,7 +200,7 @@ one_wait id p d (Ok status) k f own s = record {
   others = λ i ne. frame_wait_ok i id d status p ne own s.0;
   sound = rw (gone_child d (child id p) s.0) s.1;
   calm = refl;
-  reaps = λ r. record { each = r.each; last = λ l g. ap (unless d) (r.last l refl); alive = λ e. r.alive refl };
+  reaps = λ r. record { each = r.each; last = λ l g. ap (unless d) (r.last l refl); alive = λ e. r.alive refl; none = λ dead. lives_on (r.alive refl) dead };
   failing = λ h c e. no_fault c e;
 }
 one_wait id p d (Err a) k f own s = record {
@@ -202,7 +208,7 @@ one_wait id p d (Err a) k f own s = record {
   others = λ i ne. frame_wait_err i id d a p ne own s.0;
   sound = s.2;
   calm = refl;
-  reaps = λ r. record { each = r.each; last = λ l g. r.last l refl; alive = λ e. r.alive refl };
+  reaps = λ r. record { each = r.each; last = λ l g. r.last l refl; alive = λ e. r.alive refl; none = λ dead. lives_on (r.alive refl) dead };
   failing = λ h c e. s.0 ∙ e;
 }
 
@@ -212,7 +218,7 @@ one_spawn id p tag what (Ok a) k f own s = record {
   others = λ i ne. frame_spawn_ok i id (child_count p) tag what a p ne;
   sound = rw (self id) (s.2 (child_count p));
   calm = refl;
-  reaps = λ r. record { each = (λ e. r.last (r.alive refl) refl ∙ s.1, r.each); last = λ l g. rw (self id) refl; alive = λ e. r.alive refl };
+  reaps = λ r. record { each = (λ e. r.last (r.alive refl) refl ∙ s.1, r.each); last = λ l g. rw (self id) refl; alive = λ e. r.alive refl; none = λ dead. lives_on (r.alive refl) dead };
   failing = λ h c e. no_fault c e;
 }
 one_spawn id p tag what (Err a) k f own s = record {
@@ -220,7 +226,7 @@ one_spawn id p tag what (Err a) k f own s = record {
   others = λ i ne. frame_spawn_err i id (child_count p) tag what a p ne;
   sound = s.3;
   calm = refl;
-  reaps = λ r. record { each = (λ e. r.last (r.alive refl) refl ∙ s.1, r.each); last = λ l g. r.last l refl; alive = λ e. r.alive refl };
+  reaps = λ r. record { each = (λ e. r.last (r.alive refl) refl ∙ s.1, r.each); last = λ l g. r.last l refl; alive = λ e. r.alive refl; none = λ dead. lives_on (r.alive refl) dead };
   failing = λ h c e. no_fault c e;
 }
 
@@ -228,19 +234,19 @@ one_drop : (id : Id) (p : List Entry) (d : ℕ) → NamesItsOwn p → child id p
 one_drop id p d own runs = record {
   own = (child_below id d p own runs, own);
   others = λ i ne. frame_drop i id d p ne own runs;
-  sound = (refl, refl);
+  sound = (refl, gone_child d (child id p) runs, refl);
   calm = refl;
-  reaps = λ r. record { each = r.each; last = λ l g. absurd cc; alive = λ e. r.alive refl };
+  reaps = λ r. record { each = r.each; last = λ l g. absurd cc; alive = λ e. r.alive refl; none = λ dead. lives_on (r.alive refl) dead };
   failing = λ h c e. no_fault c e;
 }
 
-one_gone : (id : Id) (p : List Entry) → NamesItsOwn p → Entered id p (Goes id Done) (Gone id)
-one_gone id p own = record {
+one_gone : (id : Id) (p : List Entry) → NamesItsOwn p → child id p ≡ None → Entered id p (Goes id Done) (Gone id)
+one_gone id p own idle = record {
   own = own;
   others = λ i ne. frame_gone i id p ne;
   sound = tt;
   calm = refl;
-  reaps = λ r. record { each = r.each; last = λ l g. (let dead : (not (same id id) && lives id p) ≡ false = rw (self id) refl in absurd cc); alive = λ e. absurd cc };
+  reaps = λ r. record { each = r.each; last = λ l g. (let dead : (not (same id id) && lives id p) ≡ false = rw (self id) refl in absurd cc); alive = λ e. absurd cc; none = λ dead. idle };
   failing = λ h c e. no_fault c e;
 }
 
@@ -252,7 +258,7 @@ one id p (Kills c k f) e d own s = rw d.1 (one_kill id p c d.0 k f own s)
 one id p (Waits c k f) e d own s = rw d.1 (one_wait id p c d.0 k f own s)
 one id p (Drops c k) e d own s = rw (d, s.1) (one_drop id p c own s.0)
 one id p (Raises t k) e d own s = rw d (one_raise id p t k own s)
-one id p (Goes job k) e d own s = rw (d, s.1) (subst (λ (j : Id). Entered id p (Goes j Done) (Gone j)) (sym s.0) (one_gone id p own))
+one id p (Goes job k) e d own s = rw (d, s.2) (subst (λ (j : Id). Entered id p (Goes j Done) (Gone j)) (sym s.0) (one_gone id p own s.1))
 one id p (Makes job k) e d own s = absurd s
 one id p (Asks job level control k) e d own s = rw d (subst (λ (j : Id). Entered id p (Asks j level control k) (Asked (ticket_count p) j level control)) (sym s.0) (one_asked id p level control k own (refl, s.1)))
 one id p (Says w k) e d own s = rw d (one_word id p w k own s)

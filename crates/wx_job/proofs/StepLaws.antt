@@ -40,7 +40,7 @@ pub left_done : (stands : List Entry → Type 0) → KeepsOther stands → (id :
 left_done stands keep id k p host hooks n p' host' hooks' n' l own s living =
     let f = follow stands keep id k p host hooks n Done p' host' hooks' n' l own s in record {
       leaves = record { own = f.own; others = f.others };
-      reaped = λ r. let after = f.reaps (record { each = r.each; last = λ alive going. r.last alive; alive = living }) in record { each = after.each; last = λ alive. after.last alive refl };
+      reaped = λ r. let after = f.reaps (record { each = r.each; last = λ alive going. r.last alive; alive = living; none = r.none }) in record { each = after.each; last = λ alive. after.last alive refl; none = after.none };
       failed = λ r. record { pending = spawn_pending id p'; runs = f.failing r.runs };
       calm = f.calm;
     }

@@ -27,11 +27,12 @@ AreReaped id (Made job ∷ p) = same job id ≡ false → AreReaped id p
 AreReaped id (Spawn c job tag what answer ∷ p) = (same job id ≡ true → unreaped id p ≡ None) × AreReaped id p
 AreReaped id (_ ∷ p) = AreReaped id p
 
--- Each child of a job was reaped before the next spawn, and while the job lives the last one, if it wasn't, is the one that
--- runs.
+-- Each child of a job was reaped before the next spawn. While the job lives a last one that wasn't is the one that runs, and
+-- where it is gone none runs: the last one was let go.
 pub record IsReaping (id : Id) (p : List Entry) : Type 0 where
   pub each : AreReaped id p
   pub last : lives id p ≡ true → unreaped id p ≡ child id p
+  pub none : lives id p ≡ false → child id p ≡ None
 
 -- the last call on a child was a spawn for this job, which failed, and only tickets were raised since
 abbrev pub spawn_failed : Id → List Entry → Bool
@@ -84,6 +85,6 @@ pub record LeavesOthers (id : Id) (p p' : List Entry) : Type 0 where
   pub own : NamesItsOwn p'
   pub others : (other : Id) → other ≢ id → SameHistory other p p'
 
--- in the life of a job each child is reaped before the next spawn, save a last one, which is let go
+-- in the life of a job each child is reaped before the next spawn, save a last one, and no child runs after its end
 abbrev pub ChildrenAreReaped : Type 0
 ChildrenAreReaped = (id : Id) (command : Command) (p : List Entry) → Lived id command p → IsReaping id p
