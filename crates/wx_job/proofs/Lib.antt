@@ -6,3 +6,4 @@ pub mod Frame
 pub mod Sound
 pub mod StepLaws
 pub mod LifeLaws
+pub mod Turns

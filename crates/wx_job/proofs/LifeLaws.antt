@@ -52,18 +52,18 @@ record IsGood (id : Id) (p : List Entry) : Type 0 where
 
 life : (id : Id) (command : Command) (p : List Entry) → Lived id command p → IsGood id p
 life id command p l = elim l as (λ p _. IsGood id p) [
-    Begins p own ↦ record { own = own; reaping = record { each = λ e. (let both : true ≡ false = sym (self id) ∙ e in absurd cc); last = λ alive. rw (self id) refl; none = λ dead. rw (self id) refl } }
-    | Others e p (l → h) own other ↦ record { own = own; reaping = other_reaping id e p own other h.reaping }
-    | Asks ask p p' host hooks host' hooks' n n' (l → h) way ↦
+  | Begins p own ↦ record { own = own; reaping = record { each = λ e. (let both : true ≡ false = sym (self id) ∙ e in absurd cc); last = λ alive. rw (self id) refl; none = λ dead. rw (self id) refl } }
+  | Others e p (l → h) own other ↦ record { own = own; reaping = other_reaping id e p own other h.reaping }
+  | Asks ask p p' host hooks host' hooks' n n' (l → h) way ↦
       let left = left_done (λ q. Unit {0}) (λ q e o i x. tt) id (send_plan id (sends_of ask) p) p host hooks n p' host' hooks' n' way h.own (sound_send id ask p) (send_living id (sends_of ask) p) in
       record { own = left.leaves.own; reaping = left.reaped h.reaping }
-    | Steps p p' host hooks host' hooks' n n' (l → h) way ↦
+  | Steps p p' host hooks host' hooks' n n' (l → h) way ↦
       let left = left_done (λ q. Unit {0}) (λ q e o i x. tt) id (step_plan id command p) p host hooks n p' host' hooks' n' way h.own (sound_step id command p h.own) (step_living id command p) in
       record { own = left.leaves.own; reaping = left.reaped h.reaping }
-    | Ends p p' host hooks host' hooks' n n' (l → h) way ↦
+  | Ends p p' host hooks host' hooks' n n' (l → h) way ↦
       let left = left_done (λ q. Unit {0}) (λ q e o i x. tt) id (end_plan id p) p host hooks n p' host' hooks' n' way h.own (sound_end id p) (end_living id p) in
       record { own = left.leaves.own; reaping = left.reaped h.reaping }
-  ]
+]
 
 pub children_are_reaped : (id : Id) (command : Command) (p : List Entry) → Lived id command p → IsReaping id p
 children_are_reaped id command p l = (life id command p l).reaping

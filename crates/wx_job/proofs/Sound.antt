@@ -76,7 +76,7 @@ sound_step id command p own =
     let n = ticket_count p in
     sound_if id (child id p) n (lives id p) (case id command (child id p) (pick id p))
     (sound_case id command (child id p) n (pick id p)
-      (named_choice (child id p) n (kept id p) _ (λ d. named_control d n (waits id Urgent p) (waits id High p) (waits id Normal p) (waits_asked id Urgent p own) (waits_asked id High p own) (waits_asked id Normal p own))))
+    (named_choice (child id p) n (kept id p) _ (λ d. named_control d n (waits id Urgent p) (waits id High p) (waits id Normal p) (waits_asked id Urgent p own) (waits_asked id High p own) (waits_asked id Normal p own))))
 
 pub sound_ask : (id : Id) (ask : Ask) (c : Option ℕ) (n : ℕ) → Sound id c n (ask_plan id (sends_of ask) Done)
 sound_ask id (One control) c n = (refl, tt)
@@ -280,8 +280,8 @@ pub record Followed (stands : List Entry → Type 0) (id : Id) (k : Plan) (p : L
 
 pub follow : (stands : List Entry → Type 0) → KeepsOther stands → (id : Id) (k : Plan) (p : List Entry) (host hooks : Option (List Entry)) (n : ℕ) (k' : Plan) (p' : List Entry) (host' hooks' : Option (List Entry)) (n' : ℕ) → Leads k p host hooks n k' p' host' hooks' n' → NamesItsOwn p → Sound id (child id p) (ticket_count p) k → Followed stands id k p k' p'
 follow stands keep id k p host hooks n k' p' host' hooks' n' l own s = elim l as (λ k' p' host' hooks' n' _. Followed stands id k p k' p') [
-    Here ↦ record { own = own; others = λ i ne. same_history i p; sound = s; reaps = λ r. r; failing = λ r. r; calm = λ h. h }
-    | Then e k₁ p₁ host₁ hooks₁ n₁ n₂ (l → h) d counts ↦
+  | Here ↦ record { own = own; others = λ i ne. same_history i p; sound = s; reaps = λ r. r; failing = λ r. r; calm = λ h. h }
+  | Then e k₁ p₁ host₁ hooks₁ n₁ n₂ (l → h) d counts ↦
       let o = one id p₁ k₁ e d h.own h.sound in record {
         own = o.own;
         others = λ i ne. history_then i p p₁ (e ∷ p₁) (h.others i ne) (o.others i ne);
@@ -290,7 +290,7 @@ follow stands keep id k p host hooks n k' p' host' hooks' n' l own s = elim l as
         failing = λ r. o.failing (h.failing r);
         calm = λ g. keep p₁ e h.own o.calm (h.calm g);
       }
-  ]
+]
 
 -- ---- a fault comes only where the count rose
 
@@ -300,6 +300,6 @@ rose_on old mid new a b false counts h = let le = counts.later in (omega arith, 
 
 pub faults_rose : (k : Plan) (p : List Entry) (host hooks : Option (List Entry)) (n : ℕ) (k' : Plan) (p' : List Entry) (host' hooks' : Option (List Entry)) (n' : ℕ) → Leads k p host hooks n k' p' host' hooks' n' → (n ≤ n') × (count is_fault p < count is_fault p' → Rose n n')
 faults_rose k p host hooks n k' p' host' hooks' n' l = elim l as (λ k' p' host' hooks' n' _. (n ≤ n') × (count is_fault p < count is_fault p' → Rose n n')) [
-    Here ↦ (omega arith, λ lt. absurd (omega arith))
-    | Then e k₁ p₁ host₁ hooks₁ n₁ n₂ (l → h) d counts ↦ rose_on n n₁ n₂ (count is_fault p) (count is_fault p₁) (is_fault e) counts h
-  ]
+  | Here ↦ (omega arith, λ lt. absurd (omega arith))
+  | Then e k₁ p₁ host₁ hooks₁ n₁ n₂ (l → h) d counts ↦ rose_on n n₁ n₂ (count is_fault p) (count is_fault p₁) (is_fault e) counts h
+]

@@ -43,7 +43,12 @@ impl JobTask {
     }
 
     /// Kills the child.
-    fn kill<H: Host>(&self, child: u64, host: &mut H, journal: &mut Journal) -> Result<(), HostFault>
+    fn kill<H: Host>(
+        &self,
+        child: u64,
+        host: &mut H,
+        journal: &mut Journal,
+    ) -> Result<(), HostFault>
         requires stands { Stands self.now journal.old.past }
         requires journal_room { 1 ≤ journal.old.spare }
         requires host_room { 1 ≤ H.spare host.old }
@@ -61,7 +66,13 @@ impl JobTask {
     }
 
     /// Waits for the child's end, which is kept no longer.
-    fn wait<H: Host>(&mut self, child: u64, at: u64, host: &mut H, journal: &mut Journal) -> Result<ProcessEnd, HostFault>
+    fn wait<H: Host>(
+        &mut self,
+        child: u64,
+        at: u64,
+        host: &mut H,
+        journal: &mut Journal,
+    ) -> Result<ProcessEnd, HostFault>
         requires stands { Stands self.old journal.old.past }
         requires runs { child_of self.old.state ≡ Some child }
         requires here { self.old.gone ≡ false }
@@ -88,7 +99,15 @@ impl JobTask {
     }
 
     /// Kills the child and waits for it. It answers whether both were done; where they weren't it raises the ticket.
-    fn reap<H: Host>(&mut self, child: u64, ticket: u64, done: &Flag, at: u64, host: &mut H, journal: &mut Journal) -> bool
+    fn reap<H: Host>(
+        &mut self,
+        child: u64,
+        ticket: u64,
+        done: &Flag,
+        at: u64,
+        host: &mut H,
+        journal: &mut Journal,
+    ) -> bool
         requires stands { Stands self.old journal.old.past }
         requires runs { child_of self.old.state ≡ Some child }
         requires here { self.old.gone ≡ false }
@@ -117,7 +136,14 @@ impl JobTask {
     }
 
     /// Spawns a child. What is spawned is given twice, for the call and for its entry.
-    fn spawn<H: Host>(&mut self, what: Spawnable, listed: Spawnable, at: u64, host: &mut H, journal: &mut Journal)
+    fn spawn<H: Host>(
+        &mut self,
+        what: Spawnable,
+        listed: Spawnable,
+        at: u64,
+        host: &mut H,
+        journal: &mut Journal,
+    )
         requires stands { Stands self.old journal.old.past }
         requires runs { child_of self.old.state ≡ None }
         requires here { self.old.gone ≡ false }
@@ -153,7 +179,15 @@ impl JobTask {
     }
 
     /// The case of Start. What is spawned is given where no child runs.
-    fn start<H: Host>(&mut self, ticket: u64, done: &Flag, what: Option<(Spawnable, Spawnable)>, at: u64, host: &mut H, journal: &mut Journal)
+    fn start<H: Host>(
+        &mut self,
+        ticket: u64,
+        done: &Flag,
+        what: Option<(Spawnable, Spawnable)>,
+        at: u64,
+        host: &mut H,
+        journal: &mut Journal,
+    )
         requires stands { Stands self.old journal.old.past }
         requires here { self.old.gone ≡ false }
         requires at { moment journal.old.past ≡ at }
@@ -174,7 +208,14 @@ impl JobTask {
     }
 
     /// The case of Stop.
-    fn stop<H: Host>(&mut self, ticket: u64, done: &Flag, at: u64, host: &mut H, journal: &mut Journal)
+    fn stop<H: Host>(
+        &mut self,
+        ticket: u64,
+        done: &Flag,
+        at: u64,
+        host: &mut H,
+        journal: &mut Journal,
+    )
         requires stands { Stands self.old journal.old.past }
         requires here { self.old.gone ≡ false }
         requires at { moment journal.old.past ≡ at }
@@ -234,7 +275,11 @@ impl JobTask {
     }
 
     /// What the case of a control spawns, twice, where it spawns. It takes no memory where it doesn't.
-    fn prepare(&self, alloc: Global, control: Control) -> Result<Option<(Spawnable, Spawnable)>, Memory>
+    fn prepare(
+        &self,
+        alloc: Global,
+        control: Control,
+    ) -> Result<Option<(Spawnable, Spawnable)>, Memory>
         ensures ok { IfOk result (λ what. what ≡ prepared self.now.command control (child_of self.now.state)) }
         ensures err { OnErr result (spawns control (child_of self.now.state) ≡ true) }
     {
@@ -267,7 +312,15 @@ impl JobTask {
     }
 
     /// The case of a control that was picked.
-    fn control<H: Host>(&mut self, control: Control, waiting: &Waiting, what: Option<(Spawnable, Spawnable)>, at: u64, host: &mut H, journal: &mut Journal)
+    fn control<H: Host>(
+        &mut self,
+        control: Control,
+        waiting: &Waiting,
+        what: Option<(Spawnable, Spawnable)>,
+        at: u64,
+        host: &mut H,
+        journal: &mut Journal,
+    )
         requires stands { Stands self.old journal.old.past }
         requires here { self.old.gone ≡ false }
         requires at { moment journal.old.past ≡ at }
@@ -288,7 +341,14 @@ impl JobTask {
     }
 
     /// Does what was picked. Want of memory comes before anything was done.
-    pub(crate) fn act<H: Host>(&mut self, alloc: Global, choice: Choice, at: u64, host: &mut H, journal: &mut Journal) -> Result<(), Memory>
+    pub(crate) fn act<H: Host>(
+        &mut self,
+        alloc: Global,
+        choice: Choice,
+        at: u64,
+        host: &mut H,
+        journal: &mut Journal,
+    ) -> Result<(), Memory>
         requires stands { Stands self.old journal.old.past }
         requires here { self.old.gone ≡ false }
         requires chosen { choice ≡ choice_of self.old }
@@ -335,7 +395,10 @@ fn finished(child: u64, status: ProcessEnd, at: u64, state: CommandState) -> Com
     ensures { result ≡ finish child status at state }
 {
     match state {
-        CommandState::Running { child: running, started } if running == child => {
+        CommandState::Running {
+            child: running,
+            started,
+        } if running == child => {
             CommandState::Finished {
                 status,
                 started,

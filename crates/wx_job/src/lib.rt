@@ -7,12 +7,16 @@ mod laws;
 mod outside;
 mod state;
 mod task;
+#[cfg(test)]
+mod test_world;
+#[cfg(test)]
+mod tests;
 
-pub use state::CommandState;
-pub use task::{JobTask, start_job};
 pub use choice::Stepped;
 pub use laws::children_are_reaped;
 pub use outside::{Host, JobHooks, Outside};
+pub use state::CommandState;
+pub use task::{JobTask, start_job};
 pub use wx_journal::{
     Act, Entries, Entry, HostFault, Journal, Named, Offered, SpawnTag, Turn, TurnKind, WatchedPath,
     Watcher, Word, put_entry,

@@ -10,7 +10,10 @@ pub enum CommandState {
     /// No child was spawned yet, or the last spawn failed.
     Pending,
     /// A child was spawned, and its end isn't known.
-    Running { child: u64, started: u64 },
+    Running {
+        child: u64,
+        started: u64,
+    },
     /// The child has ended.
     Finished {
         status: ProcessEnd,

@@ -47,7 +47,6 @@ pub struct JobTask {
     pub(crate) gone: bool,
 }
 
-
 /// A job of this name that runs this command, and a handle on it. It stands for its job behind the entry that it was
 /// made. It fails only for want of memory.
 pub fn start_job(alloc: Global, id: Id, command: Command) -> Result<(Job, JobTask), Memory>
@@ -75,7 +74,13 @@ impl JobTask {
     /// Asks this of the job: its controls wait, one entry each, numbered on from the journal. A job that is gone writes
     /// nothing. It answers the ticket of the last control, over `last` where that is given. It fails only for want of
     /// memory.
-    pub fn send(&mut self, alloc: Global, ask: Ask, last: Option<Flag>, journal: &mut Journal) -> Result<Ticket, Memory>
+    pub fn send(
+        &mut self,
+        alloc: Global,
+        ask: Ask,
+        last: Option<Flag>,
+        journal: &mut Journal,
+    ) -> Result<Ticket, Memory>
         requires stands { Stands self.old journal.old.past }
         ensures stands { Stands self.new journal.new.past }
         ensures job { SameJob self.old self.new }
@@ -93,7 +98,14 @@ impl JobTask {
     /// One step: what is picked is done. It answers `Gone` where the job is gone, `Idle` where nothing could be picked,
     /// and else `Did`. Want of memory comes only where a child would be spawned, and before anything was done. `at` is
     /// the moment of the journal's last turn, in nanoseconds.
-    pub fn step<H: Host, K: JobHooks>(&mut self, alloc: Global, at: u64, host: &mut H, hooks: &mut K, journal: &mut Journal) -> Result<Stepped, Memory>
+    pub fn step<H: Host, K: JobHooks>(
+        &mut self,
+        alloc: Global,
+        at: u64,
+        host: &mut H,
+        hooks: &mut K,
+        journal: &mut Journal,
+    ) -> Result<Stepped, Memory>
         requires stands { Stands self.old journal.old.past }
         requires at { moment journal.old.past ≡ at }
         requires journal_room { 16 ≤ journal.old.spare }
@@ -123,7 +135,15 @@ impl JobTask {
 
     /// Keeps the end of the running child, and does one step. The journal's last entry is the turn that told this end.
     /// It answers as `step` does; the end is kept also where memory is wanted.
-    pub fn ended<H: Host, K: JobHooks>(&mut self, alloc: Global, child: u64, at: u64, host: &mut H, hooks: &mut K, journal: &mut Journal) -> Result<Stepped, Memory>
+    pub fn ended<H: Host, K: JobHooks>(
+        &mut self,
+        alloc: Global,
+        child: u64,
+        at: u64,
+        host: &mut H,
+        hooks: &mut K,
+        journal: &mut Journal,
+    ) -> Result<Stepped, Memory>
         requires stands { IsEnding self.old child at journal.old.past }
         requires runs { running_of self.old ≡ Some child }
         requires journal_room { 16 ≤ journal.old.spare }
@@ -198,7 +218,11 @@ impl JobTask {
     pub fn running_child(&self) -> Option<u64>
         ensures { result ≡ running_of self.now }
     {
-        if self.gone { None } else { child_of(self.state) }
+        if self.gone {
+            None
+        } else {
+            child_of(self.state)
+        }
     }
 
     /// How many tickets are parked until the child ends: no control parks one yet.
@@ -209,7 +233,13 @@ impl JobTask {
     }
 
     /// The controls of an ask wait.
-    fn put(&mut self, alloc: Global, ask: Ask, last: Option<Flag>, journal: &mut Journal) -> Result<Ticket, Memory>
+    fn put(
+        &mut self,
+        alloc: Global,
+        ask: Ask,
+        last: Option<Flag>,
+        journal: &mut Journal,
+    ) -> Result<Ticket, Memory>
         requires stands { Stands self.old journal.old.past }
         ensures stands { Stands self.new journal.new.past }
         ensures job { SameJob self.old self.new }
@@ -305,7 +335,13 @@ impl JobTask {
     }
 
     /// A step, where nothing is asked of the hooks.
-    fn walk<H: Host>(&mut self, alloc: Global, at: u64, host: &mut H, journal: &mut Journal) -> Result<Stepped, Memory>
+    fn walk<H: Host>(
+        &mut self,
+        alloc: Global,
+        at: u64,
+        host: &mut H,
+        journal: &mut Journal,
+    ) -> Result<Stepped, Memory>
         requires stands { Stands self.old journal.old.past }
         requires at { moment journal.old.past ≡ at }
         requires journal_room { 5 ≤ journal.old.spare }

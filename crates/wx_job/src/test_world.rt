@@ -1,0 +1,333 @@
+// What the tests run jobs over: a host that fails at a call of their choice, hooks without calls, and a journal.
+ghost use Rattle.std.specs.Prelude.{◌≡◌, ◌≢◌, ◌≤◌, ◌+◌, ◌^◌, [], false, Some, None, OnOk, IfOk, is_err};
+ghost use Rattle.wx_journal.specs.Names.{NamesItsOwn, moment};
+ghost use Rattle.wx_journal.specs.Told.{Counts};
+ghost use Rattle.wx_job.specs.declared.task.JobTask.{JobTask as the-JobTask};
+ghost use Rattle.wx_job.specs.Stands.{Stands, id_of, running_of};
+
+use crate::choice::Stepped;
+use crate::outside::{Host, JobHooks, Outside};
+use crate::task::{JobTask, start_job};
+use std::alloc::Global;
+use wx_command::{Command, Program, SpawnOptions, Spawnable};
+use wx_control::{Ask, Control, Flag, Id, Ticket};
+use wx_events::{List, Memory, ProcessEnd, Text};
+use wx_journal::{Entry, HostFault, Journal, SpawnTag, Turn, TurnKind, put_entry};
+
+/// A host that tells its entries. Of its calls to spawn, kill and wait, counted from 0, the one of the number `bad` fails
+/// with code 7. Children end as the last of `ends` says, or else with success.
+#[derive(Drop, Debug)]
+pub(crate) struct TestHost {
+    told: Journal,
+    calls: u64,
+    bad: Option<u64>,
+    ends: Vec<ProcessEnd>,
+    faults: u64,
+}
+
+impl TestHost {
+    /// A host before its first call.
+    pub(crate) fn new(
+        alloc: Global,
+        bad: Option<u64>,
+        ends: Vec<ProcessEnd>,
+    ) -> Result<TestHost, Memory> {
+        Ok(TestHost {
+            told: Journal::new(alloc)?,
+            calls: 0,
+            bad,
+            ends,
+            faults: 0,
+        })
+    }
+
+    /// What the next call answers.
+    fn call(&mut self) -> Result<(), HostFault>
+        ensures told { self.new.told ≡ self.old.told }
+        ensures faults { Counts (is_err result) self.old.faults self.new.faults }
+    {
+        let call = self.calls;
+        self.calls = call.saturating_add(1);
+        if self.bad == Some(call) {
+            self.faults = self.faults.saturating_add(1);
+            return Err(HostFault(7));
+        }
+        Ok(())
+    }
+
+    /// What the next call answers, where that is the end of a child.
+    fn call_end(&mut self) -> Result<ProcessEnd, HostFault>
+        ensures told { self.new.told ≡ self.old.told }
+        ensures faults { Counts (is_err result) self.old.faults self.new.faults }
+    {
+        self.call()?;
+        Ok(self.ends.pop().unwrap_or(ProcessEnd::Success))
+    }
+}
+
+impl Outside for TestHost {
+    ghost use Rattle.std.specs.Prelude.{ℕ};
+
+    ghost Plan = { ℕ };
+
+    ghost plan = { λ _. 0 };
+
+    ghost told = { λ s. Some s.told.past };
+
+    ghost spare = { λ s. s.told.spare };
+
+    ghost progress = { λ _. record { turns = None; left = 0; moment = 0; turn_faults = 0; maker_faults = 0 } };
+
+    ghost host_faults = { λ s. s.faults };
+}
+
+impl Host for TestHost {
+    fn reserve(&mut self, n: u64) -> Result<(), Memory> {
+        self.told.reserve(n)
+    }
+
+    fn spawn(
+        &mut self,
+        child: u64,
+        job: Id,
+        what: Spawnable,
+        tag: SpawnTag,
+    ) -> Result<(), HostFault> {
+        let answer = self.call();
+        self.told.push(Entry::Spawn {
+            child,
+            job,
+            tag,
+            what,
+            answer,
+        });
+        answer
+    }
+
+    fn kill(&mut self, child: u64) -> Result<(), HostFault> {
+        let answer = self.call();
+        self.told.push(Entry::Kill { child, answer });
+        answer
+    }
+
+    fn wait(&mut self, child: u64) -> Result<ProcessEnd, HostFault> {
+        let answer = self.call_end();
+        self.told.push(Entry::Wait { child, answer });
+        answer
+    }
+
+    fn drop_child(&mut self, child: u64) {
+        self.told.push(Entry::Dropped(child));
+    }
+
+    fn raise(&mut self, ticket: u64, _flag: &Flag) {
+        self.told.push(Entry::Raise(ticket));
+    }
+
+    fn gone(&mut self, job: Id, _flag: &Flag) {
+        self.told.push(Entry::Gone(job));
+    }
+}
+
+/// Hooks on which there is no call.
+#[derive(Drop, Debug)]
+pub(crate) struct NoHooks;
+
+impl JobHooks for NoHooks {
+    ghost use Rattle.std.specs.Prelude.{ℕ};
+
+    ghost Plan = { ℕ };
+
+    ghost plan = { λ _. 0 };
+
+    ghost rule = { λ _ _ _. Unit {0} };
+
+    ghost stands = { λ _ _. Unit {0} };
+
+    ghost short = { λ _. false };
+
+    ghost told = { λ _. None };
+
+    ghost spare = { λ _. 2 ^ 64 };
+
+    fn reserve(&mut self, _n: u64) -> Result<(), Memory> {
+        Ok(())
+    }
+
+    ghost stands_other = { λ _ _ _ _ _ h. h };
+}
+
+/// A host, hooks and the journal of a run.
+#[derive(Drop, Debug)]
+pub(crate) struct World {
+    pub(crate) host: TestHost,
+    pub(crate) hooks: NoHooks,
+    pub(crate) journal: Journal,
+}
+
+/// The world of a run before its first entry, with this host.
+pub(crate) fn new_world(alloc: Global, host: TestHost) -> Result<World, Memory>
+    ensures { IfOk result (λ world. world.journal.past ≡ []) }
+{
+    Ok(World {
+        host,
+        hooks: NoHooks,
+        journal: Journal::new(alloc)?,
+    })
+}
+
+/// The journal's lines.
+pub(crate) fn lines_of(alloc: Global, world: &World) -> Result<Text, Memory> {
+    let mut text = Text::new(alloc);
+    for entry in world.journal.iter() {
+        put_entry(entry, &mut text)?;
+        text.append(b"\n")?;
+    }
+    Ok(text)
+}
+
+/// The command that runs this program.
+pub(crate) fn command_of(alloc: Global, prog: &[u8]) -> Result<Command, Memory> {
+    Ok(Command {
+        program: Program::Exec {
+            prog: Text::from_slice(alloc, prog)?,
+            args: List::new(alloc),
+        },
+        options: SpawnOptions::default(),
+    })
+}
+
+/// A job of this name is made, which runs this program.
+#[tactic(auto, using(crate::proofs::Turns::stands_made))]
+pub(crate) fn make_job(
+    alloc: Global,
+    id: Id,
+    prog: &[u8],
+    world: &mut World,
+) -> Result<JobTask, Memory>
+    ensures id { IfOk result (λ k. id_of k ≡ id) }
+    ensures stands { IfOk result (λ k. Stands k world.new.journal.past) }
+    ensures names { NamesItsOwn world.old.journal.past → NamesItsOwn world.new.journal.past }
+    ensures others { NamesItsOwn world.old.journal.past → (k : the-JobTask) → id_of k ≢ id → Stands k world.old.journal.past → Stands k world.new.journal.past }
+{
+    world.journal.reserve(1)?;
+    let (_handle, task) = start_job(alloc, id, command_of(alloc, prog)?)?;
+    world.journal.push(Entry::Made(id));
+    Ok(task)
+}
+
+/// This control is asked of the job.
+#[tactic(auto, using(crate::proofs::Turns::stands_left))]
+pub(crate) fn ask(
+    task: &mut JobTask,
+    alloc: Global,
+    control: Control,
+    world: &mut World,
+) -> Result<Ticket, Memory>
+    requires stands { Stands task.old world.old.journal.past }
+    ensures stands { Stands task.new world.new.journal.past }
+    ensures id { id_of task.new ≡ id_of task.old }
+    ensures names { NamesItsOwn world.old.journal.past → NamesItsOwn world.new.journal.past }
+    ensures others { NamesItsOwn world.old.journal.past → (k : the-JobTask) → id_of k ≢ id_of task.old → Stands k world.old.journal.past → Stands k world.new.journal.past }
+{
+    task.send(alloc, Ask::One(control), None, &mut world.journal)
+}
+
+/// Room for one move.
+fn make_room(world: &mut World) -> Result<(), Memory>
+    ensures past { world.new.journal.past ≡ world.old.journal.past }
+    ensures journal_room { OnOk result (17 ≤ world.new.journal.spare) }
+    ensures host_room { OnOk result (16 ≤ world.new.host.told.spare) }
+{
+    world.journal.reserve(17)?;
+    world.host.reserve(16)?;
+    world.hooks.reserve(16)
+}
+
+/// A step of the job in the turn that was given.
+#[tactic(auto, using(crate::proofs::Turns::stands_left))]
+fn step_now(
+    task: &mut JobTask,
+    alloc: Global,
+    at: u64,
+    world: &mut World,
+) -> Result<Stepped, Memory>
+    requires stands { Stands task.old world.old.journal.past }
+    requires at { moment world.old.journal.past ≡ at }
+    requires journal_room { 16 ≤ world.old.journal.spare }
+    requires host_room { 16 ≤ world.old.host.told.spare }
+    ensures stands { Stands task.new world.new.journal.past }
+    ensures id { id_of task.new ≡ id_of task.old }
+    ensures names { NamesItsOwn world.old.journal.past → NamesItsOwn world.new.journal.past }
+    ensures others { NamesItsOwn world.old.journal.past → (k : the-JobTask) → id_of k ≢ id_of task.old → Stands k world.old.journal.past → Stands k world.new.journal.past }
+{
+    let World {
+        host,
+        hooks,
+        journal,
+    } = world;
+    task.step(alloc, at, host, hooks, journal)
+}
+
+/// A turn in which the job takes a step.
+#[tactic(auto, using(crate::proofs::Turns::stands_turn))]
+pub(crate) fn step(
+    task: &mut JobTask,
+    alloc: Global,
+    at: u64,
+    world: &mut World,
+) -> Result<Stepped, Memory>
+    requires stands { Stands task.old world.old.journal.past }
+    ensures stands { Stands task.new world.new.journal.past }
+    ensures id { id_of task.new ≡ id_of task.old }
+    ensures names { NamesItsOwn world.old.journal.past → NamesItsOwn world.new.journal.past }
+    ensures others { NamesItsOwn world.old.journal.past → (k : the-JobTask) → id_of k ≢ id_of task.old → Stands k world.old.journal.past → Stands k world.new.journal.past }
+{
+    make_room(world)?;
+    let kind = TurnKind::Job(task.id);
+    world.journal.push(Entry::Turn(Turn { at, kind }));
+    step_now(task, alloc, at, world)
+}
+
+/// A turn that tells the end of the child that runs. Where none does there is no turn.
+#[tactic(auto, using(crate::proofs::Turns::is_ending))]
+pub(crate) fn end_child(
+    task: &mut JobTask,
+    alloc: Global,
+    at: u64,
+    world: &mut World,
+) -> Result<Stepped, Memory>
+    requires stands { Stands task.old world.old.journal.past }
+    ensures stands { Stands task.new world.new.journal.past }
+    ensures id { id_of task.new ≡ id_of task.old }
+{
+    let Some(child) = task.running_child() else {
+        return Ok(Stepped::Idle);
+    };
+    make_room(world)?;
+    let kind = TurnKind::Ended(child);
+    world.journal.push(Entry::Turn(Turn { at, kind }));
+    task.ended(
+        alloc,
+        child,
+        at,
+        &mut world.host,
+        &mut world.hooks,
+        &mut world.journal,
+    )
+}
+
+/// The end of the job.
+#[tactic(auto, using(crate::proofs::Turns::stands_left))]
+pub(crate) fn end_job(task: &mut JobTask, world: &mut World) -> Result<(), Memory>
+    requires stands { Stands task.old world.old.journal.past }
+    ensures stands { Stands task.new world.new.journal.past }
+    ensures id { id_of task.new ≡ id_of task.old }
+    ensures names { NamesItsOwn world.old.journal.past → NamesItsOwn world.new.journal.past }
+    ensures others { NamesItsOwn world.old.journal.past → (k : the-JobTask) → id_of k ≢ id_of task.old → Stands k world.old.journal.past → Stands k world.new.journal.past }
+{
+    world.journal.reserve(2)?;
+    world.host.reserve(2)?;
+    task.end(&mut world.host, &mut world.journal);
+    Ok(())
+}

@@ -1,0 +1,388 @@
+// Tests of jobs: their journals and states are worked out by hand.
+ghost use Rattle.std.specs.Prelude.{◌≡◌, ◌≢◌, IfOk};
+ghost use Rattle.wx_job.specs.Stands.{Stands, id_of};
+
+use crate::choice::Stepped;
+use crate::laws::children_are_reaped;
+use crate::state::CommandState;
+use crate::task::{JobTask, start_job};
+use crate::test_world::{
+    TestHost, World, ask, command_of, end_child, end_job, lines_of, make_job, new_world, step,
+};
+use std::alloc::Global;
+use std::num::NonZeroI64;
+use std::test::Fail;
+use wx_control::{Ask, Control, Flag, Id};
+use wx_events::{Memory, ProcessEnd};
+use wx_journal::{Entry, Journal};
+
+/// What a test does with its job.
+#[derive(Clone, Copy, Debug)]
+enum Move {
+    Ask(Control),
+    /// A turn of the job at this moment.
+    Step(u64),
+    /// A turn at this moment that tells the end of the running child.
+    Ended(u64),
+    End,
+}
+
+/// Job 0, which runs the program `a`, in a world of its own.
+#[derive(Drop, Debug)]
+struct One {
+    task: JobTask,
+    world: World,
+    ghost stands: { Stands task world.journal.past },
+}
+
+/// Job 0 as it was made, with this host.
+fn one_job(alloc: Global, host: TestHost) -> Result<One, Memory> {
+    let mut world = new_world(alloc, host)?;
+    let task = make_job(alloc, Id(0), b"a", &mut world)?;
+    Ok(One { task, world })
+}
+
+impl One {
+    /// Makes one move, and gives what a step answered.
+    fn play(&mut self, alloc: Global, with: Move) -> Result<Option<Stepped>, Memory> {
+        match with {
+            Move::Ask(control) => {
+                let _ticket = ask(&mut self.task, alloc, control, &mut self.world)?;
+                Ok(None)
+            }
+            Move::Step(at) => Ok(Some(step(&mut self.task, alloc, at, &mut self.world)?)),
+            Move::Ended(at) => Ok(Some(end_child(&mut self.task, alloc, at, &mut self.world)?)),
+            Move::End => {
+                end_job(&mut self.task, &mut self.world)?;
+                Ok(None)
+            }
+        }
+    }
+
+    /// Makes these moves, and gives what the last of them answered.
+    fn play_all(&mut self, alloc: Global, moves: &[Move]) -> Result<Option<Stepped>, Memory> {
+        let mut last = None;
+        for with in moves {
+            last = self.play(alloc, *with)?;
+        }
+        Ok(last)
+    }
+}
+
+/// A host that fails at the call `bad`, and whose children end with success.
+fn host(alloc: Global, bad: Option<u64>) -> Result<TestHost, Memory> {
+    TestHost::new(alloc, bad, Vec::new(alloc))
+}
+
+/// Whether the journal has just these lines behind the first one.
+fn is_journal(alloc: Global, job: &One, lines: &[u8]) -> Result<bool, Memory> {
+    let text = lines_of(alloc, &job.world)?;
+    Ok(text.as_slice().strip_prefix(b"made 0\n") == Some(lines))
+}
+
+const START: Move = Move::Ask(Control::Start);
+
+const STOP: Move = Move::Ask(Control::Stop);
+
+/// The state in which child 0 runs, which was spawned at moment 1.
+const RUNS: CommandState = CommandState::Running {
+    child: 0,
+    started: 1,
+};
+
+/// The state after a child, spawned and ended at these moments, ended with success.
+fn finished(started: u64, finished: u64) -> CommandState {
+    CommandState::Finished {
+        status: ProcessEnd::Success,
+        started,
+        finished,
+    }
+}
+
+const LIFE: &[u8] = b"made 0\n\
+    asked 0 0 normal start\n\
+    asked 1 0 normal stop\n\
+    turn 1 job 0\npick 0 0\nspawn 0 0 default ---- 1 a ok\nraise 0\n\
+    turn 3 job 0\npick 0 1\nkill 0 ok\nwait 0 error.1\nraise 1\n\
+    gone 0\n\
+    turn 4 job 0\n";
+
+#[test]
+fn a_job_starts_and_stops(rt: HostRuntime) -> Result<(), Fail> {
+    let alloc = rt.alloc();
+    let status = ProcessEnd::ExitError(NonZeroI64::new(1).ok_or("one")?);
+    let host = TestHost::new(alloc, None, vec![in alloc; status]?)?;
+    let mut job = one_job(alloc, host)?;
+    job.play_all(alloc, &[START, STOP])?;
+    assert_eq!(rt; job.task.state(), &CommandState::Pending);
+    assert!(rt; job.task.state().is_pending() && job.task.previous().is_none());
+    assert_eq!(rt; job.play(alloc, Move::Step(1))?, Some(Stepped::Did));
+    assert_eq!(rt; job.task.state(), &RUNS);
+    assert!(rt; job.task.state().is_running() && !job.task.state().is_pending());
+    assert_eq!(rt; job.task.previous(), Some(&CommandState::Pending));
+    assert_eq!(rt; job.task.running_child(), Some(0));
+    assert_eq!(rt; job.play(alloc, Move::Step(3))?, Some(Stepped::Did));
+    let ended = CommandState::Finished {
+        status,
+        started: 1,
+        finished: 3,
+    };
+    assert_eq!(rt; job.task.state(), &ended);
+    assert!(rt; job.task.state().is_finished() && !job.task.state().is_running());
+    assert_eq!(rt; job.task.previous(), Some(&CommandState::Pending));
+    assert_eq!(rt; (job.task.running_child(), job.task.parked()), (None, 0));
+    assert!(rt; !job.task.is_gone());
+    job.play(alloc, Move::End)?;
+    assert!(rt; job.task.is_gone());
+    job.play_all(alloc, &[START, Move::End])?;
+    assert_eq!(rt; job.play(alloc, Move::Step(4))?, Some(Stepped::Gone));
+    assert_eq!(rt; lines_of(alloc, &job.world)?.as_slice(), LIFE);
+    Ok(())
+}
+
+/// Moves, the lines of the journal behind its first one, what the last move answered, and the state then.
+type Case = (
+    &'static [Move],
+    &'static [u8],
+    Option<Stepped>,
+    CommandState,
+);
+
+/// Plays each of these with a host that fails at the call `bad`, and gives the place of the first that came otherwise.
+fn first_wrong(alloc: Global, bad: Option<u64>, cases: &[Case]) -> Result<Option<usize>, Memory> {
+    for i in 0..cases.len() {
+        let (moves, lines, last, state) = cases[i];
+        let mut job = one_job(alloc, host(alloc, bad)?)?;
+        let answer = job.play_all(alloc, moves)?;
+        let told = is_journal(alloc, &job, lines)?;
+        if !told || answer != last || *job.task.state() != state {
+            return Ok(Some(i));
+        }
+    }
+    Ok(None)
+}
+
+const STARTED: &[u8] = b"asked 0 0 normal start\n\
+    turn 1 job 0\npick 0 0\nspawn 0 0 default ---- 1 a ok\nraise 0\n";
+
+const TWICE: &[u8] = b"asked 0 0 normal start\nasked 1 0 normal start\n\
+    turn 1 job 0\npick 0 0\nspawn 0 0 default ---- 1 a ok\nraise 0\n\
+    turn 2 job 0\npick 0 1\nraise 1\n";
+
+#[test]
+fn steps(rt: HostRuntime) -> Result<(), Fail> {
+    let cases: [Case; 4] = [
+        (
+            &[Move::Step(5)],
+            b"turn 5 job 0\nword idle\n",
+            Some(Stepped::Idle),
+            CommandState::Pending,
+        ),
+        (
+            &[STOP, Move::Step(5)],
+            b"asked 0 0 normal stop\nturn 5 job 0\npick 0 0\nraise 0\n",
+            Some(Stepped::Did),
+            CommandState::Pending,
+        ),
+        (&[START, Move::Step(1)], STARTED, Some(Stepped::Did), RUNS),
+        (
+            &[START, START, Move::Step(1), Move::Step(2)],
+            TWICE,
+            Some(Stepped::Did),
+            RUNS,
+        ),
+    ];
+    assert_eq!(rt; first_wrong(rt.alloc(), None, &cases)?, None);
+    Ok(())
+}
+
+const ENDED: &[u8] = b"asked 0 0 normal start\n\
+    turn 1 job 0\npick 0 0\nspawn 0 0 default ---- 1 a ok\nraise 0\n\
+    turn 2 ended 0\nwait 0 success\n";
+
+const ENDED_FIRST: &[u8] = b"asked 0 0 normal start\n\
+    turn 1 job 0\npick 0 0\nspawn 0 0 default ---- 1 a ok\nraise 0\n\
+    asked 1 0 normal stop\n\
+    turn 2 ended 0\nwait 0 success\n\
+    turn 3 job 0\npick 0 1\nraise 1\n";
+
+const NOT_WAITED: &[u8] = b"asked 0 0 normal start\n\
+    turn 1 job 0\npick 0 0\nspawn 0 0 default ---- 1 a ok\nraise 0\n\
+    turn 2 ended 0\nwait 0 fault 7\n\
+    turn 3 job 0\nword idle\n";
+
+#[test]
+fn ends_of_children(rt: HostRuntime) -> Result<(), Fail> {
+    let alone: &[Move] = &[START, Move::Step(1), Move::Ended(2)];
+    let first: &[Move] = &[START, Move::Step(1), STOP, Move::Ended(2), Move::Step(3)];
+    let cases: [Case; 2] = [
+        (alone, ENDED, Some(Stepped::Did), finished(1, 2)),
+        (first, ENDED_FIRST, Some(Stepped::Did), finished(1, 2)),
+    ];
+    let alloc = rt.alloc();
+    assert_eq!(rt; first_wrong(alloc, None, &cases)?, None);
+    let later: &[Move] = &[START, Move::Step(1), Move::Ended(2), Move::Step(3)];
+    let cases: [Case; 1] = [(later, NOT_WAITED, Some(Stepped::Idle), RUNS)];
+    assert_eq!(rt; first_wrong(alloc, Some(1), &cases)?, None);
+    let mut job = one_job(alloc, host(alloc, Some(1))?)?;
+    job.play_all(alloc, alone)?;
+    assert!(rt; !job.task.kept);
+    assert_eq!(rt; job.task.running_child(), Some(0));
+    Ok(())
+}
+
+/// Four controls are asked, and then four steps done.
+const RUN: [Move; 8] = [
+    START,
+    STOP,
+    START,
+    STOP,
+    Move::Step(1),
+    Move::Step(2),
+    Move::Step(3),
+    Move::Step(4),
+];
+
+const ASKED: &[u8] = b"made 0\nasked 0 0 normal start\nasked 1 0 normal stop\n\
+    asked 2 0 normal start\nasked 3 0 normal stop\n\
+    turn 1 job 0\npick 0 0\n";
+
+const ALL_WELL: &[u8] = b"spawn 0 0 default ---- 1 a ok\nraise 0\n\
+    turn 2 job 0\npick 0 1\nkill 0 ok\nwait 0 success\nraise 1\n\
+    turn 3 job 0\npick 0 2\nspawn 1 0 default ---- 1 a ok\nraise 2\n\
+    turn 4 job 0\npick 0 3\nkill 1 ok\nwait 1 success\nraise 3\n";
+
+const NO_SPAWN: &[u8] = b"spawn 0 0 default ---- 1 a fault 7\nraise 0\n\
+    turn 2 job 0\npick 0 1\nraise 1\n\
+    turn 3 job 0\npick 0 2\nspawn 1 0 default ---- 1 a ok\nraise 2\n\
+    turn 4 job 0\npick 0 3\nkill 1 ok\nwait 1 success\nraise 3\n";
+
+const NO_KILL: &[u8] = b"spawn 0 0 default ---- 1 a ok\nraise 0\n\
+    turn 2 job 0\npick 0 1\nkill 0 fault 7\nraise 1\n\
+    turn 3 job 0\npick 0 2\nraise 2\n\
+    turn 4 job 0\npick 0 3\nkill 0 ok\nwait 0 success\nraise 3\n";
+
+const NO_WAIT: &[u8] = b"spawn 0 0 default ---- 1 a ok\nraise 0\n\
+    turn 2 job 0\npick 0 1\nkill 0 ok\nwait 0 fault 7\nraise 1\n\
+    turn 3 job 0\npick 0 2\nraise 2\n\
+    turn 4 job 0\npick 0 3\nkill 0 ok\nwait 0 success\nraise 3\n";
+
+const NO_SECOND: &[u8] = b"spawn 0 0 default ---- 1 a ok\nraise 0\n\
+    turn 2 job 0\npick 0 1\nkill 0 ok\nwait 0 success\nraise 1\n\
+    turn 3 job 0\npick 0 2\nspawn 1 0 default ---- 1 a fault 7\nraise 2\n\
+    turn 4 job 0\npick 0 3\nraise 3\n";
+
+const NO_SECOND_KILL: &[u8] = b"spawn 0 0 default ---- 1 a ok\nraise 0\n\
+    turn 2 job 0\npick 0 1\nkill 0 ok\nwait 0 success\nraise 1\n\
+    turn 3 job 0\npick 0 2\nspawn 1 0 default ---- 1 a ok\nraise 2\n\
+    turn 4 job 0\npick 0 3\nkill 1 fault 7\nraise 3\n";
+
+const NO_SECOND_WAIT: &[u8] = b"spawn 0 0 default ---- 1 a ok\nraise 0\n\
+    turn 2 job 0\npick 0 1\nkill 0 ok\nwait 0 success\nraise 1\n\
+    turn 3 job 0\npick 0 2\nspawn 1 0 default ---- 1 a ok\nraise 2\n\
+    turn 4 job 0\npick 0 3\nkill 1 ok\nwait 1 fault 7\nraise 3\n";
+
+#[test]
+fn calls_that_fail(rt: HostRuntime) -> Result<(), Fail> {
+    let alloc = rt.alloc();
+    let second = CommandState::Running {
+        child: 1,
+        started: 3,
+    };
+    let table: [(Option<u64>, &[u8], CommandState, CommandState); 7] = [
+        (None, ALL_WELL, finished(3, 4), finished(1, 2)),
+        (Some(0), NO_SPAWN, finished(3, 4), CommandState::Pending),
+        (Some(1), NO_KILL, finished(1, 4), CommandState::Pending),
+        (Some(2), NO_WAIT, finished(1, 4), CommandState::Pending),
+        (Some(3), NO_SECOND, CommandState::Pending, finished(1, 2)),
+        (Some(4), NO_SECOND_KILL, second, finished(1, 2)),
+        (Some(5), NO_SECOND_WAIT, second, finished(1, 2)),
+    ];
+    for (bad, lines, state, previous) in table {
+        let mut job = one_job(alloc, host(alloc, bad)?)?;
+        let last = job.play_all(alloc, &RUN)?;
+        let text = lines_of(alloc, &job.world)?;
+        assert_eq!(rt;
+            text.as_slice().strip_prefix(ASKED),
+            Some(lines),
+            "at {bad:?}"
+        );
+        assert_eq!(rt; last, Some(Stepped::Did), "at {bad:?}");
+        assert_eq!(rt; job.task.state(), &state, "at {bad:?}");
+        assert_eq!(rt; job.task.previous(), Some(&previous), "at {bad:?}");
+    }
+    Ok(())
+}
+
+const LET_GO: &[u8] = b"asked 0 0 normal start\n\
+    turn 1 job 0\npick 0 0\nspawn 0 0 default ---- 1 a ok\nraise 0\n\
+    asked 1 0 normal stop\n\
+    drop 0\ngone 0\n\
+    turn 2 job 0\n";
+
+#[test]
+fn the_end_of_a_job(rt: HostRuntime) -> Result<(), Fail> {
+    let alloc = rt.alloc();
+    let mut job = one_job(alloc, host(alloc, None)?)?;
+    job.play_all(alloc, &[START, Move::Step(1), STOP, Move::End])?;
+    assert!(rt; job.task.is_gone());
+    assert_eq!(rt; job.task.running_child(), None);
+    assert_eq!(rt; job.play(alloc, Move::Step(2))?, Some(Stepped::Gone));
+    assert!(rt; is_journal(alloc, &job, LET_GO)?);
+    let never: Case = (
+        &[START, Move::End, Move::Step(2)],
+        b"asked 0 0 normal start\ngone 0\nturn 2 job 0\n",
+        Some(Stepped::Gone),
+        CommandState::Pending,
+    );
+    assert_eq!(rt; first_wrong(alloc, None, &[never])?, None);
+    Ok(())
+}
+
+const BOTH: &[u8] = b"made 0\nmade 1\n\
+    asked 0 0 normal start\nasked 1 1 normal start\nasked 2 0 normal stop\n\
+    turn 1 job 1\npick 1 1\nspawn 0 1 default ---- 1 b ok\nraise 1\n\
+    turn 2 job 0\npick 0 0\nspawn 1 0 default ---- 1 a ok\nraise 0\n\
+    asked 3 1 normal stop\n\
+    turn 3 job 0\npick 0 2\nkill 1 ok\nwait 1 success\nraise 2\n\
+    drop 0\ngone 1\n\
+    turn 4 job 0\nword idle\n";
+
+#[test]
+fn two_jobs(rt: HostRuntime) -> Result<(), Fail> {
+    let alloc = rt.alloc();
+    let mut world = new_world(alloc, host(alloc, None)?)?;
+    let mut a = make_job(alloc, Id(0), b"a", &mut world)?;
+    let mut b = make_job(alloc, Id(1), b"b", &mut world)?;
+    let _ticket = ask(&mut a, alloc, Control::Start, &mut world)?;
+    let _ticket = ask(&mut b, alloc, Control::Start, &mut world)?;
+    let _ticket = ask(&mut a, alloc, Control::Stop, &mut world)?;
+    assert_eq!(rt; step(&mut b, alloc, 1, &mut world)?, Stepped::Did);
+    assert_eq!(rt; a.state(), &CommandState::Pending);
+    assert_eq!(rt; step(&mut a, alloc, 2, &mut world)?, Stepped::Did);
+    assert_eq!(rt; (a.running_child(), b.running_child()), (Some(1), Some(0)));
+    let _ticket = ask(&mut b, alloc, Control::Stop, &mut world)?;
+    assert_eq!(rt; step(&mut a, alloc, 3, &mut world)?, Stepped::Did);
+    assert_eq!(rt; (a.state(), b.state()), (&finished(2, 3), &RUNS));
+    end_job(&mut b, &mut world)?;
+    assert!(rt; b.is_gone() && !a.is_gone());
+    assert_eq!(rt; step(&mut a, alloc, 4, &mut world)?, Stepped::Idle);
+    assert_eq!(rt; lines_of(alloc, &world)?.as_slice(), BOTH);
+    Ok(())
+}
+
+#[test]
+fn handles_and_laws(rt: HostRuntime) -> Result<(), Fail> {
+    let alloc = rt.alloc();
+    let mut journal = Journal::new(alloc)?;
+    journal.reserve(1)?;
+    let (job, mut task) = start_job(alloc, Id(4), command_of(alloc, b"a")?)?;
+    assert_eq!(rt; job.id(), Id(4));
+    assert_eq!(rt; job.command(), &command_of(alloc, b"a")?);
+    journal.push(Entry::Made(Id(4)));
+    let flag = Flag::new(alloc, false)?;
+    let _ticket = task.send(alloc, Ask::One(Control::Stop), Some(flag), &mut journal)?;
+    assert_eq!(rt; (journal.len(), journal.tickets()), (2, 1));
+    children_are_reaped();
+    Ok(())
+}
