@@ -1,5 +1,6 @@
 // Tests of jobs: their journals and states are worked out by hand.
 ghost use Rattle.std.specs.Prelude.{◌≡◌, ◌≢◌, IfOk};
+ghost use Rattle.wx_journal.specs.Names.{NamesItsOwn};
 ghost use Rattle.wx_job.specs.Stands.{Stands, id_of};
 
 use crate::choice::Stepped;
@@ -107,35 +108,70 @@ const LIFE: &[u8] = b"made 0\n\
     gone 0\n\
     turn 4 job 0\n";
 
+/// What can be asked of a job: its state, the one before, the child that runs, and whether it is gone.
+type Seen = (CommandState, Option<CommandState>, Option<u64>, bool);
+
+/// What is seen of a job.
+fn seen(task: &JobTask) -> Seen {
+    (
+        *task.state(),
+        task.previous().copied(),
+        task.running_child(),
+        task.is_gone(),
+    )
+}
+
+/// Whether the state is pending, running and finished.
+fn sort(task: &JobTask) -> (bool, bool, bool) {
+    let state = task.state();
+    (state.is_pending(), state.is_running(), state.is_finished())
+}
+
 #[test]
 fn a_job_starts_and_stops(rt: HostRuntime) -> Result<(), Fail> {
     let alloc = rt.alloc();
     let status = ProcessEnd::ExitError(NonZeroI64::new(1).ok_or("one")?);
     let host = TestHost::new(alloc, None, vec![in alloc; status]?)?;
     let mut job = one_job(alloc, host)?;
-    job.play_all(alloc, &[START, STOP])?;
-    assert_eq!(rt; job.task.state(), &CommandState::Pending);
-    assert!(rt; job.task.state().is_pending() && job.task.previous().is_none());
-    assert_eq!(rt; job.play(alloc, Move::Step(1))?, Some(Stepped::Did));
-    assert_eq!(rt; job.task.state(), &RUNS);
-    assert!(rt; job.task.state().is_running() && !job.task.state().is_pending());
-    assert_eq!(rt; job.task.previous(), Some(&CommandState::Pending));
-    assert_eq!(rt; job.task.running_child(), Some(0));
-    assert_eq!(rt; job.play(alloc, Move::Step(3))?, Some(Stepped::Did));
+    let before = Some(CommandState::Pending);
     let ended = CommandState::Finished {
         status,
         started: 1,
         finished: 3,
     };
-    assert_eq!(rt; job.task.state(), &ended);
-    assert!(rt; job.task.state().is_finished() && !job.task.state().is_running());
-    assert_eq!(rt; job.task.previous(), Some(&CommandState::Pending));
-    assert_eq!(rt; (job.task.running_child(), job.task.parked()), (None, 0));
-    assert!(rt; !job.task.is_gone());
-    job.play(alloc, Move::End)?;
-    assert!(rt; job.task.is_gone());
-    job.play_all(alloc, &[START, Move::End])?;
-    assert_eq!(rt; job.play(alloc, Move::Step(4))?, Some(Stepped::Gone));
+    let table: [(&[Move], Option<Stepped>, Seen, (bool, bool, bool)); 4] = [
+        (
+            &[START, STOP],
+            None,
+            (CommandState::Pending, None, None, false),
+            (true, false, false),
+        ),
+        (
+            &[Move::Step(1)],
+            Some(Stepped::Did),
+            (RUNS, before, Some(0), false),
+            (false, true, false),
+        ),
+        (
+            &[Move::Step(3)],
+            Some(Stepped::Did),
+            (ended, before, None, false),
+            (false, false, true),
+        ),
+        (
+            &[Move::End, START, Move::End, Move::Step(4)],
+            Some(Stepped::Gone),
+            (ended, before, None, true),
+            (false, false, true),
+        ),
+    ];
+    for (moves, last, wanted, sorted) in table {
+        let answer = job.play_all(alloc, moves)?;
+        assert_eq!(rt; answer, last, "at {moves:?}");
+        assert_eq!(rt; seen(&job.task), wanted, "at {moves:?}");
+        assert_eq!(rt; sort(&job.task), sorted, "at {moves:?}");
+        assert_eq!(rt; job.task.parked(), 0);
+    }
     assert_eq!(rt; lines_of(alloc, &job.world)?.as_slice(), LIFE);
     Ok(())
 }
@@ -348,25 +384,59 @@ const BOTH: &[u8] = b"made 0\nmade 1\n\
     drop 0\ngone 1\n\
     turn 4 job 0\nword idle\n";
 
+/// Makes one move of a job beside another one. The end of its child isn't told here.
+fn play_beside(
+    task: &mut JobTask,
+    other: &JobTask,
+    alloc: Global,
+    with: Move,
+    world: &mut World,
+) -> Result<Option<Stepped>, Memory>
+    requires stands { Stands task.old world.old.journal.past }
+    requires other { Stands other.now world.old.journal.past }
+    requires names { NamesItsOwn world.old.journal.past }
+    requires apart { id_of other.now ≢ id_of task.old }
+    requires back { id_of task.old ≢ id_of other.now }
+    ensures stands { Stands task.new world.new.journal.past }
+    ensures other { Stands other.now world.new.journal.past }
+    ensures names { NamesItsOwn world.new.journal.past }
+    ensures apart { id_of other.now ≢ id_of task.new }
+    ensures back { id_of task.new ≢ id_of other.now }
+{
+    let _ = &other;
+    match with {
+        Move::Ask(control) => {
+            let _ticket = ask(task, alloc, control, world)?;
+            Ok(None)
+        }
+        Move::Step(at) => Ok(Some(step(task, alloc, at, world)?)),
+        Move::Ended(_) => Ok(None),
+        Move::End => {
+            end_job(task, world)?;
+            Ok(None)
+        }
+    }
+}
+
 #[test]
 fn two_jobs(rt: HostRuntime) -> Result<(), Fail> {
     let alloc = rt.alloc();
     let mut world = new_world(alloc, host(alloc, None)?)?;
     let mut a = make_job(alloc, Id(0), b"a", &mut world)?;
     let mut b = make_job(alloc, Id(1), b"b", &mut world)?;
-    let _ticket = ask(&mut a, alloc, Control::Start, &mut world)?;
-    let _ticket = ask(&mut b, alloc, Control::Start, &mut world)?;
-    let _ticket = ask(&mut a, alloc, Control::Stop, &mut world)?;
-    assert_eq!(rt; step(&mut b, alloc, 1, &mut world)?, Stepped::Did);
+    play_beside(&mut a, &b, alloc, START, &mut world)?;
+    play_beside(&mut b, &a, alloc, START, &mut world)?;
+    play_beside(&mut a, &b, alloc, STOP, &mut world)?;
+    play_beside(&mut b, &a, alloc, Move::Step(1), &mut world)?;
     assert_eq!(rt; a.state(), &CommandState::Pending);
-    assert_eq!(rt; step(&mut a, alloc, 2, &mut world)?, Stepped::Did);
-    assert_eq!(rt; (a.running_child(), b.running_child()), (Some(1), Some(0)));
-    let _ticket = ask(&mut b, alloc, Control::Stop, &mut world)?;
-    assert_eq!(rt; step(&mut a, alloc, 3, &mut world)?, Stepped::Did);
-    assert_eq!(rt; (a.state(), b.state()), (&finished(2, 3), &RUNS));
-    end_job(&mut b, &mut world)?;
-    assert!(rt; b.is_gone() && !a.is_gone());
-    assert_eq!(rt; step(&mut a, alloc, 4, &mut world)?, Stepped::Idle);
+    play_beside(&mut a, &b, alloc, Move::Step(2), &mut world)?;
+    play_beside(&mut b, &a, alloc, STOP, &mut world)?;
+    play_beside(&mut a, &b, alloc, Move::Step(3), &mut world)?;
+    assert_eq!(rt; b.state(), &RUNS);
+    play_beside(&mut b, &a, alloc, Move::End, &mut world)?;
+    play_beside(&mut a, &b, alloc, Move::Step(4), &mut world)?;
+    assert_eq!(rt; a.state(), &finished(2, 3));
+    assert_eq!(rt; (a.is_gone(), b.is_gone()), (false, true));
     assert_eq!(rt; lines_of(alloc, &world)?.as_slice(), BOTH);
     Ok(())
 }
