@@ -21,7 +21,7 @@ use Rattle.wx_action.specs.Leads.{FollowsAlone, Then, StaysApart, More}
 use Rattle.wx_action.specs.Turns.{StaysInTurn}
 use Rattle.wx_action.specs.RunLaws.{own_of_run}
 use Rattle.wx_action.specs.Stands.{Ready, IsOffered}
-use Rattle.wx_action.proofs.StandsLemmas.{offered_is, stands_offered, stands_sent}
+use Rattle.wx_action.proofs.StandsLemmas.{tasks_same, over_none, offered_is, stands_offered, stands_sent}
 
 -- a worker goes on to this one, over one entry
 pub record Steps (s : Start) (w : Worker) (p p' : List Entry) : Type 0 where
@@ -46,6 +46,8 @@ said_done s w p p' word more ready due grown =
           names_kept = ready.stands.names_kept;
           events_kept = ready.stands.events_kept;
           first_kept = ready.stands.first_kept;
+          jobs_kept = ready.stands.jobs_kept;
+          tasks_kept = tasks_same p _ w.jobs.items (over_none (Said word) p tt) ready.stands.tasks_kept;
         };
       };
       follows = λ world hooks p₀ world₀ hooks₀ l. Then (Said word) p world hooks l d;

@@ -1,5 +1,11 @@
 pub mod ArriveLemmas
+pub mod EndLemmas
 pub mod HandLemmas
+pub mod HandlerLemmas
+pub mod HeldLemmas
+pub mod JobLemmas
+pub mod PerformLemmas
+pub mod PlanLemmas
 pub mod QuitLemmas
 pub mod StandsLemmas
 pub mod WorkLemmas

@@ -1,25 +1,172 @@
 -- A worker goes on to stand for a journal with one entry more.
-use Rattle.std.proofs.Common.{◌≡◌, ℕ, ◌+◌, ◌<◌, ◌≤◌, Bool, true, false, cond, List, [], ◌∷◌, ◌++◌, length, arith, ap, sym, ◌∙◌, ne_eqb}
-use Rattle.std.specs.Prelude.{Option, None, Some, ◌==◌}
+use Rattle.std.proofs.Common.{◌≡◌, ◌≢◌, ℕ, zero, suc, ◌+◌, ◌<◌, ◌≤◌, Bool, true, false, cond, List, [], ◌∷◌, ◌++◌, length, get_or, set as put, arith, refl, ap, sym, subst, ◌∙◌, ne_eqb}
+use Rattle.std.specs.Prelude.{Option, None, Some, ◌==◌, map}
 use Rattle.std.specs.List.{AllByRecursion}
 use Rattle.wx_events.specs.declared.event.Event.{Event}
 use Rattle.wx_events.specs.declared.priority.Priority.{Priority}
 use Rattle.prio_channel.specs.Channel.{Channel}
 use Rattle.prio_channel.specs.SameBag.{SameBag}
 use Rattle.prio_channel.specs.BagLaws.{same-trans, add-bag, same-length}
+use Rattle.wx_control.specs.declared.id.Id.{Id}
+use Rattle.wx_control.specs.declared.level.Level.TheVariants.{Normal, High, Urgent}
 use Rattle.wx_journal.specs.declared.entry.Entry.{Entry}
-use Rattle.wx_journal.specs.declared.entry.Entry.TheVariants.{Sent, Offer}
+use Rattle.wx_journal.specs.declared.entry.Entry.TheVariants.{Sent, Offer, Turn as Turned, Hand, Made, Asked, Pick, Spawn, Wait, Dropped, Gone}
 use Rattle.wx_journal.specs.declared.entry.Named.{Named}
 use Rattle.wx_journal.specs.declared.entry.Offered.{Offered}
 use Rattle.wx_journal.specs.declared.entry.Offered.TheVariants.{Queued, Full}
+use Rattle.wx_journal.specs.declared.entry.Turn.{Turn}
+use Rattle.wx_journal.specs.declared.entry.Act.{Act}
 use Rattle.wx_journal.specs.Names.{event_count}
+use Rattle.wx_job.specs.declared.task.JobTask.{JobTask}
+use Rattle.wx_job.specs.History.{child, names_end, SameHistory}
+use Rattle.wx_job.specs.Stands.{Stands as TaskStands, id_of}
+use Rattle.wx_action.specs.declared.state.Held.{Held}
 use Rattle.wx_action.specs.declared.state.Worker.{Worker}
 use Rattle.wx_action.specs.Start.{Start}
-use Rattle.wx_action.specs.Journal.{settings, bag, offered, window}
+use Rattle.wx_action.specs.Journal.{settings, bag, offered, window, first}
+use Rattle.wx_action.specs.Jobs.{set, command}
 use Rattle.wx_action.specs.Due.{IsRun}
 use Rattle.wx_action.specs.Handled.{AreEvents, lookup}
-use Rattle.wx_action.specs.Stands.{Stands, IsOffered}
+use Rattle.wx_action.specs.Stands.{Stands, HeldStands, IsOffered, held_id}
 use Rattle.wx_action.specs.RunLaws.{own_of_run, window_below}
+
+-- ---- what is held of a job
+
+-- a task stands for each journal that has the same history of its job
+pub same_task : (k : JobTask) (p p' : List Entry) → SameHistory (id_of k) p p' → TaskStands k p → TaskStands k p'
+same_task k p p' h s = record {
+  lives_kept = s.lives_kept ∙ sym h.lives_same;
+  waits_kept = s.waits_kept ∙ sym (h.waits_same Normal);
+  high_none = h.waits_same High ∙ s.high_none;
+  urgent_none = h.waits_same Urgent ∙ s.urgent_none;
+  child_kept = s.child_kept ∙ sym h.child_same;
+  end_kept = s.end_kept ∙ sym h.kept_same;
+  state_kept = s.state_kept ∙ sym h.state_same;
+  previous_kept = s.previous_kept ∙ sym h.previous_same;
+}
+
+pub same_held : (p p' : List Entry) (h : Held) → SameHistory (held_id h) p p' → command (held_id h) p' ≡ command (held_id h) p → HeldStands p h → HeldStands p' h
+same_held p p' h same commands s = record { task_stands = same_task h.task p p' same s.task_stands; command_is = commands ∙ s.command_is; handle_is = s.handle_is; handle_command = s.handle_command }
+
+-- the history of every job, and what each runs, is the same in both journals
+pub record SameJobs (p p' : List Entry) : Type 0 where
+  pub histories : (i : Id) → SameHistory i p p'
+  pub commands : (i : Id) → command i p' ≡ command i p
+
+pub tasks_same : (p p' : List Entry) (hs : List Held) → SameJobs p p' → AllByRecursion (HeldStands p) hs → AllByRecursion (HeldStands p') hs
+tasks_same p p' [] same s = tt
+tasks_same p p' (h ∷ hs) same s = (same_held p p' h (same.histories (held_id h)) (same.commands (held_id h)) s.0, tasks_same p p' hs same s.1)
+
+-- an entry that is about no job, and is no turn and no batch
+abbrev pub IsOfNone : Entry → Type 0
+IsOfNone (Turned t) = ⊥
+IsOfNone (Hand n names acts) = ⊥
+IsOfNone (Made job) = ⊥
+IsOfNone (Asked ticket job level control) = ⊥
+IsOfNone (Pick job ticket) = ⊥
+IsOfNone (Spawn child job tag what answer) = ⊥
+IsOfNone (Wait child answer) = ⊥
+IsOfNone (Dropped child) = ⊥
+IsOfNone (Gone job) = ⊥
+IsOfNone (_) = Unit {0}
+
+pub over_none : (e : Entry) (p : List Entry) → IsOfNone e → SameJobs p (e ∷ p)
+over_none (Turned t) p h = absurd h
+over_none (Hand n names acts) p h = absurd h
+over_none (Made job) p h = absurd h
+over_none (Asked ticket job level control) p h = absurd h
+over_none (Pick job ticket) p h = absurd h
+over_none (Spawn child job tag what answer) p h = absurd h
+over_none (Wait child answer) p h = absurd h
+over_none (Dropped child) p h = absurd h
+over_none (Gone job) p h = absurd h
+over_none (_) p h = record { histories = λ i. record { lives_same = refl; waits_same = λ l. refl; child_same = refl; kept_same = refl; state_same = refl; previous_same = refl }; commands = λ i. refl }
+
+-- a batch changes what its acts create
+pub over_hand : (n : ℕ) (names : List ℕ) (acts : List Act) (p : List Entry) (i : Id) → SameHistory i p (Hand n names acts ∷ p)
+over_hand n names acts p i = record { lives_same = refl; waits_same = λ l. refl; child_same = refl; kept_same = refl; state_same = refl; previous_same = refl }
+
+-- ---- one of several that are held
+
+-- no two of these are one
+abbrev pub AreApart : List Id → Type 0
+AreApart [] = Unit {0}
+AreApart (i ∷ is) = AllByRecursion (λ j. j ≢ i) is × AreApart is
+
+pub ids_put : (hs : List Held) (n : ℕ) (h h' : Held) → n < length hs → h ≡ get_or hs n h → held_id h' ≡ held_id h → map held_id (put hs n h') ≡ map held_id hs
+ids_put [] n h h' lt is same = absurd (omega arith)
+ids_put (x ∷ hs) zero h h' lt is same = ap (λ j. j ∷ map held_id hs) (same ∙ ap held_id is)
+ids_put (x ∷ hs) (suc n) h h' lt is same = ap (λ js. held_id x ∷ js) (ids_put hs n h h' (omega arith) is same)
+
+at_place : (P : Id → Type 0) (hs : List Held) (n : ℕ) (h : Held) → n < length hs → h ≡ get_or hs n h → AllByRecursion P (map held_id hs) → P (held_id h)
+at_place P [] n h lt is all = absurd (omega arith)
+at_place P (x ∷ hs) zero h lt is all = subst (λ (y : Held). P (held_id y)) (sym is) all.0
+at_place P (x ∷ hs) (suc n) h lt is all = at_place P hs n h (omega arith) is all.1
+
+-- what is held at a place stands
+pub held_at : (p : List Entry) (hs : List Held) (n : ℕ) (h : Held) → n < length hs → h ≡ get_or hs n h → AllByRecursion (HeldStands p) hs → HeldStands p h
+held_at p [] n h lt is all = absurd (omega arith)
+held_at p (x ∷ hs) zero h lt is all = subst (HeldStands p) (sym is) all.0
+held_at p (x ∷ hs) (suc n) h lt is all = held_at p hs n h (omega arith) is all.1
+
+-- what stands for one journal stands for another, but for the job of this name
+abbrev pub Reframes : Id → List Entry → List Entry → Type 0
+Reframes i p p' = (h : Held) → held_id h ≢ i → HeldStands p h → HeldStands p' h
+
+tasks_others : (i : Id) (p p' : List Entry) (hs : List Held) → Reframes i p p' → AllByRecursion (λ j. j ≢ i) (map held_id hs) → AllByRecursion (HeldStands p) hs → AllByRecursion (HeldStands p') hs
+tasks_others i p p' [] frame ne s = tt
+tasks_others i p p' (h ∷ hs) frame ne s = (frame h ne.0 s.0, tasks_others i p p' hs frame ne.1 s.1)
+
+pub tasks_put : (p p' : List Entry) (hs : List Held) (n : ℕ) (h h' : Held) → AreApart (map held_id hs) → n < length hs → h ≡ get_or hs n h → Reframes (held_id h) p p' → AllByRecursion (HeldStands p) hs → HeldStands p' h' → AllByRecursion (HeldStands p') (put hs n h')
+tasks_put p p' [] n h h' apart lt is frame s new = absurd (omega arith)
+tasks_put p p' (x ∷ hs) zero h h' apart lt is frame s new =
+    (new, tasks_others (held_id h) p p' hs frame (subst (λ (y : Held). AllByRecursion (λ j. j ≢ held_id y) (map held_id hs)) (sym is) apart.0) s.1)
+tasks_put p p' (x ∷ hs) (suc n) h h' apart lt is frame s new =
+    let other : held_id h ≢ held_id x = at_place (λ j. j ≢ held_id x) hs n h (omega arith) is apart.0 in
+    (frame x (λ e. other (sym e)) s.0, tasks_put p p' hs n h h' apart.1 (omega arith) is frame s.1 new)
+
+-- ---- what a worker keeps besides jobs
+
+-- what a worker keeps besides its tasks is the same in both journals
+pub record Quiet (p p' : List Entry) : Type 0 where
+  pub bag_same : bag p' ≡ bag p
+  pub count_same : event_count p' ≡ event_count p
+  pub window_same : window p' ≡ window p
+  pub lookup_same : lookup p' ≡ lookup p
+  pub first_same : first p' ≡ first p
+  pub set_same : set p' ≡ set p
+  pub commands_same : (i : Id) → command i p' ≡ command i p
+
+pub quiet : (p : List Entry) → Quiet p p
+quiet p = record { bag_same = refl; count_same = refl; window_same = refl; lookup_same = refl; first_same = refl; set_same = refl; commands_same = λ i. refl }
+
+pub quiet_then : (p q r : List Entry) → Quiet p q → Quiet q r → Quiet p r
+quiet_then p q r a b = record {
+  bag_same = b.bag_same ∙ a.bag_same;
+  count_same = b.count_same ∙ a.count_same;
+  window_same = b.window_same ∙ a.window_same;
+  lookup_same = b.lookup_same ∙ a.lookup_same;
+  first_same = b.first_same ∙ a.first_same;
+  set_same = b.set_same ∙ a.set_same;
+  commands_same = λ i. b.commands_same i ∙ a.commands_same i;
+}
+
+-- the worker with other jobs
+pub stands_quiet : (s : Start) (w w' : Worker) (p p' : List Entry) → Stands s w p → Quiet p p' → w' ≡ record w { jobs = w'.jobs } → map held_id w'.jobs.items ≡ set p' → AllByRecursion (HeldStands p') w'.jobs.items → Stands s w' p'
+stands_quiet s w w' p p' stands q fields ids tasks =
+    let stood : Stands s (record w { jobs = w'.jobs }) p' = record {
+      config_kept = stands.config_kept;
+      queue_kept = rw q.bag_same stands.queue_kept;
+      size_kept = stands.size_kept;
+      open_kept = stands.open_kept;
+      named_kept = stands.named_kept ∙ sym q.count_same;
+      names_kept = stands.names_kept ∙ sym q.window_same;
+      events_kept = rw (q.lookup_same, q.window_same) stands.events_kept;
+      first_kept = stands.first_kept ∙ sym q.first_same;
+      jobs_kept = ids;
+      tasks_kept = tasks;
+    } in
+    rw fields stood
 
 -- an event that is listed under a new name leaves the events of the names below
 events-rise : (m : ℕ) (v : Option (Event × Priority)) (look : ℕ → Option (Event × Priority)) (names : List ℕ) (events : List Event) → AllByRecursion (λ name. name < m) names → AreEvents look names events → AreEvents (λ name. cond (m == name) v (look name)) names events
@@ -61,6 +208,8 @@ stands_offered s w p event priority new Queued run stands is size closed = recor
   names_kept = stands.names_kept;
   events_kept = events-rise (event_count p) (Some (event, priority)) (lookup p) (window p) w.batch.events (window_below p (own_of_run s p run)) stands.events_kept;
   first_kept = stands.first_kept;
+  jobs_kept = stands.jobs_kept;
+  tasks_kept = tasks_same p _ w.jobs.items (over_none (Offer (event_count p) None Queued event priority) p tt) stands.tasks_kept;
 }
 stands_offered s w p event priority new Full run stands is size closed = record {
   config_kept = stands.config_kept;
@@ -71,6 +220,8 @@ stands_offered s w p event priority new Full run stands is size closed = record 
   names_kept = stands.names_kept;
   events_kept = events-rise (event_count p) (Some (event, priority)) (lookup p) (window p) w.batch.events (window_below p (own_of_run s p run)) stands.events_kept;
   first_kept = stands.first_kept;
+  jobs_kept = stands.jobs_kept;
+  tasks_kept = tasks_same p _ w.jobs.items (over_none (Offer (event_count p) None Full event priority) p tt) stands.tasks_kept;
 }
 
 -- the worker after an event was listed as sent
@@ -86,6 +237,8 @@ stands_sent s w p event priority new run stands is size closed = record {
   names_kept = stands.names_kept;
   events_kept = events-rise (event_count p) (Some (event, priority)) (lookup p) (window p) w.batch.events (window_below p (own_of_run s p run)) stands.events_kept;
   first_kept = stands.first_kept;
+  jobs_kept = stands.jobs_kept;
+  tasks_kept = tasks_same p _ w.jobs.items (over_none (Sent (event_count p) event priority) p tt) stands.tasks_kept;
 }
 
 -- events are at most as many as entries

@@ -25,7 +25,7 @@ use Rattle.wx_action.specs.Stands.{Stands, Ready, Collects}
 use Rattle.wx_action.specs.BagLaws.{is_taken}
 use Rattle.wx_action.specs.RunLaws.{own_of_run}
 use Rattle.wx_action.proofs.ArriveLemmas.{Steps, said_done}
-use Rattle.wx_action.proofs.StandsLemmas.{events-append}
+use Rattle.wx_action.proofs.StandsLemmas.{events-append, tasks_same, over_none}
 
 -- a queue that is empty, where the bag isn't
 pub not_empty : (s : Start) (w : Worker) (p : List Entry) → Stands s w p → w.queue.items ≡ [] → (length (bag p) == 0) ≡ false → ⊥
@@ -68,6 +68,8 @@ take_done s w p p' at start x queue batch found ready due now takes most size cl
             names_kept = names_are;
             events_kept = rw events (events-append (lookup p) (window p) w.batch.events x.0.name x.0.event x.1 ready.stands.events_kept t.is_listed);
             first_kept = sym first_is;
+            jobs_kept = ready.stands.jobs_kept;
+            tasks_kept = tasks_same p _ w.jobs.items (over_none (Take x.0.name) p tt) ready.stands.tasks_kept;
           };
         };
         follows = λ world hooks p₀ world₀ hooks₀ l. Then (Take x.0.name) p world hooks l d;
@@ -84,4 +86,4 @@ idle_done s w p p' at ready due over empty grown =
     let later : is_over s p at ≡ false = rw (← ready.stands.config_kept, ← ready.stands.names_kept, ← ready.stands.first_kept) over in
     let none : (length (bag p) == 0) ≡ true = rw (← same-length w.queue.items (bag p) ready.stands.queue_kept) empty in
     let owed : agenda s p ≡ Says Idle Open = due ∙ rw (later, none) refl in
-    record { steps = said_done s w p p' Idle Open ready owed grown; collected = (grown, ap (agenda s) grown ∙ ap rest owed) }
+    record { steps = said_done s w p p' Idle Open ready owed grown; collected = (grown, ap (agenda s) grown ∙ ap (rest (Said Idle)) owed) }

@@ -1,20 +1,31 @@
 -- What an answer of the engine says of its journal.
-use Rattle.std.specs.Prelude.{◌≡◌, None, Some, Ok, Err, List, codes}
+use Rattle.std.specs.Prelude.{◌≡◌, None, Some, Ok, Err, List, [], ◌∷◌, codes}
 use Rattle.wx_journal.specs.declared.entry.Entry.{Entry}
-use Rattle.wx_action.specs.declared.error.CriticalError.TheVariants.{IoError, Memory}
+use Rattle.wx_job.specs.Case.{Admits as Follows}
+use Rattle.wx_config.specs.declared.error.CriticalError.TheVariants.{IoError, Memory}
 use Rattle.wx_action.specs.Start.{Start}
 use Rattle.wx_action.specs.Journal.{turn_fault}
-use Rattle.wx_action.specs.Due.{agenda, Ended, IsRun}
-use Rattle.wx_action.specs.Printed.{Answer}
+use Rattle.wx_action.specs.Jobs.{jobs, end}
+use Rattle.wx_action.specs.Due.{agenda, Ends, IsRun}
+use Rattle.wx_journal.specs.Lines.{Answer}
 
--- a run whose end is done
+-- a run whose end is done: no job lives
 pub record IsComplete (s : Start) (p : List Entry) : Type 0 where
   pub run : IsRun s p
-  pub ended : agenda s p ≡ Ended
+  pub ended : agenda s p ≡ Ends
+  pub none : jobs p ≡ []
 
--- a run that was broken off, and then its end, which has no entry while there are no jobs
-abbrev pub IsBroken : Start → List Entry → Type 0
-IsBroken s p = IsRun s p
+-- the second journal is the first with entries of the end on top
+pub data Dying (q : List Entry) : List Entry → Type 0 where
+  Alive : Dying q q
+  Dies : (e : Entry) (p : List Entry) → Dying q p → Follows p (end p) e → Dying q (e ∷ p)
+
+-- a run that was broken off, and then its end
+pub record IsBroken (s : Start) (p : List Entry) : Type 0 where
+  pub before : List Entry
+  pub run : IsRun s before
+  pub dying : Dying before p
+  pub none : jobs p ≡ []
 
 -- Ok comes only of a complete run without the fault of a turn, an error about a turn only of one with this fault, and
 -- want of memory of a run that was broken off.

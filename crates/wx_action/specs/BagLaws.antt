@@ -8,7 +8,7 @@ use Rattle.prio_channel.specs.Channel.{AllAtMost}
 use Rattle.prio_channel.specs.SameBag.{SameBag, Takes}
 use Rattle.prio_channel.specs.BagLaws.{take-bag, same-trans, all-same}
 use Rattle.wx_journal.specs.declared.entry.Entry.{Entry}
-use Rattle.wx_journal.specs.declared.entry.Entry.TheVariants.{Sent, Offer, Take, Hand, Asked, Pick, Spawn, Kill, Wait, Dropped, Raise}
+use Rattle.wx_journal.specs.declared.entry.Entry.TheVariants.{Sent, Offer, Take, Hand, Made, Asked, Pick, Spawn, Kill, Wait, Dropped, Raise}
 use Rattle.wx_journal.specs.declared.entry.Offered.TheVariants.{Queued, Full}
 use Rattle.wx_journal.specs.declared.entry.Named.{Named}
 use Rattle.wx_journal.specs.Names.{event_count, NamesItsOwn}
@@ -75,6 +75,7 @@ own_before (Sent name event priority) p own = own.1
 own_before (Offer name item result event priority) p own = own.2
 own_before (Take name) p own = own.1
 own_before (Hand n names acts) p own = own.1
+own_before (Made job) p own = own.1
 own_before (Asked ticket job level control) p own = own.1
 own_before (Pick job ticket) p own = own.1
 own_before (Spawn child job tag what answer) p own = own.1

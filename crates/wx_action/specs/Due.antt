@@ -1,5 +1,5 @@
 -- The written machine: which entries may come next.
-use Rattle.std.specs.Prelude.{◌≡◌, ℕ, Bool, true, false, ◌||◌, ◌==◌, if◌then◌else◌, None, List, [], ◌∷◌, length}
+use Rattle.std.specs.Prelude.{◌≡◌, ℕ, Bool, true, false, ◌||◌, ◌==◌, if◌then◌else◌, Option, None, Some, List, [], ◌∷◌, length}
 use Rattle.std.specs.Option.{IsSomeAnd}
 use Rattle.wx_events.specs.declared.event.Event.{Event}
 use Rattle.wx_events.specs.declared.priority.Priority.{Priority}
@@ -7,14 +7,22 @@ use Rattle.prio_channel.specs.Channel.{AllAtMost}
 use Rattle.wx_journal.specs.declared.entry.Entry.{Entry}
 use Rattle.wx_journal.specs.declared.entry.Entry.TheVariants.{Begin, Sent, Turn as Turned, TurnFault, Offer, Word as Said, Take, Hand}
 use Rattle.wx_journal.specs.declared.entry.Act.{Act}
-use Rattle.wx_journal.specs.declared.entry.Act.TheVariants.{Quit}
+use Rattle.wx_journal.specs.declared.entry.Act.TheVariants.{Create, Ask as Asks, Quit}
 use Rattle.wx_journal.specs.declared.entry.Named.{Named}
 use Rattle.wx_journal.specs.declared.entry.TurnKind.{TurnKind}
-use Rattle.wx_journal.specs.declared.entry.TurnKind.TheVariants.{Arrive, Work, Job, Ended as ChildEnded, Ask, Last}
+use Rattle.wx_journal.specs.declared.entry.TurnKind.TheVariants.{Arrive, Work, Job, Ended, Ask, Last}
 use Rattle.wx_journal.specs.declared.entry.Word.{Word}
 use Rattle.wx_journal.specs.declared.entry.Word.TheVariants.{Idle, Ignored}
-use Rattle.wx_journal.specs.Names.{moment, event_count}
+use Rattle.wx_journal.specs.Names.{moment, event_count, job_count}
+use Rattle.wx_command.specs.declared.command.Command.{Command}
+use Rattle.wx_control.specs.declared.id.Id.{Id}
+use Rattle.wx_control.specs.declared.ask.Ask.{Ask as AnAsk}
+use Rattle.wx_control.specs.Asks.{sends_of}
+use Rattle.wx_job.specs.History.{lives}
+use Rattle.wx_job.specs.Table.{Plan, Done, step_plan, ask_plan}
+use Rattle.wx_job.specs.Case.{Admits as Follows, next}
 use Rattle.wx_action.specs.Start.{Start}
+use Rattle.wx_action.specs.Jobs.{living, parent, AreLawful, act_plan, end}
 use Rattle.wx_action.specs.Journal.{settings, is_urgent_named, named, bag, offered, window, is_over}
 
 -- What a turn still owes. An answer or an event that was taken decides how it goes on.
@@ -33,38 +41,60 @@ pub data Agenda : Type 0 where
   Takes : Agenda
   -- the window is handed
   Hands : Agenda
-  -- the end is done: nothing may come
-  Ended : Agenda
+  -- this plan of jobs is followed
+  Plans : Plan → Agenda → Agenda
+  -- the end: each job that lives ends, and then nothing may come
+  Ends : Agenda
 
 abbrev pub sends : List (Event × Priority) → Agenda
 sends [] = Open
 sends (x ∷ xs) = Sends x.0 x.1 xs
 
+-- a plan that owes nothing is over
+abbrev pub plans : Plan → Agenda → Agenda
+plans Done more = more
+plans (k) more = Plans k more
+
 -- what is left after the entry that was owed first
-abbrev pub rest : Agenda → Agenda
-rest (Sends event priority more) = sends more
-rest (Offers event priority more) = more
-rest (Says word more) = more
-rest (other) = other
+abbrev pub rest : Entry → Agenda → Agenda
+rest e (Sends event priority more) = sends more
+rest e (Offers event priority more) = more
+rest e (Says word more) = more
+rest e (Plans k more) = plans (next k e) more
+rest e (other) = other
 
 -- A Work turn: hand the window where the throttle is over, else say idle where the queue is empty, else take an event.
 abbrev pub work : Start → List Entry → ℕ → Agenda
 work s p at = if is_over s p at then Hands else (if length (bag p) == 0 then Says Idle Open else Takes)
 
--- What a turn of this kind owes. No job is made yet, so one that names a job or a child names none that is there.
+-- a turn about a job or a child that isn't there is ignored
+abbrev pub job_turn : Id → Option Command → List Entry → Agenda
+job_turn id None p = Says Ignored Open
+job_turn id (Some command) p = plans (step_plan id command p) Open
+
+abbrev pub ended_turn : Option Id → List Entry → Agenda
+ended_turn None p = Says Ignored Open
+ended_turn (Some id) p = job_turn id (living id p) p
+
+abbrev pub ask_turn : Id → AnAsk → List Entry → Agenda
+ask_turn id ask p = if lives id p then plans (ask_plan id (sends_of ask) Done) Open else Says Ignored Open
+
+-- what a turn of this kind and moment owes, behind its entry
 abbrev pub turn_agenda : Start → TurnKind → ℕ → List Entry → Agenda
 turn_agenda s (Arrive event priority) at p = Offers event priority Open
 turn_agenda s Work at p = work s p at
-turn_agenda s (Job id) at p = Says Ignored Open
-turn_agenda s (ChildEnded child) at p = Says Ignored Open
-turn_agenda s (Ask id ask) at p = Says Ignored Open
-turn_agenda s Last at p = Ended
+turn_agenda s (Job id) at p = job_turn id (living id p) p
+turn_agenda s (Ended c) at p = ended_turn (parent c p) p
+turn_agenda s (Ask id ask) at p = ask_turn id ask p
+turn_agenda s Last at p = Ends
 
 -- An event that was taken is handed at once, with the window, where it is urgent or the throttle is over.
 abbrev pub after_take : Start → ℕ → List Entry → Agenda
 after_take s name p = if is_urgent_named name p || is_over s (Take name ∷ p) (moment p) then Hands else Open
 
 abbrev pub is_quit : Act → Bool
+is_quit (Create id command) = false
+is_quit (Asks id ask) = false
 is_quit Quit = true
 
 -- these acts ask for the end
@@ -72,17 +102,18 @@ abbrev pub has_quit : List Act → Bool
 has_quit [] = false
 has_quit (act ∷ acts) = is_quit act || has_quit acts
 
-abbrev pub after_hand : List Act → Agenda
-after_hand acts = if has_quit acts then Ended else Open
+-- what the acts of a batch ask for, and then the end where they ask for it
+abbrev pub after_hand : List Act → List Entry → Agenda
+after_hand acts p = plans (act_plan (λ id. lives id p) acts) (if has_quit acts then Ends else Open)
 
 abbrev pub agenda : Start → List Entry → Agenda
 agenda s [] = Begins
 agenda s (Begin throttle size errors keyboard follow jobsignals watcher cwd paths ∷ p) = sends s.events
-agenda s (Turned t ∷ p) = turn_agenda s t.kind t.at p
-agenda s (TurnFault code ∷ p) = Ended
+agenda s (Turned t ∷ p) = turn_agenda s t.kind t.at (Turned t ∷ p)
+agenda s (TurnFault code ∷ p) = Ends
 agenda s (Take name ∷ p) = after_take s name p
-agenda s (Hand n names acts ∷ p) = after_hand acts
-agenda s (_ ∷ p) = rest (agenda s p)
+agenda s (Hand n names acts ∷ p) = after_hand acts p
+agenda s (e ∷ p) = rest e (agenda s p)
 
 -- the first entry of a run
 abbrev pub begin_of : Start → Entry
@@ -106,8 +137,9 @@ Admits s p Open e = IsTurn e
 Admits s p (Offers event priority more) e = e ≡ Offer (event_count p) None (offered s p) event priority
 Admits s p (Says word more) e = e ≡ Said word
 Admits s p Takes e = (name : ℕ) × (e ≡ Take name) × IsGreatest name (bag p)
-Admits s p Hands e = (acts : List Act) × (e ≡ Hand (settings s p).action_handler (window p) acts)
-Admits s p Ended e = ⊥
+Admits s p Hands e = (acts : List Act) × (e ≡ Hand (settings s p).action_handler (window p) acts) × AreLawful (job_count p) acts
+Admits s p (Plans k more) e = Follows p k e
+Admits s p Ends e = Follows p (end p) e
 
 -- the entries that may come next
 abbrev pub Due : Start → List Entry → Entry → Type 0

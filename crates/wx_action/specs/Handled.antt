@@ -1,10 +1,12 @@
 -- What contracts see of the handler that is lent to an action.
-use Rattle.std.specs.Prelude.{◌≡◌, ℕ, Bool, false, Option, Some, if◌then◌else◌, List, [], ◌∷◌, ◌++◌}
+use Rattle.std.specs.Prelude.{◌≡◌, ℕ, ◌+◌, Bool, false, Option, Some, if◌then◌else◌, List, [], ◌∷◌, ◌++◌}
 use Rattle.wx_events.specs.declared.event.Event.{Event}
 use Rattle.wx_events.specs.declared.priority.Priority.{Priority}
 use Rattle.wx_journal.specs.declared.entry.Entry.{Entry}
 use Rattle.wx_journal.specs.declared.entry.Act.{Act}
-use Rattle.wx_journal.specs.declared.entry.Act.TheVariants.{Quit}
+use Rattle.wx_journal.specs.declared.entry.Act.TheVariants.{Create, Ask as Asks, Quit}
+use Rattle.wx_control.specs.declared.id.Id.{Id}
+use Rattle.wx_control.specs.declared.ask.Ask.{Ask}
 use Rattle.wx_action.specs.Journal.{listed}
 use Rattle.wx_action.specs.Due.{is_quit}
 
@@ -25,6 +27,18 @@ ends_with_quit (act ∷ next ∷ acts) = ends_with_quit (next ∷ acts)
 -- the acts with a quit behind them: one that stands last already is not repeated
 abbrev pub with_quit : List Act → List Act
 with_quit acts = if ends_with_quit acts then acts else acts ++ Quit ∷ []
+
+-- how many jobs these acts create
+abbrev pub creations : List Act → ℕ
+creations [] = 0
+creations (Create id command ∷ acts) = creations acts + 1
+creations (_ ∷ acts) = creations acts
+
+-- what these acts ask, in order: the job, and what is asked of it
+abbrev pub asks_of : List Act → List (Id × Ask)
+asks_of [] = []
+asks_of (Asks id ask ∷ acts) = (id, ask) ∷ asks_of acts
+asks_of (_ ∷ acts) = asks_of acts
 
 -- what a journal lists under a name
 abbrev pub lookup : List Entry → ℕ → Option (Event × Priority)

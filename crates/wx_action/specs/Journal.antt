@@ -9,7 +9,7 @@ use Rattle.wx_journal.specs.declared.entry.Entry.TheVariants.{Sent, Turn as Turn
 use Rattle.wx_journal.specs.declared.entry.Named.{Named}
 use Rattle.wx_journal.specs.declared.entry.Offered.{Offered}
 use Rattle.wx_journal.specs.declared.entry.Offered.TheVariants.{Queued, Full}
-use Rattle.wx_action.specs.declared.config.Config.{Config}
+use Rattle.wx_config.specs.declared.config.Config.{Config}
 use Rattle.wx_action.specs.Start.{Start}
 
 -- the settings that stand: nothing changes those of the start yet

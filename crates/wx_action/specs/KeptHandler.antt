@@ -1,16 +1,51 @@
 -- What a handler keeps beside what contracts see of it.
-use Rattle.std.specs.Prelude.{◌≡◌, ℕ, ◌<◌, false, Option, Some, List, length, vec_capacity}
+use Rattle.std.specs.Prelude.{◌≡◌, ℕ, ◌+◌, ◌-◌, ◌^◌, ◌≤◌, min, if◌then◌else◌, Option, None, Some, List, [], ◌∷◌, ◌++◌, length, vec_len, vec_capacity}
 use Rattle.wx_events.specs.declared.event.Event.{Event}
 use Rattle.wx_journal.specs.declared.entry.Entry.{Entry}
 use Rattle.wx_journal.specs.declared.entry.Act.{Act}
+use Rattle.wx_journal.specs.Names.{job_count}
 use Rattle.wx_action.specs.declared.handler.Second.{Second}
-use Rattle.wx_action.specs.Handled.{ends_with_quit, AreEvents, lookup}
+use Rattle.wx_action.specs.declared.handler.Todo.{Todo}
+use Rattle.wx_action.specs.Handled.{ends_with_quit, creations, AreEvents, lookup}
+use Rattle.wx_action.specs.declared.state.Held.{Held}
+use Rattle.wx_action.specs.HeldJobs.{AreShown}
+use Rattle.wx_action.specs.Jobs.{AreLawful}
+use Rattle.wx_action.specs.Todo.{AreTodo}
 
--- The events are those of the names. Until they are handed the names and the acts stand there twice. There is room for
--- a quit where none stands last.
-pub record IsKept (past : List Entry) (names : List ℕ) (events : List Event) (acts : List Act) (act_room : ℕ) (second : Option Second) : Type 0 where
-  pub are_events : AreEvents (lookup past) names events
-  pub room : ends_with_quit acts ≡ false → length acts < act_room
+-- the room that a quit behind these acts needs
+abbrev pub quit_room : List Act → ℕ
+quit_room acts = if ends_with_quit acts then 0 else 1
+
+-- the acts that stand a second time, where they do, have room for this many more
+abbrev pub HasSecondRoom : ℕ → Option Second → Type 0
+HasSecondRoom n second = (twice : Second) → second ≡ Some twice → vec_len twice.acts + n ≤ vec_capacity twice.acts
+
+-- the names and acts that stand a second time, where they do, are these, and have room for this many acts more
+pub record AreTwice (names : List ℕ) (acts : List Act) (n : ℕ) (second : Option Second) : Type 0 where
   pub same_names : (twice : Second) → second ≡ Some twice → twice.names.items ≡ names
   pub same_acts : (twice : Second) → second ≡ Some twice → twice.acts.items ≡ acts
-  pub second_room : (twice : Second) → second ≡ Some twice → ends_with_quit acts ≡ false → length acts < vec_capacity twice.acts
+  pub room : HasSecondRoom n second
+
+-- what stands a second time stays, and has as much room as before, or more
+abbrev pub StaysTwice : Option Second → Option Second → Type 0
+StaysTwice None None = Unit {0}
+StaysTwice (Some old) (Some new) = (new.names.items ≡ old.names.items) × (new.acts.items ≡ old.acts.items) × (vec_len new.acts ≡ vec_len old.acts) × (vec_capacity old.acts ≤ vec_capacity new.acts)
+StaysTwice (_) (_) = ⊥
+
+-- this act was added to what stands a second time
+abbrev pub AddsTwice : Act → Option Second → Option Second → Type 0
+AddsTwice act None None = Unit {0}
+AddsTwice act (Some old) (Some new) = (new.names.items ≡ old.names.items) × (new.acts.items ≡ old.acts.items ++ act ∷ []) × (vec_len new.acts ≡ vec_len old.acts + 1) × (vec_capacity new.acts ≡ vec_capacity old.acts)
+AddsTwice act (_) (_) = ⊥
+
+-- The jobs are those that the journal shows. The events are those of the names. The ids that were given are counted. The acts are lawful, and what has to be done
+-- is theirs. Until they are handed the names and the acts stand there twice. There is room for a quit where none stands
+-- last.
+pub record IsKept (past : List Entry) (held : List Held) (names : List ℕ) (events : List Event) (ids : ℕ) (acts : List Act) (act_room : ℕ) (second : Option Second) (rest : List Todo) : Type 0 where
+  pub shown : AreShown past held
+  pub are_events : AreEvents (lookup past) names events
+  pub counted : ids ≡ min (job_count past + creations acts) (2 ^ 32 - 1)
+  pub lawful : AreLawful (job_count past) acts
+  pub todo : AreTodo acts rest
+  pub room : length acts + quit_room acts ≤ act_room
+  pub twice : AreTwice names acts (quit_room acts) second

@@ -6,21 +6,28 @@ use Rattle.std.specs.List.{AllByRecursion}
 use Rattle.std.proofs.lemmas.List.{append-nil}
 use Rattle.wx_events.specs.declared.event.Event.{Event}
 use Rattle.wx_events.specs.declared.priority.Priority.{Priority}
+use Rattle.wx_command.specs.declared.command.Command.{Command}
+use Rattle.wx_control.specs.declared.id.Id.{Id}
+use Rattle.wx_control.specs.Asks.{sends_of}
 use Rattle.wx_journal.specs.declared.entry.Entry.{Entry}
-use Rattle.wx_journal.specs.declared.entry.Entry.TheVariants.{Begin, Sent, Turn as Turned, TurnFault, Offer, Take, Hand, Made, Asked, Pick, Spawn, Kill, Wait, Dropped, Raise, Gone}
+use Rattle.wx_journal.specs.declared.entry.Entry.TheVariants.{Begin, Sent, Turn as Turned, TurnFault, Offer, Take, Hand}
 use Rattle.wx_journal.specs.declared.entry.Act.{Act}
 use Rattle.wx_journal.specs.declared.entry.Named.{Named}
 use Rattle.wx_journal.specs.declared.entry.Offered.{Offered}
-use Rattle.wx_journal.specs.declared.entry.Turn.{Turn}
 use Rattle.wx_journal.specs.declared.entry.TurnKind.{TurnKind}
-use Rattle.wx_journal.specs.declared.entry.TurnKind.TheVariants.{Work, Last}
+use Rattle.wx_journal.specs.declared.entry.TurnKind.TheVariants.{Arrive, Work, Job, Ended, Ask, Last}
 use Rattle.wx_journal.specs.declared.entry.Word.TheVariants.{Idle}
-use Rattle.wx_journal.specs.Names.{moment, event_count, NamesItsOwn}
+use Rattle.wx_journal.specs.Names.{moment, event_count, creates, is_created, job_count, NamesItsOwn}
 use Rattle.wx_journal.specs.Told.{is_hooks}
+use Rattle.wx_job.specs.History.{lives}
+use Rattle.wx_job.specs.Table.{Plan, Done, step_plan, ask_plan}
+use Rattle.wx_job.specs.Case.{next}
 use Rattle.wx_action.specs.Start.{Start}
+use Rattle.wx_action.specs.Jobs.{living, parent, AreLawful, act_plan, end}
 use Rattle.wx_action.specs.Journal.{listed, named, bag, window, batches, is_over, is_urgent_named, is_urgent_in}
-use Rattle.wx_action.specs.Due.{Agenda, Begins, Sends, Open, Offers, Says, Takes, Hands, Ended, sends, rest, turn_agenda, has_quit, agenda, Admits, IsRun, IsGreatest}
+use Rattle.wx_action.specs.Due.{Agenda, Begins, Sends, Open, Offers, Says, Takes, Hands, Plans, Ends, sends, plans, rest, job_turn, ended_turn, turn_agenda, after_hand, has_quit, agenda, Admits, IsRun, IsTurn, IsGreatest}
 use Rattle.wx_action.specs.BagLaws.{AreBelow, own_before, bag_facts}
+use Rattle.wx_action.specs.PlanLaws.{IsOfPlan, of_plan, Names, IsLiving, MadeInOrder, enter, enter_living, names_step, names_ask, names_end, names_acts, living_step, living_ask, living_acts}
 use Rattle.wx_action.specs.Laws.{joined, IsBatched, NoneUrgent, UrgentLast, is_last_urgent, urgent_in, IsBatch, AreBatches, NoneUrgentWaits}
 
 -- ---- what an agenda that admits an entry says of it
@@ -33,7 +40,8 @@ admits_sent s p (Offers e q more) name event priority d = absurd cc
 admits_sent s p (Says word more) name event priority d = absurd cc
 admits_sent s p Takes name event priority d = let h = d.1 in absurd cc
 admits_sent s p Hands name event priority d = let h = d.1 in absurd cc
-admits_sent s p Ended name event priority d = absurd d
+admits_sent s p (Plans k more) name event priority d = absurd (of_plan p k (Sent name event priority) d)
+admits_sent s p Ends name event priority d = absurd (of_plan p (end p) (Sent name event priority) d)
 
 admits_offer : (s : Start) (p : List Entry) (k : Agenda) (name : ℕ) (item : Option ℕ) (result : Offered) (event : Event) (priority : Priority) → Admits s p k (Offer name item result event priority) → (name ≡ event_count p) × (item ≡ None)
 admits_offer s p Begins name item result event priority d = absurd cc
@@ -43,7 +51,8 @@ admits_offer s p (Offers e q more) name item result event priority d = (cc, cc)
 admits_offer s p (Says word more) name item result event priority d = absurd cc
 admits_offer s p Takes name item result event priority d = let h = d.1 in absurd cc
 admits_offer s p Hands name item result event priority d = let h = d.1 in absurd cc
-admits_offer s p Ended name item result event priority d = absurd d
+admits_offer s p (Plans k more) name item result event priority d = absurd (of_plan p k (Offer name item result event priority) d)
+admits_offer s p Ends name item result event priority d = absurd (of_plan p (end p) (Offer name item result event priority) d)
 
 admits_take : (s : Start) (p : List Entry) (k : Agenda) (name : ℕ) → Admits s p k (Take name) → IsGreatest name (bag p)
 admits_take s p Begins name d = absurd cc
@@ -53,42 +62,19 @@ admits_take s p (Offers e q more) name d = absurd cc
 admits_take s p (Says word more) name d = absurd cc
 admits_take s p Takes name d = let same : d.0 ≡ name = (let h = d.1 in cc) in subst (λ (m : ℕ). IsGreatest m (bag p)) same d.2
 admits_take s p Hands name d = let h = d.1 in absurd cc
-admits_take s p Ended name d = absurd d
+admits_take s p (Plans k more) name d = absurd (of_plan p k (Take name) d)
+admits_take s p Ends name d = absurd (of_plan p (end p) (Take name) d)
 
-admits_hand : (s : Start) (p : List Entry) (k : Agenda) (n : ℕ) (names : List ℕ) (acts : List Act) → Admits s p k (Hand n names acts) → (names ≡ window p) × (k ≡ Hands)
+admits_hand : (s : Start) (p : List Entry) (k : Agenda) (n : ℕ) (names : List ℕ) (acts : List Act) → Admits s p k (Hand n names acts) → (names ≡ window p) × (k ≡ Hands) × AreLawful (job_count p) acts
 admits_hand s p Begins n names acts d = absurd cc
 admits_hand s p (Sends e q more) n names acts d = absurd cc
 admits_hand s p Open n names acts d = absurd d
 admits_hand s p (Offers e q more) n names acts d = absurd cc
 admits_hand s p (Says word more) n names acts d = absurd cc
 admits_hand s p Takes n names acts d = let h = d.1 in absurd cc
-admits_hand s p Hands n names acts d = (let h = d.1 in cc, refl)
-admits_hand s p Ended n names acts d = absurd d
-
--- the entries of jobs, which no agenda admits yet
-abbrev IsOfJobs : Entry → Type 0
-IsOfJobs (Made job) = Unit {0}
-IsOfJobs (Asked ticket job level control) = Unit {0}
-IsOfJobs (Pick job ticket) = Unit {0}
-IsOfJobs (Spawn child job tag what answer) = Unit {0}
-IsOfJobs (Kill child answer) = Unit {0}
-IsOfJobs (Wait child answer) = Unit {0}
-IsOfJobs (Dropped child) = Unit {0}
-IsOfJobs (Raise ticket) = Unit {0}
-IsOfJobs (Gone job) = Unit {0}
-IsOfJobs (_) = ⊥
-
-none_of_jobs : (s : Start) (p : List Entry) (k : Agenda) (e : Entry) → IsOfJobs e → Admits s p k e → ⊥
-none_of_jobs s p Begins e of_jobs d = subst IsOfJobs d of_jobs
-none_of_jobs s p (Sends v q more) e of_jobs d = subst IsOfJobs d of_jobs
-none_of_jobs s p Open (Turned t) of_jobs d = of_jobs
-none_of_jobs s p Open (TurnFault code) of_jobs d = of_jobs
-none_of_jobs s p Open (_) of_jobs d = d
-none_of_jobs s p (Offers v q more) e of_jobs d = subst IsOfJobs d of_jobs
-none_of_jobs s p (Says word more) e of_jobs d = subst IsOfJobs d of_jobs
-none_of_jobs s p Takes e of_jobs d = subst IsOfJobs d.1 of_jobs
-none_of_jobs s p Hands e of_jobs d = subst IsOfJobs d.1 of_jobs
-none_of_jobs s p Ended e of_jobs d = d
+admits_hand s p Hands n names acts d = (let h = d.1 in cc, refl, (let h = d.1 in let same : d.0 ≡ acts = cc in subst (AreLawful (job_count p)) same d.2))
+admits_hand s p (Plans k more) n names acts d = absurd (of_plan p k (Hand n names acts) d)
+admits_hand s p Ends n names acts d = absurd (of_plan p (end p) (Hand n names acts) d)
 
 -- ---- a run names only what its own entries made
 
@@ -120,26 +106,143 @@ window_below (Take name ∷ p) own = each-append (λ m. m < event_count p) (wind
 window_below (Hand n names acts ∷ p) own = tt
 window_below (e ∷ p) own = window_below p (own_before e p own)
 
+-- ---- what an agenda owes of a journal that names its own
+
+-- nothing, or the end
+abbrev pub IsQuiet : Agenda → Type 0
+IsQuiet Open = Unit {0}
+IsQuiet Ends = Unit {0}
+IsQuiet (_) = ⊥
+
+-- Behind an offer, a word and a plan is nothing, or the end. A plan names what was named before, and spawns only for jobs
+-- that live.
+abbrev pub IsFit : List Entry → Agenda → Type 0
+IsFit p (Offers event priority more) = IsQuiet more
+IsFit p (Says word more) = IsQuiet more
+IsFit p (Plans k more) = Names p k × IsQuiet more × IsLiving p k
+IsFit p (_) = Unit {0}
+
+fit_quiet : (p : List Entry) (more : Agenda) → IsQuiet more → IsFit p more
+fit_quiet p Open q = tt
+fit_quiet p Ends q = tt
+fit_quiet p (_) q = absurd q
+
+fit_plans : (p : List Entry) (k : Plan) (more : Agenda) → Names p k → IsQuiet more → IsLiving p k → IsFit p (plans k more)
+fit_plans p Done more n q l = fit_quiet p more q
+fit_plans p (k) more n q l = (n, q, l)
+
+fit_sends : (p : List Entry) (xs : List (Event × Priority)) → IsFit p (sends xs)
+fit_sends p [] = tt
+fit_sends p (x ∷ xs) = tt
+
+-- what a choice of two agendas owes
+either : (P : Agenda → Type 0) (b : Bool) (k f : Agenda) → P k → P f → P (cond b k f)
+either P true k f h g = h
+either P false k f h g = g
+
+fit_job : (p : List Entry) (id : Id) (command : Option Command) → NamesItsOwn p → IsFit p (job_turn id command p)
+fit_job p id None own = tt
+fit_job p id (Some command) own = fit_plans p (step_plan id command p) Open (names_step id command p own) tt (living_step id command p)
+
+fit_ended : (p : List Entry) (id : Option Id) → NamesItsOwn p → IsFit p (ended_turn id p)
+fit_ended p None own = tt
+fit_ended p (Some id) own = fit_job p id (living id p) own
+
+fit_turn : (s : Start) (p : List Entry) (kind : TurnKind) (at : ℕ) → NamesItsOwn p → IsFit p (turn_agenda s kind at p)
+fit_turn s p (Arrive event priority) at own = tt
+fit_turn s p Work at own = either (IsFit p) (is_over s p at) Hands _ tt (either (IsFit p) (length (bag p) == 0) (Says Idle Open) Takes tt tt)
+fit_turn s p (Job id) at own = fit_job p id (living id p) own
+fit_turn s p (Ended c) at own = fit_ended p (parent c p) own
+fit_turn s p (Ask id ask) at own = either (IsFit p) (lives id p) _ _ (fit_plans p (ask_plan id (sends_of ask) Done) Open (names_ask id ask p own) tt (living_ask id ask p)) tt
+fit_turn s p Last at own = tt
+
+or_false : (b : Bool) (c : Bool) → b ≡ true → (b || c) ≡ true
+or_false b c e = rw e refl
+
+fit_hand : (p : List Entry) (n : ℕ) (names : List ℕ) (acts : List Act) → AreLawful (job_count p) acts → IsFit (Hand n names acts ∷ p) (after_hand acts p)
+fit_hand p n names acts lawful =
+    fit_plans (Hand n names acts ∷ p) (act_plan (λ id. lives id p) acts) _
+    (names_acts (λ id. creates id acts || is_created id p) (job_count p) _ _ (λ id. lives id p) acts (λ id e. or_false (creates id acts) (is_created id p) e) lawful)
+    (either IsQuiet (has_quit acts) Ends Open tt tt)
+    (living_acts (λ id. lives id p) (λ id. lives id p) acts)
+
+-- after an entry that an agenda admits
+fit_rest : (s : Start) (p : List Entry) (k : Agenda) (e : Entry) → Admits s p k e → IsFit p k → IsFit (e ∷ p) (rest e k)
+fit_rest s p Begins e d f = tt
+fit_rest s p (Sends v q more) e d f = fit_sends (e ∷ p) more
+fit_rest s p Open e d f = tt
+fit_rest s p (Offers v q more) e d f = fit_quiet (e ∷ p) more f
+fit_rest s p (Says word more) e d f = fit_quiet (e ∷ p) more f
+fit_rest s p Takes e d f = tt
+fit_rest s p Hands e d f = tt
+fit_rest s p (Plans k more) e d f = fit_plans (e ∷ p) (next k e) more (enter p k e d f.0).names f.1 (enter_living p k e d f.2)
+fit_rest s p Ends e d f = tt
+
+-- a turn is no entry of a plan
+no_turn : (e : Entry) → IsOfPlan e → IsTurn e → ⊥
+no_turn (Turned t) o i = o
+no_turn (TurnFault code) o i = o
+no_turn (_) o i = i
+
+-- what is known of a journal that names its own, with an entry of a plan on top
+record IsNext (p : List Entry) (e : Entry) : Type 0 where
+  own : NamesItsOwn (e ∷ p)
+  in_order : MadeInOrder (e ∷ p)
+
+next_own : (s : Start) (p : List Entry) (k : Agenda) (e : Entry) → IsOfPlan e → Admits s p k e → IsFit p k → NamesItsOwn p → MadeInOrder p → IsNext p e
+next_own s p Begins e o d f own made = absurd (subst IsOfPlan d o)
+next_own s p (Sends v q more) e o d f own made = absurd (subst IsOfPlan d o)
+next_own s p Open e o d f own made = absurd (no_turn e o d)
+next_own s p (Offers v q more) e o d f own made = absurd (subst IsOfPlan d o)
+next_own s p (Says word more) e o d f own made = rw d (record { own = own; in_order = made })
+next_own s p Takes e o d f own made = absurd (subst IsOfPlan d.1 o)
+next_own s p Hands e o d f own made = absurd (subst IsOfPlan d.1 o)
+next_own s p (Plans k more) e o d f own made = let h = enter p k e d f.0 in record { own = h.own own; in_order = h.in_order made }
+next_own s p Ends e o d f own made = let h = enter p (end p) e d (names_end p own) in record { own = h.own own; in_order = h.in_order made }
+
+-- what is known of every run: it names its own, makes jobs in the order of their names, and so will go on
+pub record IsOrderly (s : Start) (p : List Entry) : Type 0 where
+  pub own : NamesItsOwn p
+  pub in_order : MadeInOrder p
+  pub fit : IsFit p (agenda s p)
+
+pub orderly : (s : Start) (p : List Entry) → IsRun s p → IsOrderly s p
+orderly s [] r = record { own = tt; in_order = tt; fit = tt }
+orderly s (Begin t z e f g j w c paths ∷ p) r = let h = orderly s p r.1 in record { own = h.own; in_order = h.in_order; fit = fit_sends (Begin t z e f g j w c paths ∷ p) s.events }
+orderly s (Sent name event priority ∷ p) r =
+    let h = orderly s p r.1 in record {
+      own = (admits_sent s p (agenda s p) name event priority r.0, h.own);
+      in_order = h.in_order;
+      fit = fit_rest s p (agenda s p) (Sent name event priority) r.0 h.fit;
+    }
+orderly s (Turned t ∷ p) r = let h = orderly s p r.1 in record { own = h.own; in_order = h.in_order; fit = fit_turn s (Turned t ∷ p) t.kind t.at h.own }
+orderly s (TurnFault code ∷ p) r = let h = orderly s p r.1 in record { own = h.own; in_order = h.in_order; fit = tt }
+orderly s (Offer name item result event priority ∷ p) r =
+    let h = orderly s p r.1 in
+    let d = admits_offer s p (agenda s p) name item result event priority r.0 in record {
+      own = (d.0, d.1, h.own);
+      in_order = h.in_order;
+      fit = fit_rest s p (agenda s p) (Offer name item result event priority) r.0 h.fit;
+    }
+orderly s (Take name ∷ p) r =
+    let h = orderly s p r.1 in record {
+      own = (named_below (event_count p) name (bag p) _ (bag_facts p h.own).below (admits_take s p (agenda s p) name r.0), h.own);
+      in_order = h.in_order;
+      fit = either (IsFit (Take name ∷ p)) (is_urgent_named name p || is_over s (Take name ∷ p) (moment p)) Hands Open tt tt;
+    }
+orderly s (Hand n names acts ∷ p) r =
+    let h = orderly s p r.1 in
+    let d = admits_hand s p (agenda s p) n names acts r.0 in record {
+      own = (subst (AllByRecursion (λ name. name < event_count p)) (sym d.0) (window_below p h.own), h.own);
+      in_order = h.in_order;
+      fit = fit_hand p n names acts d.2;
+    }
+orderly s (e ∷ p) r =
+    let h = orderly s p r.1 in
+    let g = next_own s p (agenda s p) e tt r.0 h.fit h.own h.in_order in record { own = g.own; in_order = g.in_order; fit = fit_rest s p (agenda s p) e r.0 h.fit }
+
 pub own_of_run : (s : Start) (p : List Entry) → IsRun s p → NamesItsOwn p
-own_of_run s [] r = tt
-own_of_run s (Sent name event priority ∷ p) r = (admits_sent s p (agenda s p) name event priority r.0, own_of_run s p r.1)
-own_of_run s (Offer name item result event priority ∷ p) r =
-    let d = admits_offer s p (agenda s p) name item result event priority r.0 in (d.0, d.1, own_of_run s p r.1)
-own_of_run s (Take name ∷ p) r =
-    let own = own_of_run s p r.1 in
-    (named_below (event_count p) name (bag p) _ (bag_facts p own).below (admits_take s p (agenda s p) name r.0), own)
-own_of_run s (Hand n names acts ∷ p) r =
-    let own = own_of_run s p r.1 in
-    let d = admits_hand s p (agenda s p) n names acts r.0 in
-    (subst (AllByRecursion (λ name. name < event_count p)) (sym d.0) (window_below p own), own)
-own_of_run s (Asked ticket job level control ∷ p) r = absurd (none_of_jobs s p (agenda s p) _ tt r.0)
-own_of_run s (Pick job ticket ∷ p) r = absurd (none_of_jobs s p (agenda s p) _ tt r.0)
-own_of_run s (Spawn child job tag what answer ∷ p) r = absurd (none_of_jobs s p (agenda s p) _ tt r.0)
-own_of_run s (Kill child answer ∷ p) r = absurd (none_of_jobs s p (agenda s p) _ tt r.0)
-own_of_run s (Wait child answer ∷ p) r = absurd (none_of_jobs s p (agenda s p) _ tt r.0)
-own_of_run s (Dropped child ∷ p) r = absurd (none_of_jobs s p (agenda s p) _ tt r.0)
-own_of_run s (Raise ticket ∷ p) r = absurd (none_of_jobs s p (agenda s p) _ tt r.0)
-own_of_run s (_ ∷ p) r = own_of_run s p r.1
+own_of_run s p r = (orderly s p r).own
 
 -- ---- the passed events are the batches and then the window
 
@@ -180,43 +283,40 @@ some-append : (names : List ℕ) (name : ℕ) → 0 < length (names ++ name ∷ 
 some-append [] name = omega arith
 some-append (x ∷ names) name = omega (arith, some-append names name)
 
--- Where the window is to be handed it is a batch, and else no urgent event waits in it. Behind an offer and a word
--- nothing is owed.
+-- where the window is to be handed it is a batch, and else no urgent event waits in it
 abbrev Waits : Start → List Entry → Agenda → Type 0
-Waits s p Begins = NoneUrgentWaits p
-Waits s p (Sends e q more) = NoneUrgentWaits p
-Waits s p Open = NoneUrgentWaits p
-Waits s p (Offers e q more) = NoneUrgentWaits p × (more ≡ Open)
-Waits s p (Says word more) = NoneUrgentWaits p × (more ≡ Open)
-Waits s p Takes = NoneUrgentWaits p
 Waits s p Hands = IsBatch s p (window p)
-Waits s p Ended = NoneUrgentWaits p
+Waits s p (_) = NoneUrgentWaits p
 
 waits_sends : (s : Start) (p : List Entry) (xs : List (Event × Priority)) → NoneUrgentWaits p → Waits s p (sends xs)
 waits_sends s p [] h = h
 waits_sends s p (x ∷ xs) h = h
 
+waits_quiet : (s : Start) (p : List Entry) (more : Agenda) → IsQuiet more → NoneUrgentWaits p → Waits s p more
+waits_quiet s p Open q h = h
+waits_quiet s p Ends q h = h
+waits_quiet s p (_) q h = absurd q
+
+waits_plans : (s : Start) (p : List Entry) (k : Plan) (more : Agenda) → IsQuiet more → NoneUrgentWaits p → Waits s p (plans k more)
+waits_plans s p Done more q h = waits_quiet s p more q h
+waits_plans s p (k) more q h = h
+
 -- no urgent event waits where something else than a batch is owed
 calm : (s : Start) (p : List Entry) (k : Agenda) → Waits s p k → (k ≡ Hands → ⊥) → NoneUrgentWaits p
-calm s p Begins h other = h
-calm s p (Sends e q more) h other = h
-calm s p Open h other = h
-calm s p (Offers e q more) h other = h.0
-calm s p (Says word more) h other = h.0
-calm s p Takes h other = h
 calm s p Hands h other = absurd (other refl)
-calm s p Ended h other = h
+calm s p (_) h other = h
 
--- after an entry which left the window as it was, of an agenda that admits it
-waits_rest : (s : Start) (p p' : List Entry) (k : Agenda) → (NoneUrgentWaits p → NoneUrgentWaits p') → (k ≡ Hands → ⊥) → Waits s p k → Waits s p' (rest k)
-waits_rest s p p' Begins keep other h = keep h
-waits_rest s p p' (Sends e q more) keep other h = waits_sends s p' more (keep h)
-waits_rest s p p' Open keep other h = keep h
-waits_rest s p p' (Offers e q more) keep other h = rw h.1 (keep h.0)
-waits_rest s p p' (Says word more) keep other h = rw h.1 (keep h.0)
-waits_rest s p p' Takes keep other h = keep h
-waits_rest s p p' Hands keep other h = absurd (other refl)
-waits_rest s p p' Ended keep other h = keep h
+-- after an entry, of an agenda that owes no batch
+waits_rest : (s : Start) (p p' : List Entry) (k : Agenda) (e : Entry) → IsFit p k → (k ≡ Hands → ⊥) → NoneUrgentWaits p' → Waits s p' (rest e k)
+waits_rest s p p' Begins e f other h = h
+waits_rest s p p' (Sends v q more) e f other h = waits_sends s p' more h
+waits_rest s p p' Open e f other h = h
+waits_rest s p p' (Offers v q more) e f other h = waits_quiet s p' more f h
+waits_rest s p p' (Says word more) e f other h = waits_quiet s p' more f h
+waits_rest s p p' Takes e f other h = h
+waits_rest s p p' Hands e f other h = absurd (other refl)
+waits_rest s p p' (Plans k more) e f other h = waits_plans s p' (next k e) more f.1 h
+waits_rest s p p' Ends e f other h = h
 
 -- an agenda that admits an entry that is no call on the hooks owes no batch
 no_batch : (s : Start) (p : List Entry) (k : Agenda) (e : Entry) → is_hooks e ≡ false → Admits s p k e → k ≡ Hands → ⊥
@@ -230,19 +330,30 @@ window_some : (names : List ℕ) (b : Bool) → (not (length names == 0) && b) �
 window_some [] b e = absurd cc
 window_some (x ∷ names) b e = omega arith
 
-waits_work : (s : Start) (p : List Entry) (t : Turn) (over empty : Bool) → is_over s p t.at ≡ over → NoneUrgentWaits p → Waits s (Turned t ∷ p) (cond over Hands (cond empty (Says Idle Open) Takes))
-waits_work s p t true empty e h = record {
+waits_work : (s : Start) (p : List Entry) (at : ℕ) (over empty : Bool) → moment p ≡ at → is_over s p at ≡ over → NoneUrgentWaits p → Waits s p (cond over Hands (cond empty (Says Idle Open) Takes))
+waits_work s p at true empty now e h = record {
   some = window_some (window p) _ e;
   urgent_last = last-calm (urgent_in p) (window p) h;
-  in_time = λ _. e;
+  in_time = λ _. rw now e;
 }
-waits_work s p t false true e h = (h, refl)
-waits_work s p t false false e h = h
+waits_work s p at false true now e h = h
+waits_work s p at false false now e h = h
 
-waits_turn : (s : Start) (p : List Entry) (t : Turn) (kind : TurnKind) → NoneUrgentWaits p → Waits s (Turned t ∷ p) (turn_agenda s kind t.at p)
-waits_turn s p t Work h = waits_work s p t (is_over s p t.at) (length (bag p) == 0) refl h
-waits_turn s p t Last h = h
-waits_turn s p t (_) h = (h, refl)
+waits_job : (s : Start) (p : List Entry) (id : Id) (command : Option Command) → NoneUrgentWaits p → Waits s p (job_turn id command p)
+waits_job s p id None h = h
+waits_job s p id (Some command) h = waits_plans s p (step_plan id command p) Open tt h
+
+waits_ended : (s : Start) (p : List Entry) (id : Option Id) → NoneUrgentWaits p → Waits s p (ended_turn id p)
+waits_ended s p None h = h
+waits_ended s p (Some id) h = waits_job s p id (living id p) h
+
+waits_turn : (s : Start) (p : List Entry) (kind : TurnKind) (at : ℕ) → moment p ≡ at → NoneUrgentWaits p → Waits s p (turn_agenda s kind at p)
+waits_turn s p (Arrive event priority) at now h = h
+waits_turn s p Work at now h = waits_work s p at (is_over s p at) (length (bag p) == 0) now refl h
+waits_turn s p (Job id) at now h = waits_job s p id (living id p) h
+waits_turn s p (Ended c) at now h = waits_ended s p (parent c p) h
+waits_turn s p (Ask id ask) at now h = either (Waits s p) (lives id p) _ _ (waits_plans s p (ask_plan id (sends_of ask) Done) Open tt h) h
+waits_turn s p Last at now h = h
 
 waits_take : (s : Start) (p : List Entry) (name : ℕ) (urgent over : Bool) → is_urgent_named name p ≡ urgent → is_over s (Take name ∷ p) (moment p) ≡ over → NoneUrgentWaits p → Waits s (Take name ∷ p) (cond (urgent || over) Hands Open)
 waits_take s p name true over u o h = record {
@@ -257,30 +368,30 @@ waits_take s p name false true u o h = record {
 }
 waits_take s p name false false u o h = each-append (λ m. urgent_in p m ≡ false) (window p) name h u
 
-waits_hand : (s : Start) (p : List Entry) (n : ℕ) (names : List ℕ) (acts : List Act) (quits : Bool) → Waits s (Hand n names acts ∷ p) (cond quits Ended Open)
-waits_hand s p n names acts true = tt
-waits_hand s p n names acts false = tt
+-- no urgent event waits before an entry that is no call on the hooks
+calm_before : (s : Start) (p : List Entry) (e : Entry) → Waits s p (agenda s p) → is_hooks e ≡ false → Admits s p (agenda s p) e → NoneUrgentWaits p
+calm_before s p e w other d = calm s p (agenda s p) w (no_batch s p (agenda s p) e other d)
 
 waits : (s : Start) (p : List Entry) → IsRun s p → Waits s p (agenda s p)
 waits s [] r = tt
-waits s (Begin t z e f g j w c paths ∷ p) r = waits_sends s (Begin t z e f g j w c paths ∷ p) s.events (calm s p (agenda s p) (waits s p r.1) (no_batch s p (agenda s p) (Begin t z e f g j w c paths) refl r.0))
+waits s (Begin t z e f g j w c paths ∷ p) r = waits_sends s (Begin t z e f g j w c paths ∷ p) s.events (calm_before s p (Begin t z e f g j w c paths) (waits s p r.1) refl r.0)
 waits s (Sent name event priority ∷ p) r =
-    let own = own_of_run s p r.1 in
+    let o = orderly s p r.1 in
     let new = admits_sent s p (agenda s p) name event priority r.0 in
-    waits_rest s p (Sent name event priority ∷ p) (agenda s p)
-    (λ h. subst (λ (m : ℕ). NoneUrgentWaits (Sent m event priority ∷ p)) (sym new) (calm-rise (event_count p) (Some (event, priority)) p (window p) (window_below p own) h))
-    (no_batch s p (agenda s p) (Sent name event priority) refl r.0) (waits s p r.1)
-waits s (Turned t ∷ p) r = waits_turn s p t t.kind (calm s p (agenda s p) (waits s p r.1) (no_batch s p (agenda s p) (Turned t) refl r.0))
-waits s (TurnFault code ∷ p) r = calm s p (agenda s p) (waits s p r.1) (no_batch s p (agenda s p) (TurnFault code) refl r.0)
+    let h = calm_before s p (Sent name event priority) (waits s p r.1) refl r.0 in
+    waits_rest s p (Sent name event priority ∷ p) (agenda s p) (Sent name event priority) o.fit (no_batch s p (agenda s p) (Sent name event priority) refl r.0)
+    (subst (λ (m : ℕ). NoneUrgentWaits (Sent m event priority ∷ p)) (sym new) (calm-rise (event_count p) (Some (event, priority)) p (window p) (window_below p o.own) h))
+waits s (Turned t ∷ p) r = waits_turn s (Turned t ∷ p) t.kind t.at refl (calm_before s p (Turned t) (waits s p r.1) refl r.0)
+waits s (TurnFault code ∷ p) r = calm_before s p (TurnFault code) (waits s p r.1) refl r.0
 waits s (Offer name item result event priority ∷ p) r =
-    let own = own_of_run s p r.1 in
+    let o = orderly s p r.1 in
     let new = (admits_offer s p (agenda s p) name item result event priority r.0).0 in
-    waits_rest s p (Offer name item result event priority ∷ p) (agenda s p)
-    (λ h. subst (λ (m : ℕ). NoneUrgentWaits (Offer m item result event priority ∷ p)) (sym new) (calm-rise (event_count p) (Some (event, priority)) p (window p) (window_below p own) h))
-    (no_batch s p (agenda s p) (Offer name item result event priority) refl r.0) (waits s p r.1)
-waits s (Take name ∷ p) r = waits_take s p name (is_urgent_named name p) (is_over s (Take name ∷ p) (moment p)) refl refl (calm s p (agenda s p) (waits s p r.1) (no_batch s p (agenda s p) (Take name) refl r.0))
-waits s (Hand n names acts ∷ p) r = waits_hand s p n names acts (has_quit acts)
-waits s (e ∷ p) r = waits_rest s p (e ∷ p) (agenda s p) (λ h. h) (no_batch s p (agenda s p) e refl r.0) (waits s p r.1)
+    let h = calm_before s p (Offer name item result event priority) (waits s p r.1) refl r.0 in
+    waits_rest s p (Offer name item result event priority ∷ p) (agenda s p) (Offer name item result event priority) o.fit (no_batch s p (agenda s p) (Offer name item result event priority) refl r.0)
+    (subst (λ (m : ℕ). NoneUrgentWaits (Offer m item result event priority ∷ p)) (sym new) (calm-rise (event_count p) (Some (event, priority)) p (window p) (window_below p o.own) h))
+waits s (Take name ∷ p) r = waits_take s p name (is_urgent_named name p) (is_over s (Take name ∷ p) (moment p)) refl refl (calm_before s p (Take name) (waits s p r.1) refl r.0)
+waits s (Hand n names acts ∷ p) r = waits_plans s (Hand n names acts ∷ p) (act_plan (λ id. lives id p) acts) _ (either IsQuiet (has_quit acts) Ends Open tt tt) tt
+waits s (e ∷ p) r = waits_rest s p (e ∷ p) (agenda s p) e (orderly s p r.1).fit (no_batch s p (agenda s p) e refl r.0) (calm_before s p e (waits s p r.1) refl r.0)
 
 -- each batch of a run is one
 pub run_has_batches : (s : Start) (p : List Entry) → IsRun s p → AreBatches s p
@@ -296,8 +407,12 @@ pub none_waits : (s : Start) (p : List Entry) → IsRun s p → (agenda s p ≡ 
 none_waits s p r other = calm s p (agenda s p) (waits s p r) other
 
 pub none_waits_at_turn : (s : Start) (t : _) (p : List Entry) → IsRun s (Turned t ∷ p) → NoneUrgentWaits (Turned t ∷ p)
-none_waits_at_turn s t p r = calm s p (agenda s p) (waits s p r.1) (no_batch s p (agenda s p) (Turned t) refl r.0)
+none_waits_at_turn s t p r = calm_before s p (Turned t) (waits s p r.1) refl r.0
 
 -- a window that is to be handed isn't empty
 pub window_to_hand : (s : Start) (p : List Entry) → IsRun s p → agenda s p ≡ Hands → 0 < length (window p)
 window_to_hand s p r e = let w : Waits s p Hands = subst (Waits s p) e (waits s p r) in w.some
+
+-- a batch of a run is the window, was due, and asks only for jobs that were never there
+pub hand_of_run : (s : Start) (p : List Entry) (n : ℕ) (names : List ℕ) (acts : List Act) → IsRun s (Hand n names acts ∷ p) → (names ≡ window p) × (agenda s p ≡ Hands) × AreLawful (job_count p) acts
+hand_of_run s p n names acts r = admits_hand s p (agenda s p) n names acts r.0

@@ -2,25 +2,7 @@
 use Rattle.std.specs.Prelude.{◌≡◌, ℕ, ◌≤◌, Bool, true, false, ◌==◌, List, [], ◌∷◌, length}
 use Rattle.wx_events.specs.declared.event.Event.{Event}
 use Rattle.wx_events.specs.declared.priority.Priority.{Priority}
-use Rattle.wx_action.specs.declared.config.Config.{Config}
-use Rattle.wx_journal.specs.declared.watched.Watcher.TheVariants.{Native}
-
--- the default settings
-abbrev pub default_config : Config
-default_config = record {
-  change_signal = 0;
-  action_handler = 0;
-  error_handler = 0;
-  pathset = [];
-  file_watcher = Native;
-  follow_symlinks = true;
-  signal_job_control = false;
-  keyboard_events = false;
-  throttle = 50_000_000;
-  filterer = 0;
-  error_channel_size = 64;
-  event_channel_size = 4096;
-}
+use Rattle.wx_config.specs.declared.config.Config.{Config}
 
 -- the settings and the folder that an engine was made with, and the events that were sent to it, in order
 pub record Start : Type 0 where

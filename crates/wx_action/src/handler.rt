@@ -1,13 +1,59 @@
-// The handler that is lent to an action: it shows the batch, and collects acts.
-ghost use Rattle.std.specs.Prelude.{◌≡◌, ◌∷◌, ◌++◌, [], ◌<◌, ◌≤◌, ◌+◌, Bool, true, false, length};
-ghost use Rattle.wx_action.specs.Due.{is_quit};
-ghost use Rattle.wx_action.specs.Handled.{ends_with_quit, with_quit, AreEvents, lookup};
+// The handler that is lent to an action: it shows the batch and the jobs, and collects acts.
+ghost use Rattle.std.specs.Prelude.{◌≡◌, ◌∷◌, ◌++◌, [], ◌<◌, ◌≤◌, ◌+◌, ◌-◌, ◌^◌, true, false, is_none, is_some, length, vec_len, vec_capacity, Err, IfSome, IfOk, IfErr, OnOk, OnErr};
+ghost use Rattle.wx_control.specs.Sent.{asked, refused_full};
+ghost use Rattle.wx_control.specs.declared.sink.Refused.TheVariants.{Memory as WantOfMemory};
+ghost use Rattle.wx_journal.specs.Names.{job_count};
+ghost use Rattle.wx_job.specs.History.{child};
+ghost use Rattle.wx_journal.specs.declared.entry.Act.TheVariants.{Create, Ask as Asks};
 ghost use Rattle.wx_journal.specs.declared.entry.Entry.TheVariants.{Hand};
+ghost use Rattle.wx_action.specs.declared.handler.CreateRefused.TheVariants.{IdsSpent};
+ghost use Rattle.wx_action.specs.Due.{is_quit};
+ghost use Rattle.wx_action.specs.Handled.{ends_with_quit, with_quit, creations, asks_of, AreEvents, lookup, Handled};
+ghost use Rattle.wx_action.specs.HeldJobs.{IsHandle, AreSeen, AreShown};
+ghost use Rattle.wx_action.specs.Jobs.{is_seen, AreLawful};
+ghost use Rattle.wx_action.specs.KeptHandler.{HasSecondRoom, StaysTwice, AddsTwice};
+ghost use Rattle.wx_action.specs.Todo.{AreTodo};
 
 use crate::batch::Batch;
+use crate::held::{Jobs, find_held};
+use crate::ids::IdCount;
+use crate::state::Held;
+use std::alloc::Global;
 use std::marker::Model;
-use wx_events::{Event, List};
+use wx_command::Command;
+use wx_control::{Ask, Controls, Flag, Id, Job, Refused, Ticket};
+use wx_events::{Copies, Event, List, Memory};
+use wx_job::start_job;
 use wx_journal::{Act, Entry, Journal};
+
+/// Why no job was created.
+#[derive(Clone, Copy, Debug, PartialEq, Eq)]
+pub enum CreateRefused {
+    /// All ids were given, 2^32 - 1 of them.
+    IdsSpent,
+    /// Want of memory.
+    Memory,
+}
+
+impl From<Memory> for CreateRefused {
+    ghost use Rattle.std.specs.Prelude.{◌≡◌};
+    ghost use Rattle.wx_action.specs.declared.handler.CreateRefused.{CreateRefused};
+
+    ghost from_gives = { λ _ refusal. refusal ≡ CreateRefused.Memory };
+
+    fn from(_memory: Memory) -> CreateRefused {
+        CreateRefused::Memory
+    }
+}
+
+/// What has to be done for an act. Nothing has to be for a quit.
+#[derive(Drop, Debug)]
+pub(crate) enum Todo {
+    /// This job was created, and is to be kept.
+    Create(Held),
+    /// This is to be asked of the job of this id. The flag is that of the ticket that was answered.
+    Ask { job: Id, ask: Ask, done: Flag },
+}
 
 /// The names and the acts once more, for the entry that the handler hands out.
 #[derive(Drop, Debug)]
@@ -16,15 +62,18 @@ struct Second {
     acts: Vec<Act>,
 }
 
-/// Shows a batch to an action, and collects what it asks for. Contracts see the journal so far, the names and the
-/// events of the batch, the acts so far, and whether `hand` was called.
+/// Shows a batch and the jobs to an action, and collects what it asks for. Contracts see the journal so far, the names
+/// and the events of the batch, the acts so far, and whether `hand` was called.
 #[derive(Drop, Debug)]
 pub struct ActionHandler<'a> {
     journal: &'a Journal,
+    held: &'a [Held],
     names: Vec<u64>,
     events: List<Event>,
+    ids: IdCount,
     acts: Vec<Act>,
     second: Option<Second>,
+    todo: Vec<Todo>,
 }
 
 impl<'a> Model for ActionHandler<'a> {
@@ -37,12 +86,12 @@ impl<'a> Model for ActionHandler<'a> {
 
     ghost view = { λ h. record { past = h.journal.now.past; names = h.names.items; events = h.events; acts = h.acts.items; handed = is_none h.second } };
 
-    ghost invariant = { λ h. IsKept h.journal.now.past h.names.items h.events h.acts.items (vec_capacity h.acts) h.second };
+    ghost invariant = { λ h. IsKept h.journal.now.past h.held.now h.names.items h.events h.ids.0 h.acts.items (vec_capacity h.acts) h.second h.todo.items };
 }
 
 /// Whether an act is a quit.
-fn is_quit(act: Act) -> bool
-    ensures { result ≡ is_quit act }
+pub(crate) fn is_quit(act: &Act) -> bool
+    ensures { result ≡ is_quit act.now }
 {
     matches!(act, Act::Quit)
 }
@@ -53,16 +102,63 @@ fn ends_with_quit(acts: &[Act]) -> bool
     ensures { result ≡ ends_with_quit acts.now }
 {
     match acts.last() {
-        Some(act) => is_quit(*act),
+        Some(act) => is_quit(act),
         None => false,
     }
 }
 
+/// Takes room for two acts more among those that stand a second time, where they do. It fails only for want of memory.
+fn reserve_second(second: &mut Option<Second>) -> Result<(), Memory>
+    ensures stays { StaysTwice second.old second.new }
+    ensures room { OnOk result (HasSecondRoom 2 second.new) }
+{
+    if let Some(second) = second {
+        second.acts.reserve(2)?;
+    }
+    Ok(())
+}
+
+/// Adds an act to those that stand a second time, where they do, in room that was taken.
+fn push_second(second: &mut Option<Second>, act: Act)
+    requires { HasSecondRoom 1 second.old }
+    ensures { AddsTwice act second.old second.new }
+{
+    if let Some(second) = second {
+        second.acts.push_reserved(act);
+    }
+}
+
+/// Takes room for an act, for a quit behind it, and for what has to be done for the act. It fails only for want of
+/// memory.
+fn reserve_act(
+    acts: &mut Vec<Act>,
+    second: &mut Option<Second>,
+    todo: &mut Vec<Todo>,
+) -> Result<(), Memory>
+    ensures acts { acts.new.items ≡ acts.old.items }
+    ensures capacity { vec_capacity acts.old ≤ vec_capacity acts.new }
+    ensures room { OnOk result (vec_len acts.new + 2 ≤ vec_capacity acts.new) }
+    ensures second { StaysTwice second.old second.new }
+    ensures second_room { OnOk result (HasSecondRoom 2 second.new) }
+    ensures todo { todo.new.items ≡ todo.old.items }
+    ensures todo_room { OnOk result (vec_len todo.new + 1 ≤ vec_capacity todo.new) }
+{
+    acts.reserve(2)?;
+    todo.reserve(1)?;
+    reserve_second(second)
+}
+
 impl<'a> ActionHandler<'a> {
-    /// A handler that shows this batch, which isn't empty, and holds no act. It takes no memory.
-    pub(crate) fn new(journal: &'a Journal, batch: Batch) -> ActionHandler<'a>
+    /// A handler that shows this batch, which isn't empty, and these jobs, and holds no act. It takes no memory.
+    pub(crate) fn new(
+        alloc: Global,
+        journal: &'a Journal,
+        held: &'a [Held],
+        batch: Batch,
+    ) -> ActionHandler<'a>
         requires some { 0 < length batch.names }
         requires events { AreEvents (lookup journal.now.past) batch.names batch.events }
+        requires shown { AreShown journal.now.past held.now }
         ensures { result ≡ record { past = journal.now.past; names = batch.names; events = batch.events; acts = []; handed = false } }
     {
         let Batch {
@@ -74,13 +170,16 @@ impl<'a> ActionHandler<'a> {
         } = batch;
         ActionHandler {
             journal,
+            held,
             names,
             events: List::from_vec(events),
+            ids: IdCount::new(journal.jobs()),
             acts,
             second: Some(Second {
                 names: second_names,
                 acts: second_acts,
             }),
+            todo: Vec::new(alloc),
         }
     }
 
@@ -92,9 +191,69 @@ impl<'a> ActionHandler<'a> {
         &self.events
     }
 
+    /// A copy of the handle on the job of this id. It answers None exactly where no job of this id was there when the
+    /// handler was called: none was made, or it was gone before an earlier call. It fails only for want of memory.
+    pub fn get_job(&self, alloc: Global, id: Id) -> Result<Option<Job>, Memory>
+        ensures there { IfOk result (λ found. is_some found ≡ is_seen id self.now.past) }
+        ensures handle { IfOk result (λ found. IfSome found (λ job. IsHandle self.now.past id job)) }
+    {
+        match find_held(self.held, id) {
+            Some(held) => Ok(Some(held.handle.copy(alloc)?)),
+            None => Ok(None),
+        }
+    }
+
+    /// The jobs that were there when the handler was called, by rising id, each with the handle on it.
+    pub fn list_jobs(&self) -> Jobs<'_>
+        ensures { AreSeen self.now.past result }
+    {
+        Jobs::new(self.held)
+    }
+
+    /// Whether the child of the job of this id runs, by the journal so far. None does where there is no such job.
+    pub fn job_running(&self, id: Id) -> bool
+        ensures { result ≡ is_some (child id self.now.past) }
+    {
+        match find_held(self.held, id) {
+            Some(held) => held.task.running_child().is_some(),
+            None => false,
+        }
+    }
+
+    /// Creates a job that runs this command, and answers its id, which no job had before, with a handle on it. It
+    /// answers `IdsSpent` exactly where 2^32 - 1 ids were given before, and `Memory` for want of memory. The handler
+    /// stays as it was where no job is created.
+    pub fn create_job(
+        &mut self,
+        alloc: Global,
+        command: Command,
+    ) -> Result<(Id, Job), CreateRefused>
+        ensures id { IfOk result (λ made. made.0.0 ≡ job_count self.old.past + creations self.old.acts) }
+        ensures handle { IfOk result (λ made. made.1.id ≡ made.0) }
+        ensures command { IfOk result (λ made. made.1.command ≡ command) }
+        ensures created { IfOk result (λ made. self.new ≡ record self.old { acts = self.old.acts ++ Create made.0 command ∷ [] }) }
+        ensures refused { OnErr result (self.new ≡ self.old) }
+        ensures spent { IfErr result (λ refusal. refusal ≡ IdsSpent → 2 ^ 32 - 1 ≤ job_count self.old.past + creations self.old.acts) }
+        ensures exactly { 2 ^ 32 - 1 ≤ job_count self.old.past + creations self.old.acts → result ≡ Err IdsSpent }
+    {
+        let mut ids = self.ids;
+        let Some(id) = ids.next() else {
+            return Err(CreateRefused::IdsSpent);
+        };
+        let first = command.copy(alloc)?;
+        let second = command.copy(alloc)?;
+        let (job, task) = start_job(alloc, id, command)?;
+        let handle = job.copy(alloc)?;
+        reserve_act(&mut self.acts, &mut self.second, &mut self.todo)?;
+        self.ids = ids;
+        self.acts.push_reserved(Act::Create(id, first));
+        push_second(&mut self.second, Act::Create(id, second));
+        self.todo.push_reserved(Todo::Create(Held { handle, task }));
+        Ok((id, job))
+    }
+
     /// Asks for the end of the run. Of several such acts the last stands; one that directly follows another is not
     /// listed again. It takes no memory.
-    #[tactic(auto, using(crate::proofs::QuitLemmas::quit_last))]
     pub fn quit(&mut self)
         ensures { self.new ≡ record self.old { acts = with_quit self.old.acts } }
     {
@@ -102,9 +261,7 @@ impl<'a> ActionHandler<'a> {
             return;
         }
         self.acts.push_reserved(Act::Quit);
-        if let Some(second) = &mut self.second {
-            second.acts.push_reserved(Act::Quit);
-        }
+        push_second(&mut self.second, Act::Quit);
     }
 
     /// Moves out the entry of this call: the number of the handler, the names of the events, and all acts so far.
@@ -113,6 +270,7 @@ impl<'a> ActionHandler<'a> {
         requires { self.old.handed ≡ false }
         ensures entry { result ≡ Hand n self.old.names self.old.acts }
         ensures handed { self.new ≡ record self.old { handed = true } }
+        ensures lawful { AreLawful (job_count self.old.past) self.old.acts }
     {
         match self.second.take() {
             Some(second) => Entry::Hand {
@@ -124,11 +282,53 @@ impl<'a> ActionHandler<'a> {
         }
     }
 
-    /// The names of the events, and the acts.
-    pub(crate) fn into_parts(self) -> (List<u64>, List<Act>)
+    /// The names of the events, the acts, and what has to be done for them.
+    pub(crate) fn into_parts(self) -> (List<u64>, List<Act>, Vec<Todo>)
         ensures names { result.0 ≡ self.entry.names }
         ensures acts { result.1 ≡ self.entry.acts }
+        ensures lawful { AreLawful (job_count self.entry.past) result.1 }
+        ensures todo { AreTodo result.1 result.2.items }
     {
-        (List::from_vec(self.names), List::from_vec(self.acts))
+        (
+            List::from_vec(self.names),
+            List::from_vec(self.acts),
+            self.todo,
+        )
+    }
+}
+
+impl<'a> Controls for ActionHandler<'a> {
+    ghost asks = { λ h. asks_of h.acts };
+
+    ghost fulls = { λ _. 0 };
+
+    ghost Rest = { Handled };
+
+    ghost rest = { λ h. record h { acts = [] } };
+
+    /// Asks this of the job by an act, and answers the ticket of it. It fails only for want of memory, and leaves the
+    /// handler as it was then.
+    fn send(&mut self, alloc: Global, job: &Job, ask: Ask) -> Result<Ticket, Refused>
+        ensures asks { asks_of self.new.acts ≡ asked result job.now.id ask (asks_of self.old.acts) }
+        ensures fulls { 0 ≡ refused_full result 0 }
+        ensures rest { record self.new { acts = [] } ≡ record self.old { acts = [] } }
+        ensures sent { OnOk result (self.new ≡ record self.old { acts = self.old.acts ++ Asks job.now.id ask ∷ [] }) }
+        ensures gone { IfOk result (λ ticket. ticket.gone ≡ job.now.gone) }
+        ensures refused { OnErr result (self.new ≡ self.old) }
+        ensures memory { IfErr result (λ refusal. refusal ≡ WantOfMemory) }
+    {
+        let id = job.id();
+        let done = Flag::new(alloc, false)?;
+        let ticket = Ticket {
+            gone: job.gone().copy(alloc)?,
+            done: done.copy(alloc)?,
+        };
+        let act = Act::Ask(id, ask.copy(alloc)?);
+        let twice = Act::Ask(id, ask.copy(alloc)?);
+        reserve_act(&mut self.acts, &mut self.second, &mut self.todo)?;
+        self.acts.push_reserved(act);
+        push_second(&mut self.second, twice);
+        self.todo.push_reserved(Todo::Ask { job: id, ask, done });
+        Ok(ticket)
     }
 }

@@ -1,27 +1,37 @@
 // What an engine keeps between turns.
-ghost use Rattle.std.specs.Prelude.{◌≡◌, ◌∷◌, [], ◌++◌, ◌+◌, ◌<◌, ◌≤◌, ◌==◌, false, length, List, IfOk, OnOk, OnErr};
+ghost use Rattle.std.specs.Prelude.{◌≡◌, ◌∷◌, [], ◌++◌, ◌+◌, ◌*◌, ◌^◌, ◌<◌, ◌≤◌, ◌==◌, false, length, List, IfOk, OnOk, OnErr};
 ghost use Rattle.wx_events.specs.declared.event.Event.{Event as AnEvent};
 ghost use Rattle.wx_events.specs.declared.priority.Priority.{Priority as APriority};
 ghost use Rattle.prio_channel.specs.SameBag.{SameBag};
 ghost use Rattle.wx_journal.specs.declared.entry.Entry.{Entry};
 ghost use Rattle.wx_journal.specs.declared.entry.Word.TheVariants.{Ignored};
 ghost use Rattle.wx_journal.specs.Names.{event_count};
+ghost use Rattle.wx_job.specs.Kept.{Kept};
 ghost use Rattle.wx_action.specs.Start.{Start, IsSize};
 ghost use Rattle.wx_action.specs.Journal.{bag};
 ghost use Rattle.wx_action.specs.Due.{agenda, Open, Sends, rest, Offers, Says, begin_of};
 ghost use Rattle.wx_action.specs.Leads.{FollowsAlone, StaysApart};
 ghost use Rattle.wx_action.specs.Turns.{StaysInTurn};
-ghost use Rattle.wx_action.specs.Stands.{Stands, Ready, IsOffered};
+ghost use Rattle.wx_action.specs.Stands.{Stands, Ready, IsOffered, is_living, is_here, runs_child, end_room};
 
 use crate::batch::Batch;
-use crate::config::Config;
 use prio_channel::PrioQueue;
 use std::alloc::Global;
+use wx_config::Config;
+use wx_control::{Id, Job};
 use wx_events::{Copies, Event, Memory, Priority};
+use wx_job::{Host, JobTask};
 use wx_journal::{Entry, Journal, Named, Offered, Word};
 
-/// What an engine keeps between turns: its settings, the queue, how many events have a name, the window, and the moment
-/// at which the window's first event was taken, in nanoseconds.
+/// What is held of a job: a handle on it, for the action handler, and its task.
+#[derive(Drop, Debug)]
+pub struct Held {
+    pub handle: Job,
+    pub task: JobTask,
+}
+
+/// What an engine keeps between turns: its settings, the queue, how many events have a name, the window, the moment at
+/// which the window's first event was taken, in nanoseconds, and the jobs that a handler sees, by rising name.
 #[derive(Drop, Debug)]
 pub struct Worker {
     pub config: Config,
@@ -29,6 +39,42 @@ pub struct Worker {
     pub named: u64,
     pub batch: Batch,
     pub first: u64,
+    pub jobs: Vec<Held>,
+}
+
+impl Held {
+    /// Whether this is of the job of this name, and the job isn't gone.
+    pub(crate) fn is_living(&self, id: Id) -> bool
+        ensures { result ≡ is_living id self.now }
+    {
+        self.handle.id().0 == id.0 && !self.task.is_gone()
+    }
+
+    /// Whether the job isn't gone.
+    pub(crate) fn is_here(&self) -> bool
+        ensures { result ≡ is_here self.now }
+    {
+        !self.task.is_gone()
+    }
+
+    /// Whether this child runs.
+    pub(crate) fn runs(&self, child: u64) -> bool
+        ensures { result ≡ runs_child child self.now }
+    {
+        match self.task.running_child() {
+            Some(running) => running == child,
+            None => false,
+        }
+    }
+}
+
+/// The room for so many entries, besides what the end of so many jobs takes.
+fn room_besides(jobs: u64, n: u64) -> Result<u64, Memory>
+    ensures { IfOk result (λ room. room ≡ n + 2 * jobs) }
+{
+    let end = jobs.checked_mul(2).ok_or(Memory)?;
+    let room = end.checked_add(n).ok_or(Memory)?;
+    Ok(room)
 }
 
 impl Worker {
@@ -36,7 +82,8 @@ impl Worker {
     /// memory.
     pub fn new(alloc: Global, config: Config) -> Result<Worker, Memory>
         requires size { IsSize config.event_channel_size }
-        ensures { IfOk result (λ worker. (s : Start) → s.config ≡ config → Stands s worker (begin_of s ∷ [])) }
+        ensures stands { IfOk result (λ worker. (s : Start) → s.config ≡ config → Stands s worker (begin_of s ∷ [])) }
+        ensures room { IfOk result (λ worker. end_room worker ≡ 0) }
     {
         let queue = PrioQueue::bounded(alloc, config.event_channel_size)?;
         Ok(Worker {
@@ -45,7 +92,34 @@ impl Worker {
             named: 0,
             batch: Batch::new(alloc),
             first: 0,
+            jobs: Vec::new(alloc),
         })
+    }
+
+    /// Takes room in the journal for so many entries, besides what the end of all jobs takes. It fails only for want of
+    /// memory.
+    pub fn reserve(&self, n: u64, journal: &mut Journal) -> Result<(), Memory>
+        ensures same { journal.new.past ≡ journal.old.past }
+        ensures kept { journal.old.spare ≤ journal.new.spare }
+        ensures room { OnOk result (n + end_room self.now ≤ journal.new.spare) }
+        ensures fits { OnOk result (length journal.new.past + journal.new.spare < 2 ^ 64) }
+    {
+        let room = room_besides(self.jobs.len() as u64, n)?;
+        journal.reserve(room)?;
+        Ok(())
+    }
+
+    /// The same for a host.
+    pub fn reserve_host<W: Host>(&self, n: u64, host: &mut W) -> Result<(), Memory>
+        ensures kept { W.spare host.old ≤ W.spare host.new }
+        ensures room { OnOk result (n + end_room self.now ≤ W.spare host.new) }
+        ensures told { W.told host.new ≡ W.told host.old }
+        ensures faults { W.host_faults host.new ≡ W.host_faults host.old }
+        ensures same { Kept W.Plan (W.plan host.old) (W.plan host.new) (W.progress host.old) (W.progress host.new) (W.place host.old) (W.place host.new) }
+    {
+        let room = room_besides(self.jobs.len() as u64, n)?;
+        host.reserve(room)?;
+        Ok(())
     }
 
     /// Lists an event that was sent before the run, and puts it into the queue, where there is room. It fails only for
@@ -60,16 +134,19 @@ impl Worker {
         ghost start: { Start }
         requires due { (more : List (AnEvent × APriority)) × (agenda start journal.old.past ≡ Sends event priority more) }
         requires ready { Ready start self.old journal.old.past }
+        requires room { end_room self.old ≤ journal.old.spare }
         requires fits { length (bag journal.old.past) < start.config.event_channel_size }
         ensures ready { Ready start self.new journal.new.past }
         ensures follows { FollowsAlone start journal.old.past journal.new.past }
         ensures apart { StaysApart journal.old.past journal.new.past }
         ensures turns { StaysInTurn journal.old.past journal.new.past }
-        ensures done { OnOk result (agenda start journal.new.past ≡ rest (agenda start journal.old.past)) }
+        ensures done { OnOk result (agenda start journal.new.past ≡ rest (Entry.Sent self.old.named event priority) (agenda start journal.old.past)) }
         ensures bag { OnOk result (length (bag journal.new.past) ≡ length (bag journal.old.past) + 1) }
         ensures err { OnErr result (journal.new.past ≡ journal.old.past) }
+        ensures end_room { end_room self.new ≡ end_room self.old }
+        ensures room { end_room self.new ≤ journal.new.spare }
     {
-        journal.reserve(1)?;
+        self.reserve(1, journal)?;
         let name = self.named;
         let twice = event.copy(alloc)?;
         let _ = offer_to(&mut self.queue, Named { name, event: twice }, priority);
@@ -93,14 +170,17 @@ impl Worker {
         ghost start: { Start }
         requires due { agenda start journal.old.past ≡ Offers event priority Open }
         requires ready { Ready start self.old journal.old.past }
+        requires room { end_room self.old ≤ journal.old.spare }
         ensures ready { Ready start self.new journal.new.past }
         ensures follows { FollowsAlone start journal.old.past journal.new.past }
         ensures apart { StaysApart journal.old.past journal.new.past }
         ensures turns { StaysInTurn journal.old.past journal.new.past }
         ensures done { OnOk result (agenda start journal.new.past ≡ Open) }
         ensures err { OnErr result (journal.new.past ≡ journal.old.past) }
+        ensures end_room { end_room self.new ≡ end_room self.old }
+        ensures room { end_room self.new ≤ journal.new.spare }
     {
-        journal.reserve(1)?;
+        self.reserve(1, journal)?;
         let name = self.named;
         let twice = event.copy(alloc)?;
         let result = offer_to(&mut self.queue, Named { name, event: twice }, priority);
@@ -116,18 +196,20 @@ impl Worker {
     }
 
     /// Says of a turn that what it is about isn't there. It fails only for want of memory, and leaves all as it was then.
-    pub fn ignored(&mut self, journal: &mut Journal) -> Result<(), Memory>
+    pub fn ignored(&self, journal: &mut Journal) -> Result<(), Memory>
         ghost start: { Start }
         requires due { agenda start journal.old.past ≡ Says Ignored Open }
-        requires ready { Ready start self.old journal.old.past }
-        ensures ready { Ready start self.new journal.new.past }
+        requires ready { Ready start self.now journal.old.past }
+        requires room { end_room self.now ≤ journal.old.spare }
+        ensures ready { Ready start self.now journal.new.past }
         ensures follows { FollowsAlone start journal.old.past journal.new.past }
         ensures apart { StaysApart journal.old.past journal.new.past }
         ensures turns { StaysInTurn journal.old.past journal.new.past }
         ensures done { OnOk result (agenda start journal.new.past ≡ Open) }
         ensures err { OnErr result (journal.new.past ≡ journal.old.past) }
+        ensures room { end_room self.now ≤ journal.new.spare }
     {
-        journal.reserve(1)?;
+        self.reserve(1, journal)?;
         journal.push(Entry::Word(Word::Ignored));
         Ok(())
     }

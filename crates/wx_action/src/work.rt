@@ -1,23 +1,29 @@
 // A Work turn: an event is taken, and the window is handed where it is due.
 ghost use Rattle.std.specs.Prelude.{◌≡◌, ◌∷◌, [], ◌+◌, ◌<◌, ◌≤◌, ◌==◌, ◌||◌, nat_le, true, false, if◌then◌else◌, length, List, Option, IfOk, IfErr, OnErr};
+ghost use Rattle.std.specs.List.{filter, list_any};
 ghost use Rattle.wx_journal.specs.declared.entry.Entry.{Entry};
 ghost use Rattle.wx_journal.specs.Names.{moment};
-ghost use Rattle.wx_action.specs.declared.error.CriticalError.TheVariants.{Memory as WantOfMemory};
+ghost use Rattle.wx_config.specs.declared.error.CriticalError.TheVariants.{Memory as WantOfMemory};
+ghost use Rattle.wx_job.specs.Kept.{Kept};
 ghost use Rattle.wx_action.specs.Start.{Start};
 ghost use Rattle.wx_action.specs.Journal.{bag, is_over, is_over_of};
-ghost use Rattle.wx_action.specs.Due.{agenda, work, has_quit, Open, Takes, Hands, Ended};
+ghost use Rattle.wx_action.specs.Due.{agenda, work, has_quit, is_quit, Open, Takes, Hands};
+ghost use Rattle.wx_action.specs.Faults.{CountsOn};
 ghost use Rattle.wx_action.specs.Leads.{StaysApart, FollowsAlone, FollowsHooks, Follows, Promised};
+ghost use Rattle.wx_action.specs.Perform.{OwesActs, after_acts};
 ghost use Rattle.wx_action.specs.Laws.{NoneUrgentWaits};
 ghost use Rattle.wx_action.specs.Turns.{StaysInTurn};
-ghost use Rattle.wx_action.specs.Stands.{Stands, Ready, AtWork, Collects, Works};
+ghost use Rattle.wx_action.specs.Stands.{Stands, Ready, AtWork, Collects, Works, HasRoom, is_here, end_room};
 
 use crate::batch::Batch;
-use crate::error::CriticalError;
-use crate::handler::ActionHandler;
+use crate::handler::{ActionHandler, Todo, is_quit};
+use crate::jobs::perform;
 use crate::outside::Hooks;
-use crate::state::Worker;
+use crate::state::{Held, Worker};
 use std::alloc::Global;
 use std::mem;
+use wx_config::CriticalError;
+use wx_events::Memory;
 use wx_job::Host;
 use wx_journal::{Act, Entry, Journal, Word};
 
@@ -59,11 +65,19 @@ fn due_or_kept(is_urgent: bool, is_over: bool) -> Collected
     }
 }
 
+/// Whether one of the acts is a quit.
+fn any_quit(acts: &[Act]) -> bool
+    ensures { result ≡ list_any is_quit acts.now }
+{
+    acts.iter().any(|act| is_quit(act))
+}
+
 /// Whether the acts ask for the end.
+#[tactic(auto, using(crate::proofs::QuitLemmas::any_quits))]
 fn asks_for_end(acts: &[Act]) -> bool
     ensures { result ≡ has_quit acts.now }
 {
-    acts.iter().any(|act| matches!(act, Act::Quit))
+    any_quit(acts)
 }
 
 impl Worker {
@@ -98,6 +112,7 @@ impl Worker {
         ensures turns { StaysInTurn journal.old.past journal.new.past }
         ensures collected { Collects start journal.old.past result journal.new.past }
         ensures room { journal.new.spare + 1 ≡ journal.old.spare }
+        ensures end_room { end_room self.new ≡ end_room self.old }
     {
         let Some((item, priority)) = self.queue.try_recv() else {
             unreachable!()
@@ -123,11 +138,13 @@ impl Worker {
         ensures error { IfErr result (λ error. error ≡ WantOfMemory) }
         ensures unchanged { OnErr result (journal.new.past ≡ journal.old.past) }
         ensures room { journal.old.spare ≤ journal.new.spare + 1 }
+        ensures end_room { end_room self.new ≡ end_room self.old }
+        ensures kept_room { end_room self.old ≤ journal.old.spare → end_room self.new ≤ journal.new.spare }
     {
         if self.is_over(at) {
             return Ok(Collected::Hand);
         }
-        journal.reserve(1)?;
+        self.reserve(1, journal)?;
         if self.queue.is_empty() {
             journal.push(Entry::Word(Word::Idle));
             return Ok(Collected::Idle);
@@ -147,13 +164,15 @@ pub fn throttle_collect<H: Hooks>(
     journal: &mut Journal,
 ) -> Result<Collected, CriticalError>
     ghost start: { Start }
-    requires turn { AtWork start worker.old at journal.old.past }
+    requires { AtWork start worker.old at journal.old.past }
     ensures ready { Ready start worker.new journal.new.past }
     ensures follows { FollowsHooks start journal.old.past (H.told hooks.old) journal.new.past (H.told hooks.new) }
     ensures collected { IfOk result (λ found. Collects start journal.old.past found journal.new.past) }
     ensures error { IfErr result (λ error. error ≡ WantOfMemory) }
     ensures unchanged { OnErr result (journal.new.past ≡ journal.old.past) }
     ensures room { journal.old.spare ≤ journal.new.spare + 1 }
+    ensures end_room { end_room worker.new ≡ end_room worker.old }
+    ensures kept_room { end_room worker.old ≤ journal.old.spare → end_room worker.new ≤ journal.new.spare }
     ensures hooks_room { H.spare hooks.old ≤ H.spare hooks.new }
     ensures plan { H.plan hooks.new ≡ H.plan hooks.old }
     ensures short { H.short hooks.new ≡ false → H.short hooks.old ≡ false }
@@ -171,39 +190,85 @@ fn done_or_on(ends: bool) -> Worked
     if ends { Worked::End } else { Worked::On }
 }
 
-/// Hands the window, which is due, and says whether the run ends. It takes no memory.
-fn hand<H: Hooks>(
+/// The jobs that are gone leave.
+fn leave_gone(jobs: &mut Vec<Held>)
+    ensures items { jobs.new.items ≡ filter is_here jobs.old.items }
+    ensures fewer { length jobs.new.items ≤ length jobs.old.items }
+{
+    jobs.retain(|held| held.is_here());
+}
+
+/// Hands the window, which is due. It answers whether the acts ask for the end, and what is to be done for them. It takes
+/// no memory.
+fn hand_batch<H: Hooks>(
     alloc: Global,
     worker: &mut Worker,
     hooks: &mut H,
     journal: &mut Journal,
-) -> Worked
+) -> (bool, Vec<Todo>)
     ghost start: { Start }
     requires due { agenda start journal.old.past ≡ Hands }
     requires ready { Ready start worker.old journal.old.past }
-    requires room { 1 ≤ journal.old.spare }
+    requires room { 1 + end_room worker.old ≤ journal.old.spare }
     requires hooks_room { 1 ≤ H.spare hooks.old }
     ensures ready { Ready start worker.new journal.new.past }
     ensures follows { FollowsHooks start journal.old.past (H.told hooks.old) journal.new.past (H.told hooks.new) }
-    ensures works { Works start result journal.new.past }
+    ensures owes { OwesActs start journal.new.past result.1.items (after_acts result.0) }
     ensures plan { H.plan hooks.new ≡ H.plan hooks.old }
     ensures short { H.short hooks.new ≡ false → H.short hooks.old ≡ false }
     ensures turns { StaysInTurn journal.old.past journal.new.past }
     ensures promised { Promised (H.short hooks.new) (H.rule (H.plan hooks.old)) (H.stands hooks.old) (H.stands hooks.new) journal.old.past journal.new.past }
     ensures place { H.place hooks.new ≡ H.place hooks.old }
+    ensures room { end_room worker.new ≤ journal.new.spare }
+    ensures end_room { end_room worker.new ≤ end_room worker.old }
 {
     let batch = mem::replace(&mut worker.batch, Batch::new(alloc));
     let n = worker.config.action_handler;
-    let mut handler = ActionHandler::new(journal, batch);
+    let mut handler = ActionHandler::new(alloc, journal, worker.jobs.as_slice(), batch);
     hooks.action(n, &mut handler);
-    let (names, acts) = handler.into_parts();
+    let (names, acts, todo) = handler.into_parts();
     let ends = asks_for_end(acts.as_slice());
     journal.push(Entry::Hand { n, names, acts });
-    done_or_on(ends)
+    leave_gone(&mut worker.jobs);
+    (ends, todo)
 }
 
-/// One Work turn: what it collects is handed to the action handler where it is due, and the answer says whether the run
-/// goes on. It fails only for want of memory, and adds no entry then. No urgent event waits afterwards.
+/// Hands the window, which is due, does what its acts ask for, and says whether the run ends. It fails only for want of
+/// memory, once the window was handed.
+fn hand<W: Host, H: Hooks>(
+    alloc: Global,
+    worker: &mut Worker,
+    host: &mut W,
+    hooks: &mut H,
+    journal: &mut Journal,
+) -> Result<Worked, Memory>
+    ghost start: { Start }
+    requires due { agenda start journal.old.past ≡ Hands }
+    requires ready { Ready start worker.old journal.old.past }
+    requires room { 1 + end_room worker.old ≤ journal.old.spare }
+    requires host_room { end_room worker.old ≤ W.spare host.old }
+    requires hooks_room { 1 ≤ H.spare hooks.old }
+    ensures ready { Ready start worker.new journal.new.past }
+    ensures follows { Follows start journal.old.past (W.told host.old) (H.told hooks.old) journal.new.past (W.told host.new) (H.told hooks.new) }
+    ensures works { IfOk result (λ worked. Works start worked journal.new.past) }
+    ensures calm { NoneUrgentWaits journal.new.past }
+    ensures kept { Kept W.Plan (W.plan host.old) (W.plan host.new) (W.progress host.old) (W.progress host.new) (W.place host.old) (W.place host.new) }
+    ensures faults { CountsOn journal.old.past (W.host_faults host.old) journal.new.past (W.host_faults host.new) }
+    ensures plan { H.plan hooks.new ≡ H.plan hooks.old }
+    ensures short { H.short hooks.new ≡ false → H.short hooks.old ≡ false }
+    ensures turns { StaysInTurn journal.old.past journal.new.past }
+    ensures promised { Promised (H.short hooks.new) (H.rule (H.plan hooks.old)) (H.stands hooks.old) (H.stands hooks.new) journal.old.past journal.new.past }
+    ensures place { H.place hooks.new ≡ H.place hooks.old }
+    ensures room { HasRoom worker.new journal.new.spare (W.spare host.new) }
+{
+    let (ends, todo) = hand_batch(alloc, worker, hooks, journal);
+    perform(alloc, worker, todo, host, journal)?;
+    Ok(done_or_on(ends))
+}
+
+/// One Work turn: what it collects is handed to the action handler where it is due, what this asks for is done, and the
+/// answer says whether the run goes on. It fails only for want of memory. No urgent event waits afterwards. Where there was
+/// room for the end of all jobs, there is.
 pub fn worker<W: Host, H: Hooks>(
     alloc: Global,
     worker: &mut Worker,
@@ -213,24 +278,26 @@ pub fn worker<W: Host, H: Hooks>(
     journal: &mut Journal,
 ) -> Result<Worked, CriticalError>
     ghost start: { Start }
-    requires turn { AtWork start worker.old at journal.old.past }
+    requires { AtWork start worker.old at journal.old.past }
     ensures ready { Ready start worker.new journal.new.past }
     ensures follows { Follows start journal.old.past (W.told host.old) (H.told hooks.old) journal.new.past (W.told host.new) (H.told hooks.new) }
     ensures works { IfOk result (λ worked. Works start worked journal.new.past) }
     ensures error { IfErr result (λ error. error ≡ WantOfMemory) }
-    ensures unchanged { OnErr result (journal.new.past ≡ journal.old.past) }
     ensures calm { NoneUrgentWaits journal.new.past }
+    ensures kept { Kept W.Plan (W.plan host.old) (W.plan host.new) (W.progress host.old) (W.progress host.new) (W.place host.old) (W.place host.new) }
+    ensures faults { CountsOn journal.old.past (W.host_faults host.old) journal.new.past (W.host_faults host.new) }
     ensures plan { H.plan hooks.new ≡ H.plan hooks.old }
     ensures short { H.short hooks.new ≡ false → H.short hooks.old ≡ false }
     ensures turns { StaysInTurn journal.old.past journal.new.past }
     ensures promised { Promised (H.short hooks.new) (H.rule (H.plan hooks.old)) (H.stands hooks.old) (H.stands hooks.new) journal.old.past journal.new.past }
     ensures hooks_place { H.place hooks.new ≡ H.place hooks.old }
-    ensures host { host.new ≡ host.old }
+    ensures room { HasRoom worker.old journal.old.spare (W.spare host.old) → HasRoom worker.new journal.new.spare (W.spare host.new) }
 {
-    journal.reserve(2)?;
+    worker.reserve(2, journal)?;
+    worker.reserve_host(0, host)?;
     hooks.reserve(1)?;
     match throttle_collect(worker, at, hooks, journal)? {
-        Collected::Hand => Ok(hand(alloc, worker, hooks, journal)),
+        Collected::Hand => Ok(hand(alloc, worker, host, hooks, journal)?),
         Collected::Idle => Ok(Worked::On),
         Collected::Kept => Ok(Worked::On),
     }

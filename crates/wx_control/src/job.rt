@@ -61,6 +61,7 @@ impl Job {
         ensures asks { C.asks c.new ≡ asked result self.now.id (One control) (C.asks c.old) }
         ensures sends { C.sends c.new ≡ made_one (C.sends c.old) }
         ensures fulls { C.fulls c.new ≡ refused_full result (C.fulls c.old) }
+        ensures rest { C.rest c.new ≡ C.rest c.old }
         ensures place { C.place c.new ≡ C.place c.old }
     {
         c.send(alloc, self, Ask::One(control))
@@ -71,6 +72,7 @@ impl Job {
         ensures asks { C.asks c.new ≡ asked result self.now.id (One Start) (C.asks c.old) }
         ensures sends { C.sends c.new ≡ made_one (C.sends c.old) }
         ensures fulls { C.fulls c.new ≡ refused_full result (C.fulls c.old) }
+        ensures rest { C.rest c.new ≡ C.rest c.old }
         ensures place { C.place c.new ≡ C.place c.old }
     {
         self.control(alloc, c, Control::Start)
@@ -81,6 +83,7 @@ impl Job {
         ensures asks { C.asks c.new ≡ asked result self.now.id (One Stop) (C.asks c.old) }
         ensures sends { C.sends c.new ≡ made_one (C.sends c.old) }
         ensures fulls { C.fulls c.new ≡ refused_full result (C.fulls c.old) }
+        ensures rest { C.rest c.new ≡ C.rest c.old }
         ensures place { C.place c.new ≡ C.place c.old }
     {
         self.control(alloc, c, Control::Stop)

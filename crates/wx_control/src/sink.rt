@@ -39,6 +39,12 @@ pub trait Controls {
     /// How often a send was refused for want of room. It stops at `u64::MAX`.
     ghost fulls: { Self → ℕ };
 
+    /// The type of what no send changes.
+    ghost Rest: { Type 0 };
+
+    /// What no send changes.
+    ghost rest: { Self → Rest };
+
     /// Where the object lies that is lent to it, where one is.
     ghost place: { Self → List ℕ } = { λ _. [] };
 
@@ -48,5 +54,6 @@ pub trait Controls {
         ensures asks { Self.asks self.new ≡ asked result job.now.id ask (Self.asks self.old) }
         ensures sends { Self.sends self.new ≡ made_one (Self.sends self.old) }
         ensures fulls { Self.fulls self.new ≡ refused_full result (Self.fulls self.old) }
+        ensures rest { Self.rest self.new ≡ Self.rest self.old }
         ensures place { Self.place self.new ≡ Self.place self.old };
 }

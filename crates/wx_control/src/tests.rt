@@ -31,6 +31,10 @@ impl Controls for Kept {
 
     ghost fulls = { λ k. k.fulls };
 
+    ghost Rest = { Unit {0} };
+
+    ghost rest = { λ _. tt };
+
     fn send(&mut self, alloc: Global, job: &Job, ask: Ask) -> Result<Ticket, Refused> {
         self.sends = self.sends.saturating_add(1);
         match self.refuses {

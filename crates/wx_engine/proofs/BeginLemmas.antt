@@ -1,8 +1,12 @@
 -- The beginning of a run.
-use Rattle.std.proofs.Common.{◌≡◌, ℕ, suc, ◌+◌, ◌<◌, List, [], ◌∷◌, length, drop, get_or, drop-cons, add-one, refl, ap, sym, ◌∙◌}
+use Rattle.std.proofs.Common.{◌≡◌, ℕ, suc, ◌+◌, ◌*◌, ◌<◌, List, [], ◌∷◌, length, drop, get_or, drop-cons, add-one, arith, refl, ap, sym, ◌∙◌}
+use Rattle.std.specs.Prelude.{map}
+use Rattle.std.specs.List.{filter}
 use Rattle.wx_events.specs.declared.event.Event.{Event}
 use Rattle.wx_events.specs.declared.priority.Priority.{Priority}
 use Rattle.wx_journal.specs.declared.entry.Entry.{Entry}
+use Rattle.wx_job.specs.History.{lives}
+use Rattle.wx_action.specs.declared.state.Held.{Held}
 use Rattle.wx_action.specs.declared.state.Worker.{Worker}
 use Rattle.wx_action.specs.Start.{Start}
 use Rattle.wx_action.specs.Journal.{bag}
@@ -10,7 +14,8 @@ use Rattle.wx_action.specs.Due.{Sends, Hands, agenda, sends, begin_of, IsRun}
 use Rattle.wx_action.specs.Laws.{NoneUrgentWaits}
 use Rattle.wx_action.specs.Leads.{StaysApart, FollowsAlone, Then, More}
 use Rattle.wx_action.specs.Turns.{StaysInTurn}
-use Rattle.wx_action.specs.Stands.{Stands, Ready}
+use Rattle.wx_action.specs.Jobs.{set, jobs}
+use Rattle.wx_action.specs.Stands.{Stands, Ready, held_id, end_room}
 use Rattle.wx_action.specs.RunLaws.{none_waits}
 
 -- what is known once the beginning is listed
@@ -44,3 +49,11 @@ calm_begun s p xs run due = none_waits s p run (λ e. sends_no_batch xs (sym due
 pub next_sent : (s : Start) (p : List Entry) (xs : List (Event × Priority)) (i : ℕ) (x : Event × Priority) → i < length xs → x ≡ get_or xs i x → agenda s p ≡ sends (drop i xs) → agenda s p ≡ Sends x.0 x.1 (drop (i + 1) xs)
 next_sent s p xs i x lt is due =
     due ∙ ap sends (drop-cons xs i x lt ∙ ap (λ (y : Event × Priority). y ∷ drop (suc i) xs) (sym is)) ∙ ap (λ (k : ℕ). Sends x.0 x.1 (drop k xs)) (sym (add-one i))
+
+-- no job lives while a worker holds none
+none_by : (p : List Entry) (hs : List Held) → 2 * length hs ≡ 0 → map held_id hs ≡ set p → jobs p ≡ []
+none_by p [] none is = ap (filter (λ id. lives id p)) (sym is)
+none_by p (h ∷ hs) none is = absurd (omega (arith, none))
+
+pub none_yet : (s : Start) (w : Worker) (p : List Entry) → Stands s w p → end_room w ≡ 0 → jobs p ≡ []
+none_yet s w p stands none = none_by p w.jobs.items none stands.jobs_kept

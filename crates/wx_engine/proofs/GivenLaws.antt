@@ -5,6 +5,7 @@ use Rattle.wx_journal.specs.declared.entry.Entry.TheVariants.{Turn as Turned}
 use Rattle.wx_journal.specs.declared.entry.TurnKind.TheVariants.{Last}
 use Rattle.wx_engine.specs.declared.script.ScriptTurn.{ScriptTurn}
 use Rattle.wx_engine.specs.declared.script.ScriptTurn.TheVariants.{Turn, Fault}
+use Rattle.wx_engine.specs.Answered.{spawn_answers, kill_answers, wait_answers}
 use Rattle.wx_engine.specs.Turns.{entry_of, entry_or_last, Given, given, first_given, turns_of, FollowsGiven}
 
 -- the next of the turns that are left, and those after it
@@ -49,3 +50,16 @@ follows_more plan told x rest left so_far = rw (← turns_more x told) (more pla
 
 pub follows_last : (plan : Given) (told : List Entry) → [] ≡ drop (length (turns_of told)) plan.turns → FollowsGiven plan told → FollowsGiven plan (Turned (record { at = plan.last; kind = Last }) ∷ told)
 follows_last plan told left so_far = more plan (turns_of told) (Turned (record { at = plan.last; kind = Last })) (ap (entry_or_last plan.last) (sym (no_turn plan.turns (length (turns_of told)) left))) so_far
+
+-- and is no answer
+pub spawns_over : (x : ScriptTurn) (told : List Entry) → spawn_answers told ≡ spawn_answers (entry_of x ∷ told)
+spawns_over (Turn t) told = refl
+spawns_over (Fault code) told = refl
+
+pub kills_over : (x : ScriptTurn) (told : List Entry) → kill_answers told ≡ kill_answers (entry_of x ∷ told)
+kills_over (Turn t) told = refl
+kills_over (Fault code) told = refl
+
+pub waits_over : (x : ScriptTurn) (told : List Entry) → wait_answers told ≡ wait_answers (entry_of x ∷ told)
+waits_over (Turn t) told = refl
+waits_over (Fault code) told = refl

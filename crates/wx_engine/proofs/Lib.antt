@@ -1,4 +1,5 @@
 mod ActedLaws
 mod BeginLemmas
 mod GivenLaws
+mod RunLemmas
 mod TurnLemmas

@@ -1,23 +1,23 @@
 -- A turn is drawn and served.
-use Rattle.std.proofs.Common.{◌≡◌, ℕ, ◌+◌, ◌≤◌, ◌⊎◌, inl, inr, Bool, false, Option, List, [], ◌∷◌, refl, subst}
-use Rattle.wx_control.specs.declared.id.Id.{Id}
-use Rattle.wx_control.specs.declared.ask.Ask.{Ask as Asked}
+use Rattle.std.proofs.Common.{◌≡◌, ℕ, ◌+◌, ◌≤◌, Bool, false, Option, List, [], ◌∷◌, refl, subst}
 use Rattle.wx_journal.specs.declared.entry.Entry.{Entry}
 use Rattle.wx_journal.specs.declared.entry.Entry.TheVariants.{Turn as Turned, TurnFault}
 use Rattle.wx_journal.specs.declared.entry.Turn.{Turn}
-use Rattle.wx_journal.specs.declared.entry.TurnKind.{TurnKind}
-use Rattle.wx_journal.specs.declared.entry.TurnKind.TheVariants.{Job, Ended, Ask}
-use Rattle.wx_journal.specs.declared.entry.Word.TheVariants.{Ignored}
 use Rattle.wx_journal.specs.Names.{moment, NamesItsOwn}
 use Rattle.wx_journal.specs.Told.{tell, tells, is_hooks, is_turn}
+use Rattle.wx_action.specs.declared.state.Worker.{Worker}
 use Rattle.wx_action.specs.Start.{Start}
 use Rattle.wx_action.specs.Journal.{turn_count, turn_fault}
-use Rattle.wx_action.specs.Due.{agenda, turn_agenda, Open, Says, IsRun}
+use Rattle.wx_action.specs.Due.{agenda, Open, IsRun}
 use Rattle.wx_action.specs.Laws.{NoneUrgentWaits, MomentsRise}
+use Rattle.wx_action.specs.Faults.{CountsOn}
+use Rattle.wx_action.specs.FaultLaws.{counts_entry}
 use Rattle.wx_action.specs.Leads.{Follows, Then, Same, More, Promised}
+use Rattle.wx_action.specs.Stands.{Ready}
 use Rattle.wx_action.specs.Turns.{SameTurns, StaysInTurn}
 use Rattle.wx_action.specs.RunLaws.{own_of_run}
-use Rattle.wx_action.specs.TurnLaws.{promised_apart, promised_then}
+use Rattle.wx_action.specs.TurnLaws.{TellsNoEnd, at_turn, next_turn, promised_apart, promised_then}
+use Rattle.wx_action.proofs.StandsLemmas.{tasks_same, over_none}
 use Rattle.wx_engine.proofs.BeginLemmas.{calm_begun}
 
 -- a turn that was drawn and told
@@ -27,10 +27,6 @@ turn_follows s p₀ w₀ h₀ t p p' w w' h so_far open_is grown told = rw (grow
 -- the fault of one
 pub fault_follows : (s : Start) (p₀ : List Entry) (w₀ h₀ : Option (List Entry)) (code : ℕ) (p p' : List Entry) (w w' h : Option (List Entry)) → Follows s p₀ w₀ h₀ p w h → agenda s p ≡ Open → p' ≡ TurnFault code ∷ p → w' ≡ tell (TurnFault code) w → Follows s p₀ w₀ h₀ p' w' h
 fault_follows s p₀ w₀ h₀ code p p' w w' h so_far open_is grown told = rw (grown, told) (λ q wq hq l. Then (TurnFault code) p w h (so_far q wq hq l) (rw open_is tt))
-
--- one after the other
-pub follows_then : (s : Start) (p₀ : List Entry) (w₀ h₀ : Option (List Entry)) (p p' : List Entry) (w w' h h' : Option (List Entry)) → Follows s p₀ w₀ h₀ p w h → Follows s p w h p' w' h' → Follows s p₀ w₀ h₀ p' w' h'
-follows_then s p₀ w₀ h₀ p p' w w' h h' first second = λ q wq hq l. second q wq hq (first q wq hq l)
 
 -- neither leaves an urgent event
 pub turn_calm : (s : Start) (t : Turn) (p p' : List Entry) → IsRun s p → agenda s p ≡ Open → p' ≡ Turned t ∷ p → NoneUrgentWaits p'
@@ -70,8 +66,31 @@ served t p mid p' grown stays =
 pub same_turns : (p : List Entry) → SameTurns p p
 same_turns p = record { count = refl; fault = refl; now = refl; rise = λ r. r; told = λ before. refl }
 
--- a turn that names a job or a child owes the word that it is ignored
-pub owes_ignored : (s : Start) (kind : TurnKind) (at : ℕ) (p : List Entry) → ((job : Id) × (kind ≡ Job job)) ⊎ (((child : ℕ) × (kind ≡ Ended child)) ⊎ ((job : Id) × (ask : Asked) × (kind ≡ Ask job ask))) → turn_agenda s kind at p ≡ Says Ignored Open
-owes_ignored s kind at p (inl (job, is)) = rw is refl
-owes_ignored s kind at p (inr (inl (child, is))) = rw is refl
-owes_ignored s kind at p (inr (inr (job, ask, is))) = rw is refl
+-- a worker that stood for the journal before a turn stands for it with that turn, where this tells no end of a child
+pub turn_ready : (s : Start) (w : Worker) (t : Turn) (p p' : List Entry) → Ready s w p → agenda s p ≡ Open → p' ≡ Turned t ∷ p → TellsNoEnd t.kind → Ready s w p'
+turn_ready s w t p p' ready open_is grown none = (at_turn s w t.at t.kind p' none (next_turn s w p p' t.at t.kind ready open_is grown)).ready
+
+-- and with the fault of one
+pub fault_ready : (s : Start) (w : Worker) (code : ℕ) (p p' : List Entry) → Ready s w p → agenda s p ≡ Open → p' ≡ TurnFault code ∷ p → Ready s w p'
+fault_ready s w code p p' ready open_is grown = rw grown (record {
+  run = (rw open_is tt, ready.run);
+  stands = record {
+    config_kept = ready.stands.config_kept;
+    queue_kept = ready.stands.queue_kept;
+    size_kept = ready.stands.size_kept;
+    open_kept = ready.stands.open_kept;
+    named_kept = ready.stands.named_kept;
+    names_kept = ready.stands.names_kept;
+    events_kept = ready.stands.events_kept;
+    first_kept = ready.stands.first_kept;
+    jobs_kept = ready.stands.jobs_kept;
+    tasks_kept = tasks_same p (TurnFault code ∷ p) w.jobs.items (over_none (TurnFault code) p tt) ready.stands.tasks_kept;
+  };
+})
+
+-- a turn is no call on a child that failed
+pub turn_counts : (t : Turn) (p₀ p p' : List Entry) (n₀ n n' : ℕ) → CountsOn p₀ n₀ p n → p' ≡ Turned t ∷ p → n ≤ n' → CountsOn p₀ n₀ p' n'
+turn_counts t p₀ p p' n₀ n n' so_far is later = λ q m before. rw is (counts_entry (Turned t) p n n' refl later q m (so_far q m before))
+
+pub fault_counts : (code : ℕ) (p₀ p p' : List Entry) (n₀ n n' : ℕ) → CountsOn p₀ n₀ p n → p' ≡ TurnFault code ∷ p → n ≤ n' → CountsOn p₀ n₀ p' n'
+fault_counts code p₀ p p' n₀ n n' so_far is later = λ q m before. rw is (counts_entry (TurnFault code) p n n' refl later q m (so_far q m before))

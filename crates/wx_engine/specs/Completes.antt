@@ -1,7 +1,7 @@
 -- When a run answers otherwise than Ok.
 use Rattle.std.specs.Prelude.{Ok, Err}
-use Rattle.wx_action.specs.declared.error.CriticalError.TheVariants.{IoError, Memory}
-use Rattle.wx_action.specs.Printed.{Answer}
+use Rattle.wx_config.specs.declared.error.CriticalError.TheVariants.{IoError, Memory}
+use Rattle.wx_journal.specs.Lines.{Answer}
 
 -- Ok, or want of memory
 abbrev pub IsOkOrMemory : Answer → Type 0

@@ -2,13 +2,16 @@
 use Rattle.std.proofs.Common.{◌≡◌, ℕ, Bool, true, false, cond, if◌then◌else◌, None, Some, List, [], ◌∷◌, ◌++◌, length, nat_le, ◌&&◌, refl, ap, subst, ◌∙◌, arith}
 use Rattle.std.proofs.lemmas.List.{append-nil}
 use Rattle.std.specs.List.{filter, list_all}
+use Rattle.wx_events.specs.declared.process.ProcessEnd.TheVariants.{Success}
 use Rattle.wx_journal.specs.declared.entry.Entry.{Entry}
+use Rattle.wx_journal.specs.declared.entry.Entry.TheVariants.{Spawn, Kill, Wait}
 use Rattle.wx_journal.specs.declared.entry.Turn.{Turn as Timed}
-use Rattle.wx_journal.specs.Told.{tell_if, tells, is_turn}
+use Rattle.wx_journal.specs.Told.{tell_if, tells, is_world, is_turn}
 use Rattle.wx_action.specs.Start.{IsStart}
 use Rattle.wx_engine.specs.declared.script.Script.{Script}
 use Rattle.wx_engine.specs.declared.script.ScriptTurn.{ScriptTurn}
 use Rattle.wx_engine.specs.declared.script.ScriptTurn.TheVariants.{Turn, Fault}
+use Rattle.wx_engine.specs.Answered.{spawn_answers, kill_answers, wait_answers, AreAnswered, FollowsAnswers}
 use Rattle.wx_engine.specs.Turns.{comes, risen, Rises, Given, first_given, turns_of, FollowsGiven}
 use Rattle.wx_engine.specs.Follows.{IsScript, start_of, given_of, FollowsTurns}
 
@@ -33,9 +36,36 @@ follows_turns s plan told p is follows tells_run =
     same : turns_of told ≡ turns_of p
     same = cc whole
 
--- the engine may start from a script
-pub script_start : (s : Script) → IsScript s → IsStart (start_of s)
-script_start s is = record { event_size = is.size; error_size = record { some = omega arith; few = omega arith }; folder = refl; events = is.sends }
+-- the answers in what the world is told are those of the run
+spawns_told : (p : List Entry) → spawn_answers (filter is_world p) ≡ spawn_answers p
+spawns_told [] = refl
+spawns_told (Spawn child job tag what answer ∷ p) = ap (λ answers. answer ∷ answers) (spawns_told p)
+spawns_told (_ ∷ p) = spawns_told p
+
+kills_told : (p : List Entry) → kill_answers (filter is_world p) ≡ kill_answers p
+kills_told [] = refl
+kills_told (Kill child answer ∷ p) = ap (λ answers. answer ∷ answers) (kills_told p)
+kills_told (_ ∷ p) = kills_told p
+
+waits_told : (p : List Entry) → wait_answers (filter is_world p) ≡ wait_answers p
+waits_told [] = refl
+waits_told (Wait child answer ∷ p) = ap (λ answers. answer ∷ answers) (waits_told p)
+waits_told (_ ∷ p) = waits_told p
+
+answers_in : (plan : Given) (p : List Entry) → FollowsAnswers plan (filter is_world p) → FollowsAnswers plan p
+answers_in plan p h = record {
+  of_spawns = subst (AreAnswered tt plan.spawns) (spawns_told p) h.of_spawns;
+  of_kills = subst (AreAnswered tt plan.kills) (kills_told p) h.of_kills;
+  of_waits = subst (AreAnswered Success plan.waits) (waits_told p) h.of_waits;
+}
+
+-- a world that answers what the script says, told the calls of this run
+pub follows_answers : (s : Script) (plan : Given) (told p : List Entry)
+    → plan ≡ given_of s → FollowsAnswers plan told → Some told ≡ tells is_world p (Some []) → FollowsAnswers (given_of s) p
+follows_answers s plan told p is follows tells_run =
+    let whole : Some told ≡ Some (filter is_world p) = tells_run ∙ tells_filter is_world p [] ∙ ap Some (append-nil (filter is_world p)) in
+    let same : told ≡ filter is_world p = cc in
+    answers_in (given_of s) p (subst (λ (g : Given). FollowsAnswers g (filter is_world p)) is (subst (FollowsAnswers plan) same follows))
 
 -- the last moment after one turn more
 pub risen_more : (before last : ℕ) (turns : List ScriptTurn) (x : ScriptTurn) → risen before turns ≡ Some last → risen before (turns ++ x ∷ []) ≡ risen last (x ∷ [])

@@ -2,10 +2,12 @@
 use Rattle.std.specs.Prelude.{◌≡◌, ◌≤◌, true, List, [], ◌∷◌, length}
 use Rattle.std.specs.List.{list_all}
 use Rattle.wx_journal.specs.declared.entry.Entry.{Entry}
-use Rattle.wx_action.specs.Start.{Start, default_config, IsSize}
+use Rattle.wx_config.specs.Defaults.{default_config}
+use Rattle.wx_action.specs.Start.{Start, IsSize}
 use Rattle.wx_engine.specs.declared.script.Script.{Script}
 use Rattle.wx_engine.specs.Turns.{comes, Rises, Given, FollowsGiven}
 use Rattle.wx_engine.specs.Acted.{FollowsActs}
+use Rattle.wx_engine.specs.Answered.{FollowsAnswers}
 
 -- what holds of each script that is read
 pub record IsScript (s : Script) : Type 0 where
@@ -24,13 +26,15 @@ start_of s = record {
 
 -- what its world gives
 abbrev pub given_of : Script → Given
-given_of s = record { turns = s.turns; last = s.last }
+given_of s = record { turns = s.turns; last = s.last; spawns = s.spawns; kills = s.kills; waits = s.waits }
 
 -- the turns of the run are the script's first ones
 abbrev pub FollowsTurns : Script → List Entry → Type 0
 FollowsTurns s p = FollowsGiven (given_of s) p
 
--- the run follows the script: in its turns, and in what is asked for in each call of the action handler
+-- the run follows the script: in its turns, in what is asked for in each call of the action handler, and in what the calls
+-- on children are answered
 pub record Follows (s : Script) (p : List Entry) : Type 0 where
   pub turns : FollowsTurns s p
   pub acts : FollowsActs s.actions p
+  pub answers : FollowsAnswers (given_of s) p

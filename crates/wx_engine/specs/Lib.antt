@@ -1,5 +1,6 @@
 pub mod Turns
 pub mod Acted
+pub mod Answered
 pub mod Follows
 pub mod FollowLaws
 pub mod Sent

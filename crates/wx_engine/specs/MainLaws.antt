@@ -1,10 +1,17 @@
 -- What a run that led from the empty journal to this one told.
-use Rattle.std.proofs.Common.{◌≡◌, Option, List, [], refl, ap}
+use Rattle.std.proofs.Common.{◌≡◌, inl, inr, Option, List, [], Ok, Err, refl, ap, ◌∙◌}
 use Rattle.wx_journal.specs.declared.entry.Entry.{Entry}
+use Rattle.wx_journal.specs.declared.entry.Entry.TheVariants.{Dropped, Gone}
 use Rattle.wx_journal.specs.Told.{tell_if, tells, is_world, is_hooks}
 use Rattle.wx_action.specs.Start.{Start}
-use Rattle.wx_action.specs.Due.{IsRun}
+use Rattle.wx_config.specs.declared.error.CriticalError.TheVariants.{IoError, Memory}
+use Rattle.wx_action.specs.Answer.{Dying, Alive, Dies, Answers}
+use Rattle.wx_journal.specs.Lines.{Answer}
+use Rattle.wx_action.specs.Laws.{IsBatched, AreBatches}
 use Rattle.wx_action.specs.Leads.{Leads, Here, Then}
+use Rattle.wx_action.specs.RunLaws.{run_is_batched, run_has_batches}
+use Rattle.wx_action.specs.EndLaws.{IsOfEnd, of_end, dying_keeps}
+use Rattle.wx_engine.specs.Run.{Ran}
 
 -- the world was told its entries, and no other
 pub leads_world : (s : Start) (world hooks : Option (List Entry)) (p' : List Entry) (world' hooks' : Option (List Entry)) → Leads s [] world hooks p' world' hooks' → world' ≡ tells is_world p' world
@@ -16,7 +23,27 @@ pub leads_hooks : (s : Start) (world hooks : Option (List Entry)) (p' : List Ent
 leads_hooks s world hooks _ _ _ Here = refl
 leads_hooks s world hooks _ _ _ (Then e p' world' hooks' so_far due) = ap (λ (told : Option (List Entry)). tell_if (is_hooks e) e told) (leads_hooks s world hooks p' world' hooks' so_far)
 
--- and the journal is a run
-pub leads_run : (s : Start) (world hooks : Option (List Entry)) (p' : List Entry) (world' hooks' : Option (List Entry)) → Leads s [] world hooks p' world' hooks' → IsRun s p'
-leads_run s world hooks _ _ _ Here = tt
-leads_run s world hooks _ _ _ (Then e p' world' hooks' so_far due) = (due, leads_run s world hooks p' world' hooks' so_far)
+-- the end of a run is no call on the hooks
+no_call : (e : Entry) (told : Option (List Entry)) → IsOfEnd e → tell_if (is_hooks e) e told ≡ told
+no_call (Dropped c) told o = refl
+no_call (Gone job) told o = refl
+no_call (_) told o = absurd o
+
+pub dying_hooks : (q p : List Entry) (before : Option (List Entry)) → Dying q p → tells is_hooks p before ≡ tells is_hooks q before
+dying_hooks q _ before Alive = refl
+dying_hooks q _ before (Dies e p l d) = no_call e (tells is_hooks p before) (of_end p e d) ∙ dying_hooks q p before l
+
+-- whatever was answered, the end of the run is done
+pub answered_ran : (s : Start) (p : List Entry) (answer : Answer) → Answers s p answer → Ran s p
+answered_ran s p (Ok u) a = inl a.0
+answered_ran s p (Err (IoError about err)) a = inl a.0
+answered_ran s p (Err Memory) a = inr a
+
+-- the laws of batches, with the end
+pub ran_is_batched : (s : Start) (p : List Entry) → Ran s p → IsBatched p
+ran_is_batched s p (inl complete) = run_is_batched s p complete.run
+ran_is_batched s p (inr broken) = (dying_keeps s broken.before p broken.dying).batched (run_is_batched s broken.before broken.run)
+
+pub ran_has_batches : (s : Start) (p : List Entry) → Ran s p → AreBatches s p
+ran_has_batches s p (inl complete) = run_has_batches s p complete.run
+ran_has_batches s p (inr broken) = (dying_keeps s broken.before p broken.dying).batches (run_has_batches s broken.before broken.run)

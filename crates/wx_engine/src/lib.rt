@@ -1,6 +1,9 @@
 //! The engine, and a world and hooks that follow a script.
 #![tactic(auto)]
 
+#[cfg(test)]
+mod own_hooks;
+mod replies;
 mod running;
 mod script;
 mod script_hooks;
@@ -10,7 +13,7 @@ mod supply;
 mod tests;
 mod watchexec;
 
-pub use script::{Script, ScriptTurn};
+pub use script::{Script, ScriptAct, ScriptTurn};
 pub use script_hooks::ScriptHooks;
 pub use script_world::ScriptWorld;
 pub use watchexec::{SendRefused, Watchexec};

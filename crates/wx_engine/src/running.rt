@@ -3,21 +3,28 @@ ghost use Rattle.std.specs.Prelude.{◌≡◌, ◌∷◌, ◌++◌, [], ◌+◌,
 ghost use Rattle.wx_journal.specs.declared.entry.Entry.{Entry as AnEntry};
 ghost use Rattle.wx_journal.specs.Names.{moment};
 ghost use Rattle.wx_journal.specs.Told.{is_world, is_hooks, is_turn, tells, Obeys, Rose};
-ghost use Rattle.wx_action.specs.declared.error.CriticalError.TheVariants.{Memory as WantOfMemory};
+ghost use Rattle.wx_job.specs.Kept.{Kept};
+ghost use Rattle.wx_config.specs.declared.error.CriticalError.TheVariants.{Memory as WantOfMemory};
 ghost use Rattle.wx_action.specs.Start.{Start, IsStart};
 ghost use Rattle.wx_action.specs.Journal.{turn_count, turn_fault};
+ghost use Rattle.wx_action.specs.Jobs.{jobs};
 ghost use Rattle.wx_action.specs.Due.{agenda, begin_of, Open, IsRun};
 ghost use Rattle.wx_action.specs.Told.{is_last};
 ghost use Rattle.wx_action.specs.Laws.{IsBatched, AreBatches, NoneUrgentWaits, MomentsRise};
 ghost use Rattle.wx_action.specs.Answer.{Answers};
+ghost use Rattle.wx_action.specs.Faults.{Counted, CountsOn};
 ghost use Rattle.wx_action.specs.Leads.{StaysApart, FollowsAlone, Follows, Promised};
 ghost use Rattle.wx_action.specs.Turns.{StaysInTurn};
-ghost use Rattle.wx_action.specs.Stands.{Ready, AtTurn, Works};
-ghost use Rattle.wx_engine.specs.Run.{TellsTurns, HasCause};
+ghost use Rattle.wx_action.specs.TurnLaws.{TellsNoEnd};
+ghost use Rattle.wx_action.specs.Stands.{Ready, AtTurn, HasRoom, Works, end_room};
+ghost use Rattle.wx_engine.specs.Run.{TellsTurns, HasCause, Stops};
 
 use crate::watchexec::Watchexec;
 use std::alloc::Global;
-use wx_action::{Config, CriticalError, Hooks, Host, JobHooks, Worked, Worker, World, worker};
+use wx_action::{
+    Hooks, Host, JobHooks, Worked, Worker, World, ask_turn, end_jobs, ended_turn, job_turn, worker,
+};
+use wx_config::{Config, CriticalError};
 use wx_events::{Copies, Memory, Text, TextPath};
 use wx_journal::{Entry, Journal, TurnKind};
 
@@ -50,6 +57,8 @@ pub(crate) fn begin(
     ensures ready { IfOk result (λ worker. Ready start worker journal.new.past) }
     ensures open { OnOk result (agenda start journal.new.past ≡ Open) }
     ensures run { IsRun start journal.new.past }
+    ensures none { jobs journal.new.past ≡ [] }
+    ensures room { IfOk result (λ worker. end_room worker ≡ 0) }
     ensures calm { NoneUrgentWaits journal.new.past }
     ensures follows { FollowsAlone start journal.old.past journal.new.past }
     ensures apart { StaysApart journal.old.past journal.new.past }
@@ -84,7 +93,9 @@ fn serve<W: World, H: Hooks>(
 ) -> Result<Worked, CriticalError>
     ghost start: { Start }
     requires turn { AtTurn start state.old at kind journal.old.past }
+    requires room { HasRoom state.old journal.old.spare (W.spare world.old) }
     ensures ready { Ready start state.new journal.new.past }
+    ensures room { HasRoom state.new journal.new.spare (W.spare world.new) }
     ensures follows { Follows start journal.old.past (W.told world.old) (H.told hooks.old) journal.new.past (W.told world.new) (H.told hooks.new) }
     ensures works { IfOk result (λ worked. Works start worked journal.new.past) }
     ensures last { IfOk result (λ worked. worked ≡ Worked.On → is_last kind ≡ false) }
@@ -95,7 +106,8 @@ fn serve<W: World, H: Hooks>(
     ensures short { H.short hooks.new ≡ false → H.short hooks.old ≡ false }
     ensures promised { Promised (H.short hooks.new) (H.rule (H.plan hooks.old)) (H.stands hooks.old) (H.stands hooks.new) journal.old.past journal.new.past }
     ensures place { H.place hooks.new ≡ H.place hooks.old }
-    ensures world { world.new ≡ world.old }
+    ensures kept { Kept W.Plan (W.plan world.old) (W.plan world.new) (W.progress world.old) (W.progress world.new) (W.place world.old) (W.place world.new) }
+    ensures host_faults { CountsOn journal.old.past (W.host_faults world.old) journal.new.past (W.host_faults world.new) }
 {
     match kind {
         TurnKind::Arrive(event, priority) => {
@@ -103,16 +115,55 @@ fn serve<W: World, H: Hooks>(
             Ok(Worked::On)
         }
         TurnKind::Work => worker(alloc, state, at, world, hooks, journal),
-        TurnKind::Job(_) | TurnKind::Ended(_) | TurnKind::Ask(_, _) => {
-            state.ignored(journal)?;
+        TurnKind::Job(id) => {
+            job_turn(alloc, state, id, at, world, hooks, journal)?;
+            Ok(Worked::On)
+        }
+        TurnKind::Ended(child) => {
+            ended_turn(alloc, state, child, at, world, hooks, journal)?;
+            Ok(Worked::On)
+        }
+        TurnKind::Ask(id, ask) => {
+            ask_turn(alloc, state, id, ask, journal)?;
             Ok(Worked::On)
         }
         TurnKind::Last => Ok(Worked::End),
     }
 }
 
-/// Asks the world for turns and serves them, until the run ends. About is what the error says that the fault of a turn is
-/// about.
+/// Takes room for a turn in the journal and in the world, besides what the end of all jobs takes. It fails only for want
+/// of memory.
+fn make_room<W: World>(state: &Worker, world: &mut W, journal: &mut Journal) -> Result<(), Memory>
+    requires room { HasRoom state.now journal.old.spare (W.spare world.old) }
+    ensures same { journal.new.past ≡ journal.old.past }
+    ensures told { W.told world.new ≡ W.told world.old }
+    ensures kept { Kept W.Plan (W.plan world.old) (W.plan world.new) (W.progress world.old) (W.progress world.new) (W.place world.old) (W.place world.new) }
+    ensures host_faults { W.host_faults world.new ≡ W.host_faults world.old }
+    ensures room { HasRoom state.now journal.new.spare (W.spare world.new) }
+    ensures journal_room { OnOk result (1 + end_room state.now ≤ journal.new.spare) }
+    ensures world_room { OnOk result (1 + end_room state.now ≤ W.spare world.new) }
+{
+    state.reserve(1, journal)?;
+    state.reserve_host(1, world)
+}
+
+/// The kind of a turn once more. It fails only for want of memory, and never where the turn tells the end of a child.
+fn kind_again(alloc: Global, kind: &TurnKind) -> Result<TurnKind, Memory>
+    ensures same { IfOk result (λ again. again ≡ kind.now) }
+    ensures no_end { OnErr result (TellsNoEnd kind.now) }
+{
+    match kind {
+        TurnKind::Arrive(event, priority) => Ok(TurnKind::Arrive(event.copy(alloc)?, *priority)),
+        TurnKind::Work => Ok(TurnKind::Work),
+        TurnKind::Job(id) => Ok(TurnKind::Job(*id)),
+        TurnKind::Ended(child) => Ok(TurnKind::Ended(*child)),
+        TurnKind::Ask(id, ask) => Ok(TurnKind::Ask(*id, ask.copy(alloc)?)),
+        TurnKind::Last => Ok(TurnKind::Last),
+    }
+}
+
+/// Asks the world for turns and serves them, until the run is to end. About is what the error says that the fault of a
+/// turn is about. The room for the end of all jobs is kept.
 fn serve_turns<W: World, H: Hooks>(
     alloc: Global,
     about: Text,
@@ -123,12 +174,15 @@ fn serve_turns<W: World, H: Hooks>(
 ) -> Result<(), CriticalError>
     ghost start: { Start }
     requires ready { Ready start state.old journal.old.past }
+    requires room { HasRoom state.old journal.old.spare (W.spare world.old) }
     requires open { agenda start journal.old.past ≡ Open }
     requires fault { turn_fault journal.old.past ≡ None }
     requires now { moment journal.old.past ≤ (W.progress world.old).moment }
     requires rise { MomentsRise journal.old.past }
     requires about { about ≡ codes "turn" }
-    ensures answers { Answers start journal.new.past result }
+    ensures ready { Ready start state.new journal.new.past }
+    ensures room { HasRoom state.new journal.new.spare (W.spare world.new) }
+    ensures stops { Stops start journal.new.past result }
     ensures follows { Follows start journal.old.past (W.told world.old) (H.told hooks.old) journal.new.past (W.told world.new) (H.told hooks.new) }
     ensures calm { NoneUrgentWaits journal.new.past }
     ensures rise { MomentsRise journal.new.past }
@@ -141,10 +195,10 @@ fn serve_turns<W: World, H: Hooks>(
     ensures place { H.place hooks.new ≡ H.place hooks.old }
     ensures world_plan { W.plan world.new ≡ W.plan world.old }
     ensures world_place { W.place world.new ≡ W.place world.old }
+    ensures host_faults { CountsOn journal.old.past (W.host_faults world.old) journal.new.past (W.host_faults world.new) }
 {
     'turns: loop {
-        journal.reserve(1)?;
-        world.reserve(1)?;
+        make_room(state, world, journal)?;
         let given = match world.turn() {
             Ok(given) => given,
             Err(fault) => {
@@ -156,7 +210,7 @@ fn serve_turns<W: World, H: Hooks>(
             }
         };
         let at = given.turn.at;
-        let kind = given.turn.kind.copy(alloc);
+        let kind = kind_again(alloc, &given.turn.kind);
         journal.push(Entry::Turn(given.turn));
         match serve(alloc, kind?, at, state, world, hooks, journal)? {
             Worked::On => {}
@@ -165,7 +219,7 @@ fn serve_turns<W: World, H: Hooks>(
     }
 }
 
-/// A whole run. It begins, and serves turns until it ends.
+/// A whole run. It begins, serves turns until it is to end, and then each job that lives ends.
 pub(crate) fn run<W: World, H: Hooks>(
     alloc: Global,
     engine: Watchexec,
@@ -177,10 +231,13 @@ pub(crate) fn run<W: World, H: Hooks>(
     requires engine { engine ≡ start }
     requires empty { journal.old.past ≡ [] }
     ensures answers { Answers start journal.new.past result }
-    ensures follows { Follows start [] (W.told world.old) (H.told hooks.old) journal.new.past (W.told world.new) (H.told hooks.new) }
+    ensures world { W.told world.new ≡ tells is_world journal.new.past (W.told world.old) }
+    ensures hooks { H.told hooks.new ≡ tells is_hooks journal.new.past (H.told hooks.old) }
+    ensures batched { IsBatched journal.new.past }
+    ensures batches { AreBatches start journal.new.past }
     ensures calm { NoneUrgentWaits journal.new.past }
     ensures rise { MomentsRise journal.new.past }
-    ensures turns { TellsTurns [] (W.progress world.old).turns journal.new.past (W.progress world.new).turns }
+    ensures turns { (W.progress world.new).turns ≡ tells is_turn journal.new.past (W.progress world.old).turns }
     ensures count { turn_count journal.new.past ≤ (W.progress world.old).left + 1 }
     ensures cause { IfErr result (λ error. HasCause error (W.progress world.old).turn_faults (W.progress world.new).turn_faults) }
     ensures promised { Promised (H.short hooks.new) (H.rule (H.plan hooks.old)) (H.stands hooks.old) (H.stands hooks.new) [] journal.new.past }
@@ -189,8 +246,11 @@ pub(crate) fn run<W: World, H: Hooks>(
     ensures place { H.place hooks.new ≡ H.place hooks.old }
     ensures world_plan { W.plan world.new ≡ W.plan world.old }
     ensures world_place { W.place world.new ≡ W.place world.old }
+    ensures host_faults { Counted [] (W.host_faults world.old) journal.new.past (W.host_faults world.new) }
 {
     let about = Text::from_slice(alloc, b"turn")?;
     let mut state = begin(alloc, engine, journal)?;
-    serve_turns(alloc, about, &mut state, world, hooks, journal)
+    let answer = serve_turns(alloc, about, &mut state, world, hooks, journal);
+    end_jobs(&mut state, world, journal);
+    answer
 }

@@ -1,10 +1,14 @@
 // A world in memory, which follows a script.
 ghost use Rattle.std.specs.Prelude.{◌≡◌, [], true, Some, IfOk, length, drop};
 ghost use Rattle.std.specs.List.{list_all};
+ghost use Rattle.wx_events.specs.declared.process.ProcessEnd.TheVariants.{Success};
 ghost use Rattle.wx_journal.specs.declared.entry.TurnKind.TheVariants.{Last};
+ghost use Rattle.wx_journal.specs.Told.{Counts};
+ghost use Rattle.wx_engine.specs.Answered.{spawn_answers, kill_answers, wait_answers, AreAnswered, IsGiven};
 ghost use Rattle.wx_engine.specs.Follows.{given_of};
 ghost use Rattle.wx_engine.specs.Turns.{comes, risen, Rises, entry_of, Given, turns_of, FollowsGiven};
 
+use crate::replies::Replies;
 use crate::script::{Script, ScriptTurn};
 use crate::supply::Supply;
 use std::alloc::Global;
@@ -14,20 +18,31 @@ use wx_control::{Flag, Id};
 use wx_events::{Copies, List, Memory, ProcessEnd};
 use wx_journal::{Entry, HostFault, Journal, SpawnTag, Turn, TurnKind};
 
-/// A world that gives the turns of a script, in order, and then last turns at the last moment. Each call on a child goes
-/// well, and each child ends with success. It tells its entries, and the turns among them are the script's first ones.
+/// A world that gives the turns of a script, in order, and then last turns at the last moment. To the calls on children it
+/// answers what the script says, in order, and then that each went well and each child ended with success. It tells its
+/// entries: the turns among them are the script's first ones, and the answers among them are those of the script.
 #[derive(Drop, Debug)]
 pub struct ScriptWorld {
     turns: List<ScriptTurn>,
     last: u64,
+    spawns: Replies<()>,
+    kills: Replies<()>,
+    waits: Replies<ProcessEnd>,
     left: Supply,
     told: Journal,
     moment: u64,
     faults: u64,
-    pub ghost follows: { FollowsGiven (record { turns = turns; last = last }) told.past },
+    host_faults: u64,
+    pub ghost follows: { FollowsGiven (record { turns = turns; last = last; spawns = spawns.lines; kills = kills.lines; waits = waits.lines }) told.past },
+    pub ghost of_spawns: { AreAnswered tt spawns.lines (spawn_answers told.past) },
+    pub ghost of_kills: { AreAnswered tt kills.lines (kill_answers told.past) },
+    pub ghost of_waits: { AreAnswered Success waits.lines (wait_answers told.past) },
     ghost rest: { left ≡ drop (length (turns_of told.past)) turns },
     ghost come: { list_all comes left ≡ true },
     ghost rises: { risen moment left ≡ Some last },
+    ghost spawned: { IsGiven spawns.given spawns.lines (spawn_answers told.past) },
+    ghost killed: { IsGiven kills.given kills.lines (kill_answers told.past) },
+    ghost waited: { IsGiven waits.given waits.lines (wait_answers told.past) },
 }
 
 impl ScriptWorld {
@@ -35,18 +50,23 @@ impl ScriptWorld {
     pub fn new(alloc: Global, script: &Script) -> Result<ScriptWorld, Memory>
         requires come { list_all comes script.now.turns ≡ true }
         requires rises { Rises script.now.turns script.now.last }
-        ensures plan { IfOk result (λ world. record { turns = world.turns; last = world.last } ≡ given_of script.now) }
+        ensures plan { IfOk result (λ world. record { turns = world.turns; last = world.last; spawns = world.spawns.lines; kills = world.kills.lines; waits = world.waits.lines } ≡ given_of script.now) }
         ensures told { IfOk result (λ world. world.told.past ≡ []) }
         ensures moment { IfOk result (λ world. world.moment ≡ 0) }
         ensures faults { IfOk result (λ world. world.faults ≡ 0) }
+        ensures host_faults { IfOk result (λ world. world.host_faults ≡ 0) }
     {
         Ok(ScriptWorld {
             turns: script.turns.copy(alloc)?,
             last: script.last,
+            spawns: Replies::new(alloc, &script.spawns)?,
+            kills: Replies::new(alloc, &script.kills)?,
+            waits: Replies::new(alloc, &script.waits)?,
             left: Supply::new(alloc, &script.turns)?,
             told: Journal::new(alloc)?,
             moment: 0,
             faults: 0,
+            host_faults: 0,
         })
     }
 }
@@ -54,7 +74,7 @@ impl ScriptWorld {
 impl Outside for ScriptWorld {
     ghost Plan = { Given };
 
-    ghost plan = { λ s. record { turns = s.turns; last = s.last } };
+    ghost plan = { λ s. record { turns = s.turns; last = s.last; spawns = s.spawns.lines; kills = s.kills.lines; waits = s.waits.lines } };
 
     ghost told = { λ s. Some s.told.past };
 
@@ -62,7 +82,18 @@ impl Outside for ScriptWorld {
 
     ghost progress = { λ s. record { turns = Some (turns_of s.told.past); left = length s.left; moment = s.moment; turn_faults = s.faults; maker_faults = 0 } };
 
-    ghost host_faults = { λ _. 0 };
+    ghost host_faults = { λ s. s.host_faults };
+}
+
+/// A count of faults, after a call that failed or went well. It ends at the greatest number.
+fn counted(faults: u64, failed: bool) -> u64
+    ensures { Counts failed faults result }
+{
+    if failed {
+        faults.saturating_add(1)
+    } else {
+        faults
+    }
 }
 
 impl Host for ScriptWorld {
@@ -77,30 +108,30 @@ impl Host for ScriptWorld {
         what: Spawnable,
         tag: SpawnTag,
     ) -> Result<(), HostFault> {
+        let answer = self.spawns.next(());
+        self.host_faults = counted(self.host_faults, answer.is_err());
         self.told.push(Entry::Spawn {
             child,
             job,
             tag,
             what,
-            answer: Ok(()),
+            answer,
         });
-        Ok(())
+        answer
     }
 
     fn kill(&mut self, child: u64) -> Result<(), HostFault> {
-        self.told.push(Entry::Kill {
-            child,
-            answer: Ok(()),
-        });
-        Ok(())
+        let answer = self.kills.next(());
+        self.host_faults = counted(self.host_faults, answer.is_err());
+        self.told.push(Entry::Kill { child, answer });
+        answer
     }
 
     fn wait(&mut self, child: u64) -> Result<ProcessEnd, HostFault> {
-        self.told.push(Entry::Wait {
-            child,
-            answer: Ok(ProcessEnd::Success),
-        });
-        Ok(ProcessEnd::Success)
+        let answer = self.waits.next(ProcessEnd::Success);
+        self.host_faults = counted(self.host_faults, answer.is_err());
+        self.told.push(Entry::Wait { child, answer });
+        answer
     }
 
     fn drop_child(&mut self, child: u64) {
@@ -131,7 +162,7 @@ impl World for ScriptWorld {
                 Ok(Turned { turn })
             }
             ScriptTurn::Fault(code) => {
-                self.faults = self.faults.saturating_add(1);
+                self.faults = counted(self.faults, true);
                 Err(TurnFault(code))
             }
         }

@@ -1,18 +1,21 @@
 // Tests of a world that follows a script, and of runs: their text is worked out by hand.
 ghost use Rattle.std.specs.Prelude.{◌≡◌, ◌∷◌, [], IfOk};
+ghost use Rattle.wx_events.specs.declared.priority.Priority.TheVariants.{Urgent};
 ghost use Rattle.wx_action.specs.Start.{IsSize};
-ghost use Rattle.wx_journal.specs.declared.entry.TurnKind.TheVariants.{Arrive, Work};
+ghost use Rattle.wx_journal.specs.declared.entry.TurnKind.TheVariants.{Arrive, Work, Job};
 ghost use Rattle.wx_engine.specs.declared.script.ScriptTurn.TheVariants.{Turn as Comes};
 ghost use Rattle.wx_engine.specs.Follows.{IsScript};
 
-use crate::{Script, ScriptHooks, ScriptTurn, ScriptWorld, SendRefused, Watchexec};
+use crate::{Script, ScriptAct, ScriptHooks, ScriptTurn, ScriptWorld, SendRefused, Watchexec};
 use std::alloc::Global;
+use std::process::Abort;
 use std::test::Fail;
-use wx_action::{Config, Host, JobHooks, World, print_journal};
-use wx_command::{SpawnOptions, Spawnable};
+use wx_action::{Host, JobHooks, World, print_journal};
+use wx_command::{Command, Program, SpawnOptions, Spawnable};
+use wx_config::Config;
 use wx_control::{Ask, Control, Flag, Id};
 use wx_events::{Copies, Event, List, Memory, Priority, ProcessEnd, Tag, Text, TextPath, cut};
-use wx_journal::{Act, Entry, Journal, SpawnTag, Turn, TurnKind, Word};
+use wx_journal::{Entry, Journal, SpawnTag, Turn, TurnKind, Word};
 
 /// Two turns with a fault between them, and one call that quits.
 fn script(alloc: Global) -> Result<Script, Memory>
@@ -34,7 +37,7 @@ fn script(alloc: Global) -> Result<Script, Memory>
         kind: TurnKind::Work,
     }))?;
     let mut acts = List::new(alloc);
-    acts.push(Act::Quit)?;
+    acts.push(ScriptAct::Quit)?;
     let mut actions = List::new(alloc);
     actions.push(acts)?;
     Ok(Script {
@@ -43,6 +46,9 @@ fn script(alloc: Global) -> Result<Script, Memory>
         sends: List::new(alloc),
         turns,
         actions,
+        spawns: List::new(alloc),
+        kills: List::new(alloc),
+        waits: List::new(alloc),
         last: 8,
     })
 }
@@ -115,29 +121,29 @@ fn event(alloc: Global) -> Event
 }
 
 /// A turn in which an event without tags arrives.
-fn arrive(alloc: Global, at: u64, priority: Priority) -> ScriptTurn
+pub(crate) fn arrive(alloc: Global, at: u64, priority: Priority) -> ScriptTurn
     ensures { result ≡ Comes (record { at = at; kind = Arrive (record { tags = [] }) priority }) }
 {
     turn(at, TurnKind::Arrive(event(alloc), priority))
 }
 
 /// A turn in which the worker acts.
-fn work(at: u64) -> ScriptTurn
+pub(crate) fn work(at: u64) -> ScriptTurn
     ensures { result ≡ Comes (record { at = at; kind = Work }) }
 {
     turn(at, TurnKind::Work)
 }
 
 /// A turn of this kind.
-fn turn(at: u64, kind: TurnKind) -> ScriptTurn
+pub(crate) fn turn(at: u64, kind: TurnKind) -> ScriptTurn
     ensures { result ≡ Comes (record { at = at; kind = kind }) }
 {
     ScriptTurn::Turn(Turn { at, kind })
 }
 
 /// The default settings and no turn.
-fn empty(alloc: Global) -> Script
-    ensures { result ≡ record { throttle = 50_000_000; size = 4096; sends = []; turns = []; actions = []; last = 0 } }
+pub(crate) fn empty(alloc: Global) -> Script
+    ensures { result ≡ record { throttle = 50_000_000; size = 4096; sends = []; turns = []; actions = []; spawns = []; kills = []; waits = []; last = 0 } }
 {
     Script {
         throttle: 50_000_000,
@@ -145,6 +151,9 @@ fn empty(alloc: Global) -> Script
         sends: List::new(alloc),
         turns: List::new(alloc),
         actions: List::new(alloc),
+        spawns: List::new(alloc),
+        kills: List::new(alloc),
+        waits: List::new(alloc),
         last: 0,
     }
 }
@@ -158,7 +167,7 @@ fn quits(alloc: Global) -> Result<Script, Memory>
     script.turns.push(work(0))?;
     script.turns.push(work(0))?;
     let mut acts = List::new(alloc);
-    acts.push(Act::Quit)?;
+    acts.push(ScriptAct::Quit)?;
     script.actions.push(acts)?;
     Ok(script)
 }
@@ -171,33 +180,6 @@ fn faults(alloc: Global) -> Result<Script, Memory>
     script.turns.push(arrive(alloc, 0, Priority::Normal))?;
     script.turns.push(work(0))?;
     script.turns.push(ScriptTurn::Fault(5))?;
-    Ok(script)
-}
-
-/// Two events are collected, and handed as soon as the throttle is over.
-fn collects(alloc: Global) -> Result<Script, Memory>
-    ensures { IfOk result IsScript }
-{
-    let mut script = empty(alloc);
-    script.turns.push(arrive(alloc, 0, Priority::Normal))?;
-    script.turns.push(work(0))?;
-    script.turns.push(arrive(alloc, 10_000_000, Priority::Low))?;
-    script.turns.push(work(10_000_000))?;
-    script.turns.push(work(49_999_999))?;
-    script.turns.push(work(50_000_000))?;
-    script.last = 50_000_000;
-    Ok(script)
-}
-
-/// Three events arrive at a queue of one.
-fn fills(alloc: Global) -> Result<Script, Memory>
-    ensures { IfOk result IsScript }
-{
-    let mut script = empty(alloc);
-    script.size = 1;
-    script.turns.push(arrive(alloc, 0, Priority::Normal))?;
-    script.turns.push(arrive(alloc, 0, Priority::Normal))?;
-    script.turns.push(arrive(alloc, 0, Priority::Normal))?;
     Ok(script)
 }
 
@@ -225,26 +207,62 @@ fn strays(alloc: Global) -> Result<Script, Memory>
     Ok(script)
 }
 
-/// The scripts above.
-#[derive(Clone, Copy, Debug)]
-enum Case {
-    Quits,
-    Faults,
-    Collects,
-    Fills,
-    Hurries,
+/// A turn of job 0.
+pub(crate) fn job(at: u64) -> ScriptTurn
+    ensures { result ≡ Comes (record { at = at; kind = Job (record { 0 = 0 }) }) }
+{
+    turn(at, TurnKind::Job(Id(0)))
 }
 
-fn script_of(alloc: Global, case: Case) -> Result<Script, Memory>
+/// The program a, with no argument.
+pub(crate) fn program(alloc: Global) -> Result<Command, Memory> {
+    Ok(Command {
+        program: Program::Exec {
+            prog: Text::from_slice(alloc, b"a")?,
+            args: List::new(alloc),
+        },
+        options: SpawnOptions::default(),
+    })
+}
+
+/// A job is created, and asked to start. Something is asked of jobs that are not there, before and after.
+fn created(alloc: Global) -> Result<List<ScriptAct>, Memory> {
+    let mut acts = List::new(alloc);
+    acts.push(ScriptAct::Ask(Id(0), Ask::One(Control::Stop)))?;
+    acts.push(ScriptAct::Create(program(alloc)?))?;
+    acts.push(ScriptAct::Ask(Id(0), Ask::One(Control::Start)))?;
+    acts.push(ScriptAct::Ask(Id(1), Ask::One(Control::Start)))?;
+    Ok(acts)
+}
+
+/// An urgent event is sent, and the first call creates a job and asks it to start.
+fn begins(alloc: Global) -> Result<Script, Memory>
+    ensures { IfOk result (λ script. script ≡ record { throttle = 50_000_000; size = 4096; sends = (record { tags = [] }, Urgent) ∷ []; turns = Comes (record { at = 0; kind = Work }) ∷ []; actions = script.actions; spawns = []; kills = []; waits = []; last = 0 }) }
+{
+    let mut script = empty(alloc);
+    script.sends.push((event(alloc), Priority::Urgent))?;
+    script.turns.push(work(0))?;
+    script.actions.push(created(alloc)?)?;
+    Ok(script)
+}
+
+/// The child runs at the end.
+fn drops(alloc: Global) -> Result<Script, Memory>
     ensures { IfOk result IsScript }
 {
-    match case {
-        Case::Quits => quits(alloc),
-        Case::Faults => faults(alloc),
-        Case::Collects => collects(alloc),
-        Case::Fills => fills(alloc),
-        Case::Hurries => hurries(alloc),
-    }
+    let mut script = begins(alloc)?;
+    script.turns.push(job(0))?;
+    Ok(script)
+}
+
+/// The child runs as the world has no turn to give.
+fn breaks(alloc: Global) -> Result<Script, Memory>
+    ensures { IfOk result IsScript }
+{
+    let mut script = begins(alloc)?;
+    script.turns.push(job(0))?;
+    script.turns.push(ScriptTurn::Fault(5))?;
+    Ok(script)
 }
 
 /// The topmost folder.
@@ -255,7 +273,7 @@ fn root(alloc: Global) -> Result<TextPath, Memory>
 }
 
 /// An engine with this throttle and a queue of this size.
-fn engine_with(alloc: Global, throttle: u64, size: u32) -> Result<Watchexec, Memory>
+pub(crate) fn engine_with(alloc: Global, throttle: u64, size: u32) -> Result<Watchexec, Memory>
     requires { IsSize size }
 {
     let mut config = Config::new(alloc)?;
@@ -289,33 +307,41 @@ const QUITS: &[u8] = b"sent 0 urgent 0\nturn 0 work\ntake 0\nhand 0 1 0 quit\nen
 const FAULTS: &[u8] =
     b"turn 0 arrive normal 0\noffer 0 - queued normal 0\nturn 0 work\ntake 0\nturnfault 5\nend error io turn 5 lost 1 0\n";
 
-const COLLECTS: &[u8] =
-    b"turn 0 arrive normal 0\noffer 0 - queued normal 0\nturn 0 work\ntake 0\nturn 10000000 arrive low 0\noffer 1 - queued low 0\nturn 10000000 work\ntake 1\nturn 49999999 work\nword idle\nturn 50000000 work\nhand 0 2 0 1\nturn 50000000 last\nend ok lost 0\n";
-
-const FILLS: &[u8] =
-    b"turn 0 arrive normal 0\noffer 0 - queued normal 0\nturn 0 arrive normal 0\noffer 1 - full normal 0\nturn 0 arrive normal 0\noffer 2 - full normal 0\nturn 0 last\nend ok lost 0\n";
-
 const HURRIES: &[u8] =
     b"turn 0 arrive low 0\noffer 0 - queued low 0\nturn 3 arrive urgent 0\noffer 1 - queued urgent 0\nturn 4 work\ntake 1\nhand 0 1 1\nturn 4 last\nend ok lost 0\n";
+
+const DROPS: &[u8] =
+    b"sent 0 urgent 0\nturn 0 work\ntake 0\nhand 0 1 0 create 0 exec ---- 1 a ask 0 start\nmade 0\nasked 0 0 normal start\nturn 0 job 0\npick 0 0\nspawn 0 0 default ---- 1 a ok\nraise 0\nturn 0 last\ndrop 0\ngone 0\nend ok lost 0\n";
+
+const BREAKS: &[u8] =
+    b"sent 0 urgent 0\nturn 0 work\ntake 0\nhand 0 1 0 create 0 exec ---- 1 a ask 0 start\nmade 0\nasked 0 0 normal start\nturn 0 job 0\npick 0 0\nspawn 0 0 default ---- 1 a ok\nraise 0\nturnfault 5\ndrop 0\ngone 0\nend error io turn 5 lost 0\n";
+
+/// Holds a run that follows a script to this count of entries and to these lines behind the first one.
+fn expect_run(
+    rt: &impl Abort,
+    alloc: Global,
+    script: Script,
+    count: u64,
+    lines: &[u8],
+) -> Result<(), Fail>
+    requires { IsScript script }
+{
+    let engine = engine_with(alloc, script.throttle, script.size)?;
+    let (len, text) = run_text(alloc, engine, &script)?;
+    let (_, rest) = cut(text.as_slice(), 10).ok_or("a beginning")?;
+    assert_eq!(rt; rest, lines);
+    assert_eq!(rt; len, count, "at {lines:?}");
+    Ok(())
+}
 
 #[test]
 fn runs_follow_their_scripts(rt: HostRuntime) -> Result<(), Fail> {
     let alloc = rt.alloc();
-    let table = [
-        (Case::Quits, 5, QUITS),
-        (Case::Faults, 6, FAULTS),
-        (Case::Collects, 14, COLLECTS),
-        (Case::Fills, 8, FILLS),
-        (Case::Hurries, 9, HURRIES),
-    ];
-    for (case, count, lines) in table {
-        let script = script_of(alloc, case)?;
-        let engine = engine_with(alloc, script.throttle, script.size)?;
-        let (len, text) = run_text(alloc, engine, &script)?;
-        let (_, rest) = cut(text.as_slice(), 10).ok_or("a beginning")?;
-        assert_eq!(rt; rest, lines, "at {case:?}");
-        assert_eq!(rt; len, count, "at {case:?}");
-    }
+    expect_run(&rt, alloc, quits(alloc)?, 5, QUITS)?;
+    expect_run(&rt, alloc, faults(alloc)?, 6, FAULTS)?;
+    expect_run(&rt, alloc, hurries(alloc)?, 9, HURRIES)?;
+    expect_run(&rt, alloc, drops(alloc)?, 14, DROPS)?;
+    expect_run(&rt, alloc, breaks(alloc)?, 14, BREAKS)?;
     Ok(())
 }
 

@@ -1,21 +1,26 @@
 // The engine.
-ghost use Rattle.std.specs.Prelude.{◌≡◌, ◌∷◌, ◌++◌, [], ◌+◌, ◌≤◌, true, false, length, List, OnOk, OnErr, IfOk, IfErr, Err};
+ghost use Rattle.std.specs.Prelude.{◌≡◌, ◌∷◌, ◌++◌, [], ◌+◌, ◌≤◌, true, false, length, List, OnOk, OnErr, IfOk, IfErr, Err, None};
 ghost use Rattle.wx_events.specs.declared.event.Event.{Event as AnEvent};
 ghost use Rattle.wx_events.specs.declared.priority.Priority.{Priority as APriority};
+ghost use Rattle.wx_control.specs.declared.id.Id.{Id as AnId};
 ghost use Rattle.wx_journal.specs.Told.{is_world, is_hooks, is_turn, tells, Obeys, Rose};
-ghost use Rattle.wx_action.specs.Start.{Start, IsSize, IsStart, default_config, is_absolute};
+ghost use Rattle.wx_job.specs.History.{child};
+ghost use Rattle.wx_job.specs.Laws.{IsReaping};
+ghost use Rattle.wx_config.specs.Defaults.{default_config};
+ghost use Rattle.wx_action.specs.Start.{Start, IsSize, IsStart, is_absolute};
 ghost use Rattle.wx_action.specs.Journal.{turn_count};
-ghost use Rattle.wx_action.specs.Due.{IsRun};
 ghost use Rattle.wx_action.specs.Laws.{IsBatched, AreBatches, NoneUrgentWaits, MomentsRise};
 ghost use Rattle.wx_action.specs.Answer.{Answers};
+ghost use Rattle.wx_action.specs.Faults.{Counted};
 ghost use Rattle.wx_engine.specs.Sent.{Refuses};
-ghost use Rattle.wx_engine.specs.Run.{HasCause};
+ghost use Rattle.wx_engine.specs.Run.{HasCause, Ran};
 ghost use Rattle.wx_engine.specs.Completes.{IsOkOrMemory};
 
 use crate::running::run;
 use std::alloc::Global;
 use std::marker::Model;
-use wx_action::{Config, CriticalError, Hooks, Host, JobHooks, Outside, World};
+use wx_action::{Hooks, Host, JobHooks, Outside, World};
+use wx_config::{Config, CriticalError};
 use wx_events::{Event, List, Memory, Priority, TextPath};
 use wx_journal::Journal;
 
@@ -94,8 +99,9 @@ impl Watchexec {
 
     /// Runs the engine: asks `world` for turns, serves each before the next, and writes all of it into `journal`, until an
     /// action asks for the end or the last turn came. `IoError` about `turn` comes only where the world had no turn to
-    /// give, with the code of that fault; `Memory` where there was none. Whatever the answer, the journal is a run, and
-    /// lists the turns that were given and the calls that were made, in order.
+    /// give, with the code of that fault; `Memory` where there was none. Whatever the answer, each job that lives then
+    /// ends, and the child that it runs is let go. The journal is a run, or for want of memory a run that was broken off,
+    /// with this end behind it. It lists the turns that were given and the calls that were made, in order.
     pub fn main<W: World, H: Hooks>(
         self,
         alloc: Global,
@@ -105,8 +111,8 @@ impl Watchexec {
     ) -> Result<(), CriticalError>
         requires { journal.old.past ≡ [] }
 
-        // The journal is a run that this answer may have, and each error has its cause.
-        ensures run { IsRun self journal.new.past }
+        // The journal is a run that this answer may have, with its end done, and each error has its cause.
+        ensures ran { Ran self journal.new.past }
         ensures answer { Answers self journal.new.past result }
         ensures cause { IfErr result (λ error. HasCause error (W.progress world.old).turn_faults (W.progress world.new).turn_faults) }
         ensures completes { (Rose (W.progress world.old).turn_faults (W.progress world.new).turn_faults → ⊥) → IsOkOrMemory result }
@@ -116,6 +122,13 @@ impl Watchexec {
         ensures hooks { H.told hooks.new ≡ tells is_hooks journal.new.past (H.told hooks.old) }
         ensures turns { (W.progress world.new).turns ≡ tells is_turn journal.new.past (W.progress world.old).turns }
         ensures count { turn_count journal.new.past ≤ (W.progress world.old).left + 1 }
+
+        // A call on a child failed only where the count of these rose.
+        ensures host_faults { Counted [] (W.host_faults world.old) journal.new.past (W.host_faults world.new) }
+
+        // Each child of a job is reaped, and none runs.
+        ensures children { (id : AnId) → IsReaping id journal.new.past }
+        ensures none_runs { (id : AnId) → child id journal.new.past ≡ None }
 
         // The laws of runs.
         ensures batched { IsBatched journal.new.past }

@@ -1,5 +1,5 @@
 -- One entry more on the way that a plan leads, by its kind.
-use Rattle.std.proofs.Common.{◌≡◌, ℕ, ◌≤◌, Bool, true, false, List, [], ◌∷◌, Option, Some, None, Result, Ok, Err, refl, sym, ◌∙◌, arith}
+use Rattle.std.proofs.Common.{◌≡◌, ℕ, ◌≤◌, true, false, List, ◌∷◌, Option, Ok, Err, refl, arith}
 use Rattle.wx_events.specs.declared.process.ProcessEnd.{ProcessEnd}
 use Rattle.wx_command.specs.declared.spawnable.Spawnable.{Spawnable}
 use Rattle.wx_control.specs.declared.id.Id.{Id}
@@ -12,7 +12,7 @@ use Rattle.wx_journal.specs.declared.entry.Entry.TheVariants.{Word as Said, Aske
 use Rattle.wx_journal.specs.declared.entry.Word.{Word}
 use Rattle.wx_journal.specs.Names.{ticket_count, child_count}
 use Rattle.wx_journal.specs.Told.{tell, Counts}
-use Rattle.wx_job.specs.Table.{Plan, Done, Picks, Spawns, Kills, Waits, Drops, Raises, Goes, Asks, Says}
+use Rattle.wx_job.specs.Table.{Plan, Picks, Spawns, Kills, Waits, Drops, Raises, Goes, Asks, Says}
 use Rattle.wx_job.specs.Case.{Leads, Here, Then}
 
 -- no fault came

@@ -1,6 +1,6 @@
 -- An entry of one job leaves what is asked of every other.
-use Rattle.std.proofs.Common.{◌≡◌, ◌≢◌, ℕ, Bool, true, false, cond, List, ◌∷◌, Option, Some, None, Result, Ok, Err, refl, ap, sym, ◌∙◌, eq-eqb, ne_eqb}
-use Rattle.std.specs.Prelude.{◌==◌, if◌then◌else◌, not, ◌&&◌, ◌||◌}
+use Rattle.std.proofs.Common.{◌≡◌, ◌≢◌, ℕ, false, List, ◌∷◌, Option, Some, None, Result, Ok, Err, refl, ap, sym, ◌∙◌, ne_eqb}
+use Rattle.std.specs.Prelude.{◌==◌}
 use Rattle.wx_events.specs.declared.process.ProcessEnd.{ProcessEnd}
 use Rattle.wx_command.specs.declared.spawnable.Spawnable.{Spawnable}
 use Rattle.wx_control.specs.declared.id.Id.{Id}
@@ -14,7 +14,7 @@ use Rattle.wx_journal.specs.declared.entry.Word.{Word}
 use Rattle.wx_journal.specs.Names.{NamesItsOwn, moment}
 use Rattle.wx_job.specs.declared.state.CommandState.{CommandState}
 use Rattle.wx_job.specs.declared.state.CommandState.TheVariants.{Pending, Running, Finished}
-use Rattle.wx_job.specs.History.{same, child, unless, is_child, state, finish, SameHistory}
+use Rattle.wx_job.specs.History.{child, unless, is_child, state, finish, SameHistory}
 use Rattle.wx_job.specs.Stands.{child_of}
 use Rattle.wx_job.proofs.Owners.{other-is, child_owner, state_owner}
 

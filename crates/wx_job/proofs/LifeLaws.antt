@@ -1,15 +1,14 @@
 -- In the life of a job each child is reaped before the next spawn.
-use Rattle.std.proofs.Common.{◌≡◌, ◌≢◌, ℕ, Bool, true, false, cond, List, [], ◌∷◌, Option, Some, None, Result, Ok, Err, refl, ap, sym, ◌∙◌}
-use Rattle.std.specs.Prelude.{not, ◌&&◌, ◌||◌}
+use Rattle.std.proofs.Common.{◌≡◌, ℕ, true, false, List, ◌∷◌, Option, Some, Ok, Err, refl, sym, ◌∙◌}
 use Rattle.wx_command.specs.declared.command.Command.{Command}
 use Rattle.wx_control.specs.declared.id.Id.{Id}
 use Rattle.wx_control.specs.Asks.{sends_of}
 use Rattle.wx_journal.specs.declared.entry.Entry.{Entry}
 use Rattle.wx_journal.specs.declared.entry.Entry.TheVariants.{Begin, Sent, Turn as Turned, TurnFault, Offer, Word as Said, Take, Hand, Made, Asked, Pick, Spawn, Kill, Wait, Dropped, Raise, Gone}
 use Rattle.wx_journal.specs.Names.{NamesItsOwn}
-use Rattle.wx_job.specs.History.{same, lives, child, unless, owner}
+use Rattle.wx_job.specs.History.{child, unless, owner}
 use Rattle.wx_job.specs.Table.{step_plan, send_plan, end_plan}
-use Rattle.wx_job.specs.Laws.{unreaped, AreReaped, IsReaping, is_owner, is_about, Lived, Begins, Others, Asks, Steps, Ends}
+use Rattle.wx_job.specs.Laws.{unreaped, IsReaping, is_owner, is_about, Lived, Begins, Others, Asks, Steps, Ends}
 use Rattle.wx_job.proofs.Owners.{self, child_owner, unreaped_owner}
 use Rattle.wx_job.proofs.Frame.{not_child}
 use Rattle.wx_job.proofs.Sound.{sound_step, sound_send, sound_end}

@@ -1,6 +1,6 @@
 -- Who spawned a child, and which tickets and children a journal that names its own can name.
-use Rattle.std.proofs.Common.{◌≡◌, ◌≢◌, ℕ, suc, ◌+◌, ◌≤◌, ◌<◌, Bool, true, false, cond, List, [], ◌∷◌, ◌++◌, Option, Some, None, Result, Ok, Err, refl, arith, ap, sym, subst, ◌∙◌, eq-eqb, ne_eqb}
-use Rattle.std.specs.Prelude.{◌==◌, if◌then◌else◌, not, ◌&&◌, ◌||◌}
+use Rattle.std.proofs.Common.{◌≡◌, ◌≢◌, ℕ, ◌+◌, ◌<◌, Bool, true, false, cond, List, [], ◌∷◌, ◌++◌, Option, Some, None, Ok, Err, refl, arith, ap, sym, eq-eqb, ne_eqb}
+use Rattle.std.specs.Prelude.{◌==◌, ◌&&◌}
 use Rattle.std.specs.List.{AllByRecursion}
 use Rattle.std.proofs.lemmas.Bool.{eqb-true}
 use Rattle.wx_events.specs.declared.process.ProcessEnd.{ProcessEnd}
@@ -47,7 +47,7 @@ owner_below c id (Offer name item result event priority ∷ p) own e = owner_bel
 owner_below c id (Said word ∷ p) own e = owner_below c id p own e
 owner_below c id (Take name ∷ p) own e = owner_below c id p own.1 e
 owner_below c id (Hand n names acts ∷ p) own e = owner_below c id p own.1 e
-owner_below c id (Made job ∷ p) own e = owner_below c id p own e
+owner_below c id (Made job ∷ p) own e = owner_below c id p own.1 e
 owner_below c id (Asked ticket job level control ∷ p) own e = owner_below c id p own.1 e
 owner_below c id (Pick job ticket ∷ p) own e = owner_below c id p own.1 e
 owner_below c id (Kill d answer ∷ p) own e = owner_below c id p own.1 e
@@ -96,7 +96,7 @@ child_owner id c (Offer name item result event priority ∷ p) own e = child_own
 child_owner id c (Said word ∷ p) own e = child_owner id c p own e
 child_owner id c (Take name ∷ p) own e = child_owner id c p own.1 e
 child_owner id c (Hand n names acts ∷ p) own e = child_owner id c p own.1 e
-child_owner id c (Made job ∷ p) own e = child_owner id c p own (none_of (same job id) (child id p) c e)
+child_owner id c (Made job ∷ p) own e = child_owner id c p own.1 (none_of (same job id) (child id p) c e)
 child_owner id c (Asked ticket job level control ∷ p) own e = child_owner id c p own.1 e
 child_owner id c (Pick job ticket ∷ p) own e = child_owner id c p own.1 e
 child_owner id c (Kill d answer ∷ p) own e = child_owner id c p own.1 e
@@ -118,7 +118,7 @@ unreaped_owner id c (Offer name item result event priority ∷ p) own e = unreap
 unreaped_owner id c (Said word ∷ p) own e = unreaped_owner id c p own e
 unreaped_owner id c (Take name ∷ p) own e = unreaped_owner id c p own.1 e
 unreaped_owner id c (Hand n names acts ∷ p) own e = unreaped_owner id c p own.1 e
-unreaped_owner id c (Made job ∷ p) own e = unreaped_owner id c p own (none_of (same job id) (unreaped id p) c e)
+unreaped_owner id c (Made job ∷ p) own e = unreaped_owner id c p own.1 (none_of (same job id) (unreaped id p) c e)
 unreaped_owner id c (Asked ticket job level control ∷ p) own e = unreaped_owner id c p own.1 e
 unreaped_owner id c (Pick job ticket ∷ p) own e = unreaped_owner id c p own.1 e
 unreaped_owner id c (Kill d answer ∷ p) own e = unreaped_owner id c p own.1 e
@@ -158,7 +158,7 @@ state_owner id c (Offer name item result event priority ∷ p) own e = state_own
 state_owner id c (Said word ∷ p) own e = state_owner id c p own e
 state_owner id c (Take name ∷ p) own e = state_owner id c p own.1 e
 state_owner id c (Hand n names acts ∷ p) own e = state_owner id c p own.1 e
-state_owner id c (Made job ∷ p) own e = state_owner id c p own (pending_of (same job id) (state id p) c e)
+state_owner id c (Made job ∷ p) own e = state_owner id c p own.1 (pending_of (same job id) (state id p) c e)
 state_owner id c (Asked ticket job level control ∷ p) own e = state_owner id c p own.1 e
 state_owner id c (Pick job ticket ∷ p) own e = state_owner id c p own.1 e
 state_owner id c (Kill d answer ∷ p) own e = state_owner id c p own.1 e
@@ -197,7 +197,7 @@ waits_asked id level (Offer name item result event priority ∷ p) own = waits_a
 waits_asked id level (Said word ∷ p) own = waits_asked id level p own
 waits_asked id level (Take name ∷ p) own = waits_asked id level p own.1
 waits_asked id level (Hand n names acts ∷ p) own = waits_asked id level p own.1
-waits_asked id level (Made job ∷ p) own = either (AreAsked (ticket_count p)) (same job id) [] (waits id level p) tt (waits_asked id level p own)
+waits_asked id level (Made job ∷ p) own = either (AreAsked (ticket_count p)) (same job id) [] (waits id level p) tt (waits_asked id level p own.1)
 waits_asked id level (Asked ticket job at control ∷ p) own =
     let here = below_rise (ticket_count p) (waits id level p) (waits_asked id level p own.1) in
     either (AreAsked (ticket_count p + 1)) (same job id && rank at == rank level) (waits id level p ++ (ticket, control) ∷ []) (waits id level p) (below_append (ticket_count p + 1) (waits id level p) (ticket, control) here (let name : ticket ≡ ticket_count p = own.0 in omega arith)) here

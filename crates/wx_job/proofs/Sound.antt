@@ -1,6 +1,6 @@
 -- What the plan of a job names is the job's, and what following it leaves.
-use Rattle.std.proofs.Common.{◌≡◌, ◌≢◌, ℕ, ◌+◌, ◌≤◌, ◌<◌, Bool, true, false, cond, List, [], ◌∷◌, Option, Some, None, Result, Ok, Err, refl, arith, ap, sym, subst, ◌∙◌, eq-eqb}
-use Rattle.std.specs.Prelude.{◌==◌, if◌then◌else◌, not, ◌&&◌, ◌||◌}
+use Rattle.std.proofs.Common.{◌≡◌, ◌≢◌, ℕ, ◌+◌, ◌≤◌, ◌<◌, Bool, true, false, cond, List, [], ◌∷◌, Option, Some, None, Ok, Err, refl, arith, ap, sym, subst, ◌∙◌, eq-eqb}
+use Rattle.std.specs.Prelude.{not, ◌&&◌}
 use Rattle.wx_command.specs.declared.command.Command.{Command}
 use Rattle.wx_control.specs.declared.id.Id.{Id}
 use Rattle.wx_control.specs.declared.control.Control.{Control}
@@ -16,7 +16,7 @@ use Rattle.wx_journal.specs.Told.{is_hooks, Rose, Counts}
 use Rattle.wx_job.specs.declared.choice.Choice.{Choice}
 use Rattle.wx_job.specs.declared.choice.Choice.TheVariants.{End, Next, Nothing}
 use Rattle.wx_job.specs.History.{same, lives, waits, child, kept, unless, SameHistory}
-use Rattle.wx_job.specs.Table.{Plan, Done, Picks, Spawns, Kills, Waits, Drops, Raises, Goes, Makes, Asks, Says, reap, fresh, row, first, choose, choose_control, pick, case, step_plan, ask_plan, send_plan, end_plan, drop_plan}
+use Rattle.wx_job.specs.Table.{Plan, Done, Picks, Spawns, Kills, Waits, Drops, Raises, Goes, Makes, Asks, Says, row, first, choose, choose_control, pick, case, step_plan, ask_plan, send_plan, end_plan, drop_plan}
 use Rattle.wx_job.specs.Case.{Admits, is_fault, next, Leads, Here, Then}
 use Rattle.wx_job.specs.Laws.{unreaped, AreReaped, reap_failed}
 use Rattle.wx_job.proofs.Owners.{self, owner_below, child_owner, waits_asked, AreAsked}

@@ -1,23 +1,21 @@
 -- A task stands for the journal with one entry more.
-use Rattle.std.proofs.Common.{◌≡◌, ℕ, Bool, true, false, List, [], ◌∷◌, ◌++◌, Option, Some, None, Result, Ok, Err, refl, ap, sym, ◌∙◌, eq-eqb}
-use Rattle.std.specs.Prelude.{◌==◌, if◌then◌else◌, not, ◌&&◌, map}
+use Rattle.std.proofs.Common.{◌≡◌, ℕ, true, false, List, [], ◌∷◌, ◌++◌, Option, Some, None, Result, Ok, Err, refl, ap, sym, ◌∙◌, eq-eqb}
+use Rattle.std.specs.Prelude.{◌==◌, map}
 use Rattle.wx_events.specs.declared.process.ProcessEnd.{ProcessEnd}
 use Rattle.wx_command.specs.declared.spawnable.Spawnable.{Spawnable}
 use Rattle.wx_control.specs.declared.id.Id.{Id}
-use Rattle.wx_control.specs.declared.control.Control.{Control}
-use Rattle.wx_control.specs.declared.level.Level.TheVariants.{Normal, High, Urgent}
+use Rattle.wx_control.specs.declared.level.Level.TheVariants.{Normal}
 use Rattle.wx_journal.specs.declared.child.SpawnTag.{SpawnTag}
 use Rattle.wx_journal.specs.declared.child.HostFault.{HostFault}
 use Rattle.wx_journal.specs.declared.entry.Entry.{Entry}
-use Rattle.wx_journal.specs.declared.entry.Entry.TheVariants.{Turn as Turned, Word as Said, Made, Asked, Pick, Spawn, Kill, Wait, Dropped, Raise, Gone}
+use Rattle.wx_journal.specs.declared.entry.Entry.TheVariants.{Word as Said, Asked, Pick, Spawn, Kill, Wait, Dropped, Raise, Gone}
 use Rattle.wx_journal.specs.declared.entry.Word.{Word}
-use Rattle.wx_journal.specs.declared.entry.TurnKind.TheVariants.{Ended}
 use Rattle.wx_journal.specs.Names.{moment}
 use Rattle.wx_job.specs.declared.state.CommandState.{CommandState}
 use Rattle.wx_job.specs.declared.state.CommandState.TheVariants.{Pending, Running, Finished}
 use Rattle.wx_job.specs.declared.task.Waiting.{Waiting}
 use Rattle.wx_job.specs.declared.task.JobTask.{JobTask}
-use Rattle.wx_job.specs.History.{same, lives, waits, child, kept, state, previous, finish, unless, is_child}
+use Rattle.wx_job.specs.History.{same, lives, waits, child, finish}
 use Rattle.wx_job.specs.Table.{Done, Goes, drop_plan, end_plan}
 use Rattle.wx_job.specs.Stands.{Stands, SameTask, IsEnding, child_of, running_of, ticketed, with_end}
 
@@ -97,23 +95,6 @@ stands-spawn-err k p c tag what fault s here none = record {
   previous_kept = rw (self k.id) (ap (λ x. Some x) s.state_kept);
 }
 
--- the control of the first ticket that waits is picked
-pub stands-pick : (k k' : JobTask) (p : List Entry) (w : Waiting) → Stands k p → k.waiting.items ≡ w ∷ k'.waiting.items → k' ≡ record k { waiting = k'.waiting } → Stands k' (Pick k.id w.ticket ∷ p)
-stands-pick k k' p w s is fields =
-    let waits_are : waits k.id Normal p ≡ ticketed w ∷ map ticketed k'.waiting.items = sym s.waits_kept ∙ ap (λ xs. map ticketed xs) is in
-    let found : (w.ticket == w.ticket) ≡ true = eq-eqb w.ticket w.ticket refl in
-    let stood : Stands (record k { waiting = k'.waiting }) (Pick k.id w.ticket ∷ p) = record {
-      lives_kept = s.lives_kept;
-      waits_kept = rw (self k.id, waits_are, found) refl;
-      high_none = rw (self k.id, s.high_none) refl;
-      urgent_none = rw (self k.id, s.urgent_none) refl;
-      child_kept = s.child_kept;
-      end_kept = s.end_kept;
-      state_kept = s.state_kept;
-      previous_kept = s.previous_kept;
-    } in
-    rw fields stood
-
 -- a control is asked
 map-append : (ws : List Waiting) (w : Waiting) → map ticketed (ws ++ w ∷ []) ≡ map ticketed ws ++ ticketed w ∷ []
 map-append [] w = refl
@@ -128,68 +109,6 @@ stands-asked k k' p w s items fields =
       urgent_none = rw (self k.id) s.urgent_none;
       child_kept = s.child_kept;
       end_kept = s.end_kept;
-      state_kept = s.state_kept;
-      previous_kept = s.previous_kept;
-    } in
-    rw fields stood
-
-pub stands-same : (k k' : JobTask) (p : List Entry) → SameTask k k' → Stands k p → Stands k' p
-stands-same k k' p same s =
-    let stood : Stands (record k { waiting = k'.waiting }) p = record {
-      lives_kept = s.lives_kept;
-      waits_kept = rw same.items s.waits_kept;
-      high_none = s.high_none;
-      urgent_none = s.urgent_none;
-      child_kept = s.child_kept;
-      end_kept = s.end_kept;
-      state_kept = s.state_kept;
-      previous_kept = s.previous_kept;
-    } in
-    rw same.fields stood
-
--- the end of the running child is kept
-pub stands-ended : (k : JobTask) (c at : ℕ) (p : List Entry) → IsEnding k c at p → running_of k ≡ Some c → Stands (with_end k) p
-stands-ended k c at p ending runs =
-    let s = ending.stands in
-    let is : child k.id ending.before ≡ Some c = sym s.child_kept ∙ runs in
-    let found : (c == c) ≡ true = eq-eqb c c refl in
-    rw ending.last (record {
-      lives_kept = s.lives_kept;
-      waits_kept = s.waits_kept;
-      high_none = s.high_none;
-      urgent_none = s.urgent_none;
-      child_kept = s.child_kept;
-      end_kept = rw (is, found) refl;
-      state_kept = s.state_kept;
-      previous_kept = s.previous_kept;
-    })
-
--- the job is gone
-pub stands-gone : (k k' : JobTask) (p : List Entry) → Stands k p → k.gone ≡ false → child_of k.state ≡ None → k'.waiting.items ≡ [] → k' ≡ record k { waiting = k'.waiting; kept = false; gone = true } → Stands k' (Gone k.id ∷ p)
-stands-gone k k' p s here none empty fields =
-    let stood : Stands (record k { waiting = k'.waiting; kept = false; gone = true }) (Gone k.id ∷ p) = record {
-      lives_kept = rw (self k.id) refl;
-      waits_kept = rw (empty, self k.id) refl;
-      high_none = rw (self k.id) refl;
-      urgent_none = rw (self k.id) refl;
-      child_kept = rw (here, none) at s.child_kept;
-      end_kept = rw (self k.id) refl;
-      state_kept = s.state_kept;
-      previous_kept = s.previous_kept;
-    } in
-    rw fields stood
-
-pub stands-let-go : (k k' : JobTask) (p : List Entry) (c : ℕ) → Stands k p → k.gone ≡ false → child_of k.state ≡ Some c → k'.waiting.items ≡ [] → k' ≡ record k { waiting = k'.waiting; kept = false; gone = true } → Stands k' (Gone k.id ∷ Dropped c ∷ p)
-stands-let-go k k' p c s here runs empty fields =
-    let is : child k.id p ≡ Some c = child-is k p c s here runs in
-    let found : (c == c) ≡ true = eq-eqb c c refl in
-    let stood : Stands (record k { waiting = k'.waiting; kept = false; gone = true }) (Gone k.id ∷ Dropped c ∷ p) = record {
-      lives_kept = rw (self k.id) refl;
-      waits_kept = rw (empty, self k.id) refl;
-      high_none = rw (self k.id) refl;
-      urgent_none = rw (self k.id) refl;
-      child_kept = rw (is, found) refl;
-      end_kept = rw (self k.id) refl;
       state_kept = s.state_kept;
       previous_kept = s.previous_kept;
     } in

@@ -1,5 +1,5 @@
 -- What a call that followed a plan, or did nothing, leaves.
-use Rattle.std.proofs.Common.{◌≡◌, ◌≢◌, ℕ, ◌≤◌, ◌<◌, Bool, true, false, cond, List, [], ◌∷◌, Option, Some, None, Result, Ok, Err, refl, arith, ap, sym, subst, ◌∙◌}
+use Rattle.std.proofs.Common.{◌≡◌, ℕ, ◌<◌, Bool, true, false, cond, List, [], ◌∷◌, Option, None, Result, Ok, Err, refl, arith, ap, sym, subst}
 use Rattle.std.specs.Prelude.{OnOk, OnErr}
 use Rattle.wx_command.specs.declared.command.Command.{Command}
 use Rattle.wx_control.specs.declared.id.Id.{Id}
@@ -11,12 +11,12 @@ use Rattle.wx_journal.specs.declared.entry.Entry.TheVariants.{Spawn, Raise}
 use Rattle.wx_job.specs.declared.state.CommandState.TheVariants.{Pending}
 use Rattle.wx_journal.specs.Names.{NamesItsOwn, ticket_count, count}
 use Rattle.wx_journal.specs.Told.{Rose}
-use Rattle.wx_job.specs.History.{lives, child, state, SameHistory}
+use Rattle.wx_job.specs.History.{lives, child, state}
 use Rattle.wx_job.specs.Table.{Plan, Done, step_plan, end_plan, send_plan}
 use Rattle.wx_job.specs.Case.{is_fault, Leads, Here, FollowsHost, FollowsAlone}
 use Rattle.wx_job.specs.Laws.{LeavesOthers, IsReaping, spawn_failed, AfterFaults}
 use Rattle.wx_job.proofs.Frame.{same_history}
-use Rattle.wx_job.proofs.Sound.{Sound, Reaping, is_done, is_going, KeepsOther, Followed, follow, faults_rose, sound_step, sound_end, sound_send}
+use Rattle.wx_job.proofs.Sound.{Sound, is_done, KeepsOther, follow, faults_rose, sound_step, sound_end, sound_send}
 
 pub record Left (stands : List Entry → Type 0) (id : Id) (p p' : List Entry) : Type 0 where
   pub leaves : LeavesOthers id p p'

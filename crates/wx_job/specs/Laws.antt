@@ -74,7 +74,7 @@ is_about id p (_) = false
 -- The life of a job: it is made; then come asks, whole steps and its end, each by its plan, and between them entries that
 -- are not about it.
 pub data Lived (id : Id) (command : Command) : List Entry → Type 0 where
-  Begins : (p : List Entry) → NamesItsOwn p → Lived id command (Made id ∷ p)
+  Begins : (p : List Entry) → NamesItsOwn (Made id ∷ p) → Lived id command (Made id ∷ p)
   Others : (e : Entry) (p : List Entry) → Lived id command p → NamesItsOwn (e ∷ p) → is_about id p e ≡ false → Lived id command (e ∷ p)
   Asks : (ask : Ask) (p p' : List Entry) (host hooks host' hooks' : Option (List Entry)) (n n' : ℕ) → Lived id command p → Leads (send_plan id (sends_of ask) p) p host hooks n Done p' host' hooks' n' → Lived id command p'
   Steps : (p p' : List Entry) (host hooks host' hooks' : Option (List Entry)) (n n' : ℕ) → Lived id command p → Leads (step_plan id command p) p host hooks n Done p' host' hooks' n' → Lived id command p'

@@ -18,6 +18,6 @@ pub use outside::{Host, JobHooks, Outside};
 pub use state::CommandState;
 pub use task::{JobTask, start_job};
 pub use wx_journal::{
-    Act, Entries, Entry, HostFault, Journal, Named, Offered, SpawnTag, Turn, TurnKind, WatchedPath,
-    Watcher, Word, put_entry,
+    Act, Entries, Entry, HostFault, Journal, Named, Offered, SpawnTag, Turn, TurnKind, Word,
+    put_entry,
 };

@@ -133,6 +133,17 @@ impl JobTask {
         self.walk(alloc, at, host, journal)
     }
 
+    /// Keeps the end of the running child. The journal's last entry is the turn that told this end. It takes no memory.
+    pub fn keep_end(&mut self, child: u64, at: u64, journal: &Journal)
+        requires stands { IsEnding self.old child at journal.now.past }
+        requires runs { running_of self.old ≡ Some child }
+        ensures stands { Stands self.new journal.now.past }
+        ensures fields { self.new ≡ with_end self.old }
+    {
+        let _ = &journal;
+        self.kept = true;
+    }
+
     /// Keeps the end of the running child, and does one step. The journal's last entry is the turn that told this end.
     /// It answers as `step` does; the end is kept also where memory is wanted.
     pub fn ended<H: Host, K: JobHooks>(
@@ -296,17 +307,6 @@ impl JobTask {
             level: Level::Normal,
             control,
         });
-    }
-
-    /// Keeps the end of the running child.
-    fn keep_end(&mut self, child: u64, at: u64, journal: &Journal)
-        requires stands { IsEnding self.old child at journal.now.past }
-        requires runs { running_of self.old ≡ Some child }
-        ensures stands { Stands self.new journal.now.past }
-        ensures fields { self.new ≡ with_end self.old }
-    {
-        let _ = &journal;
-        self.kept = true;
     }
 
     /// Lets go of the child that runs, where one does, and the job is gone.

@@ -12,7 +12,7 @@ use std::alloc::Global;
 use wx_command::{Command, Program, SpawnOptions, Spawnable};
 use wx_control::{Ask, Control, Flag, Id, Ticket};
 use wx_events::{List, Memory, ProcessEnd, Text};
-use wx_journal::{Entry, HostFault, Journal, SpawnTag, Turn, TurnKind, put_entry};
+use wx_journal::{Act, Entry, HostFault, Journal, SpawnTag, Turn, TurnKind, put_entry};
 
 /// A host that tells its entries. Of its calls to spawn, kill and wait, counted from 0, the one of the number `bad` fails
 /// with code 7. Children end as the last of `ends` says, or else with success.
@@ -176,10 +176,13 @@ pub(crate) fn new_world(alloc: Global, host: TestHost) -> Result<World, Memory>
     })
 }
 
-/// The journal's lines.
+/// The journal's lines, without those of the hands that create jobs.
 pub(crate) fn lines_of(alloc: Global, world: &World) -> Result<Text, Memory> {
     let mut text = Text::new(alloc);
     for entry in world.journal.iter() {
+        if matches!(entry, Entry::Hand { .. }) {
+            continue;
+        }
         put_entry(entry, &mut text)?;
         text.append(b"\n")?;
     }
@@ -197,8 +200,8 @@ pub(crate) fn command_of(alloc: Global, prog: &[u8]) -> Result<Command, Memory> 
     })
 }
 
-/// A job of this name is made, which runs this program.
-#[tactic(auto, using(crate::proofs::Turns::stands_made))]
+/// A job of this name is created, which runs this program, and made.
+#[tactic(auto, using(crate::proofs::Turns::stands_created, crate::proofs::Turns::names_created))]
 pub(crate) fn make_job(
     alloc: Global,
     id: Id,
@@ -210,8 +213,14 @@ pub(crate) fn make_job(
     ensures names { NamesItsOwn world.old.journal.past → NamesItsOwn world.new.journal.past }
     ensures others { NamesItsOwn world.old.journal.past → (k : the-JobTask) → id_of k ≢ id → Stands k world.old.journal.past → Stands k world.new.journal.past }
 {
-    world.journal.reserve(1)?;
+    world.journal.reserve(2)?;
+    let acts = vec![in alloc; Act::Create(id, command_of(alloc, prog)?)]?;
     let (_handle, task) = start_job(alloc, id, command_of(alloc, prog)?)?;
+    world.journal.push(Entry::Hand {
+        n: 0,
+        names: List::new(alloc),
+        acts: List::from_vec(acts),
+    });
     world.journal.push(Entry::Made(id));
     Ok(task)
 }

@@ -12,6 +12,7 @@ use crate::test_world::{
 };
 use std::alloc::Global;
 use std::num::NonZeroI64;
+use std::process::Abort;
 use std::test::Fail;
 use wx_control::{Ask, Control, Flag, Id};
 use wx_events::{Memory, ProcessEnd};
@@ -127,6 +128,24 @@ fn sort(task: &JobTask) -> (bool, bool, bool) {
     (state.is_pending(), state.is_running(), state.is_finished())
 }
 
+/// Plays these moves, and holds what the last of them answered, what is then seen of the job, and its sort to these.
+fn expect_seen(
+    rt: &impl Abort,
+    alloc: Global,
+    job: &mut One,
+    moves: &[Move],
+    last: Option<Stepped>,
+    wanted: Seen,
+    sorted: (bool, bool, bool),
+) -> Result<(), Memory> {
+    let answer = job.play_all(alloc, moves)?;
+    assert_eq!(rt; answer, last, "at {moves:?}");
+    assert_eq!(rt; seen(&job.task), wanted, "at {moves:?}");
+    assert_eq!(rt; sort(&job.task), sorted, "at {moves:?}");
+    assert_eq!(rt; job.task.parked(), 0);
+    Ok(())
+}
+
 #[test]
 fn a_job_starts_and_stops(rt: HostRuntime) -> Result<(), Fail> {
     let alloc = rt.alloc();
@@ -139,39 +158,22 @@ fn a_job_starts_and_stops(rt: HostRuntime) -> Result<(), Fail> {
         started: 1,
         finished: 3,
     };
-    let table: [(&[Move], Option<Stepped>, Seen, (bool, bool, bool)); 4] = [
-        (
-            &[START, STOP],
-            None,
-            (CommandState::Pending, None, None, false),
-            (true, false, false),
-        ),
-        (
-            &[Move::Step(1)],
-            Some(Stepped::Did),
-            (RUNS, before, Some(0), false),
-            (false, true, false),
-        ),
-        (
-            &[Move::Step(3)],
-            Some(Stepped::Did),
-            (ended, before, None, false),
-            (false, false, true),
-        ),
-        (
-            &[Move::End, START, Move::End, Move::Step(4)],
-            Some(Stepped::Gone),
-            (ended, before, None, true),
-            (false, false, true),
-        ),
-    ];
-    for (moves, last, wanted, sorted) in table {
-        let answer = job.play_all(alloc, moves)?;
-        assert_eq!(rt; answer, last, "at {moves:?}");
-        assert_eq!(rt; seen(&job.task), wanted, "at {moves:?}");
-        assert_eq!(rt; sort(&job.task), sorted, "at {moves:?}");
-        assert_eq!(rt; job.task.parked(), 0);
-    }
+    let did = Some(Stepped::Did);
+    let (pending, running, finished) = (
+        (true, false, false),
+        (false, true, false),
+        (false, false, true),
+    );
+    let seen = (CommandState::Pending, None, None, false);
+    expect_seen(&rt, alloc, &mut job, &[START, STOP], None, seen, pending)?;
+    let seen = (RUNS, before, Some(0), false);
+    expect_seen(&rt, alloc, &mut job, &[Move::Step(1)], did, seen, running)?;
+    let seen = (ended, before, None, false);
+    expect_seen(&rt, alloc, &mut job, &[Move::Step(3)], did, seen, finished)?;
+    let seen = (ended, before, None, true);
+    let gone = Some(Stepped::Gone);
+    let moves = [Move::End, START, Move::End, Move::Step(4)];
+    expect_seen(&rt, alloc, &mut job, &moves, gone, seen, finished)?;
     assert_eq!(rt; lines_of(alloc, &job.world)?.as_slice(), LIFE);
     Ok(())
 }
@@ -184,18 +186,15 @@ type Case = (
     CommandState,
 );
 
-/// Plays each of these with a host that fails at the call `bad`, and gives the place of the first that came otherwise.
-fn first_wrong(alloc: Global, bad: Option<u64>, cases: &[Case]) -> Result<Option<usize>, Memory> {
-    for i in 0..cases.len() {
-        let (moves, lines, last, state) = cases[i];
-        let mut job = one_job(alloc, host(alloc, bad)?)?;
-        let answer = job.play_all(alloc, moves)?;
-        let told = is_journal(alloc, &job, lines)?;
-        if !told || answer != last || *job.task.state() != state {
-            return Ok(Some(i));
-        }
-    }
-    Ok(None)
+/// Plays the moves of a case with a host that fails at the call `bad`, and holds what comes to the case.
+fn expect_case(rt: &impl Abort, alloc: Global, bad: Option<u64>, case: Case) -> Result<(), Memory> {
+    let (moves, lines, last, state) = case;
+    let mut job = one_job(alloc, host(alloc, bad)?)?;
+    let answer = job.play_all(alloc, moves)?;
+    assert!(rt; is_journal(alloc, &job, lines)?, "at {moves:?}");
+    assert_eq!(rt; answer, last, "at {moves:?}");
+    assert_eq!(rt; job.task.state(), &state, "at {moves:?}");
+    Ok(())
 }
 
 const STARTED: &[u8] = b"asked 0 0 normal start\n\
@@ -207,28 +206,26 @@ const TWICE: &[u8] = b"asked 0 0 normal start\nasked 1 0 normal start\n\
 
 #[test]
 fn steps(rt: HostRuntime) -> Result<(), Fail> {
-    let cases: [Case; 4] = [
-        (
-            &[Move::Step(5)],
-            b"turn 5 job 0\nword idle\n",
-            Some(Stepped::Idle),
-            CommandState::Pending,
-        ),
-        (
-            &[STOP, Move::Step(5)],
-            b"asked 0 0 normal stop\nturn 5 job 0\npick 0 0\nraise 0\n",
-            Some(Stepped::Did),
-            CommandState::Pending,
-        ),
-        (&[START, Move::Step(1)], STARTED, Some(Stepped::Did), RUNS),
-        (
-            &[START, START, Move::Step(1), Move::Step(2)],
-            TWICE,
-            Some(Stepped::Did),
-            RUNS,
-        ),
-    ];
-    assert_eq!(rt; first_wrong(rt.alloc(), None, &cases)?, None);
+    let alloc = rt.alloc();
+    let idle: Case = (
+        &[Move::Step(5)],
+        b"turn 5 job 0\nword idle\n",
+        Some(Stepped::Idle),
+        CommandState::Pending,
+    );
+    expect_case(&rt, alloc, None, idle)?;
+    let stopped: Case = (
+        &[STOP, Move::Step(5)],
+        b"asked 0 0 normal stop\nturn 5 job 0\npick 0 0\nraise 0\n",
+        Some(Stepped::Did),
+        CommandState::Pending,
+    );
+    expect_case(&rt, alloc, None, stopped)?;
+    let did = Some(Stepped::Did);
+    let started: Case = (&[START, Move::Step(1)], STARTED, did, RUNS);
+    expect_case(&rt, alloc, None, started)?;
+    let moves: &[Move] = &[START, START, Move::Step(1), Move::Step(2)];
+    expect_case(&rt, alloc, None, (moves, TWICE, did, RUNS))?;
     Ok(())
 }
 
@@ -251,15 +248,13 @@ const NOT_WAITED: &[u8] = b"asked 0 0 normal start\n\
 fn ends_of_children(rt: HostRuntime) -> Result<(), Fail> {
     let alone: &[Move] = &[START, Move::Step(1), Move::Ended(2)];
     let first: &[Move] = &[START, Move::Step(1), STOP, Move::Ended(2), Move::Step(3)];
-    let cases: [Case; 2] = [
-        (alone, ENDED, Some(Stepped::Did), finished(1, 2)),
-        (first, ENDED_FIRST, Some(Stepped::Did), finished(1, 2)),
-    ];
-    let alloc = rt.alloc();
-    assert_eq!(rt; first_wrong(alloc, None, &cases)?, None);
     let later: &[Move] = &[START, Move::Step(1), Move::Ended(2), Move::Step(3)];
-    let cases: [Case; 1] = [(later, NOT_WAITED, Some(Stepped::Idle), RUNS)];
-    assert_eq!(rt; first_wrong(alloc, Some(1), &cases)?, None);
+    let alloc = rt.alloc();
+    let did = Some(Stepped::Did);
+    expect_case(&rt, alloc, None, (alone, ENDED, did, finished(1, 2)))?;
+    expect_case(&rt, alloc, None, (first, ENDED_FIRST, did, finished(1, 2)))?;
+    let not_waited: Case = (later, NOT_WAITED, Some(Stepped::Idle), RUNS);
+    expect_case(&rt, alloc, Some(1), not_waited)?;
     let mut job = one_job(alloc, host(alloc, Some(1))?)?;
     job.play_all(alloc, alone)?;
     assert!(rt; !job.task.kept);
@@ -318,35 +313,46 @@ const NO_SECOND_WAIT: &[u8] = b"spawn 0 0 default ---- 1 a ok\nraise 0\n\
     turn 3 job 0\npick 0 2\nspawn 1 0 default ---- 1 a ok\nraise 2\n\
     turn 4 job 0\npick 0 3\nkill 1 ok\nwait 1 fault 7\nraise 3\n";
 
+/// Plays `RUN` with a host that fails at the call `bad`, and holds the lines behind `ASKED`, the state and the one before
+/// to these.
+fn expect_run(
+    rt: &impl Abort,
+    alloc: Global,
+    bad: Option<u64>,
+    lines: &[u8],
+    state: CommandState,
+    previous: CommandState,
+) -> Result<(), Memory> {
+    let mut job = one_job(alloc, host(alloc, bad)?)?;
+    let last = job.play_all(alloc, &RUN)?;
+    let text = lines_of(alloc, &job.world)?;
+    assert_eq!(rt;
+        text.as_slice().strip_prefix(ASKED),
+        Some(lines),
+        "at {bad:?}"
+    );
+    assert_eq!(rt; last, Some(Stepped::Did), "at {bad:?}");
+    assert_eq!(rt; job.task.state(), &state, "at {bad:?}");
+    assert_eq!(rt; job.task.previous(), Some(&previous), "at {bad:?}");
+    Ok(())
+}
+
 #[test]
 fn calls_that_fail(rt: HostRuntime) -> Result<(), Fail> {
     let alloc = rt.alloc();
+    let pending = CommandState::Pending;
+    let before = finished(1, 2);
     let second = CommandState::Running {
         child: 1,
         started: 3,
     };
-    let table: [(Option<u64>, &[u8], CommandState, CommandState); 7] = [
-        (None, ALL_WELL, finished(3, 4), finished(1, 2)),
-        (Some(0), NO_SPAWN, finished(3, 4), CommandState::Pending),
-        (Some(1), NO_KILL, finished(1, 4), CommandState::Pending),
-        (Some(2), NO_WAIT, finished(1, 4), CommandState::Pending),
-        (Some(3), NO_SECOND, CommandState::Pending, finished(1, 2)),
-        (Some(4), NO_SECOND_KILL, second, finished(1, 2)),
-        (Some(5), NO_SECOND_WAIT, second, finished(1, 2)),
-    ];
-    for (bad, lines, state, previous) in table {
-        let mut job = one_job(alloc, host(alloc, bad)?)?;
-        let last = job.play_all(alloc, &RUN)?;
-        let text = lines_of(alloc, &job.world)?;
-        assert_eq!(rt;
-            text.as_slice().strip_prefix(ASKED),
-            Some(lines),
-            "at {bad:?}"
-        );
-        assert_eq!(rt; last, Some(Stepped::Did), "at {bad:?}");
-        assert_eq!(rt; job.task.state(), &state, "at {bad:?}");
-        assert_eq!(rt; job.task.previous(), Some(&previous), "at {bad:?}");
-    }
+    expect_run(&rt, alloc, None, ALL_WELL, finished(3, 4), before)?;
+    expect_run(&rt, alloc, Some(0), NO_SPAWN, finished(3, 4), pending)?;
+    expect_run(&rt, alloc, Some(1), NO_KILL, finished(1, 4), pending)?;
+    expect_run(&rt, alloc, Some(2), NO_WAIT, finished(1, 4), pending)?;
+    expect_run(&rt, alloc, Some(3), NO_SECOND, pending, before)?;
+    expect_run(&rt, alloc, Some(4), NO_SECOND_KILL, second, before)?;
+    expect_run(&rt, alloc, Some(5), NO_SECOND_WAIT, second, before)?;
     Ok(())
 }
 
@@ -371,7 +377,7 @@ fn the_end_of_a_job(rt: HostRuntime) -> Result<(), Fail> {
         Some(Stepped::Gone),
         CommandState::Pending,
     );
-    assert_eq!(rt; first_wrong(alloc, None, &[never])?, None);
+    expect_case(&rt, alloc, None, never)?;
     Ok(())
 }
 

@@ -1,8 +1,11 @@
 -- Moments and names in a journal. It is a list of entries, the newest first, so each definition goes by the newest entry.
-use Rattle.std.specs.Prelude.{◌≡◌, ℕ, ◌+◌, ◌<◌, Bool, true, false, if◌then◌else◌, None, List, [], ◌∷◌}
+use Rattle.std.specs.Prelude.{◌≡◌, ℕ, ◌+◌, ◌<◌, Bool, true, false, ◌==◌, ◌||◌, if◌then◌else◌, None, List, [], ◌∷◌}
 use Rattle.std.specs.List.{AllByRecursion}
+use Rattle.wx_control.specs.declared.id.Id.{Id}
+use Rattle.wx_journal.specs.declared.entry.Act.{Act}
+use Rattle.wx_journal.specs.declared.entry.Act.TheVariants.{Create}
 use Rattle.wx_journal.specs.declared.entry.Entry.{Entry}
-use Rattle.wx_journal.specs.declared.entry.Entry.TheVariants.{Sent, Turn as Turned, Offer, Take, Hand, Asked, Pick, Spawn, Kill, Wait, Dropped, Raise}
+use Rattle.wx_journal.specs.declared.entry.Entry.TheVariants.{Sent, Turn as Turned, Offer, Take, Hand, Made, Asked, Pick, Spawn, Kill, Wait, Dropped, Raise}
 
 -- the moment of the last turn, 0 before the first
 abbrev pub moment : List Entry → ℕ
@@ -24,6 +27,10 @@ abbrev pub names_child : Entry → Bool
 names_child (Spawn child job tag what answer) = true
 names_child (_) = false
 
+abbrev pub names_job : Entry → Bool
+names_job (Made job) = true
+names_job (_) = false
+
 -- how many entries are of a kind
 abbrev pub count : (Entry → Bool) → List Entry → ℕ
 count kind [] = 0
@@ -39,6 +46,21 @@ ticket_count p = count names_ticket p
 abbrev pub child_count : List Entry → ℕ
 child_count p = count names_child p
 
+-- how many jobs were made: the next one has this name
+abbrev pub job_count : List Entry → ℕ
+job_count p = count names_job p
+
+-- a job of this name is created by one of these acts, and by those of an entry of this journal
+abbrev pub creates : Id → List Act → Bool
+creates id [] = false
+creates id (Create job command ∷ acts) = job.0 == id.0 || creates id acts
+creates id (_ ∷ acts) = creates id acts
+
+abbrev pub is_created : Id → List Entry → Bool
+is_created id [] = false
+is_created id (Hand n names acts ∷ p) = creates id acts || is_created id p
+is_created id (_ ∷ p) = is_created id p
+
 -- a journal names only what its own entries made
 abbrev pub NamesItsOwn : List Entry → Type 0
 NamesItsOwn [] = Unit {0}
@@ -46,6 +68,7 @@ NamesItsOwn (Sent name event priority ∷ p) = (name ≡ event_count p) × Names
 NamesItsOwn (Offer name item result event priority ∷ p) = (name ≡ event_count p) × (item ≡ None) × NamesItsOwn p
 NamesItsOwn (Take name ∷ p) = (name < event_count p) × NamesItsOwn p
 NamesItsOwn (Hand n names acts ∷ p) = AllByRecursion (λ name. name < event_count p) names × NamesItsOwn p
+NamesItsOwn (Made job ∷ p) = (is_created job p ≡ true) × NamesItsOwn p
 NamesItsOwn (Asked ticket job level control ∷ p) = (ticket ≡ ticket_count p) × NamesItsOwn p
 NamesItsOwn (Pick job ticket ∷ p) = (ticket < ticket_count p) × NamesItsOwn p
 NamesItsOwn (Raise ticket ∷ p) = (ticket < ticket_count p) × NamesItsOwn p

@@ -17,12 +17,14 @@ use Rattle.wx_control.specs.Controls.{read_control}
 use Rattle.wx_control.specs.declared.id.Id.{Id}
 use Rattle.wx_control.specs.declared.level.Level.{Level}
 use Rattle.wx_control.specs.declared.control.Control.{Control}
+use Rattle.wx_journal.specs.Acts.{read_act}
 use Rattle.wx_journal.specs.Answers.{Done, read_done, Waited, read_waited}
 use Rattle.wx_journal.specs.Kinds.{read_ranked, read_kind}
-use Rattle.wx_journal.specs.Words.{read_offered, read_said, read_act, read_tag, read_watcher, read_path, ended}
+use Rattle.wx_journal.specs.Words.{read_offered, read_said, read_tag, ended}
+use Rattle.wx_config.specs.Watched.{read_watcher, read_path}
 use Rattle.wx_journal.specs.declared.child.SpawnTag.{SpawnTag}
-use Rattle.wx_journal.specs.declared.watched.Watcher.{Watcher}
-use Rattle.wx_journal.specs.declared.watched.WatchedPath.{WatchedPath}
+use Rattle.wx_config.specs.declared.watched.Watcher.{Watcher}
+use Rattle.wx_config.specs.declared.watched.WatchedPath.{WatchedPath}
 use Rattle.wx_journal.specs.declared.entry.Offered.{Offered}
 use Rattle.wx_journal.specs.declared.entry.TurnKind.{TurnKind}
 use Rattle.wx_journal.specs.declared.entry.Entry.{Entry}

@@ -1,9 +1,8 @@
 -- The words of the values that stand in an entry, and of entries.
-use Rattle.std.specs.Prelude.{ℕ, ◌^◌, ◌<◌, Bool, true, false, Option, None, Some, List, [], ◌∷◌, ◌++◌, decimal, codes}
+use Rattle.std.specs.Prelude.{ℕ, Bool, true, false, Option, None, Some, List, [], ◌∷◌, ◌++◌, decimal, codes}
 use Rattle.std.specs.List.{flat_map}
-use Rattle.wx_words.specs.Combine.{Reader, read_as, read_nothing, read_rows}
-use Rattle.wx_words.specs.Numbers.{read_number}
-use Rattle.wx_words.specs.Texts.{AllBytes, text_word, read_text}
+use Rattle.wx_words.specs.Combine.{Reader}
+use Rattle.wx_words.specs.Texts.{text_word}
 use Rattle.wx_words.specs.Keywords.{read_keyword}
 use Rattle.wx_words.specs.Lists.{list_words}
 use Rattle.wx_words.specs.Optional.{optional_word}
@@ -12,19 +11,18 @@ use Rattle.wx_command.specs.Spawnables.{spawnable_words}
 use Rattle.wx_control.specs.Ids.{id_words}
 use Rattle.wx_control.specs.Levels.{level_word}
 use Rattle.wx_control.specs.Controls.{control_words}
+use Rattle.wx_journal.specs.Acts.{act_words}
 use Rattle.wx_journal.specs.Answers.{done_words, waited_words}
 use Rattle.wx_journal.specs.Kinds.{ranked_words, kind_words}
 use Rattle.wx_journal.specs.declared.child.SpawnTag.{SpawnTag}
 use Rattle.wx_journal.specs.declared.child.SpawnTag.TheVariants.{Default}
-use Rattle.wx_journal.specs.declared.watched.Watcher.{Watcher}
-use Rattle.wx_journal.specs.declared.watched.Watcher.TheVariants.{Native, Poll}
-use Rattle.wx_journal.specs.declared.watched.WatchedPath.{WatchedPath}
+use Rattle.wx_config.specs.declared.watched.Watcher.{Watcher}
+use Rattle.wx_config.specs.declared.watched.WatchedPath.{WatchedPath}
+use Rattle.wx_config.specs.Watched.{watcher_words, path_words}
 use Rattle.wx_journal.specs.declared.entry.Offered.{Offered}
 use Rattle.wx_journal.specs.declared.entry.Offered.TheVariants.{Queued, Full}
 use Rattle.wx_journal.specs.declared.entry.Word.{Word}
 use Rattle.wx_journal.specs.declared.entry.Word.TheVariants.{Idle, Ignored}
-use Rattle.wx_journal.specs.declared.entry.Act.{Act}
-use Rattle.wx_journal.specs.declared.entry.Act.TheVariants.{Quit}
 use Rattle.wx_journal.specs.declared.entry.Entry.{Entry}
 use Rattle.wx_journal.specs.declared.entry.Entry.TheVariants.{Begin, Sent, Turn as Turned, TurnFault, Offer, Word as Said, Take, Hand, Made, Asked, Pick, Spawn, Kill, Wait, Dropped, Raise, Gone}
 
@@ -56,18 +54,6 @@ said_words x = said_word x ∷ []
 abbrev pub read_said : Reader Word
 read_said ws = read_keyword said_word said_all ws
 
-abbrev pub act_word : Act → List ℕ
-act_word Quit = codes "quit"
-
-abbrev pub act_all : List Act
-act_all = Quit ∷ []
-
-abbrev pub act_words : Act → List (List ℕ)
-act_words x = act_word x ∷ []
-
-abbrev pub read_act : Reader Act
-read_act ws = read_keyword act_word act_all ws
-
 abbrev pub tag_word : SpawnTag → List ℕ
 tag_word Default = codes "default"
 
@@ -79,43 +65,6 @@ tag_words x = tag_word x ∷ []
 
 abbrev pub read_tag : Reader SpawnTag
 read_tag ws = read_keyword tag_word tag_all ws
-
--- ---- watchers and paths
-
-abbrev pub WatcherFits : Watcher → Type 0
-WatcherFits Native = Unit {0}
-WatcherFits (Poll interval) = interval < 2 ^ 64
-
-abbrev pub watcher_words : Watcher → List (List ℕ)
-watcher_words Native = codes "native" ∷ []
-watcher_words (Poll interval) = codes "poll" ∷ decimal interval ∷ []
-
--- each first word of a watcher, and how the rest is read
-abbrev pub watcher_rows : List (List ℕ × Reader Watcher)
-watcher_rows = (codes "native", read_as (λ u. Native) read_nothing) ∷ (codes "poll", read_as Poll read_number) ∷ []
-
-unfoldable pub read_watcher : Reader Watcher
-read_watcher ws = read_rows watcher_rows ws
-
--- a path with all below it, or with its direct entries
-abbrev pub depth_word : Bool → List ℕ
-depth_word true = codes "r"
-depth_word false = codes "n"
-
-abbrev pub PathFits : WatchedPath → Type 0
-PathFits p = AllBytes p.path
-
-abbrev pub path_words : WatchedPath → List (List ℕ)
-path_words p = depth_word p.recursive ∷ text_word p.path ∷ []
-
-abbrev pub make_path : Bool → List ℕ → WatchedPath
-make_path recursive path = record { path = path; recursive = recursive }
-
-abbrev pub path_rows : List (List ℕ × Reader WatchedPath)
-path_rows = (codes "r", read_as (make_path true) read_text) ∷ (codes "n", read_as (make_path false) read_text) ∷ []
-
-unfoldable pub read_path : Reader WatchedPath
-read_path ws = read_rows path_rows ws
 
 -- ---- entries
 

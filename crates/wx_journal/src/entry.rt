@@ -2,9 +2,9 @@
 ghost use Rattle.std.specs.Prelude.{◌≡◌, IfOk};
 
 use crate::child::{HostFault, SpawnTag};
-use crate::watched::{WatchedPath, Watcher};
 use std::alloc::Global;
-use wx_command::Spawnable;
+use wx_command::{Command, Spawnable};
+use wx_config::{WatchedPath, Watcher};
 use wx_control::{Ask, Control, Id, Level};
 use wx_events::{Copies, Event, List, Memory, Priority, ProcessEnd, TextPath};
 
@@ -49,8 +49,12 @@ pub enum Word {
 }
 
 /// What a handler asks of the engine.
-#[derive(Clone, Copy, Debug, PartialEq, Eq)]
+#[derive(Drop, Debug)]
 pub enum Act {
+    /// A job of this name is to be made, which runs this command.
+    Create(Id, Command),
+    /// This is to be asked of the job of this name.
+    Ask(Id, Ask),
     /// The run is to end at once.
     Quit,
 }
@@ -166,5 +170,15 @@ impl Copies for Turn {
             at: self.at,
             kind: self.kind.copy(alloc)?,
         })
+    }
+}
+
+impl Copies for Act {
+    fn copy(&self, alloc: Global) -> Result<Act, Memory> {
+        match self {
+            Act::Create(job, command) => Ok(Act::Create(*job, command.copy(alloc)?)),
+            Act::Ask(job, ask) => Ok(Act::Ask(*job, ask.copy(alloc)?)),
+            Act::Quit => Ok(Act::Quit),
+        }
     }
 }

@@ -1,7 +1,7 @@
 // The journal of a run.
 ghost use Rattle.std.specs.Prelude.{◌≡◌, ℕ, ◌+◌, ◌<◌, ◌≤◌, ◌^◌, ◌==◌, if◌then◌else◌, [], ◌∷◌, length, reverse, OnOk, IfOk};
 ghost use Rattle.std.specs.Slice.Iter.{iter_rest};
-ghost use Rattle.wx_journal.specs.Names.{names_ticket, names_child, ticket_count, child_count};
+ghost use Rattle.wx_journal.specs.Names.{names_ticket, names_child, names_job, ticket_count, child_count, job_count};
 
 use crate::entry::Entry;
 use std::alloc::Global;
@@ -18,6 +18,7 @@ pub struct Journal {
     entries: Vec<Entry>,
     tickets: u64,
     children: u64,
+    jobs: u64,
 }
 
 impl Model for Journal {
@@ -29,7 +30,7 @@ impl Model for Journal {
 
     ghost view = { λ j. record { past = reverse j.entries.items; spare = vec_capacity j.entries - vec_len j.entries } };
 
-    ghost invariant = { λ j. AreCounted j.tickets j.children (reverse j.entries.items) };
+    ghost invariant = { λ j. AreCounted j.tickets j.children j.jobs (reverse j.entries.items) };
 }
 
 impl Journal {
@@ -41,6 +42,7 @@ impl Journal {
             entries: Vec::new(alloc),
             tickets: 0,
             children: 0,
+            jobs: 0,
         })
     }
 
@@ -63,6 +65,7 @@ impl Journal {
     {
         self.tickets = counted(self.entries.as_slice(), self.tickets, names_ticket(&entry));
         self.children = counted(self.entries.as_slice(), self.children, names_child(&entry));
+        self.jobs = counted(self.entries.as_slice(), self.jobs, names_job(&entry));
         self.entries.push_reserved(entry);
     }
 
@@ -88,6 +91,13 @@ impl Journal {
         self.children
     }
 
+    /// How many jobs were made: the next one has this name.
+    pub fn jobs(&self) -> u64
+        ensures { result ≡ job_count self.now.past }
+    {
+        self.jobs
+    }
+
     /// How many entries there are.
     pub fn len(&self) -> u64
         ensures { result ≡ length self.now.past }
@@ -109,6 +119,7 @@ impl Journal {
     {
         self.entries.as_slice()
     }
+
     /// The entries one by one, in the order in which they came.
     pub fn iter(&self) -> Entries<'_>
         ensures { iter_rest result ≡ reverse self.now.past }
@@ -129,6 +140,13 @@ fn names_child(entry: &Entry) -> bool
     ensures { result ≡ names_child entry.now }
 {
     matches!(entry, Entry::Spawn { .. })
+}
+
+/// Whether this entry names a job.
+fn names_job(entry: &Entry) -> bool
+    ensures { result ≡ names_job entry.now }
+{
+    matches!(entry, Entry::Made(_))
 }
 
 /// This count of some of the entries, with one more where that is so.

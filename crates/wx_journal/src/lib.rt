@@ -1,20 +1,21 @@
 //! The journal of a run: its entries, their words, and the list of them.
 #![tactic(auto)]
 
+mod acts;
 mod answers;
 mod child;
 mod entry;
 mod job_words;
 mod journal;
 mod kinds;
+mod lines;
 #[cfg(test)]
 mod tests;
-mod watched;
 mod words;
 
 pub use answers::{answers_are_read_again, put_answer, take_answer};
 pub use child::{HostFault, SpawnTag};
 pub use entry::{Act, Entry, Named, Offered, Turn, TurnKind, Word};
 pub use journal::{Entries, Journal};
-pub use watched::{WatchedPath, Watcher};
+pub use lines::{put_end, put_lines};
 pub use words::put_entry;

@@ -3,12 +3,13 @@ use crate::answers::{put_answer, take_answer};
 use crate::child::{HostFault, SpawnTag};
 use crate::entry::{Act, Entry, Offered, Turn, TurnKind, Word};
 use crate::journal::Journal;
-use crate::watched::{WatchedPath, Watcher};
 use crate::words::put_entry;
 use std::alloc::Global;
 use std::num::{NonZeroI32, NonZeroI64};
+use std::process::Abort;
 use std::test::Fail;
-use wx_command::{SpawnOptions, Spawnable};
+use wx_command::{Command, Program, SpawnOptions, Spawnable};
+use wx_config::{WatchedPath, Watcher};
 use wx_control::{Ask, Control, Id, Level};
 use wx_events::{
     Copies, Event, List, Memory, Priority, ProcessEnd, Signal, Spelled, Text, TextPath, Words,
@@ -21,11 +22,29 @@ fn line_of(alloc: Global, entry: &Entry) -> Result<Text, Memory> {
     Ok(line)
 }
 
+/// Holds the line of an entry to this one.
+fn expect_line(rt: &impl Abort, alloc: Global, entry: Entry, want: &[u8]) -> Result<(), Memory> {
+    let line = line_of(alloc, &entry)?;
+    assert!(rt; line.as_slice() == want, "at {want:?}");
+    Ok(())
+}
+
 /// The value whose words are this whole line.
 fn read_line<T: Spelled>(alloc: Global, line: &[u8]) -> Result<Option<T>, Memory> {
     let mut words = Words::new(line);
     let found = T::take_front(alloc, &mut words)?;
     if words.is_done() { Ok(found) } else { Ok(None) }
+}
+
+/// Whether this whole line is a value's, and is written so again.
+fn is_read_again<T: Spelled>(alloc: Global, line: &[u8]) -> Result<bool, Memory> {
+    let found: Option<T> = read_line(alloc, line)?;
+    let Some(value) = found else {
+        return Ok(false);
+    };
+    let mut text = Text::new(alloc);
+    value.put(&mut text)?;
+    Ok(text.as_slice() == line)
 }
 
 /// An event without tags.
@@ -40,9 +59,10 @@ fn path(alloc: Global, bytes: &[u8]) -> Result<TextPath, Memory> {
     Ok(TextPath::new(Text::from_slice(alloc, bytes)?))
 }
 
-/// A turn at this moment.
-fn turn(at: u64, kind: TurnKind) -> Entry {
-    Entry::Turn(Turn { at, kind })
+/// Holds the line of a turn at moment 7, of a copy of this kind, to this one.
+fn expect_turn(rt: &impl Abort, alloc: Global, kind: TurnKind, want: &[u8]) -> Result<(), Memory> {
+    let kind = kind.copy(alloc)?;
+    expect_line(rt, alloc, Entry::Turn(Turn { at: 7, kind }), want)
 }
 
 /// The first entry of a run that watches two paths.
@@ -90,14 +110,63 @@ fn spawn(alloc: Global, child: u64, answer: Result<(), HostFault>) -> Result<Ent
     })
 }
 
+/// A kill of child 2 that was answered so.
+fn kill(answer: Result<(), HostFault>) -> Entry {
+    Entry::Kill { child: 2, answer }
+}
+
+/// A wait for child 2 that was answered so.
+fn wait(answer: Result<ProcessEnd, HostFault>) -> Entry {
+    Entry::Wait { child: 2, answer }
+}
+
+/// A command that runs program 1 with the argument a.
+fn command(alloc: Global) -> Result<Command, Memory> {
+    let argument = Text::from_slice(alloc, b"a")?;
+    let args = List::from_vec(vec![in alloc; argument]?);
+    let program = Program::Exec {
+        prog: Text::from_slice(alloc, b"1")?,
+        args,
+    };
+    Ok(Command {
+        program,
+        options: SpawnOptions::default(),
+    })
+}
+
+/// The line of a batch of event 0 that was handed to the first handler, which asked for these acts.
+fn hand_line(alloc: Global, acts: Vec<Act>) -> Result<Text, Memory> {
+    let names = vec![in alloc; 0]?;
+    let entry = Entry::Hand {
+        n: 0,
+        names: List::from_vec(names),
+        acts: List::from_vec(acts),
+    };
+    line_of(alloc, &entry)
+}
+
 #[test]
 fn entries_of_runs(rt: HostRuntime) -> Result<(), Fail> {
+    let alloc = rt.alloc();
+    let settings =
+        b"begin throttle 50000000 size 4096 errors 64 keyboard off follow on jobsignals off watcher poll 5 cwd / paths 2 r /a n /b%20c";
+    expect_line(&rt, alloc, begin(alloc)?, settings)?;
+    expect_line(&rt, alloc, Entry::TurnFault(5), b"turnfault 5")?;
+    expect_line(&rt, alloc, Entry::Word(Word::Idle), b"word idle")?;
+    expect_line(&rt, alloc, Entry::Word(Word::Ignored), b"word ignored")?;
+    expect_line(&rt, alloc, Entry::Take(1), b"take 1")?;
+    Ok(())
+}
+
+#[test]
+fn entries_of_events(rt: HostRuntime) -> Result<(), Fail> {
     let alloc = rt.alloc();
     let sent = Entry::Sent {
         name: 0,
         event: event(alloc),
         priority: Priority::Urgent,
     };
+    expect_line(&rt, alloc, sent, b"sent 0 urgent 0")?;
     let offer = Entry::Offer {
         name: 1,
         item: None,
@@ -105,27 +174,61 @@ fn entries_of_runs(rt: HostRuntime) -> Result<(), Fail> {
         event: event(alloc),
         priority: Priority::Low,
     };
+    expect_line(&rt, alloc, offer, b"offer 1 - full low 0")?;
     let hand = Entry::Hand {
         n: 0,
         names: List::from_vec(vec![in alloc; 0, 1]?),
         acts: List::from_vec(vec![in alloc; Act::Quit]?),
     };
-    let table: [(Entry, &[u8]); 8] = [
-        (
-            begin(alloc)?,
-            b"begin throttle 50000000 size 4096 errors 64 keyboard off follow on jobsignals off watcher poll 5 cwd / paths 2 r /a n /b%20c",
-        ),
-        (sent, b"sent 0 urgent 0"),
-        (Entry::TurnFault(5), b"turnfault 5"),
-        (offer, b"offer 1 - full low 0"),
-        (Entry::Word(Word::Idle), b"word idle"),
-        (Entry::Word(Word::Ignored), b"word ignored"),
-        (Entry::Take(1), b"take 1"),
-        (hand, b"hand 0 2 0 1 quit"),
+    expect_line(&rt, alloc, hand, b"hand 0 2 0 1 quit")?;
+    Ok(())
+}
+
+#[test]
+fn entries_of_batches(rt: HostRuntime) -> Result<(), Fail> {
+    let alloc = rt.alloc();
+    let none = hand_line(alloc, Vec::new(alloc))?;
+    assert!(rt; none.as_slice() == b"hand 0 1 0".as_slice());
+    let create = Act::Create(Id(0), command(alloc)?);
+    let start = Act::Ask(Id(0), Ask::One(Control::Start));
+    let all = hand_line(alloc, vec![in alloc; create, start, Act::Quit]?)?;
+    assert!(rt;
+        all.as_slice() == b"hand 0 1 0 create 0 exec ---- 2 1 a ask 0 start quit".as_slice()
+    );
+    Ok(())
+}
+
+#[test]
+fn what_handlers_ask(rt: HostRuntime) -> Result<(), Fail> {
+    let alloc = rt.alloc();
+    let acts: [&[u8]; 6] = [
+        b"create 0 exec ---- 1 a",
+        b"create 4294967295 exec g-r- 2 a %20",
+        b"ask 0 start",
+        b"ask 0 stop",
+        b"ask 4294967295 stop",
+        b"quit",
     ];
-    for (entry, want) in table {
-        let line = line_of(alloc, &entry)?;
-        assert!(rt; line.as_slice() == want, "at {want:?}");
+    for line in acts {
+        assert!(rt; is_read_again::<Act>(alloc, line)?, "at {line:?}");
+    }
+    let others: [&[u8]; 12] = [
+        b"create",
+        b"create 0",
+        b"create x exec ---- 1 a",
+        b"create 0 exec ---- 0",
+        b"create 4294967296 exec ---- 1 a",
+        b"create exec ---- 1 a 0",
+        b"ask",
+        b"ask 0",
+        b"ask 0 go",
+        b"ask start 0",
+        b"Quit",
+        b"quit 0",
+    ];
+    for line in others {
+        let act: Option<Act> = read_line(alloc, line)?;
+        assert!(rt; act.is_none(), "at {line:?}");
     }
     Ok(())
 }
@@ -135,18 +238,12 @@ fn entries_of_turns(rt: HostRuntime) -> Result<(), Fail> {
     let alloc = rt.alloc();
     let arrival = TurnKind::Arrive(event(alloc), Priority::Low);
     let ask = TurnKind::Ask(Id(3), Ask::One(Control::Start));
-    let table: [(TurnKind, &[u8]); 6] = [
-        (arrival, b"turn 7 arrive low 0"),
-        (TurnKind::Work, b"turn 7 work"),
-        (TurnKind::Job(Id(3)), b"turn 7 job 3"),
-        (TurnKind::Ended(2), b"turn 7 ended 2"),
-        (ask, b"turn 7 ask 3 start"),
-        (TurnKind::Last, b"turn 7 last"),
-    ];
-    for (kind, want) in table {
-        let line = line_of(alloc, &turn(7, kind.copy(alloc)?))?;
-        assert!(rt; line.as_slice() == want, "at {want:?}");
-    }
+    expect_turn(&rt, alloc, arrival, b"turn 7 arrive low 0")?;
+    expect_turn(&rt, alloc, TurnKind::Work, b"turn 7 work")?;
+    expect_turn(&rt, alloc, TurnKind::Job(Id(3)), b"turn 7 job 3")?;
+    expect_turn(&rt, alloc, TurnKind::Ended(2), b"turn 7 ended 2")?;
+    expect_turn(&rt, alloc, ask, b"turn 7 ask 3 start")?;
+    expect_turn(&rt, alloc, TurnKind::Last, b"turn 7 last")?;
     Ok(())
 }
 
@@ -157,54 +254,39 @@ fn entries_of_jobs(rt: HostRuntime) -> Result<(), Fail> {
         job: Id(3),
         ticket: 4,
     };
-    let table: [(Entry, &[u8]); 8] = [
-        (Entry::Made(Id(3)), b"made 3"),
-        (asked(4), b"asked 4 3 high stop"),
-        (pick, b"pick 3 4"),
-        (
-            spawn(alloc, 2, Ok(()))?,
-            b"spawn 2 3 default g--- 2 sh a%20b ok",
-        ),
-        (
-            spawn(alloc, 2, Err(HostFault(9)))?,
-            b"spawn 2 3 default g--- 2 sh a%20b fault 9",
-        ),
-        (Entry::Dropped(2), b"drop 2"),
-        (Entry::Raise(4), b"raise 4"),
-        (Entry::Gone(Id(3)), b"gone 3"),
-    ];
-    for (entry, want) in table {
-        let line = line_of(alloc, &entry)?;
-        assert!(rt; line.as_slice() == want, "at {want:?}");
-    }
+    expect_line(&rt, alloc, Entry::Made(Id(3)), b"made 3")?;
+    expect_line(&rt, alloc, asked(4), b"asked 4 3 high stop")?;
+    expect_line(&rt, alloc, pick, b"pick 3 4")?;
+    expect_line(&rt, alloc, Entry::Raise(4), b"raise 4")?;
+    expect_line(&rt, alloc, Entry::Gone(Id(3)), b"gone 3")?;
+    Ok(())
+}
+
+#[test]
+fn entries_of_spawns(rt: HostRuntime) -> Result<(), Fail> {
+    let alloc = rt.alloc();
+    let well = spawn(alloc, 2, Ok(()))?;
+    expect_line(&rt, alloc, well, b"spawn 2 3 default g--- 2 sh a%20b ok")?;
+    let badly = spawn(alloc, 2, Err(HostFault(9)))?;
+    let fault = b"spawn 2 3 default g--- 2 sh a%20b fault 9";
+    expect_line(&rt, alloc, badly, fault)?;
+    expect_line(&rt, alloc, Entry::Dropped(2), b"drop 2")?;
     Ok(())
 }
 
 #[test]
 fn entries_of_children(rt: HostRuntime) -> Result<(), Fail> {
     let alloc = rt.alloc();
-    let done: [(Result<(), HostFault>, &[u8]); 2] = [
-        (Ok(()), b"kill 2 ok"),
-        (Err(HostFault(3)), b"kill 2 fault 3"),
-    ];
-    for (answer, want) in done {
-        let line = line_of(alloc, &Entry::Kill { child: 2, answer })?;
-        assert!(rt; line.as_slice() == want, "at {want:?}");
-    }
+    expect_line(&rt, alloc, kill(Ok(())), b"kill 2 ok")?;
+    expect_line(&rt, alloc, kill(Err(HostFault(3))), b"kill 2 fault 3")?;
     let seven = NonZeroI64::new(7).ok_or("seven")?;
-    let ends: [(Result<ProcessEnd, HostFault>, &[u8]); 4] = [
-        (Ok(ProcessEnd::Success), b"wait 2 success"),
-        (Ok(ProcessEnd::ExitError(seven)), b"wait 2 error.7"),
-        (
-            Ok(ProcessEnd::ExitSignal(Signal::Terminate)),
-            b"wait 2 signal.terminate",
-        ),
-        (Err(HostFault(4_294_967_295)), b"wait 2 fault 4294967295"),
-    ];
-    for (answer, want) in ends {
-        let line = line_of(alloc, &Entry::Wait { child: 2, answer })?;
-        assert!(rt; line.as_slice() == want, "at {want:?}");
-    }
+    let error = wait(Ok(ProcessEnd::ExitError(seven)));
+    let signal = wait(Ok(ProcessEnd::ExitSignal(Signal::Terminate)));
+    let fault = wait(Err(HostFault(4_294_967_295)));
+    expect_line(&rt, alloc, wait(Ok(ProcessEnd::Success)), b"wait 2 success")?;
+    expect_line(&rt, alloc, error, b"wait 2 error.7")?;
+    expect_line(&rt, alloc, signal, b"wait 2 signal.terminate")?;
+    expect_line(&rt, alloc, fault, b"wait 2 fault 4294967295")?;
     Ok(())
 }
 
@@ -221,10 +303,7 @@ fn what_turns_bring(rt: HostRuntime) -> Result<(), Fail> {
         b"last",
     ];
     for line in kinds {
-        let kind: TurnKind = read_line(alloc, line)?.ok_or("a kind")?;
-        let mut text = Text::new(alloc);
-        kind.put(&mut text)?;
-        assert!(rt; text.as_slice() == line, "at {line:?}");
+        assert!(rt; is_read_again::<TurnKind>(alloc, line)?, "at {line:?}");
     }
     let others: [&[u8]; 11] = [
         b"arrive 0 high",
@@ -307,6 +386,16 @@ fn answers_by_value(rt: HostRuntime) -> Result<(), Fail> {
     Ok(())
 }
 
+/// The lines of the journal's entries, each with a comma behind it.
+fn text_of(alloc: Global, journal: &Journal) -> Result<Text, Memory> {
+    let mut text = Text::new(alloc);
+    for entry in journal.iter() {
+        put_entry(entry, &mut text)?;
+        text.append(b",")?;
+    }
+    Ok(text)
+}
+
 #[test]
 fn a_journal_and_its_counts(rt: HostRuntime) -> Result<(), Fail> {
     let alloc = rt.alloc();
@@ -315,6 +404,7 @@ fn a_journal_and_its_counts(rt: HostRuntime) -> Result<(), Fail> {
     journal.reserve(4)?;
     let room = journal.spare();
     journal.push(Entry::Made(Id(3)));
+    assert_eq!(rt; journal.jobs(), 1);
     journal.push(asked(0));
     journal.push(asked(1));
     journal.push(spawn(alloc, 0, Ok(()))?);
@@ -323,14 +413,10 @@ fn a_journal_and_its_counts(rt: HostRuntime) -> Result<(), Fail> {
     assert!(rt; !journal.is_empty());
     assert_eq!(rt; journal.tickets(), 2);
     assert_eq!(rt; journal.children(), 1);
+    assert_eq!(rt; journal.jobs(), 1);
     assert_eq!(rt; journal.as_slice().len(), 4);
-    let mut text = Text::new(alloc);
-    for entry in journal.iter() {
-        put_entry(entry, &mut text)?;
-        text.append(b",")?;
-    }
     assert_eq!(rt;
-        text.as_slice(),
+        text_of(alloc, &journal)?.as_slice(),
         b"made 3,asked 0 3 high stop,asked 1 3 high stop,spawn 0 3 default g--- 2 sh a%20b ok,".as_slice()
     );
     Ok(())

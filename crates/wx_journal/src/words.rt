@@ -3,14 +3,14 @@ ghost use Rattle.std.specs.Prelude.{◌≡◌, [], ◌∷◌, ◌++◌, OnOk, If
 ghost use Rattle.std.specs.List.{flat_map};
 ghost use Rattle.wx_words.specs.Line.{spaced, joined, Reads};
 ghost use Rattle.wx_words.specs.Lists.{list_words};
-ghost use Rattle.wx_journal.specs.Words.{limit_words, switch_words, watch_words, entry_words, read_watcher, read_path};
+ghost use Rattle.wx_journal.specs.Words.{limit_words, switch_words, watch_words, entry_words};
 ghost use Rattle.wx_journal.specs.declared.entry.Entry.TheVariants.{Sent, Turn as Turned, Offer, Hand};
 
 use crate::entry::{Act, Entry, Offered, Turn, Word};
 use crate::job_words::put_job_entry;
 use crate::kinds::put_ranked;
-use crate::watched::{WatchedPath, Watcher};
 use std::alloc::Global;
+use wx_config::{WatchedPath, Watcher};
 use wx_events::{
     Event, Keyword, List, Memory, Priority, Spelled, Text, TextPath, Words, put_items, put_keyword,
     take_keyword,
@@ -111,157 +111,6 @@ impl Spelled for Word {
 
     fn take(_alloc: Global, line: &mut Words) -> Result<Option<Word>, Memory> {
         Ok(take_keyword(line))
-    }
-}
-
-const ACTS: [Act; 1] = [Act::Quit];
-
-impl Keyword for Act {
-    ghost use Rattle.wx_journal.specs.Words.{act_word, act_all};
-    ghost use Rattle.wx_journal.specs.WordLaws.{act_found, act_word_clean};
-
-    ghost word = { act_word };
-
-    ghost all = { act_all };
-
-    ghost found = { act_found };
-
-    ghost clean = { act_word_clean };
-
-    fn word(self) -> &'static [u8] {
-        match self {
-            Act::Quit => b"quit",
-        }
-    }
-
-    fn all() -> &'static [Act] {
-        &ACTS
-    }
-}
-
-impl Spelled for Act {
-    ghost use Rattle.wx_journal.specs.Words.{act_words, read_act};
-    ghost use Rattle.wx_journal.specs.WordLaws.{act_form, act_clean};
-
-    ghost words = { act_words };
-
-    ghost fits = { λ x. Unit {0} };
-
-    ghost read = { read_act };
-
-    ghost form = { act_form };
-
-    ghost clean = { act_clean };
-
-    fn put_after(&self, out: &mut Text) -> Result<(), Memory> {
-        put_keyword(*self, out)
-    }
-
-    fn take(_alloc: Global, line: &mut Words) -> Result<Option<Act>, Memory> {
-        Ok(take_keyword(line))
-    }
-}
-
-/// Takes the watcher at the front, or loses the place.
-#[tactic(auto, unfolding(crate::specs::Words::read_watcher))]
-fn take_watcher(alloc: Global, line: &mut Words) -> Result<Option<Watcher>, Memory>
-    ensures { IfOk result (λ x. Reads line.new x (read_watcher line.old)) }
-{
-    let Some(word) = line.next() else {
-        return Ok(None);
-    };
-    if word == b"native".as_slice() {
-        return Ok(Some(Watcher::Native));
-    }
-    if word != b"poll".as_slice() {
-        return Ok(None);
-    }
-    match u64::take(alloc, line)? {
-        Some(interval) => Ok(Some(Watcher::Poll(interval))),
-        None => Ok(None),
-    }
-}
-
-impl Spelled for Watcher {
-    ghost use Rattle.wx_journal.specs.Words.{WatcherFits, watcher_words};
-    ghost use Rattle.wx_journal.specs.WordLaws.{watcher_form, watcher_clean};
-
-    ghost words = { watcher_words };
-
-    ghost fits = { WatcherFits };
-
-    ghost read = { read_watcher };
-
-    ghost form = { watcher_form };
-
-    ghost clean = { watcher_clean };
-
-    #[tactic(auto, using(wx_words::specs::LineLaws::spaces))]
-    fn put_after(&self, out: &mut Text) -> Result<(), Memory> {
-        match self {
-            Watcher::Native => out.append(b" native"),
-            Watcher::Poll(interval) => {
-                out.append(b" poll")?;
-                interval.put_after(out)
-            }
-        }
-    }
-
-    fn take(alloc: Global, line: &mut Words) -> Result<Option<Watcher>, Memory> {
-        let mut ahead = line.fork();
-        let found = take_watcher(alloc, &mut ahead)?;
-        if found.is_some() {
-            *line = ahead;
-        }
-        Ok(found)
-    }
-}
-
-/// Takes the watched path at the front, or loses the place.
-#[tactic(auto, unfolding(crate::specs::Words::read_path))]
-fn take_path(alloc: Global, line: &mut Words) -> Result<Option<WatchedPath>, Memory>
-    ensures { IfOk result (λ x. Reads line.new x (read_path line.old)) }
-{
-    let Some(word) = line.next() else {
-        return Ok(None);
-    };
-    let recursive = word == b"r".as_slice();
-    if !recursive && word != b"n".as_slice() {
-        return Ok(None);
-    }
-    match TextPath::take(alloc, line)? {
-        Some(path) => Ok(Some(WatchedPath { path, recursive })),
-        None => Ok(None),
-    }
-}
-
-impl Spelled for WatchedPath {
-    ghost use Rattle.wx_journal.specs.Words.{PathFits, path_words};
-    ghost use Rattle.wx_journal.specs.WordLaws.{path_form, path_clean};
-
-    ghost words = { path_words };
-
-    ghost fits = { PathFits };
-
-    ghost read = { read_path };
-
-    ghost form = { path_form };
-
-    ghost clean = { path_clean };
-
-    #[tactic(auto, using(wx_words::specs::LineLaws::spaces))]
-    fn put_after(&self, out: &mut Text) -> Result<(), Memory> {
-        out.append(if self.recursive { b" r" } else { b" n" })?;
-        self.path.put_after(out)
-    }
-
-    fn take(alloc: Global, line: &mut Words) -> Result<Option<WatchedPath>, Memory> {
-        let mut ahead = line.fork();
-        let found = take_path(alloc, &mut ahead)?;
-        if found.is_some() {
-            *line = ahead;
-        }
-        Ok(found)
     }
 }
 

@@ -1,18 +1,19 @@
 -- What one line of a script says.
-use Rattle.std.specs.Prelude.{ℕ, ◌==◌, if◌then◌else◌, Option, Some, List, [], ◌∷◌, codes}
+use Rattle.std.specs.Prelude.{ℕ, Bool, true, false, ◌==◌, if◌then◌else◌, Option, None, Some, List, [], ◌∷◌, length, codes}
 use Rattle.wx_words.specs.Line.{words_of, ◌>>=◌}
-use Rattle.wx_words.specs.Combine.{Reader, read_pair, read_as, read_literal, read_nothing, read_rows}
+use Rattle.wx_words.specs.Combine.{Reader, read_pair, read_as, read_literal, read_rows}
 use Rattle.wx_words.specs.Numbers.{read_number, read_u32}
-use Rattle.wx_words.specs.Keywords.{with_word}
 use Rattle.wx_events.specs.Events.{read_priority}
 use Rattle.wx_events.specs.declared.priority.Priority.{Priority}
 use Rattle.wx_events.specs.declared.event.Event.{Event}
-use Rattle.wx_journal.specs.Words.{act_word, act_all, ended}
-use Rattle.wx_journal.specs.declared.entry.Act.{Act}
+use Rattle.wx_journal.specs.Answers.{read_done, read_waited}
+use Rattle.wx_journal.specs.Kinds.{read_kind as read_any_kind}
+use Rattle.wx_journal.specs.Words.{ended}
 use Rattle.wx_journal.specs.declared.entry.TurnKind.{TurnKind}
-use Rattle.wx_journal.specs.declared.entry.TurnKind.TheVariants.{Arrive, Work}
+use Rattle.wx_journal.specs.declared.entry.TurnKind.TheVariants.{Arrive, Last}
+use Rattle.wx_run.specs.Acts.{read_acts}
 use Rattle.wx_run.specs.declared.lines.Line.{Line}
-use Rattle.wx_run.specs.declared.lines.Line.TheVariants.{Nothing, Throttle, Size, Send, Turn as Turned, Fault, Acts}
+use Rattle.wx_run.specs.declared.lines.Line.TheVariants.{Nothing, Throttle, Size, Send, Turn as Turned, Fault, Acts, Spawn, Kill, Wait}
 
 -- an event without tags, which is written as its priority and the number of its tags
 abbrev pub untagged : Event
@@ -21,12 +22,17 @@ untagged = record { tags = [] }
 abbrev pub read_untagged : Reader Priority
 read_untagged ws = read_as (λ p. p.0) (read_pair read_priority (read_literal (codes "0"))) ws
 
--- each first word of what a turn brings, and how the rest is read
-abbrev pub kind_rows : List (List ℕ × Reader TurnKind)
-kind_rows = (codes "arrive", read_as (Arrive untagged) read_untagged) ∷ (codes "work", read_as (λ u. Work) read_nothing) ∷ []
+-- what a script can say that a turn brings: all but an event with tags, and a last turn
+abbrev pub is_scripted : TurnKind → Bool
+is_scripted (Arrive event priority) = length event.tags == 0
+is_scripted Last = false
+is_scripted (_) = true
 
-unfoldable pub read_kind : Reader TurnKind
-read_kind ws = read_rows kind_rows ws
+abbrev pub if_scripted : TurnKind × List (List ℕ) → Option (TurnKind × List (List ℕ))
+if_scripted kind = if is_scripted kind.0 then Some kind else None
+
+abbrev pub read_kind : Reader TurnKind
+read_kind ws = read_any_kind ws >>= if_scripted
 
 abbrev pub make_turn : ℕ × TurnKind → Line
 make_turn p = Turned (record { at = p.0; kind = p.1 })
@@ -40,20 +46,18 @@ set_rows = (codes "throttle", read_as Throttle read_number) ∷ (codes "size", r
 unfoldable pub read_set : Reader Line
 read_set ws = read_rows set_rows ws
 
--- all words to the end of the line, each of which is an act
-abbrev pub acts_in : List (List ℕ) → Option (List Act)
-acts_in [] = Some []
-acts_in (w ∷ ws) = do
-  act ← with_word act_word act_all w
-  acts ← acts_in ws
-  Some (act ∷ acts)
-
-abbrev pub read_acts : Reader (List Act)
-read_acts ws = acts_in ws >>= λ acts. Some (acts, [])
-
 -- each first word of a line, and how the rest is read
 abbrev pub form_rows : List (List ℕ × Reader Line)
-form_rows = (codes "set", read_set) ∷ (codes "send", read_as (Send untagged) read_untagged) ∷ (codes "turn", read_turn) ∷ (codes "turnfault", read_as Fault read_u32) ∷ (codes "action", read_as Acts read_acts) ∷ []
+form_rows =
+    (codes "set", read_set)
+    ∷ (codes "send", read_as (Send untagged) read_untagged)
+    ∷ (codes "turn", read_turn)
+    ∷ (codes "turnfault", read_as Fault read_u32)
+    ∷ (codes "action", read_as Acts read_acts)
+    ∷ (codes "spawn", read_as Spawn read_done)
+    ∷ (codes "kill", read_as Kill read_done)
+    ∷ (codes "wait", read_as Wait read_waited)
+    ∷ []
 
 unfoldable pub read_form : Reader Line
 read_form ws = read_rows form_rows ws

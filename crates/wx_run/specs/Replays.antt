@@ -3,9 +3,10 @@ use Rattle.std.specs.Prelude.{ℕ, ◌≡◌, ◌<◌, ◌≤◌, ⊤, Option, I
 use Rattle.std.specs.Io.KnownBytes.{Appends, Consumes, IsAtEnd}
 use Rattle.wx_journal.specs.declared.entry.Entry.{Entry}
 use Rattle.wx_journal.specs.Told.{Rose}
-use Rattle.wx_action.specs.declared.error.CriticalError.TheVariants.{IoError, Memory as NoMemory}
+use Rattle.wx_config.specs.declared.error.CriticalError.TheVariants.{IoError, Memory as NoMemory}
 use Rattle.wx_action.specs.Answer.{Answers}
-use Rattle.wx_action.specs.Printed.{Answer, printed}
+use Rattle.wx_action.specs.Printed.{printed}
+use Rattle.wx_journal.specs.Lines.{Answer}
 use Rattle.wx_engine.specs.declared.script.Script.{Script}
 use Rattle.wx_engine.specs.Follows.{start_of, Follows}
 use Rattle.wx_run.specs.Causes.{AddsFront}

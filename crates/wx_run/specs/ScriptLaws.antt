@@ -6,10 +6,12 @@ use Rattle.std.specs.List.{AllByRecursion}
 use Rattle.std.proofs.lemmas.Bool.Decides.{nat_tests}
 use Rattle.wx_words.specs.Line.{parts, words_of, ◌>>=◌}
 use Rattle.wx_words.specs.OptionLaws.{bind_some}
-use Rattle.wx_words.specs.Combine.{Reader, read_pair, read_as, read_nothing, row_at, read_rows}
+use Rattle.wx_words.specs.Combine.{Reader, read_pair, read_as, row_at, read_rows}
 use Rattle.wx_words.specs.Numbers.{read_number, read_u32}
 use Rattle.wx_journal.specs.declared.entry.TurnKind.{TurnKind}
-use Rattle.wx_journal.specs.declared.entry.TurnKind.TheVariants.{Arrive, Work}
+use Rattle.wx_journal.specs.declared.entry.TurnKind.TheVariants.{Last}
+use Rattle.wx_journal.specs.Answers.{read_done, read_waited}
+use Rattle.wx_journal.specs.Kinds.{read_kind as read_any_kind}
 use Rattle.wx_journal.specs.Words.{ended}
 use Rattle.wx_action.specs.Told.{is_last}
 use Rattle.wx_engine.specs.declared.script.Script.{Script}
@@ -17,8 +19,9 @@ use Rattle.wx_engine.specs.declared.script.ScriptTurn.TheVariants.{Turn, Fault}
 use Rattle.wx_engine.specs.Follows.{IsScript}
 use Rattle.wx_engine.specs.FollowLaws.{rises_turn, rises_fault, come_more}
 use Rattle.wx_run.specs.declared.lines.Line.{Line}
-use Rattle.wx_run.specs.declared.lines.Line.TheVariants.{Nothing, Throttle, Size, Send, Turn as Turned, Fault as Failed, Acts}
-use Rattle.wx_run.specs.Lines.{untagged, read_untagged, kind_rows, read_kind, make_turn, read_turn, set_rows, read_set, read_acts, form_rows, read_form, line_in}
+use Rattle.wx_run.specs.declared.lines.Line.TheVariants.{Nothing, Throttle, Size, Send, Turn as Turned, Fault as Failed, Acts, Spawn, Kill, Wait}
+use Rattle.wx_run.specs.Acts.{read_acts}
+use Rattle.wx_run.specs.Lines.{untagged, read_untagged, is_scripted, if_scripted, read_kind, make_turn, read_turn, set_rows, read_set, form_rows, read_form, line_in}
 use Rattle.wx_run.specs.Scripts.{start, accepts, step, after_line, scan, script_in}
 
 -- ---- no line brings a last turn
@@ -71,9 +74,20 @@ abbrev pub LineComes : Line → Type 0
 LineComes (Turned t) = KindComes t.kind
 LineComes (_) = Unit {0}
 
+scripted_comes : (kind : TurnKind) → is_scripted kind ≡ true → KindComes kind
+scripted_comes Last e = absurd cc
+scripted_comes (_) e = refl
+
 kind_comes : Always KindComes read_kind
-unfolding read_kind
-kind_comes ws = always_rows KindComes kind_rows (always_made KindComes (Arrive untagged) read_untagged (λ priority. refl), (always_made KindComes (λ u. Work) read_nothing (λ u. refl), tt)) ws
+kind_comes ws = go (read_any_kind ws)
+  where
+    if_comes : (kind : TurnKind) (b : Bool) (rest : List (List ℕ)) → is_scripted kind ≡ b → IfSome {T = TurnKind × List (List ℕ)} (cond b (Some (kind, rest)) None) (λ x. KindComes x.0)
+    if_comes kind true rest e = scripted_comes kind e
+    if_comes kind false rest e = tt
+
+    go : (o : Option (TurnKind × List (List ℕ))) → IfSome (o >>= if_scripted) (λ x. KindComes x.0)
+    go None = tt
+    go (Some (kind, rest)) = if_comes kind (is_scripted kind) rest refl
 
 turn_comes : Always LineComes read_turn
 turn_comes ws = always_as LineComes (λ p. KindComes p.1) make_turn (read_pair read_number read_kind) (λ p come. come) (always_second KindComes read_number read_kind kind_comes) ws
@@ -85,8 +99,31 @@ set_comes ws = always_rows LineComes set_rows (always_made LineComes Throttle re
 form_comes : Always LineComes read_form
 unfolding read_form
 form_comes ws =
-    always_rows LineComes form_rows
-    (set_comes, (always_made LineComes (Send untagged) read_untagged (λ priority. tt), (turn_comes, (always_made LineComes Failed read_u32 (λ code. tt), (always_made LineComes Acts read_acts (λ acts. tt), tt)))))
+    always_rows LineComes form_rows (
+      set_comes,
+      (
+        always_made LineComes (Send untagged) read_untagged (λ priority. tt),
+        (
+          turn_comes,
+          (
+            always_made LineComes Failed read_u32 (λ code. tt),
+            (
+              always_made LineComes Acts read_acts (λ acts. tt),
+              (
+                always_made LineComes Spawn read_done (λ answer. tt),
+                (
+                  always_made LineComes Kill read_done (λ answer. tt),
+                  (
+                    always_made LineComes Wait read_waited (λ answer. tt),
+                    tt,
+                  ),
+                ),
+              ),
+            ),
+          ),
+        ),
+      ),
+    )
     ws
 
 pub line_comes : (line : List ℕ) (said : Line) → line_in line ≡ Some said → LineComes said
@@ -139,6 +176,15 @@ accepts_lawful s t (Failed code) is come e =
     subst IsScript same (record { size = is.size; sends = is.sends; comes = come_more s.turns (Fault code) is.comes refl; rises = rises_fault s.turns s.last code is.rises })
 accepts_lawful s t (Acts acts) is come e =
     let same : record s { actions = s.actions ++ acts ∷ [] } ≡ t = some_same e in
+    subst IsScript same (record { size = is.size; sends = is.sends; comes = is.comes; rises = is.rises })
+accepts_lawful s t (Spawn answer) is come e =
+    let same : record s { spawns = s.spawns ++ answer ∷ [] } ≡ t = some_same e in
+    subst IsScript same (record { size = is.size; sends = is.sends; comes = is.comes; rises = is.rises })
+accepts_lawful s t (Kill answer) is come e =
+    let same : record s { kills = s.kills ++ answer ∷ [] } ≡ t = some_same e in
+    subst IsScript same (record { size = is.size; sends = is.sends; comes = is.comes; rises = is.rises })
+accepts_lawful s t (Wait answer) is come e =
+    let same : record s { waits = s.waits ++ answer ∷ [] } ≡ t = some_same e in
     subst IsScript same (record { size = is.size; sends = is.sends; comes = is.comes; rises = is.rises })
 
 step_lawful : (s t : Script) (line : List ℕ) → IsScript s → step s line ≡ Some t → IsScript t

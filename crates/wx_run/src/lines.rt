@@ -1,11 +1,13 @@
 // What one line of a script says.
 ghost use Rattle.std.specs.Prelude.{◌≡◌, [], IfOk};
 ghost use Rattle.wx_words.specs.Line.{Reads};
-ghost use Rattle.wx_run.specs.Lines.{read_untagged, read_kind, read_set, read_turn, read_acts, read_form, line_in};
+ghost use Rattle.wx_run.specs.Lines.{read_untagged, is_scripted, read_kind, read_set, read_turn, read_form, line_in};
 
+use crate::acts::take_acts;
 use std::alloc::Global;
-use wx_events::{Event, List, Memory, Priority, Spelled, Words, take_literal, with_word};
-use wx_journal::{Act, Turn, TurnKind};
+use wx_engine::ScriptAct;
+use wx_events::{Event, List, Memory, Priority, ProcessEnd, Spelled, Words, take_literal};
+use wx_journal::{HostFault, Turn, TurnKind, take_answer};
 
 /// What a line of a script says.
 #[derive(Drop, Debug)]
@@ -23,7 +25,13 @@ pub enum Line {
     /// The world has no turn to give, and this is the code of its fault.
     Fault(u32),
     /// The action handler asks for this in one call.
-    Acts(List<Act>),
+    Acts(List<ScriptAct>),
+    /// The host answers this to a spawn.
+    Spawn(Result<(), HostFault>),
+    /// The host answers this to a kill.
+    Kill(Result<(), HostFault>),
+    /// The host answers this to a wait.
+    Wait(Result<ProcessEnd, HostFault>),
 }
 
 /// Takes the priority of an event without tags and the number of its tags, or loses the place.
@@ -49,21 +57,26 @@ fn untagged(alloc: Global) -> Event
     }
 }
 
+/// Whether a script can say that a turn brings this: all but an event with tags, and a last turn.
+fn is_scripted(kind: &TurnKind) -> bool
+    ensures { result ≡ is_scripted kind.now }
+{
+    match kind {
+        TurnKind::Arrive(event, _) => event.is_empty(),
+        TurnKind::Last => false,
+        _ => true,
+    }
+}
+
 /// Takes what a turn brings, or loses the place.
-#[tactic(auto, unfolding(crate::specs::Lines::read_kind))]
 fn take_kind(alloc: Global, line: &mut Words) -> Result<Option<TurnKind>, Memory>
     ensures { IfOk result (λ kind. Reads line.new kind (read_kind line.old)) }
 {
-    let Some(word) = line.next() else {
+    let Some(kind) = TurnKind::take(alloc, line)? else {
         return Ok(None);
     };
-    if word == b"arrive".as_slice() {
-        match take_untagged(alloc, line)? {
-            Some(priority) => Ok(Some(TurnKind::Arrive(untagged(alloc), priority))),
-            None => Ok(None),
-        }
-    } else if word == b"work".as_slice() {
-        Ok(Some(TurnKind::Work))
+    if is_scripted(&kind) {
+        Ok(Some(kind))
     } else {
         Ok(None)
     }
@@ -105,21 +118,6 @@ fn take_turn(alloc: Global, line: &mut Words) -> Result<Option<Line>, Memory>
     Ok(Some(Line::Turn(Turn { at, kind })))
 }
 
-/// Takes all words that are left, each of which is an act, or loses the place.
-#[tactic(auto, using(crate::proofs::ActLaws::goes_on, crate::proofs::ActLaws::stops, crate::proofs::ActLaws::ends))]
-fn take_acts(alloc: Global, line: &mut Words) -> Result<Option<List<Act>>, Memory>
-    ensures { IfOk result (λ acts. Reads line.new acts (read_acts line.old)) }
-{
-    let mut acts = List::new(alloc);
-    while let Some(word) = line.next() {
-        let Some(act) = with_word(word) else {
-            return Ok(None);
-        };
-        acts.push(act)?;
-    }
-    Ok(Some(acts))
-}
-
 /// Takes what the first word calls for, or loses the place.
 #[tactic(auto, unfolding(crate::specs::Lines::read_form))]
 fn take_form(alloc: Global, line: &mut Words) -> Result<Option<Line>, Memory>
@@ -129,21 +127,25 @@ fn take_form(alloc: Global, line: &mut Words) -> Result<Option<Line>, Memory>
         return Ok(None);
     };
     if word == b"set".as_slice() {
-        return take_set(alloc, line);
-    }
-    if word == b"turn".as_slice() {
-        return take_turn(alloc, line);
-    }
-    let said = if word == b"send".as_slice() {
-        take_untagged(alloc, line)?.map(|priority| Line::Send(untagged(alloc), priority))
+        take_set(alloc, line)
+    } else if word == b"send".as_slice() {
+        let priority = take_untagged(alloc, line)?;
+        Ok(priority.map(|priority| Line::Send(untagged(alloc), priority)))
+    } else if word == b"turn".as_slice() {
+        take_turn(alloc, line)
     } else if word == b"turnfault".as_slice() {
-        u32::take(alloc, line)?.map(Line::Fault)
+        Ok(u32::take(alloc, line)?.map(Line::Fault))
     } else if word == b"action".as_slice() {
-        take_acts(alloc, line)?.map(Line::Acts)
+        Ok(take_acts(alloc, line)?.map(Line::Acts))
+    } else if word == b"spawn".as_slice() {
+        Ok(take_answer(alloc, line)?.map(Line::Spawn))
+    } else if word == b"kill".as_slice() {
+        Ok(take_answer(alloc, line)?.map(Line::Kill))
+    } else if word == b"wait".as_slice() {
+        Ok(take_answer(alloc, line)?.map(Line::Wait))
     } else {
-        None
-    };
-    Ok(said)
+        Ok(None)
+    }
 }
 
 /// What a line says, without its line feed.

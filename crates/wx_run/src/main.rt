@@ -1,9 +1,12 @@
 //! Runs scripts of events, and writes the journal of each run.
 #![tactic(auto)]
 
+mod acts;
 mod feeding;
 mod lines;
 mod memory;
+#[cfg(test)]
+mod random;
 mod replay;
 mod script;
 mod sink;
@@ -37,16 +40,20 @@ fn words(rt: &HostRuntime) -> Result<Vec<Text>, Memory> {
     Ok(words)
 }
 
-/// Names a status other than `Done` on standard error.
+/// Names a status other than `Done` on standard error, in one line, and says where to look.
 fn warn_of(rt: &impl Log, status: Status) {
     match status {
         Status::Done => {}
-        Status::Critical => warn!(rt; "the run ended with an error, which the end line tells"),
-        Status::Usage => warn!(rt; "the only words are: replay"),
-        Status::NoScript => warn!(rt; "standard input is no script"),
-        Status::ReadFault => warn!(rt; "standard input could not be read"),
-        Status::WriteFault => warn!(rt; "standard output could not be written"),
-        Status::Memory => warn!(rt; "there is no memory"),
+        Status::Critical => {
+            warn!(rt; "status 1: the run ended with an error, which the end line on standard output tells")
+        }
+        Status::Usage => warn!(rt; "status 2: call it so: wx_run replay < SCRIPT"),
+        Status::NoScript => {
+            warn!(rt; "status 3: standard input is no script; standard output has its first bad line, or that it is too long")
+        }
+        Status::ReadFault => warn!(rt; "status 4: standard input could not be read"),
+        Status::WriteFault => warn!(rt; "status 5: standard output could not be written whole"),
+        Status::Memory => warn!(rt; "status 6: there is not enough memory; nothing was written"),
     }
 }
 

@@ -2,7 +2,7 @@
 ghost use Rattle.std.specs.Prelude.{◌≡◌, ◌≢◌, ◌↔◌, ◌⊎◌, ◌++◌, ◌∷◌, [], IfOk, codes, decimal};
 ghost use Rattle.std.specs.Io.KnownBytes.{Appends};
 ghost use Rattle.wx_journal.specs.Told.{Rose};
-ghost use Rattle.wx_action.specs.Start.{default_config};
+ghost use Rattle.wx_config.specs.Defaults.{default_config};
 ghost use Rattle.wx_engine.specs.Follows.{IsScript, start_of};
 ghost use Rattle.wx_run.specs.Causes.{AddsFront};
 ghost use Rattle.wx_run.specs.Replays.{replay_words, IsReplay, ReplaysRead, IsWritten, HasRead, HasWritten};
@@ -14,7 +14,8 @@ use crate::sink::Sink;
 use crate::source::Source;
 use crate::status::Status;
 use std::alloc::Global;
-use wx_action::{Config, CriticalError, print_journal};
+use wx_action::print_journal;
+use wx_config::{Config, CriticalError};
 use wx_engine::{Script, ScriptHooks, ScriptWorld, Watchexec};
 use wx_events::{Copies, Memory, Text, TextPath};
 use wx_journal::Journal;

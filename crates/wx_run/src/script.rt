@@ -25,6 +25,9 @@ fn start(alloc: Global) -> Script
         sends: List::new(alloc),
         turns: List::new(alloc),
         actions: List::new(alloc),
+        spawns: List::new(alloc),
+        kills: List::new(alloc),
+        waits: List::new(alloc),
         last: 0,
     }
 }
@@ -92,6 +95,18 @@ fn add(script: &mut Script, said: Line) -> Result<bool, Memory>
         }
         Line::Acts(acts) => {
             script.actions.push(acts)?;
+            Ok(true)
+        }
+        Line::Spawn(answer) => {
+            script.spawns.push(answer)?;
+            Ok(true)
+        }
+        Line::Kill(answer) => {
+            script.kills.push(answer)?;
+            Ok(true)
+        }
+        Line::Wait(answer) => {
+            script.waits.push(answer)?;
             Ok(true)
         }
     }
@@ -188,6 +203,94 @@ mod tests {
         ];
         for (bytes, want) in table {
             assert!(rt; counts(alloc, bytes) == Some(want), "at {bytes:?}");
+        }
+    }
+
+    /// How many acts the first action of the script of these bytes has, and how many answers to spawns, kills and waits the script has.
+    fn answer_counts(alloc: Global, bytes: &[u8]) -> Option<(usize, usize, usize, usize)> {
+        match read_script(alloc, bytes) {
+            Ok(Ok(script)) => {
+                let acts = script
+                    .actions
+                    .as_slice()
+                    .first()
+                    .map_or(0, |acts| acts.len());
+                Some((
+                    acts,
+                    script.spawns.len(),
+                    script.kills.len(),
+                    script.waits.len(),
+                ))
+            }
+            _ => None,
+        }
+    }
+
+    #[test]
+    fn reads_lines_about_jobs(rt: HostRuntime) {
+        let alloc = rt.alloc();
+        let table: [(&[u8], (usize, usize, usize, usize)); 6] = [
+            (
+                b"action create exec ---- 1 a ask 0 start quit\n",
+                (3, 0, 0, 0),
+            ),
+            (
+                b"action ask 4294967295 stop create exec g-r- 2 a %20 create exec ---- 1 b\n",
+                (3, 0, 0, 0),
+            ),
+            (
+                b"spawn ok\nspawn fault 5\nkill ok\nspawn ok\n",
+                (0, 3, 1, 0),
+            ),
+            (
+                b"kill fault 4294967295\nwait success\nwait error.7\nwait fault 2\nwait signal.custom.64\n",
+                (0, 0, 1, 4),
+            ),
+            (
+                b"turn 0 job 0\nspawn ok\nturn 0 ended 18446744073709551615\nturn 1 ask 3 stop\nwait continued\n",
+                (0, 1, 0, 1),
+            ),
+            (
+                b"spawn ok\nset size 2\nkill ok\nsend low 0\nwait success\nturn 0 work\n",
+                (0, 1, 1, 1),
+            ),
+        ];
+        for (bytes, want) in table {
+            assert!(rt; answer_counts(alloc, bytes) == Some(want), "at {bytes:?}");
+        }
+    }
+
+    #[test]
+    fn refuses_lines_about_jobs(rt: HostRuntime) {
+        let alloc = rt.alloc();
+        let table: [&[u8]; 24] = [
+            b"action create\n",
+            b"action create 0 exec ---- 1 a\n",
+            b"action create exec ---- 0\n",
+            b"action create exec ---- 1 a b\n",
+            b"action create exec ---- 2 a\n",
+            b"action ask 0\n",
+            b"action ask start\n",
+            b"action ask 4294967296 start\n",
+            b"action ask 0 start 0\n",
+            b"action quit \n",
+            b"spawn\n",
+            b"spawn success\n",
+            b"spawn fault\n",
+            b"spawn fault 4294967296\n",
+            b"spawn ok ok\n",
+            b"kill error.7\n",
+            b"wait ok\n",
+            b"wait error.0\n",
+            b"wait fault x\n",
+            b"turn 0 job\n",
+            b"turn 0 job 4294967296\n",
+            b"turn 0 ended x\n",
+            b"turn 0 ask 0\n",
+            b"turn 0 ask 0 go\n",
+        ];
+        for bytes in table {
+            assert!(rt; bad_line(alloc, bytes) == Some(1), "at {bytes:?}");
         }
     }
 

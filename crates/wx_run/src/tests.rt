@@ -105,6 +105,55 @@ fn runs_with_their_journals(rt: HostRuntime) -> Result<(), Fail> {
 }
 
 #[test]
+fn runs_with_jobs(rt: HostRuntime) -> Result<(), Fail> {
+    let table: [(&[u8], &[u8]); 3] = [
+        // a job that starts and stops, with an exit code
+        (
+            b"wait error.1\nsend urgent 0\naction create exec ---- 1 a ask 0 start\nturn 0 work\nturn 1 job 0\nturn 2 ask 0 stop\nturn 3 job 0\n",
+            b"sent 0 urgent 0\nturn 0 work\ntake 0\nhand 0 1 0 create 0 exec ---- 1 a ask 0 start\nmade 0\nasked 0 0 normal start\nturn 1 job 0\npick 0 0\nspawn 0 0 default ---- 1 a ok\nraise 0\nturn 2 ask 0 stop\nasked 1 0 normal stop\nturn 3 job 0\npick 0 1\nkill 0 ok\nwait 0 error.1\nraise 1\nturn 3 last\ngone 0\nend ok lost 0\n",
+        ),
+        // turns about a job and a child that are not there
+        (
+            b"send urgent 0\naction create exec ---- 1 a\nturn 0 work\nturn 1 ask 7 start\nturn 2 job 7\nturn 3 ended 0\n",
+            b"sent 0 urgent 0\nturn 0 work\ntake 0\nhand 0 1 0 create 0 exec ---- 1 a\nmade 0\nturn 1 ask 7 start\nword ignored\nturn 2 job 7\nword ignored\nturn 3 ended 0\nword ignored\nturn 3 last\ngone 0\nend ok lost 0\n",
+        ),
+        // a child that runs is let go at the end, and a quit ends at once
+        (
+            b"send urgent 0\naction create exec ---- 1 a ask 0 start\naction quit\nturn 0 work\nturn 1 job 0\nturn 2 arrive urgent 0\nturn 2 work\n",
+            b"sent 0 urgent 0\nturn 0 work\ntake 0\nhand 0 1 0 create 0 exec ---- 1 a ask 0 start\nmade 0\nasked 0 0 normal start\nturn 1 job 0\npick 0 0\nspawn 0 0 default ---- 1 a ok\nraise 0\nturn 2 arrive urgent 0\noffer 1 - queued urgent 0\nturn 2 work\ntake 1\nhand 0 1 1 quit\ndrop 0\ngone 0\nend ok lost 0\n",
+        ),
+    ];
+    for (script, journal) in table {
+        let (sink, status) = run(rt.alloc(), b"replay", script)?;
+        assert!(rt; sink.text().as_slice().ends_with(journal), "for {script:?}");
+        assert!(rt; status == Status::Done);
+    }
+    Ok(())
+}
+
+#[test]
+fn jobs_that_go_on(rt: HostRuntime) -> Result<(), Fail> {
+    let table: [(&[u8], &[u8]); 2] = [
+        // a job is stopped and started again, and its second child ends
+        (
+            b"send urgent 0\naction ask 0 stop create exec ---- 1 a ask 0 start ask 1 start\nturn 0 work\nturn 0 job 0\nturn 1 ask 0 stop\nturn 1 job 0\nturn 2 ask 0 start\nturn 2 job 0\nturn 3 ended 7\nturn 3 ended 1\nturn 4 job 0\n",
+            b"sent 0 urgent 0\nturn 0 work\ntake 0\nhand 0 1 0 create 0 exec ---- 1 a ask 0 start\nmade 0\nasked 0 0 normal start\nturn 0 job 0\npick 0 0\nspawn 0 0 default ---- 1 a ok\nraise 0\nturn 1 ask 0 stop\nasked 1 0 normal stop\nturn 1 job 0\npick 0 1\nkill 0 ok\nwait 0 success\nraise 1\nturn 2 ask 0 start\nasked 2 0 normal start\nturn 2 job 0\npick 0 2\nspawn 1 0 default ---- 1 a ok\nraise 2\nturn 3 ended 7\nword ignored\nturn 3 ended 1\nwait 1 success\nturn 4 job 0\nword idle\nturn 4 last\ngone 0\nend ok lost 0\n",
+        ),
+        // the first spawn, kill and wait fail
+        (
+            b"spawn fault 5\nkill fault 6\nwait fault 7\nsend urgent 0\naction ask 0 stop create exec ---- 1 a ask 0 start ask 1 start\nturn 0 work\nturn 0 job 0\nturn 0 ask 0 start\nturn 0 job 0\nturn 0 ask 0 stop\nturn 0 job 0\nturn 0 ask 0 stop\nturn 0 job 0\n",
+            b"sent 0 urgent 0\nturn 0 work\ntake 0\nhand 0 1 0 create 0 exec ---- 1 a ask 0 start\nmade 0\nasked 0 0 normal start\nturn 0 job 0\npick 0 0\nspawn 0 0 default ---- 1 a fault 5\nraise 0\nturn 0 ask 0 start\nasked 1 0 normal start\nturn 0 job 0\npick 0 1\nspawn 1 0 default ---- 1 a ok\nraise 1\nturn 0 ask 0 stop\nasked 2 0 normal stop\nturn 0 job 0\npick 0 2\nkill 1 fault 6\nraise 2\nturn 0 ask 0 stop\nasked 3 0 normal stop\nturn 0 job 0\npick 0 3\nkill 1 ok\nwait 1 fault 7\nraise 3\nturn 0 last\ndrop 1\ngone 0\nend ok lost 0\n",
+        ),
+    ];
+    for (script, journal) in table {
+        let (sink, status) = run(rt.alloc(), b"replay", script)?;
+        assert!(rt; sink.text().as_slice().ends_with(journal), "for {script:?}");
+        assert!(rt; status == Status::Done);
+    }
+    Ok(())
+}
+
+#[test]
 fn the_settings_stand_in_the_first_line(rt: HostRuntime) -> Result<(), Fail> {
     let (sink, status) = run(rt.alloc(), b"replay", b"set throttle 7\nset size 9\n")?;
     assert!(rt;

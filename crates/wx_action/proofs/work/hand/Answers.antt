@@ -1,26 +1,54 @@
-use Rattle.std.proofs.Common.{ap, ◌∙◌}
-use Rattle.wx_journal.specs.declared.entry.Entry.TheVariants.{Hand}
-use Rattle.wx_action.specs.RunLaws.{own_of_run, window_to_hand}
-use Rattle.wx_action.proofs.HandLemmas.{hand_follows, promised_call, turns_hand}
+use Rattle.std.proofs.Common.{arith, refl}
+use Rattle.wx_action.specs.Leads.{Same}
+use Rattle.wx_action.specs.Perform.{after_acts}
+use Rattle.wx_action.specs.TurnLaws.{promised_apart, promised_then}
+use Rattle.wx_action.proofs.HandLemmas.{works_by, calm_owed}
+use Rattle.wx_action.specs.FaultLaws.{counts_alone, counts_hooks}
 use Rattle.wx_action.proofs.work.hand.Goals as goal
 
-pub new-handler-requires-clause-some : goal.new-handler-requires-clause-some
-new-handler-requires-clause-some g c =
-    rw (c.replace-batch.ensures.value, c.requires.1.1.0.stands.names_kept) (window_to_hand g.start c.args.journal.now.past c.requires.1.1.0.run c.requires.1.0)
+pub perform-requires : goal.perform-requires
+perform-requires g c = λ κs lives. (
+  lives,
+  (
+    (after_acts c.hand_batch-ends.result.0, c.hand_batch-ends.ensures.owes),
+    (c.hand_batch-ends.ensures.ready, record { in_journal = c.hand_batch-ends.ensures.room; in_host = (let fewer = c.hand_batch-ends.ensures.end_room in let room = c.requires.1.1.1.1.1.0 in omega arith) }),
+  ),
+)
 
 pub returns-clause-follows : goal.returns-clause-follows
 returns-clause-follows g c =
-    hand_follows g.start c.args.journal.now.past c.push.new.self.past c.args.worker.now.config.action_handler c.action.new.handler.names c.action.new.handler.acts _ _ c.requires.1.0
-    (ap (λ k. k.action_handler) c.requires.1.1.0.stands.config_kept) (c.action.ensures.names ∙ ap (λ h. h.names) c.new-handler.ensures ∙ ap (λ b. b.names) c.replace-batch.ensures.value ∙ c.requires.1.1.0.stands.names_kept)
-    (rw (c.into_parts-names.ensures.names, c.into_parts-names.ensures.acts) at c.push.ensures.past) c.action.ensures.told
+    rw c.perform.ensures.told (λ p₀ world₀ hooks₀ l. c.perform.ensures.follows (g.W.Outside.told c.args.host.now) (g.H.JobHooks.told c.hand_batch-ends.new.hooks) p₀ world₀ hooks₀ (c.hand_batch-ends.ensures.follows (g.W.Outside.told c.args.host.now) p₀ world₀ hooks₀ l))
+
+pub returns-in_err-perform-clause-follows : goal.returns-in_err-perform-clause-follows
+returns-in_err-perform-clause-follows g c =
+    rw c.perform.ensures.told (λ p₀ world₀ hooks₀ l. c.perform.ensures.follows (g.W.Outside.told c.args.host.now) (g.H.JobHooks.told c.hand_batch-ends.new.hooks) p₀ world₀ hooks₀ (c.hand_batch-ends.ensures.follows (g.W.Outside.told c.args.host.now) p₀ world₀ hooks₀ l))
+
+pub returns-clause-turns : goal.returns-clause-turns
+returns-clause-turns g c = λ p₀ t. c.perform.ensures.turns p₀ (c.hand_batch-ends.ensures.turns p₀ t)
+
+pub returns-in_err-perform-clause-turns : goal.returns-in_err-perform-clause-turns
+returns-in_err-perform-clause-turns g c = λ p₀ t. c.perform.ensures.turns p₀ (c.hand_batch-ends.ensures.turns p₀ t)
 
 pub returns-clause-promised : goal.returns-clause-promised
 returns-clause-promised g c =
-    let past_is = ap (λ h. h.past) c.new-handler.ensures in
-    let keeps = rw past_is at c.action.ensures.rule in
-    promised_call _ _ _ _ (Hand c.args.worker.now.config.action_handler c.action.new.handler.names c.action.new.handler.acts) c.args.journal.now.past c.push.new.self.past
-    (rw (c.into_parts-names.ensures.names, c.into_parts-names.ensures.acts) at c.push.ensures.past)
-    (λ s st. keeps s (own_of_run g.start c.args.journal.now.past c.requires.1.1.0.run) st)
+    promised_then _ _ _ _ _ _ _ _ c.hand_batch-ends.new.journal.past _ (λ e. e) refl c.hand_batch-ends.ensures.promised (promised_apart _ _ _ _ _ (g.met.H.JobHooks.stands_other c.hand_batch-ends.new.hooks) (c.perform.ensures.apart _ Same))
 
-pub returns-clause-turns : goal.returns-clause-turns
-returns-clause-turns g c = turns_hand c.args.worker.now.config.action_handler c.into_parts-names.result.0 c.into_parts-names.result.1 c.args.journal.now.past c.push.new.self.past c.push.ensures.past
+pub returns-in_err-perform-clause-promised : goal.returns-in_err-perform-clause-promised
+returns-in_err-perform-clause-promised g c =
+    promised_then _ _ _ _ _ _ _ _ c.hand_batch-ends.new.journal.past _ (λ e. e) refl c.hand_batch-ends.ensures.promised (promised_apart _ _ _ _ _ (g.met.H.JobHooks.stands_other c.hand_batch-ends.new.hooks) (c.perform.ensures.apart _ Same))
+
+pub returns-clause-works : goal.returns-clause-works
+returns-clause-works g c =
+    rw c.done_or_on.ensures (works_by g.start c.perform.new.journal.past c.hand_batch-ends.result.0 (c.in_ok-perform.ensures.done (after_acts c.hand_batch-ends.result.0) c.hand_batch-ends.ensures.owes))
+
+pub returns-clause-calm : goal.returns-clause-calm
+returns-clause-calm g c = let o = c.perform.ensures.owes (after_acts c.hand_batch-ends.result.0) c.hand_batch-ends.ensures.owes in calm_owed g.start c.perform.new.journal.past o.0 c.hand_batch-ends.result.0 c.perform.ensures.ready.run o.1
+
+pub returns-in_err-perform-clause-calm : goal.returns-in_err-perform-clause-calm
+returns-in_err-perform-clause-calm g c = let o = c.perform.ensures.owes (after_acts c.hand_batch-ends.result.0) c.hand_batch-ends.ensures.owes in calm_owed g.start c.perform.new.journal.past o.0 c.hand_batch-ends.result.0 c.perform.ensures.ready.run o.1
+
+pub returns-clause-faults : goal.returns-clause-faults
+returns-clause-faults g c = λ p₀ n₀ before. counts_alone g.start _ _ _ _ c.perform.ensures.follows (omega (arith, c.perform.ensures.faults)) p₀ n₀ (counts_hooks g.start c.args.journal.now.past _ (g.H.JobHooks.told c.args.hooks.now) _ (g.W.Outside.host_faults c.args.host.now) (g.W.Outside.host_faults c.args.host.now) c.hand_batch-ends.ensures.follows (omega arith) p₀ n₀ before)
+
+pub returns-in_err-perform-clause-faults : goal.returns-in_err-perform-clause-faults
+returns-in_err-perform-clause-faults g c = λ p₀ n₀ before. counts_alone g.start _ _ _ _ c.perform.ensures.follows (omega (arith, c.perform.ensures.faults)) p₀ n₀ (counts_hooks g.start c.args.journal.now.past _ (g.H.JobHooks.told c.args.hooks.now) _ (g.W.Outside.host_faults c.args.host.now) (g.W.Outside.host_faults c.args.host.now) c.hand_batch-ends.ensures.follows (omega arith) p₀ n₀ before)

@@ -4,7 +4,7 @@ use Rattle.wx_events.specs.declared.priority.Priority.{Priority}
 use Rattle.wx_action.specs.Start.{Start, IsStart}
 use Rattle.wx_action.specs.Journal.{bag}
 use Rattle.wx_action.specs.Due.{Sends, rest, sends, begin_of}
-use Rattle.wx_engine.proofs.BeginLemmas.{begun, calm_begun, next_sent}
+use Rattle.wx_engine.proofs.BeginLemmas.{none_yet, begun, calm_begun, next_sent}
 use Rattle.wx_engine.proofs.running.begin.Goals as goal
 
 pub loop-item-init : goal.loop-item-init
@@ -12,11 +12,12 @@ loop-item-init g c =
     let is = c.engine.view_is ∙ c.requires.0 in
     let all : c.as_slice-item-items.result.now ≡ g.start.events = c.as_slice-item-items.ensures ∙ ap (λ (s : Start). s.events) is in
     let b = begun g.start c.in_ok-worker.worker c.in_ok-entry.entry c.args.journal.now.past c.push.new.self.past c.requires.1 (c.in_ok-entry.ensures ∙ ap begin_of is) (rw c.in_ok-reserve.ensures.same at c.push.ensures.past)
-    (c.in_ok-worker.ensures g.start (ap (λ (s : Start). s.config) (sym is))) in
+    (c.in_ok-worker.ensures.stands g.start (ap (λ (s : Start). s.config) (sym is))) in
     record {
       is_start = subst IsStart is c.engine.invariant;
       all = all;
       ready = b.ready;
+      room = c.in_ok-worker.ensures.room;
       due = b.due ∙ ap sends (sym all);
       count = b.count;
       follows = b.follows;
@@ -33,7 +34,7 @@ send-requires g c =
     let rest_is : List (Event × Priority) = drop (c.loop-item.item-index + 1) c.as_slice-item-items.result.now in
     let lt : length (bag c.loop-item.journal.past) < g.start.config.event_channel_size =
     omega (arith, c.loop-item.invariant.count, ap (λ (xs : List (Event × Priority)). length xs) c.loop-item.invariant.all, c.loop-item.invariant.is_start.events, c.loop-item-test.true) in
-    ((rest_is, n ∙ ap (λ (e : Event). Sends e c.item-item.result.1 rest_is) (sym c.in_ok-event.ensures)), (c.loop-item.invariant.ready, lt))
+    ((rest_is, n ∙ ap (λ (e : Event). Sends e c.item-item.result.1 rest_is) (sym c.in_ok-event.ensures)), (c.loop-item.invariant.ready, (omega (arith, c.loop-item.invariant.room), lt)))
 
 pub returns-in_err-send-clause-calm : goal.returns-in_err-send-clause-calm
 returns-in_err-send-clause-calm g c = rw c.in_err-send.ensures.err (calm_begun g.start _ _ c.loop-item.invariant.ready.run c.loop-item.invariant.due)
@@ -45,7 +46,8 @@ loop-item-preserved g c =
       is_start = c.loop-item.invariant.is_start;
       all = c.loop-item.invariant.all;
       ready = c.send.ensures.ready;
-      due = c.in_ok-send.ensures.done ∙ ap rest n;
+      room = c.send.ensures.end_room ∙ c.loop-item.invariant.room;
+      due = c.in_ok-send.ensures.done ∙ ap (rest _) n;
       count = c.in_ok-send.ensures.bag ∙ ap (λ n. n + 1) c.loop-item.invariant.count;
       follows = λ world hooks p₀ world₀ hooks₀ l. c.send.ensures.follows world hooks p₀ world₀ hooks₀ (c.loop-item.invariant.follows world hooks p₀ world₀ hooks₀ l);
       apart = λ p₀ a. c.send.ensures.apart p₀ (c.loop-item.invariant.apart p₀ a);
@@ -54,3 +56,12 @@ loop-item-preserved g c =
 
 pub returns-clause-calm : goal.returns-clause-calm
 returns-clause-calm g c = calm_begun g.start _ _ c.loop-item.invariant.ready.run c.loop-item.invariant.due
+
+pub returns-in_err-event-clause-none : goal.returns-in_err-event-clause-none
+returns-in_err-event-clause-none g c = none_yet g.start c.loop-item.worker c.loop-item.journal.past c.loop-item.invariant.ready.stands c.loop-item.invariant.room
+
+pub returns-in_err-send-clause-none : goal.returns-in_err-send-clause-none
+returns-in_err-send-clause-none g c = rw c.in_err-send.ensures.err (none_yet g.start c.loop-item.worker c.loop-item.journal.past c.loop-item.invariant.ready.stands c.loop-item.invariant.room)
+
+pub returns-clause-none : goal.returns-clause-none
+returns-clause-none g c = none_yet g.start c.loop-item.worker c.loop-item.journal.past c.loop-item.invariant.ready.stands c.loop-item.invariant.room

@@ -6,5 +6,11 @@ ghost-arrive g a = g.start
 abbrev pub ghost-worker : goal.ghost-worker
 ghost-worker g a = g.start
 
-abbrev pub ghost-ignored : goal.ghost-ignored
-ghost-ignored g a = g.start
+abbrev pub ghost-job_turn : goal.ghost-job_turn
+ghost-job_turn g a = g.start
+
+abbrev pub ghost-ended_turn : goal.ghost-ended_turn
+ghost-ended_turn g a = g.start
+
+abbrev pub ghost-ask_turn : goal.ghost-ask_turn
+ghost-ask_turn g a = g.start

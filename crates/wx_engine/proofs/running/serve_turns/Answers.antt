@@ -4,93 +4,111 @@ use Rattle.wx_journal.specs.Told.{tell}
 use Rattle.wx_action.specs.Told.{is_last}
 use Rattle.wx_action.specs.TurnLaws.{promised_then}
 use Rattle.wx_engine.proofs.BeginLemmas.{calm_begun}
-use Rattle.wx_engine.proofs.TurnLemmas.{turn_follows, fault_follows, turn_calm, fault_calm, turn_promised, fault_promised, served}
+use Rattle.wx_engine.proofs.TurnLemmas.{turn_counts, fault_counts, turn_follows, fault_follows, turn_calm, fault_calm, turn_promised, fault_promised, served, turn_ready, fault_ready}
 use Rattle.wx_engine.proofs.running.serve_turns.Goals as goal
 
-pub returns-in_err-reserve-clause-calm : goal.returns-in_err-reserve-clause-calm
-returns-in_err-reserve-clause-calm g c = rw c.in_err-reserve.ensures.same (calm_begun g.start _ [] c.turns.invariant.ready.run c.turns.invariant.open_is)
-
-pub returns-in_err-reserve-2-clause-calm : goal.returns-in_err-reserve-2-clause-calm
-returns-in_err-reserve-2-clause-calm g c = rw c.in_ok-reserve.ensures.same (calm_begun g.start _ [] c.turns.invariant.ready.run c.turns.invariant.open_is)
+pub returns-in_err-make_room-clause-calm : goal.returns-in_err-make_room-clause-calm
+returns-in_err-make_room-clause-calm g c = rw c.in_err-make_room.ensures.same (calm_begun g.start _ [] c.turns.invariant.ready.run c.turns.invariant.open_is)
 
 pub returns-in-Err-clause-follows : goal.returns-in-Err-clause-follows
 returns-in-Err-clause-follows g c =
-    fault_follows g.start _ _ _ c.in-Err.fault.0 c.turns.journal.past c.push.new.self.past _ _ _ c.turns.invariant.follows c.turns.invariant.open_is (rw c.in_ok-reserve.ensures.same at c.push.ensures.past) (rw c.in_ok-reserve-2.ensures.told at c.in-Err.ensures.told)
+    fault_follows g.start _ _ _ c.in-Err.fault.0 c.turns.journal.past c.push.new.self.past _ _ _ c.turns.invariant.follows c.turns.invariant.open_is (rw c.in_ok-make_room.ensures.same at c.push.ensures.past) (rw c.in_ok-make_room.ensures.told at c.in-Err.ensures.told)
 
 pub returns-in-Err-clause-calm : goal.returns-in-Err-clause-calm
-returns-in-Err-clause-calm g c = fault_calm g.start c.in-Err.fault.0 c.turns.journal.past _ c.turns.invariant.ready.run c.turns.invariant.open_is (rw c.in_ok-reserve.ensures.same at c.push.ensures.past)
+returns-in-Err-clause-calm g c = fault_calm g.start c.in-Err.fault.0 c.turns.journal.past _ c.turns.invariant.ready.run c.turns.invariant.open_is (rw c.in_ok-make_room.ensures.same at c.push.ensures.past)
 
 pub returns-in-Err-clause-promised : goal.returns-in-Err-clause-promised
 returns-in-Err-clause-promised g c =
-    fault_promised g.start _ _ _ _ c.in-Err.fault.0 _ c.turns.journal.past _ (g.met.H.JobHooks.stands_other c.turns.hooks) c.turns.invariant.ready.run c.turns.invariant.promised (rw c.in_ok-reserve.ensures.same at c.push.ensures.past)
+    fault_promised g.start _ _ _ _ c.in-Err.fault.0 _ c.turns.journal.past _ (g.met.H.JobHooks.stands_other c.turns.hooks) c.turns.invariant.ready.run c.turns.invariant.promised (rw c.in_ok-make_room.ensures.same at c.push.ensures.past)
 
 pub returns-in_err-kind-clause-follows : goal.returns-in_err-kind-clause-follows
 returns-in_err-kind-clause-follows g c =
-    turn_follows g.start _ _ _ c.in-Ok.given.turn c.turns.journal.past c.push-in-turns.new.self.past _ _ _ c.turns.invariant.follows c.turns.invariant.open_is (rw c.in_ok-reserve.ensures.same at c.push-in-turns.ensures.past) (rw c.in_ok-reserve-2.ensures.told at c.in-Ok.ensures.told)
+    turn_follows g.start _ _ _ c.in-Ok.given.turn c.turns.journal.past c.push-in-turns.new.self.past _ _ _ c.turns.invariant.follows c.turns.invariant.open_is (rw c.in_ok-make_room.ensures.same at c.push-in-turns.ensures.past) (rw c.in_ok-make_room.ensures.told at c.in-Ok.ensures.told)
 
 pub returns-in_err-kind-clause-calm : goal.returns-in_err-kind-clause-calm
-returns-in_err-kind-clause-calm g c = turn_calm g.start c.in-Ok.given.turn c.turns.journal.past _ c.turns.invariant.ready.run c.turns.invariant.open_is (rw c.in_ok-reserve.ensures.same at c.push-in-turns.ensures.past)
+returns-in_err-kind-clause-calm g c = turn_calm g.start c.in-Ok.given.turn c.turns.journal.past _ c.turns.invariant.ready.run c.turns.invariant.open_is (rw c.in_ok-make_room.ensures.same at c.push-in-turns.ensures.past)
 
 pub returns-in_err-kind-clause-promised : goal.returns-in_err-kind-clause-promised
 returns-in_err-kind-clause-promised g c =
-    turn_promised g.start _ _ _ _ c.in-Ok.given.turn _ c.turns.journal.past _ (g.met.H.JobHooks.stands_other c.turns.hooks) c.turns.invariant.ready.run c.turns.invariant.promised (rw c.in_ok-reserve.ensures.same at c.push-in-turns.ensures.past)
+    turn_promised g.start _ _ _ _ c.in-Ok.given.turn _ c.turns.journal.past _ (g.met.H.JobHooks.stands_other c.turns.hooks) c.turns.invariant.ready.run c.turns.invariant.promised (rw c.in_ok-make_room.ensures.same at c.push-in-turns.ensures.past)
 
 pub returns-in_err-serve-clause-follows : goal.returns-in_err-serve-clause-follows
 returns-in_err-serve-clause-follows g c = λ q wq hq l.
-    c.serve.ensures.follows q wq hq (turn_follows g.start _ _ _ c.in-Ok.given.turn c.turns.journal.past c.push-in-turns.new.self.past _ _ _ c.turns.invariant.follows c.turns.invariant.open_is (rw c.in_ok-reserve.ensures.same at c.push-in-turns.ensures.past) (rw c.in_ok-reserve-2.ensures.told at c.in-Ok.ensures.told) q wq hq l)
+    c.serve.ensures.follows q wq hq (turn_follows g.start _ _ _ c.in-Ok.given.turn c.turns.journal.past c.push-in-turns.new.self.past _ _ _ c.turns.invariant.follows c.turns.invariant.open_is (rw c.in_ok-make_room.ensures.same at c.push-in-turns.ensures.past) (rw c.in_ok-make_room.ensures.told at c.in-Ok.ensures.told) q wq hq l)
 
 pub returns-in_err-serve-clause-promised : goal.returns-in_err-serve-clause-promised
 returns-in_err-serve-clause-promised g c =
     promised_then (g.H.JobHooks.short c.turns.hooks) (g.H.JobHooks.short c.serve.new.hooks) _ (g.H.JobHooks.rule (g.H.JobHooks.plan c.turns.hooks)) (g.H.JobHooks.stands c.args.hooks.now) (g.H.JobHooks.stands c.turns.hooks) (g.H.JobHooks.stands c.serve.new.hooks) c.args.journal.now.past c.push-in-turns.new.self.past c.serve.new.journal.past
     c.serve.ensures.short (ap (λ k. g.H.JobHooks.rule k) c.turns.invariant.plan)
-    (turn_promised g.start _ _ _ _ c.in-Ok.given.turn _ c.turns.journal.past _ (g.met.H.JobHooks.stands_other c.turns.hooks) c.turns.invariant.ready.run c.turns.invariant.promised (rw c.in_ok-reserve.ensures.same at c.push-in-turns.ensures.past))
+    (turn_promised g.start _ _ _ _ c.in-Ok.given.turn _ c.turns.journal.past _ (g.met.H.JobHooks.stands_other c.turns.hooks) c.turns.invariant.ready.run c.turns.invariant.promised (rw c.in_ok-make_room.ensures.same at c.push-in-turns.ensures.past))
     c.serve.ensures.promised
 
 pub returns-in-End-clause-follows : goal.returns-in-End-clause-follows
 returns-in-End-clause-follows g c = λ q wq hq l.
-    c.serve.ensures.follows q wq hq (turn_follows g.start _ _ _ c.in-Ok.given.turn c.turns.journal.past c.push-in-turns.new.self.past _ _ _ c.turns.invariant.follows c.turns.invariant.open_is (rw c.in_ok-reserve.ensures.same at c.push-in-turns.ensures.past) (rw c.in_ok-reserve-2.ensures.told at c.in-Ok.ensures.told) q wq hq l)
+    c.serve.ensures.follows q wq hq (turn_follows g.start _ _ _ c.in-Ok.given.turn c.turns.journal.past c.push-in-turns.new.self.past _ _ _ c.turns.invariant.follows c.turns.invariant.open_is (rw c.in_ok-make_room.ensures.same at c.push-in-turns.ensures.past) (rw c.in_ok-make_room.ensures.told at c.in-Ok.ensures.told) q wq hq l)
 
 pub returns-in-End-clause-promised : goal.returns-in-End-clause-promised
 returns-in-End-clause-promised g c =
     promised_then (g.H.JobHooks.short c.turns.hooks) (g.H.JobHooks.short c.serve.new.hooks) _ (g.H.JobHooks.rule (g.H.JobHooks.plan c.turns.hooks)) (g.H.JobHooks.stands c.args.hooks.now) (g.H.JobHooks.stands c.turns.hooks) (g.H.JobHooks.stands c.serve.new.hooks) c.args.journal.now.past c.push-in-turns.new.self.past c.serve.new.journal.past
     c.serve.ensures.short (ap (λ k. g.H.JobHooks.rule k) c.turns.invariant.plan)
-    (turn_promised g.start _ _ _ _ c.in-Ok.given.turn _ c.turns.journal.past _ (g.met.H.JobHooks.stands_other c.turns.hooks) c.turns.invariant.ready.run c.turns.invariant.promised (rw c.in_ok-reserve.ensures.same at c.push-in-turns.ensures.past))
+    (turn_promised g.start _ _ _ _ c.in-Ok.given.turn _ c.turns.journal.past _ (g.met.H.JobHooks.stands_other c.turns.hooks) c.turns.invariant.ready.run c.turns.invariant.promised (rw c.in_ok-make_room.ensures.same at c.push-in-turns.ensures.past))
     c.serve.ensures.promised
 
 pub turns-smaller : goal.turns-smaller
 turns-smaller g c =
-    let kind_is = rw c.in_ok-kind.was at c.copy-kind.ensures in
+    let kind_is = rw c.in_ok-kind.was at c.kind_again-kind.ensures.same in
     let comes = ap is_last (sym kind_is) ∙ c.in_ok-serve.ensures.last c.in-On.is in
-    let left_is = ap (λ w. (g.W.Outside.progress w).left) c.serve.ensures.world in
-    omega (arith, c.in-Ok.ensures.falls comes, ap (λ k. k.left) c.in_ok-reserve-2.ensures.progress, left_is)
+    let left_is = ap (λ k. k.left) c.serve.ensures.kept.progress_kept in
+    omega (arith, c.in-Ok.ensures.falls comes, ap (λ k. k.left) c.in_ok-make_room.ensures.kept.progress_kept, left_is)
 
 pub turns-preserved : goal.turns-preserved
 turns-preserved g c =
-    let v = served c.in-Ok.given.turn c.turns.journal.past c.push-in-turns.new.self.past c.serve.new.journal.past (rw c.in_ok-reserve.ensures.same at c.push-in-turns.ensures.past) c.serve.ensures.turns in
-    let kind_is = rw c.in_ok-kind.was at c.copy-kind.ensures in
+    let v = served c.in-Ok.given.turn c.turns.journal.past c.push-in-turns.new.self.past c.serve.new.journal.past (rw c.in_ok-make_room.ensures.same at c.push-in-turns.ensures.past) c.serve.ensures.turns in
+    let kind_is = rw c.in_ok-kind.was at c.kind_again-kind.ensures.same in
     let comes = ap is_last (sym kind_is) ∙ c.in_ok-serve.ensures.last c.in-On.is in
-    let left_is = ap (λ w. (g.W.Outside.progress w).left) c.serve.ensures.world in
-    let moment_is = ap (λ w. (g.W.Outside.progress w).moment) c.serve.ensures.world in
-    let faults_is = ap (λ w. (g.W.Outside.progress w).turn_faults) c.serve.ensures.world in
+    let left_is = ap (λ k. k.left) c.serve.ensures.kept.progress_kept in
+    let moment_is = ap (λ k. k.moment) c.serve.ensures.kept.progress_kept in
+    let faults_is = ap (λ k. k.turn_faults) c.serve.ensures.kept.progress_kept in
     record {
       about = c.turns.invariant.about;
       ready = c.serve.ensures.ready;
+      room = c.serve.ensures.room;
       open_is = rw c.in-On.is at c.in_ok-serve.ensures.works;
       fault = v.fault ∙ c.turns.invariant.fault;
       now = omega (arith, v.now, moment_is, c.in-Ok.ensures.moment);
-      rise = v.rise (omega (arith, c.turns.invariant.now, c.in-Ok.ensures.later, ap (λ k. k.moment) c.in_ok-reserve-2.ensures.progress)) c.turns.invariant.rise;
-      follows = λ q wq hq l. c.serve.ensures.follows q wq hq (turn_follows g.start _ _ _ c.in-Ok.given.turn c.turns.journal.past c.push-in-turns.new.self.past _ _ _ c.turns.invariant.follows c.turns.invariant.open_is (rw c.in_ok-reserve.ensures.same at c.push-in-turns.ensures.past) (rw c.in_ok-reserve-2.ensures.told at c.in-Ok.ensures.told) q wq hq l);
+      rise = v.rise (omega (arith, c.turns.invariant.now, c.in-Ok.ensures.later, ap (λ k. k.moment) c.in_ok-make_room.ensures.kept.progress_kept)) c.turns.invariant.rise;
+      follows = λ q wq hq l. c.serve.ensures.follows q wq hq (turn_follows g.start _ _ _ c.in-Ok.given.turn c.turns.journal.past c.push-in-turns.new.self.past _ _ _ c.turns.invariant.follows c.turns.invariant.open_is (rw c.in_ok-make_room.ensures.same at c.push-in-turns.ensures.past) (rw c.in_ok-make_room.ensures.told at c.in-Ok.ensures.told) q wq hq l);
       turns = λ before e.
-          ap (λ w. (g.W.Outside.progress w).turns) c.serve.ensures.world ∙ c.in-Ok.ensures.turns ∙ ap (λ l. tell (Turned c.in-Ok.given.turn) l) (ap (λ k. k.turns) c.in_ok-reserve-2.ensures.progress ∙ c.turns.invariant.turns before e) ∙ sym (v.told before);
-      count = omega (arith, v.count, c.turns.invariant.count, c.in-Ok.ensures.falls comes, ap (λ k. k.left) c.in_ok-reserve-2.ensures.progress, left_is);
-      faults = omega (arith, c.turns.invariant.faults, c.in-Ok.ensures.faults.later, ap (λ k. k.turn_faults) c.in_ok-reserve-2.ensures.progress, faults_is);
+          ap (λ k. k.turns) c.serve.ensures.kept.progress_kept ∙ c.in-Ok.ensures.turns ∙ ap (λ l. tell (Turned c.in-Ok.given.turn) l) (ap (λ k. k.turns) c.in_ok-make_room.ensures.kept.progress_kept ∙ c.turns.invariant.turns before e) ∙ sym (v.told before);
+      count = omega (arith, v.count, c.turns.invariant.count, c.in-Ok.ensures.falls comes, ap (λ k. k.left) c.in_ok-make_room.ensures.kept.progress_kept, left_is);
+      faults = omega (arith, c.turns.invariant.faults, c.in-Ok.ensures.faults.later, ap (λ k. k.turn_faults) c.in_ok-make_room.ensures.kept.progress_kept, faults_is);
+      host_faults = λ p₀ n₀ before. c.serve.ensures.host_faults p₀ n₀ ((turn_counts c.in-Ok.given.turn _ c.turns.journal.past c.push-in-turns.new.self.past _ _ _ c.turns.invariant.host_faults (rw c.in_ok-make_room.ensures.same at c.push-in-turns.ensures.past) (omega (arith, c.in_ok-make_room.ensures.host_faults, c.in-Ok.ensures.host_faults))) p₀ n₀ before);
       promised = promised_then (g.H.JobHooks.short c.turns.hooks) (g.H.JobHooks.short c.serve.new.hooks) _ (g.H.JobHooks.rule (g.H.JobHooks.plan c.turns.hooks)) (g.H.JobHooks.stands c.args.hooks.now) (g.H.JobHooks.stands c.turns.hooks) (g.H.JobHooks.stands c.serve.new.hooks) c.args.journal.now.past c.push-in-turns.new.self.past c.serve.new.journal.past
           c.serve.ensures.short (ap (λ k. g.H.JobHooks.rule k) c.turns.invariant.plan)
-          (turn_promised g.start _ _ _ _ c.in-Ok.given.turn _ c.turns.journal.past _ (g.met.H.JobHooks.stands_other c.turns.hooks) c.turns.invariant.ready.run c.turns.invariant.promised (rw c.in_ok-reserve.ensures.same at c.push-in-turns.ensures.past))
+          (turn_promised g.start _ _ _ _ c.in-Ok.given.turn _ c.turns.journal.past _ (g.met.H.JobHooks.stands_other c.turns.hooks) c.turns.invariant.ready.run c.turns.invariant.promised (rw c.in_ok-make_room.ensures.same at c.push-in-turns.ensures.past))
           c.serve.ensures.promised;
       short = λ x. c.turns.invariant.short (c.serve.ensures.short x);
       plan = c.serve.ensures.plan ∙ c.turns.invariant.plan;
       place = c.serve.ensures.place ∙ c.turns.invariant.place;
-      world_plan = ap (λ w. g.W.Outside.plan w) c.serve.ensures.world ∙ c.in-Ok.ensures.plan ∙ c.in_ok-reserve-2.ensures.plan ∙ c.turns.invariant.world_plan;
-      world_place = ap (λ w. g.W.Outside.place w) c.serve.ensures.world ∙ c.in-Ok.ensures.place ∙ c.in_ok-reserve-2.ensures.place ∙ c.turns.invariant.world_place;
+      world_plan = c.serve.ensures.kept.plan_kept ∙ c.in-Ok.ensures.plan ∙ c.in_ok-make_room.ensures.kept.plan_kept ∙ c.turns.invariant.world_plan;
+      world_place = c.serve.ensures.kept.place_kept ∙ c.in-Ok.ensures.place ∙ c.in_ok-make_room.ensures.kept.place_kept ∙ c.turns.invariant.world_place;
     }
+
+pub returns-in-Err-clause-ready : goal.returns-in-Err-clause-ready
+returns-in-Err-clause-ready g c = fault_ready g.start c.turns.state c.in-Err.fault.0 c.turns.journal.past c.push.new.self.past c.turns.invariant.ready c.turns.invariant.open_is (rw c.in_ok-make_room.ensures.same at c.push.ensures.past)
+
+pub returns-in_err-kind-clause-ready : goal.returns-in_err-kind-clause-ready
+returns-in_err-kind-clause-ready g c =
+    turn_ready g.start c.turns.state c.in-Ok.given.turn c.turns.journal.past c.push-in-turns.new.self.past c.turns.invariant.ready c.turns.invariant.open_is (rw c.in_ok-make_room.ensures.same at c.push-in-turns.ensures.past) (rw c.in_err-kind.was at c.kind_again-kind.ensures.no_end)
+
+pub returns-in_err-kind-clause-host_faults : goal.returns-in_err-kind-clause-host_faults
+returns-in_err-kind-clause-host_faults g c = turn_counts c.in-Ok.given.turn _ c.turns.journal.past c.push-in-turns.new.self.past _ _ _ c.turns.invariant.host_faults (rw c.in_ok-make_room.ensures.same at c.push-in-turns.ensures.past) (omega (arith, c.in_ok-make_room.ensures.host_faults, c.in-Ok.ensures.host_faults))
+
+pub returns-in_err-serve-clause-host_faults : goal.returns-in_err-serve-clause-host_faults
+returns-in_err-serve-clause-host_faults g c = λ p₀ n₀ before. c.serve.ensures.host_faults p₀ n₀ ((turn_counts c.in-Ok.given.turn _ c.turns.journal.past c.push-in-turns.new.self.past _ _ _ c.turns.invariant.host_faults (rw c.in_ok-make_room.ensures.same at c.push-in-turns.ensures.past) (omega (arith, c.in_ok-make_room.ensures.host_faults, c.in-Ok.ensures.host_faults))) p₀ n₀ before)
+
+pub returns-in-End-clause-host_faults : goal.returns-in-End-clause-host_faults
+returns-in-End-clause-host_faults g c = λ p₀ n₀ before. c.serve.ensures.host_faults p₀ n₀ ((turn_counts c.in-Ok.given.turn _ c.turns.journal.past c.push-in-turns.new.self.past _ _ _ c.turns.invariant.host_faults (rw c.in_ok-make_room.ensures.same at c.push-in-turns.ensures.past) (omega (arith, c.in_ok-make_room.ensures.host_faults, c.in-Ok.ensures.host_faults))) p₀ n₀ before)
+
+pub returns-in-Err-clause-host_faults : goal.returns-in-Err-clause-host_faults
+returns-in-Err-clause-host_faults g c = fault_counts c.in-Err.fault.0 _ c.turns.journal.past c.push.new.self.past _ _ _ c.turns.invariant.host_faults (rw c.in_ok-make_room.ensures.same at c.push.ensures.past) (omega (arith, c.in_ok-make_room.ensures.host_faults, c.in-Err.ensures.host_faults))

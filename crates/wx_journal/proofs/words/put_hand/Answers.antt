@@ -2,7 +2,8 @@ use Rattle.std.proofs.Common.{◌≡◌, [], ◌∷◌, OnOk, ℕ, List, subst}
 use Rattle.std.specs.Prelude.{codes, decimal}
 use Rattle.std.specs.List.{flat_map}
 use Rattle.wx_words.specs.Lists.{list_words}
-use Rattle.wx_journal.specs.Words.{act_words, name_words}
+use Rattle.wx_journal.specs.Acts.{act_words}
+use Rattle.wx_journal.specs.Words.{name_words}
 use Rattle.wx_journal.proofs.PutLaws.{put_three}
 use Rattle.wx_journal.proofs.words.put_hand.Goals as goal
 

@@ -1,8 +1,8 @@
-use Rattle.std.proofs.Common.{rules, ◌∙◌, ap, Some, List, refl}
+use Rattle.std.proofs.Common.{rules, ◌∙◌, sym, ap, Some, List}
 use Rattle.wx_journal.specs.declared.entry.Entry.{Entry}
-use Rattle.wx_journal.specs.Told.{tells, is_turn}
+use Rattle.wx_journal.specs.Told.{tells, is_turn, is_world}
 use Rattle.wx_engine.specs.Acted.{FollowsActs, follows_acts}
-use Rattle.wx_engine.specs.FollowLaws.{follows_turns}
+use Rattle.wx_engine.specs.FollowLaws.{follows_turns, follows_answers}
 use Rattle.wx_engine.specs.Turns.{turns_of}
 use Rattle.wx_engine.specs.Follows.{Follows}
 use Rattle.wx_run.proofs.replay.play.Goals as goal
@@ -10,12 +10,16 @@ use Rattle.wx_run.proofs.replay.play.Goals as goal
 pub returns-clause-text : goal.returns-clause-text
 returns-clause-text c =
     let j : List Entry = c.main-answer.new.journal.past in
-    let acts : FollowsActs c.args.script.now.actions j = rw c.in_ok-hooks.ensures.plan at (follows_acts _ j (c.main-answer.ensures.rule refl c.in_ok-hooks.ensures.stands)) in
+    let acts : FollowsActs c.args.script.now.actions j = rw c.in_ok-hooks.ensures.plan at (follows_acts _ j (c.main-answer.ensures.rule (sym c.short.ensures ∙ c.if-short.false) c.in_ok-hooks.ensures.stands)) in
     let follows : Follows c.args.script.now j = record {
       turns = follows_turns c.args.script.now _ c.main-answer.new.world.told.past j
           (c.main-answer.ensures.world_plan ∙ c.in_ok-world.ensures.plan)
           c.main-answer.new.world.follows
           (c.main-answer.ensures.turns ∙ ap (λ (before : List Entry). tells is_turn j (Some (turns_of before))) c.in_ok-world.ensures.told);
       acts = acts;
+      answers = follows_answers c.args.script.now _ c.main-answer.new.world.told.past j
+          (c.main-answer.ensures.world_plan ∙ c.in_ok-world.ensures.plan)
+          (record { of_spawns = c.main-answer.new.world.of_spawns; of_kills = c.main-answer.new.world.of_kills; of_waits = c.main-answer.new.world.of_waits })
+          (c.main-answer.ensures.world ∙ ap (λ (before : List Entry). tells is_world j (Some before)) c.in_ok-world.ensures.told);
     } in
     search (rules, follows)

@@ -1,4 +1,3 @@
-use Rattle.std.proofs.Common.{◌≡◌}
 use Rattle.wx_job.proofs.StandsLemmas.{end-is}
 use Rattle.wx_job.proofs.StepLaws.{end_left}
 use Rattle.wx_job.proofs.task.JobTask.end.Goals as goal

@@ -1,4 +1,3 @@
-use Rattle.std.proofs.Common.{◌≡◌}
 use Rattle.wx_job.proofs.StepLaws.{send_left}
 use Rattle.wx_job.proofs.task.JobTask.send.Goals as goal
 

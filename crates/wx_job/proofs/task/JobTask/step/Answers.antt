@@ -1,4 +1,3 @@
-use Rattle.std.proofs.Common.{◌≡◌}
 use Rattle.wx_job.proofs.StepLaws.{step_left, faults}
 use Rattle.wx_job.proofs.task.JobTask.step.Goals as goal
 

@@ -1,0 +1,86 @@
+-- What is found of a job.
+use Rattle.std.proofs.Common.{inl, inr, ◌≡◌, Bool, true, false, ◌||◌, cond, List, [], ◌∷◌, refl, ap, sym, subst, ◌∙◌}
+use Rattle.std.specs.Prelude.{Option, None, Some, is_some, map}
+use Rattle.std.specs.List.{find, list_any, AllByRecursion}
+use Rattle.wx_control.specs.declared.id.Id.{Id}
+use Rattle.wx_control.specs.declared.job.Job.{Job}
+use Rattle.wx_journal.specs.declared.entry.Entry.{Entry}
+use Rattle.wx_job.specs.History.{same, lives, child}
+use Rattle.wx_job.proofs.Owners.{self, same-is}
+use Rattle.wx_action.specs.declared.state.Held.{Held}
+use Rattle.wx_action.specs.declared.state.Worker.{Worker}
+use Rattle.wx_action.specs.HeldJobs.{IsHandle, AreShown, is_of, handles, runs}
+use Rattle.wx_action.specs.Jobs.{set, is_seen}
+use Rattle.wx_action.specs.Start.{Start}
+use Rattle.wx_action.specs.Stands.{HeldStands, Ready, held_id}
+use Rattle.wx_action.specs.JobLaws.{IsIn, in_set}
+use Rattle.wx_action.specs.EndLaws.{GoneRunNone, none_runs}
+
+-- ---- the handle on a job
+
+-- what is found is of this id, and is one of these
+record IsFound (p : List Entry) (id : Id) (held : List Held) (found : Option Held) : Type 0 where
+  there : is_some found ≡ list_any (λ job. same job id) (map (λ (job : Id × Job). job.0) (handles held))
+  handle : (h : Held) → found ≡ Some h → IsHandle p id h.handle
+
+found_or : (p : List Entry) (id : Id) (b : Bool) (h : Held) (held : List Held) (rest : Option Held) → is_of id h ≡ b → IsHandle p h.handle.id h.handle → IsFound p id held rest → IsFound p id (h ∷ held) (cond b (Some h) rest)
+found_or p id true h held rest mine handle others = record {
+  there = rw mine refl;
+  handle = λ x is. let its : h ≡ x = cc in subst (λ (y : Held). IsHandle p id y.handle) its (subst (λ i. IsHandle p i h.handle) (same-is h.handle.id id mine) handle);
+}
+found_or p id false h held rest mine handle others = record { there = rw mine others.there; handle = others.handle }
+
+found_held : (p : List Entry) (id : Id) (held : List Held) → AllByRecursion (λ job. IsHandle p job.0 job.1) (handles held) → IsFound p id held (find (is_of id) held)
+found_held p id [] all = record { there = refl; handle = λ h is. absurd cc }
+found_held p id (h ∷ held) all = found_or p id (is_of id h) h held (find (is_of id) held) refl all.0 (found_held p id held all.1)
+
+is_there : (p : List Entry) (id : Id) (held : List Held) → AreShown p held → is_some (find (is_of id) held) ≡ is_seen id p
+is_there p id held shown = (found_held p id held shown.seen.handles).there ∙ ap (λ ids. list_any (λ job. same job id) ids) shown.seen.ids
+
+pub there_some : (p : List Entry) (id : Id) (held : List Held) (h : Held) → AreShown p held → Some h ≡ find (is_of id) held → true ≡ is_seen id p
+there_some p id held h shown e = rw (← e) at (is_there p id held shown)
+
+pub there_none : (p : List Entry) (id : Id) (held : List Held) → AreShown p held → None ≡ find (is_of id) held → false ≡ is_seen id p
+there_none p id held shown e = rw (← e) at (is_there p id held shown)
+
+pub handle_some : (p : List Entry) (id : Id) (held : List Held) (h : Held) → AreShown p held → Some h ≡ find (is_of id) held → IsHandle p id h.handle
+handle_some p id held h shown e = (found_held p id held shown.seen.handles).handle h (sym e)
+
+-- ---- what a worker holds is what the journal shows
+
+held_handles : (p : List Entry) (held : List Held) → AllByRecursion (HeldStands p) held → AllByRecursion (λ job. IsHandle p job.0 job.1) (handles held)
+held_handles p [] s = tt
+held_handles p (h ∷ held) s = (record { names = refl; runs = rw (s.0.handle_is, s.0.handle_command) s.0.command_is }, held_handles p held s.1)
+
+held_ids : (p : List Entry) (held : List Held) → AllByRecursion (HeldStands p) held → map (λ (job : Id × Job). job.0) (handles held) ≡ map held_id held
+held_ids p [] s = refl
+held_ids p (h ∷ held) s = λ i. s.0.handle_is i ∷ held_ids p held s.1 i
+
+runs_or : (p : List Entry) (id : Id) (b : Bool) (h : Held) (rest : Option Held) → is_of id h ≡ b → HeldStands p h → (b ≡ false → runs rest ≡ is_some (child id p)) → runs (cond b (Some h) rest) ≡ is_some (child id p)
+runs_or p id true h rest mine s other = ap is_some (s.task_stands.child_kept ∙ ap (λ i. child i p) (sym s.handle_is ∙ same-is h.handle.id id mine))
+runs_or p id false h rest mine s other = other refl
+
+held_runs : (p : List Entry) (id : Id) (held : List Held) → AllByRecursion (HeldStands p) held → (list_any (λ job. same job id) (map (λ (job : Id × Job). job.0) (handles held)) ≡ false → child id p ≡ None) → runs (find (is_of id) held) ≡ is_some (child id p)
+held_runs p id [] s none = rw (none refl) refl
+held_runs p id (h ∷ held) s none = runs_or p id (is_of id h) h (find (is_of id) held) refl s.0 (λ other. held_runs p id held s.1 (λ e. none (rw (other, e) refl)))
+
+or_true : (b : Bool) → (b || true) ≡ true
+or_true true = refl
+or_true false = refl
+
+any_in : (id : Id) (ids : List Id) → IsIn id ids → list_any (λ job. same job id) ids ≡ true
+any_in id [] none = absurd none
+any_in id (job ∷ ids) (inl is) = rw (is, self id) refl
+any_in id (job ∷ ids) (inr later) = ap (λ b. same job id || b) (any_in id ids later) ∙ or_true (same job id)
+
+unseen : (s : Start) (p : List Entry) (id : Id) → GoneRunNone p → (b : Bool) → lives id p ≡ b → list_any (λ job. same job id) (set p) ≡ false → child id p ≡ None
+unseen s p id gone true alive none = let seen : true ≡ false = sym (any_in id (set p) (in_set id p alive)) ∙ none in absurd cc
+unseen s p id gone false dead none = gone id dead
+
+pub shown : (s : Start) (w : Worker) (p : List Entry) → Ready s w p → AreShown p w.jobs.items
+shown s w p ready =
+    let ids : map (λ (job : Id × Job). job.0) (handles w.jobs.items) ≡ set p = held_ids p w.jobs.items ready.stands.tasks_kept ∙ ready.stands.jobs_kept in
+    record {
+      seen = record { ids = ids; handles = held_handles p w.jobs.items ready.stands.tasks_kept };
+      running = λ id. held_runs p id w.jobs.items ready.stands.tasks_kept (λ none. unseen s p id (none_runs s p ready.run) (lives id p) refl (rw ids at none));
+    }

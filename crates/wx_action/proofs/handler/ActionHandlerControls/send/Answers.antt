@@ -1,0 +1,16 @@
+use Rattle.std.proofs.Common.{◌≡◌, ◌∷◌, ◌++◌, [], length, ap, arith}
+use Rattle.wx_journal.specs.declared.entry.Act.TheVariants.{Ask}
+use Rattle.wx_action.proofs.HandlerLemmas.{kept_ask, asks_ask}
+use Rattle.wx_action.proofs.handler.ActionHandlerControls.send.Goals as goal
+
+pub invariant_of-self-2 : goal.invariant_of-self-2
+invariant_of-self-2 c =
+    kept_ask c.self.inside.journal.now.past c.self.inside.held.now c.self.inside.names.items c.self.inside.events c.self.inside.ids.0 c.self.inside.acts.items _ c.self.inside.second c.reserve_act.new.second c.push_second.new.second c.self.inside.todo.items c.id-id.result c.args.ask c.in_ok-done.done _ _ _ c.self.invariant
+    (omega (arith, ap length c.reserve_act.ensures.acts, c.reserve_act.new.acts.ok.0, c.in_ok-reserve_act.ensures.room, c.push_reserved.ensures.capacity)) c.reserve_act.ensures.second c.in_ok-reserve_act.ensures.second_room (rw c.in_ok-copy-4.ensures at c.push_second.ensures)
+    (rw (c.reserve_act.ensures.acts, c.in_ok-copy-3.ensures) at c.push_reserved.ensures.items)
+    (rw c.reserve_act.ensures.todo at c.push_reserved-2.ensures.items)
+
+pub returns-clause-asks : goal.returns-clause-asks
+returns-clause-asks c =
+    let grown : c.push_reserved.new.self.items ≡ c.self.inside.acts.items ++ Ask c.id-id.result c.args.ask ∷ [] = rw (c.reserve_act.ensures.acts, c.in_ok-copy-3.ensures) at c.push_reserved.ensures.items in
+    rw (grown, asks_ask c.self.inside.acts.items c.id-id.result c.args.ask, c.id-id.ensures, ap (λ h. h.acts) c.self.view_is)

@@ -1,0 +1,47 @@
+use Rattle.std.proofs.Common.{◌≡◌, ◌≤◌, ◌+◌, length, set, length-set, add-one, arith, refl, ◌∙◌}
+use Rattle.std.specs.Prelude.{None}
+use Rattle.wx_action.specs.EndLaws.{faults_rise}
+use Rattle.wx_action.specs.FaultLaws.{counts_end}
+use Rattle.wx_action.proofs.EndLemmas.{ending_starts, ending_goes, ending_ends}
+use Rattle.wx_action.proofs.jobs.end_jobs.Goals as goal
+
+pub loop-place-init : goal.loop-place-init
+loop-place-init g c = record {
+  ending = ending_starts g.start c.args.worker.now c.args.journal.now.past (g.W.Outside.told c.args.host.now) c.requires.1.0;
+  count = refl;
+  journal_room = let room = c.requires.1.1.in_journal in omega arith;
+  host_room = let room = c.requires.1.1.in_host in omega arith;
+  faults = omega arith;
+  kept = record { plan_kept = refl; progress_kept = refl; place_kept = refl };
+}
+
+pub loop-place-preserved : goal.loop-place-preserved
+loop-place-preserved g c =
+    let i = c.loop-place.invariant in
+    let hs = c.loop-place.worker.jobs.items in
+    let h = c.index_mut.result.now in
+    let within : c.loop-place.place + 1 ≤ length hs = omega (arith, c.loop-place-test.true, c.len-place-end.ensures, c.args.worker.now.jobs.ok.0, i.count) in
+    let count : length (set hs c.loop-place.place (record h { task = c.end.new.self })) ≡ length hs = length-set hs c.loop-place.place _ in
+    record {
+      ending = rw add-one (ending_goes g.start c.args.journal.now.past (g.W.Outside.told c.args.host.now) hs _ c.loop-place.place h (record h { task = c.end.new.self }) c.loop-place.journal.past c.end.new.journal.past (g.W.Outside.told c.loop-place.host) (g.W.Outside.told c.end.new.host) _ _ i.ending
+          (record { within = omega (arith, within); held = c.index_mut.ensures.value; items = refl; handle_same = refl; job_same = c.end.ensures.job; task_stands = c.end.ensures.stands })
+          (c.end.ensures.leaves i.ending.own) c.end.ensures.leads);
+      count = count ∙ i.count;
+      journal_room = omega (arith, count, i.journal_room, c.end.ensures.journal_room);
+      host_room = omega (arith, count, i.host_room, c.end.ensures.host_room);
+      faults = omega (arith, i.faults, faults_rise _ _ _ _ _ _ _ _ _ _ (c.end.ensures.leads None));
+      kept = record { plan_kept = c.end.ensures.kept.plan_kept ∙ i.kept.plan_kept; progress_kept = c.end.ensures.kept.progress_kept ∙ i.kept.progress_kept; place_kept = c.end.ensures.kept.place_kept ∙ i.kept.place_kept };
+    }
+
+pub returns : goal.returns
+returns g c =
+    let i = c.loop-place.invariant in
+    let all : c.loop-place.place ≡ length c.loop-place.worker.jobs.items = omega (arith, c.loop-place-test.false, c.loop-place.auto.place-end, c.len-place-end.ensures, c.args.worker.now.jobs.ok.0, i.count) in
+    record {
+      dying = i.ending.done.dying;
+      none = ending_ends _ _ _ _ _ _ all i.ending;
+      told = i.ending.done.world_told;
+      follows = λ due hooks. i.ending.done.follows g.start c.requires.1.0.run due hooks;
+      kept = i.kept;
+      faults = counts_end _ _ _ _ i.ending.done.dying i.faults;
+    }

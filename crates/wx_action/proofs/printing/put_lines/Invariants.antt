@@ -1,7 +1,0 @@
-use Rattle.std.proofs.Common.{◌≡◌, ◌++◌, take}
-use Rattle.std.specs.List.{flat_map}
-use Rattle.wx_action.specs.Printed.{entry_line}
-use Rattle.wx_action.proofs.printing.put_lines.Given as goal
-
-abbrev pub invariant-loop-entry : goal.invariant-loop-entry
-invariant-loop-entry l = l.out ≡ l.fn.out ++ flat_map entry_line (take l.entry-index l.entries)

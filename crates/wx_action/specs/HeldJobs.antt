@@ -1,0 +1,40 @@
+-- The jobs that an action sees.
+use Rattle.std.specs.Prelude.{◌≡◌, Bool, false, is_some, Option, None, Some, List, map}
+use Rattle.std.specs.List.{find, AllByRecursion}
+use Rattle.wx_control.specs.declared.id.Id.{Id}
+use Rattle.wx_control.specs.declared.job.Job.{Job}
+use Rattle.wx_journal.specs.declared.entry.Entry.{Entry}
+use Rattle.wx_job.specs.History.{same, child}
+use Rattle.wx_job.specs.Stands.{running_of}
+use Rattle.wx_action.specs.declared.state.Held.{Held}
+use Rattle.wx_action.specs.Jobs.{set, command}
+
+-- a handle on the job of this id, with what the job runs
+pub record IsHandle (p : List Entry) (id : Id) (job : Job) : Type 0 where
+  pub names : job.id ≡ id
+  pub runs : command id p ≡ Some job.command
+
+-- these are all jobs that a handler sees, by rising id, each with a handle
+pub record AreSeen (p : List Entry) (jobs : List (Id × Job)) : Type 0 where
+  pub ids : map (λ job. job.0) jobs ≡ set p
+  pub handles : AllByRecursion (λ job. IsHandle p job.0 job.1) jobs
+
+-- ---- what is held of them
+
+-- what is held is of the job of this id
+abbrev pub is_of : Id → Held → Bool
+is_of id h = same h.handle.id id
+
+-- the ids with the handles, in order
+abbrev pub handles : List Held → List (Id × Job)
+handles held = map (λ h. (h.handle.id, h.handle)) held
+
+-- whether the child of a job runs
+abbrev pub runs : Option Held → Bool
+runs None = false
+runs (Some h) = is_some (running_of h.task)
+
+-- what is held is of the jobs that a handler sees, and says whether the child of each job runs
+pub record AreShown (p : List Entry) (held : List Held) : Type 0 where
+  pub seen : AreSeen p (handles held)
+  pub running : (id : Id) → runs (find (is_of id) held) ≡ is_some (child id p)

@@ -1,0 +1,384 @@
+-- The jobs of a run: their names, their commands, their children, and the plans that are followed for them.
+use Rattle.std.proofs.Common.{◌≡◌, ℕ, ◌+◌, ◌≤◌, ◌<◌, Bool, true, false, cond, List, [], ◌∷◌, ◌++◌, inl, inr, arith, refl, ap, sym, subst, ◌∙◌, eq-eqb, ne_eqb}
+use Rattle.std.specs.Prelude.{Option, None, Some, ◌||◌, ◌&&◌, not, ◌⊎◌}
+use Rattle.std.specs.List.{AllByRecursion, filter}
+use Rattle.std.proofs.lemmas.Bool.{eqb-true}
+use Rattle.wx_command.specs.declared.command.Command.{Command}
+use Rattle.wx_control.specs.declared.id.Id.{Id}
+use Rattle.wx_control.specs.declared.ask.Ask.{Ask}
+use Rattle.wx_control.specs.Asks.{sends_of}
+use Rattle.wx_journal.specs.declared.entry.Act.{Act}
+use Rattle.wx_journal.specs.declared.entry.Act.TheVariants.{Create}
+use Rattle.wx_journal.specs.declared.entry.Entry.{Entry}
+use Rattle.wx_journal.specs.declared.entry.Entry.TheVariants.{Begin, Turn as Turned, TurnFault, Take, Hand, Made, Gone}
+use Rattle.wx_journal.specs.Names.{creates, is_created, job_count, NamesItsOwn}
+use Rattle.wx_journal.specs.Told.{tell_if, is_world, is_hooks}
+use Rattle.wx_job.specs.History.{same, lives, child, is_child}
+use Rattle.wx_job.specs.Table.{Plan, Done, Picks, Spawns, Kills, Waits, Drops, Raises, Goes, Makes, Asks, Says, step_plan, ask_plan, end_plan}
+use Rattle.wx_job.specs.Case.{Admits as Follows, is_fault, next, Leads as Led, Here, Then as OneMore}
+use Rattle.wx_job.proofs.Owners.{same-is, child_owner}
+use Rattle.wx_job.proofs.Sound.{Sound, sound_step, sound_ask, sound_end}
+use Rattle.wx_action.specs.Start.{Start}
+use Rattle.wx_action.specs.Jobs.{set, jobs, creation, or_else, command, parent_among, parent, AreLawful}
+use Rattle.wx_action.specs.Due.{Agenda, plans, rest, agenda, Admits, Due, IsRun}
+use Rattle.wx_action.specs.Leads.{Follows as LeadsOn, Then, StaysApart, More}
+use Rattle.wx_action.specs.Turns.{SameTurns, StaysInTurn}
+use Rattle.wx_action.specs.BagLaws.{own_before}
+use Rattle.wx_action.specs.PlanLaws.{IsOfPlan, of_plan, MadeInOrder}
+use Rattle.wx_action.specs.RunLaws.{orderly, own_of_run, hand_of_run}
+
+-- ---- names in lists
+
+abbrev pub IsIn : Id → List Id → Type 0
+IsIn id [] = ⊥
+IsIn id (job ∷ ids) = (job ≡ id) ⊎ IsIn id ids
+
+in_front : (id : Id) (xs ys : List Id) → IsIn id xs → IsIn id (xs ++ ys)
+in_front id [] ys h = absurd h
+in_front id (x ∷ xs) ys (inl e) = inl e
+in_front id (x ∷ xs) ys (inr h) = inr (in_front id xs ys h)
+
+in_last : (id : Id) (xs : List Id) (job : Id) → job ≡ id → IsIn id (xs ++ job ∷ [])
+in_last id [] job e = inl e
+in_last id (x ∷ xs) job e = inr (in_last id xs job e)
+
+of_append : (id : Id) (xs : List Id) (job : Id) → IsIn id (xs ++ job ∷ []) → IsIn id xs ⊎ (job ≡ id)
+of_append id [] job (inl e) = inr e
+of_append id [] job (inr h) = absurd h
+of_append id (x ∷ xs) job (inl e) = inl (inl e)
+of_append id (x ∷ xs) job (inr h) = elim (of_append id xs job h) [ inl g ↦ inl (inr g) | inr e ↦ inr e ]
+
+in_kept : (id : Id) (b : Bool) (x : Id) (xs : List Id) → IsIn id xs → IsIn id (cond b (x ∷ xs) xs)
+in_kept id true x xs h = inr h
+in_kept id false x xs h = h
+
+pub in_filter : (test : Id → Bool) (id : Id) (xs : List Id) → IsIn id xs → test id ≡ true → IsIn id (filter test xs)
+in_filter test id [] h t = absurd h
+in_filter test id (x ∷ xs) (inl e) t = let is : test x ≡ true = ap test e ∙ t in rw is (inl e)
+in_filter test id (x ∷ xs) (inr h) t = in_kept id (test x) x (filter test xs) (in_filter test id xs h t)
+
+of_kept : (test : Id → Bool) (id : Id) (b : Bool) (x : Id) (xs ys : List Id) → test x ≡ b → (IsIn id xs → IsIn id ys × (test id ≡ true)) → IsIn id (cond b (x ∷ xs) xs) → ((x ≡ id) ⊎ IsIn id ys) × (test id ≡ true)
+of_kept test id true x xs ys is more (inl e) = (inl e, ap test (sym e) ∙ is)
+of_kept test id true x xs ys is more (inr h) = let g = more h in (inr g.0, g.1)
+of_kept test id false x xs ys is more h = let g = more h in (inr g.0, g.1)
+
+pub of_filter : (test : Id → Bool) (id : Id) (xs : List Id) → IsIn id (filter test xs) → IsIn id xs × (test id ≡ true)
+of_filter test id [] h = absurd h
+of_filter test id (x ∷ xs) h = of_kept test id (test x) x (filter test xs) xs refl (λ g. of_filter test id xs g) h
+
+-- what holds of each holds of one
+pub all_in : (P : Id → Type 0) (id : Id) (xs : List Id) → AllByRecursion P xs → IsIn id xs → P id
+all_in P id [] all h = absurd h
+all_in P id (x ∷ xs) all (inl e) = subst P e all.0
+all_in P id (x ∷ xs) all (inr h) = all_in P id xs all.1 h
+
+-- ---- a job that lives is in the set
+
+in_made : (id job : Id) (b : Bool) (p : List Entry) → same job id ≡ b → (lives id p ≡ true → IsIn id (set p)) → (b || lives id p) ≡ true → IsIn id (set p ++ job ∷ [])
+in_made id job true p is more e = in_last id (set p) job (same-is job id is)
+in_made id job false p is more e = in_front id (set p) (job ∷ []) (more e)
+
+and_right : (a b : Bool) → (a && b) ≡ true → b ≡ true
+and_right true b e = e
+and_right false b e = absurd cc
+
+pub in_set : (id : Id) (p : List Entry) → lives id p ≡ true → IsIn id (set p)
+in_set id [] e = absurd cc
+in_set id (Made job ∷ p) e = in_made id job (same job id) p refl (λ g. in_set id p g) e
+in_set id (Gone job ∷ p) e = in_set id p (and_right (not (same job id)) (lives id p) e)
+in_set id (Hand n names acts ∷ p) e = in_filter (λ job. lives job p) id (set p) (in_set id p e) e
+in_set id (_ ∷ p) e = in_set id p e
+
+pub in_jobs : (id : Id) (p : List Entry) → lives id p ≡ true → IsIn id (jobs p)
+in_jobs id p e = in_filter (λ job. lives job p) id (set p) (in_set id p e) e
+
+-- ---- the names of the set rise, and are those of jobs that were made
+
+abbrev pub AreRising : List Id → Type 0
+AreRising [] = Unit {0}
+AreRising (id ∷ ids) = AllByRecursion (λ job. id.0 < job.0) ids × AreRising ids
+
+abbrev pub AreBelow : ℕ → List Id → Type 0
+AreBelow n ids = AllByRecursion (λ id. id.0 < n) ids
+
+below_rise : (n : ℕ) (ids : List Id) → AreBelow n ids → AreBelow (n + 1) ids
+below_rise n [] h = tt
+below_rise n (id ∷ ids) h = (omega arith, below_rise n ids h.1)
+
+all_last : (P : Id → Type 0) (ids : List Id) (id : Id) → AllByRecursion P ids → P id → AllByRecursion P (ids ++ id ∷ [])
+all_last P [] id h g = (g, tt)
+all_last P (x ∷ ids) id h g = (h.0, all_last P ids id h.1 g)
+
+all_kept : (P : Id → Type 0) (b : Bool) (x : Id) (xs : List Id) → P x → AllByRecursion P xs → AllByRecursion P (cond b (x ∷ xs) xs)
+all_kept P true x xs h g = (h, g)
+all_kept P false x xs h g = g
+
+pub all_filter : (P : Id → Type 0) (test : Id → Bool) (xs : List Id) → AllByRecursion P xs → AllByRecursion P (filter test xs)
+all_filter P test [] h = tt
+all_filter P test (x ∷ xs) h = all_kept P (test x) x (filter test xs) h.0 (all_filter P test xs h.1)
+
+rising_last : (ids : List Id) (id : Id) → AreRising ids → AreBelow id.0 ids → AreRising (ids ++ id ∷ [])
+rising_last [] id r b = (tt, tt)
+rising_last (x ∷ ids) id r b = (all_last (λ job. x.0 < job.0) ids id r.0 b.0, rising_last ids id r.1 b.1)
+
+rising_kept : (b : Bool) (x : Id) (xs : List Id) → AllByRecursion (λ job. x.0 < job.0) xs → AreRising xs → AreRising (cond b (x ∷ xs) xs)
+rising_kept true x xs h r = (h, r)
+rising_kept false x xs h r = r
+
+rising_filter : (test : Id → Bool) (xs : List Id) → AreRising xs → AreRising (filter test xs)
+rising_filter test [] r = tt
+rising_filter test (x ∷ xs) r = rising_kept (test x) x (filter test xs) (all_filter (λ job. x.0 < job.0) test xs r.0) (rising_filter test xs r.1)
+
+pub record IsRising (p : List Entry) : Type 0 where
+  pub rising : AreRising (set p)
+  pub below : AreBelow (job_count p) (set p)
+
+made_rising : (p : List Entry) → MadeInOrder p → IsRising p
+made_rising [] made = record { rising = tt; below = tt }
+made_rising (Made id ∷ p) made =
+    let h = made_rising p made.1 in record {
+      rising = rising_last (set p) id h.rising (subst (λ n. AreBelow n (set p)) (sym made.0) h.below);
+      below = all_last (λ job. job.0 < job_count p + 1) (set p) id (below_rise (job_count p) (set p) h.below) (let is : id.0 ≡ job_count p = made.0 in omega arith);
+    }
+made_rising (Hand n names acts ∷ p) made =
+    let h = made_rising p made in record {
+      rising = rising_filter (λ id. lives id p) (set p) h.rising;
+      below = all_filter (λ id. id.0 < job_count p) (λ id. lives id p) (set p) h.below;
+    }
+made_rising (_ ∷ p) made = let h = made_rising p made in record { rising = h.rising; below = h.below }
+
+pub set_rising : (s : Start) (p : List Entry) → IsRun s p → IsRising p
+set_rising s p r = made_rising p (orderly s p r).in_order
+
+-- ---- each job of the set has a command, which stays
+
+creation_none : (n : ℕ) (id : Id) (acts : List Act) → AreLawful n acts → id.0 < n → creation id acts ≡ None
+creation_none n id [] l lt = refl
+creation_none n id (Create job command ∷ acts) l lt = rw (ne_eqb job.0 id.0 (λ e. let is : job.0 ≡ n = l.0 in absurd (omega arith))) (creation_none (n + 1) id acts l.1 (omega arith))
+creation_none n id (_ ∷ acts) l lt = creation_none n id acts l lt
+
+pub command_kept : (s : Start) (p : List Entry) (n : ℕ) (names : List ℕ) (acts : List Act) (id : Id) → IsRun s (Hand n names acts ∷ p) → IsIn id (set p) → command id (Hand n names acts ∷ p) ≡ command id p
+command_kept s p n names acts id r here =
+    let lawful = (hand_of_run s p n names acts r).2 in
+    ap (λ o. or_else o (command id p)) (creation_none (job_count p) id acts lawful (all_in (λ job. job.0 < job_count p) id (set p) (set_rising s p r.1).below here))
+
+or_right : (a b : Bool) → b ≡ true → (a || b) ≡ true
+or_right true b e = refl
+or_right false b e = e
+
+created_in : (id : Id) (p : List Entry) → NamesItsOwn p → IsIn id (set p) → is_created id p ≡ true
+created_in id [] own h = absurd h
+created_in id (Made job ∷ p) own h = elim (of_append id (set p) job h) [ inl g ↦ created_in id p own.1 g | inr e ↦ subst (λ j. is_created j p ≡ true) e own.0 ]
+created_in id (Hand n names acts ∷ p) own h = or_right (creates id acts) (is_created id p) (created_in id p own.1 (of_filter (λ job. lives job p) id (set p) h).0)
+created_in id (e ∷ p) own h = created_in id p (own_before e p own) h
+
+abbrev IsThere : Option Command → Type 0
+IsThere o = (c : Command) × (o ≡ Some c)
+
+there_first : (b : Bool) (c : Command) (o : Option Command) → (b ≡ false → IsThere o) → IsThere (cond b (Some c) o)
+there_first true c o h = (c, refl)
+there_first false c o h = h refl
+
+there_else : (a b : Option Command) → IsThere b → IsThere (or_else a b)
+there_else None b h = h
+there_else (Some c) b h = (c, refl)
+
+there_made : (a b : Option Command) → IsThere a → IsThere (or_else a b)
+there_made a b h = (h.0, ap (λ o. or_else o b) h.1)
+
+or_of : (a b : Bool) → (a || b) ≡ true → a ≡ false → b ≡ true
+or_of true b e f = absurd cc
+or_of false b e f = e
+
+creation_there : (id : Id) (acts : List Act) → creates id acts ≡ true → IsThere (creation id acts)
+creation_there id [] e = absurd cc
+creation_there id (Create job command ∷ acts) e = there_first (same job id) command (creation id acts) (λ f. creation_there id acts (or_of (same job id) (creates id acts) e f))
+creation_there id (_ ∷ acts) e = creation_there id acts e
+
+command_of_hand : (id : Id) (acts : List Act) (b c : Bool) (before : Option Command) → creates id acts ≡ b → (c ≡ true → IsThere before) → (b || c) ≡ true → IsThere (or_else (creation id acts) before)
+command_of_hand id acts true c before is h e = there_made (creation id acts) before (creation_there id acts is)
+command_of_hand id acts false c before is h e = there_else (creation id acts) before (h e)
+
+created_command : (id : Id) (p : List Entry) → is_created id p ≡ true → IsThere (command id p)
+created_command id [] e = absurd cc
+created_command id (Hand n names acts ∷ p) e = command_of_hand id acts (creates id acts) (is_created id p) (command id p) refl (λ g. created_command id p g) e
+created_command id (_ ∷ p) e = created_command id p e
+
+-- ---- the job whose child it is
+
+is_child_some : (c : ℕ) (o : Option ℕ) → is_child c o ≡ true → o ≡ Some c
+is_child_some c None e = absurd cc
+is_child_some c (Some d) e = ap (λ n. Some n) (eqb-true d c e)
+
+record IsParent (c : ℕ) (id : Id) (ids : List Id) (p : List Entry) : Type 0 where
+  here : IsIn id ids
+  runs : child id p ≡ Some c
+
+parent_first : (c : ℕ) (id job : Id) (ids : List Id) (p : List Entry) (b : Bool) (o : Option Id) → is_child c (child job p) ≡ b → (o ≡ Some id → IsParent c id ids p) → cond b (Some job) o ≡ Some id → IsParent c id (job ∷ ids) p
+parent_first c id job ids p true o is more e = let found : job ≡ id = cc in record { here = inl found; runs = subst (λ j. child j p ≡ Some c) found (is_child_some c (child job p) is) }
+parent_first c id job ids p false o is more e = let h = more e in record { here = inr h.here; runs = h.runs }
+
+parent_of : (c : ℕ) (id : Id) (ids : List Id) (p : List Entry) → parent_among ids c p ≡ Some id → IsParent c id ids p
+parent_of c id [] p e = absurd cc
+parent_of c id (job ∷ ids) p e = parent_first c id job ids p (is_child c (child job p)) (parent_among ids c p) refl (λ g. parent_of c id ids p g) e
+
+pub parent_runs : (c : ℕ) (id : Id) (p : List Entry) → parent c p ≡ Some id → child id p ≡ Some c
+parent_runs c id p e = (parent_of c id (set p) p e).runs
+
+pub parent_in : (c : ℕ) (id : Id) (p : List Entry) → parent c p ≡ Some id → IsIn id (set p)
+parent_in c id p e = (parent_of c id (set p) p e).here
+
+none_first : (c : ℕ) (job : Id) (b : Bool) (o : Option Id) → cond b (Some job) o ≡ None → (b ≡ false) × (o ≡ None)
+none_first c job true o e = absurd cc
+none_first c job false o e = (refl, e)
+
+none_of : (c : ℕ) (id : Id) (ids : List Id) (p : List Entry) → parent_among ids c p ≡ None → IsIn id ids → child id p ≡ Some c → ⊥
+none_of c id [] p e h runs = h
+none_of c id (job ∷ ids) p e (inl is) runs =
+    let other = (none_first c job (is_child c (child job p)) (parent_among ids c p) e).0 in
+    let its : is_child c (child job p) ≡ true = ap (λ j. is_child c (child j p)) is ∙ ap (is_child c) runs ∙ eq-eqb c c refl in
+    let both : true ≡ false = sym its ∙ other in cc
+none_of c id (job ∷ ids) p e (inr h) runs = none_of c id ids p (none_first c job (is_child c (child job p)) (parent_among ids c p) e).1 h runs
+
+pub parent_none : (c : ℕ) (id : Id) (p : List Entry) → parent c p ≡ None → IsIn id (set p) → child id p ≡ Some c → ⊥
+parent_none c id p e here runs = none_of c id (set p) p e here runs
+
+-- ---- entries of plans
+
+-- an entry of a plan takes from what is owed
+pub agenda_plan : (s : Start) (p : List Entry) (e : Entry) → IsOfPlan e → agenda s (e ∷ p) ≡ rest e (agenda s p)
+agenda_plan s p (Begin t z v f g j w c paths) o = absurd o
+agenda_plan s p (Turned t) o = absurd o
+agenda_plan s p (TurnFault code) o = absurd o
+agenda_plan s p (Take name) o = absurd o
+agenda_plan s p (Hand n names acts) o = absurd o
+agenda_plan s p (_) o = refl
+
+pub calm_plan : (e : Entry) → IsOfPlan e → is_hooks e ≡ false
+calm_plan (Hand n names acts) o = absurd o
+calm_plan (_) o = refl
+
+pub turns_plan : (e : Entry) (p₀ p : List Entry) → IsOfPlan e → SameTurns p₀ p → SameTurns p₀ (e ∷ p)
+turns_plan (Turned t) p₀ p o h = absurd o
+turns_plan (TurnFault code) p₀ p o h = absurd o
+turns_plan (_) p₀ p o h = record { count = h.count; fault = h.fault; now = h.now; rise = h.rise; told = h.told }
+
+pub command_plan : (e : Entry) (id : Id) (p : List Entry) → IsOfPlan e → command id (e ∷ p) ≡ command id p
+command_plan (Hand n names acts) id p o = absurd o
+command_plan (_) id p o = refl
+
+-- ---- a plan that is owed leads on in the run
+
+-- what is known of a journal to which a plan led that was owed before these agendas
+pub record IsLed (s : Start) (more : Agenda) (p : List Entry) (host hooks : Option (List Entry)) (k' : Plan) (p' : List Entry) (host' hooks' : Option (List Entry)) : Type 0 where
+  pub run : IsRun s p'
+  pub due : agenda s p' ≡ plans k' more
+  pub follows : LeadsOn s p host hooks p' host' hooks'
+  pub apart : StaysApart p p'
+  pub turns : StaysInTurn p p'
+  pub commands : (id : Id) → command id p' ≡ command id p
+
+admits_plans : (s : Start) (p : List Entry) (k : Plan) (more : Agenda) (e : Entry) → Follows p k e → Admits s p (plans k more) e
+admits_plans s p Done more e d = absurd d
+admits_plans s p (k) more e d = d
+
+rest_plans : (p : List Entry) (k : Plan) (more : Agenda) (e : Entry) → Follows p k e → rest e (plans k more) ≡ plans (next k e) more
+rest_plans p Done more e d = absurd d
+rest_plans p (k) more e d = refl
+
+led_one : (s : Start) (more : Agenda) (p : List Entry) (host hooks : Option (List Entry)) (k : Plan) (q : List Entry) (host' hooks' : Option (List Entry)) (e : Entry) → Follows q k e → IsLed s more p host hooks k q host' hooks' → IsLed s more p host hooks (next k e) (e ∷ q) (tell_if (is_world e) e host') (tell_if (is_hooks e) e hooks')
+led_one s more p host hooks k q host' hooks' e d h =
+    let kind = of_plan q k e d in
+    let due : Due s q e = subst (λ (j : Agenda). Admits s q j e) (sym h.due) (admits_plans s q k more e d) in record {
+      run = (due, h.run);
+      due = agenda_plan s q e kind ∙ ap (rest e) h.due ∙ rest_plans q k more e d;
+      follows = λ p₀ world₀ hooks₀ l. Then e q host' hooks' (h.follows p₀ world₀ hooks₀ l) due;
+      apart = λ p₀ a. More e q (h.apart p₀ a) (own_of_run s q h.run) (calm_plan e kind);
+      turns = λ p₀ t. turns_plan e p₀ q kind (h.turns p₀ t);
+      commands = λ id. command_plan e id q kind ∙ h.commands id;
+    }
+
+pub plans_lead : (s : Start) (more : Agenda) (k : Plan) (p : List Entry) (host hooks : Option (List Entry)) (n : ℕ) (k' : Plan) (p' : List Entry) (host' hooks' : Option (List Entry)) (n' : ℕ) → Led k p host hooks n k' p' host' hooks' n' → IsRun s p → agenda s p ≡ plans k more → IsLed s more p host hooks k' p' host' hooks'
+plans_lead s more k p host hooks n k' p' host' hooks' n' l r due = elim l as (λ k' p' host' hooks' n' _. IsLed s more p host hooks k' p' host' hooks') [
+  | Here ↦ record { run = r; due = due; follows = λ p₀ world₀ hooks₀ l. l; apart = λ p₀ a. a; turns = λ p₀ t. t; commands = λ id. refl }
+  | OneMore e k₁ p₁ host₁ hooks₁ n₁ n₂ (l → h) d counts ↦ led_one s more p host hooks k₁ p₁ host₁ hooks₁ e d h
+]
+
+-- ---- a plan that makes no job leaves the set
+
+abbrev pub MakesNone : Plan → Type 0
+MakesNone Done = Unit {0}
+MakesNone (Picks id ticket k) = MakesNone k
+MakesNone (Spawns id tag what k f) = MakesNone k × MakesNone f
+MakesNone (Kills c k f) = MakesNone k × MakesNone f
+MakesNone (Waits c k f) = MakesNone k × MakesNone f
+MakesNone (Drops c k) = MakesNone k
+MakesNone (Raises ticket k) = MakesNone k
+MakesNone (Goes id k) = MakesNone k
+MakesNone (Makes id k) = ⊥
+MakesNone (Asks id level control k) = MakesNone k
+MakesNone (Says word k) = MakesNone k
+
+-- the plans of a job make none
+pub sound_makes_none : (id : Id) (running : Option ℕ) (n : ℕ) (k : Plan) → Sound id running n k → MakesNone k
+sound_makes_none id running n Done s = tt
+sound_makes_none id running n (Picks job ticket k) s = sound_makes_none id running n k s.2
+sound_makes_none id running n (Spawns job tag what k f) s = (sound_makes_none id (Some 0) n k (s.2 0), sound_makes_none id running n f s.3)
+sound_makes_none id running n (Kills c k f) s = (sound_makes_none id running n k s.1, sound_makes_none id running n f s.2)
+sound_makes_none id running n (Waits c k f) s = (sound_makes_none id None n k s.1, sound_makes_none id running n f s.2)
+sound_makes_none id running n (Drops c k) s = subst MakesNone (sym s.1) tt
+sound_makes_none id running n (Raises ticket k) s = sound_makes_none id running n k s.1
+sound_makes_none id running n (Goes job k) s = subst MakesNone (sym s.2) tt
+sound_makes_none id running n (Makes job k) s = absurd s
+sound_makes_none id running n (Asks job level control k) s = sound_makes_none id running (n + 1) k s.1
+sound_makes_none id running n (Says word k) s = sound_makes_none id running n k s
+
+one_of : (b : Bool) (k f : Plan) → MakesNone k → MakesNone f → MakesNone (cond b k f)
+one_of true k f h g = h
+one_of false k f h g = g
+
+pub none_by_step : (id : Id) (command : Command) (p : List Entry) → NamesItsOwn p → MakesNone (step_plan id command p)
+none_by_step id command p own = sound_makes_none id (child id p) _ (step_plan id command p) (sound_step id command p own)
+
+pub none_by_ask : (id : Id) (ask : Ask) → MakesNone (ask_plan id (sends_of ask) Done)
+none_by_ask id ask = sound_makes_none id None 0 (ask_plan id (sends_of ask) Done) (sound_ask id ask None 0)
+
+pub none_by_end : (id : Id) (p : List Entry) → MakesNone (end_plan id p)
+none_by_end id p = sound_makes_none id (child id p) _ (end_plan id p) (sound_end id p)
+
+-- ---- what the task of a job is found by
+
+-- a child has one parent
+pub one_parent : (c : ℕ) (id job : Id) (p : List Entry) → NamesItsOwn p → child id p ≡ Some c → child job p ≡ Some c → job ≡ id
+one_parent c id job p own its other =
+    let a = child_owner id c p own its in
+    let b = child_owner job c p own other in
+    let same : Some job ≡ Some id = sym b ∙ a in cc
+
+found_parent : (c : ℕ) (id : Id) (p : List Entry) (o : Option Id) → parent c p ≡ o → NamesItsOwn p → IsIn id (set p) → child id p ≡ Some c → o ≡ Some id
+found_parent c id p None is own here runs = absurd (parent_none c id p is here runs)
+found_parent c id p (Some job) is own here runs = ap (λ j. Some j) (one_parent c id job p own runs (parent_runs c job p is))
+
+pub parent_is : (c : ℕ) (id : Id) (p : List Entry) → NamesItsOwn p → IsIn id (set p) → child id p ≡ Some c → parent c p ≡ Some id
+parent_is c id p own here runs = found_parent c id p (parent c p) refl own here runs
+
+found_none : (c : ℕ) (p : List Entry) (o : Option Id) → parent c p ≡ o → ((id : Id) → IsIn id (set p) → child id p ≡ Some c → ⊥) → o ≡ None
+found_none c p None is never = refl
+found_none c p (Some job) is never = absurd (never job (parent_in c job p is) (parent_runs c job p is))
+
+pub parent_is_none : (c : ℕ) (p : List Entry) → ((id : Id) → IsIn id (set p) → child id p ≡ Some c → ⊥) → parent c p ≡ None
+parent_is_none c p never = found_none c p (parent c p) refl never
+
+-- ---- the command of a job that lawful acts create
+
+lawful_later : (n : ℕ) (before : List Act) (id : Id) (what : Command) (after : List Act) → AreLawful n (before ++ Create id what ∷ after) → n ≤ id.0
+lawful_later n [] id what after l = let is : id.0 ≡ n = l.0 in omega arith
+lawful_later n (Create job command ∷ before) id what after l = let later : n + 1 ≤ id.0 = lawful_later (n + 1) before id what after l.1 in omega arith
+lawful_later n (_ ∷ before) id what after l = lawful_later n before id what after l
+
+pub creation_is : (n : ℕ) (before : List Act) (id : Id) (what : Command) (after : List Act) → AreLawful n (before ++ Create id what ∷ after) → creation id (before ++ Create id what ∷ after) ≡ Some what
+creation_is n [] id what after l = rw (eq-eqb id.0 id.0 refl) refl
+creation_is n (Create job command ∷ before) id what after l =
+    let later : n + 1 ≤ id.0 = lawful_later (n + 1) before id what after l.1 in
+    rw (ne_eqb job.0 id.0 (λ e. let is : job.0 ≡ n = l.0 in absurd (omega arith))) (creation_is (n + 1) before id what after l.1)
+creation_is n (_ ∷ before) id what after l = creation_is n before id what after l

@@ -1,0 +1,4 @@
+pub mod Critical
+pub mod Defaults
+pub mod Watched
+pub mod WatchedLaws

@@ -1,0 +1,69 @@
+// The lines of entries, and the end line of a run.
+ghost use Rattle.std.specs.Prelude.{◌≡◌, ◌++◌, OnOk};
+ghost use Rattle.std.specs.List.{flat_map};
+ghost use Rattle.wx_words.specs.Line.{spaced, joined};
+ghost use Rattle.wx_journal.specs.Lines.{entry_line, answer_words, end_words, line_of};
+
+use crate::entry::Entry;
+use crate::words::put_entry;
+use wx_config::CriticalError;
+use wx_events::{List, Memory, Spelled, Text};
+
+/// Appends the line of an entry.
+fn put_line(entry: &Entry, out: &mut Text) -> Result<(), Memory>
+    ensures { OnOk result (out.new ≡ out.old ++ entry_line entry.now) }
+{
+    put_entry(entry, out)?;
+    out.push(10)
+}
+
+/// Appends the line of each entry.
+pub fn put_lines(entries: &[Entry], out: &mut Text) -> Result<(), Memory>
+    ensures { OnOk result (out.new ≡ out.old ++ flat_map entry_line entries.now) }
+{
+    for entry in entries {
+        put_line(entry, out)?;
+    }
+    Ok(())
+}
+
+/// Appends the words of the answer of a run, each with a space before it.
+#[tactic(auto, using(wx_words::specs::LineLaws::spaces))]
+fn put_outcome(answer: &Result<(), CriticalError>, out: &mut Text) -> Result<(), Memory>
+    ensures { OnOk result (out.new ≡ out.old ++ spaced (answer_words answer.now)) }
+{
+    match answer {
+        Ok(()) => out.append(b" ok"),
+        Err(error) => {
+            out.append(b" error")?;
+            error.put_after(out)
+        }
+    }
+}
+
+/// Appends the words of the end line.
+#[tactic(auto, using(wx_words::specs::LineLaws::spaces))]
+fn put_end_words(
+    answer: &Result<(), CriticalError>,
+    lost: &List<u64>,
+    out: &mut Text,
+) -> Result<(), Memory>
+    ensures { OnOk result (out.new ≡ out.old ++ joined (end_words answer.now lost.now)) }
+{
+    out.append(b"end")?;
+    put_outcome(answer, out)?;
+    out.append(b" lost")?;
+    lost.put_after(out)
+}
+
+/// Appends the end line.
+pub fn put_end(
+    answer: &Result<(), CriticalError>,
+    lost: &List<u64>,
+    out: &mut Text,
+) -> Result<(), Memory>
+    ensures { OnOk result (out.new ≡ out.old ++ line_of (end_words answer.now lost.now)) }
+{
+    put_end_words(answer, lost, out)?;
+    out.push(10)
+}
