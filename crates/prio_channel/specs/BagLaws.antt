@@ -150,7 +150,3 @@ pub all-same : {X : Type 0} (P : X → Type 0) (xs ys : List X) → SameBag xs y
 all-same P xs [] b all = tt
 all-same P xs (y ∷ ys) b all =
     (all-at P xs b.0 y b.1 all, all-same P (remove xs b.0) ys b.2 (all-remove P xs b.0 all))
-
--- and the other way round
-pub all-same-back : {X : Type 0} (P : X → Type 0) (xs ys : List X) → SameBag xs ys → AllByRecursion P ys → AllByRecursion P xs
-all-same-back P xs ys b all = all-same P ys xs (same-sym xs ys b) all

@@ -21,7 +21,7 @@ use Rattle.wx_action.specs.Leads.{FollowsAlone, Then, StaysApart, More}
 use Rattle.wx_action.specs.Turns.{StaysInTurn}
 use Rattle.wx_action.specs.RunLaws.{own_of_run}
 use Rattle.wx_action.specs.Stands.{Ready, IsOffered}
-use Rattle.wx_action.proofs.StandsLemmas.{tasks_same, over_none, offered_is, stands_offered, stands_sent}
+use Rattle.wx_action.proofs.StandsLemmas.{ready_over, offered_is, stands_offered, stands_sent}
 
 -- a worker goes on to this one, over one entry
 pub record Steps (s : Start) (w : Worker) (p p' : List Entry) : Type 0 where
@@ -35,21 +35,7 @@ pub said_done : (s : Start) (w : Worker) (p p' : List Entry) (word : Word) (more
 said_done s w p p' word more ready due grown =
     let d : Due s p (Said word) = rw due refl in
     rw grown (record {
-      ready = record {
-        run = (d, ready.run);
-        stands = record {
-          config_kept = ready.stands.config_kept;
-          queue_kept = ready.stands.queue_kept;
-          size_kept = ready.stands.size_kept;
-          open_kept = ready.stands.open_kept;
-          named_kept = ready.stands.named_kept;
-          names_kept = ready.stands.names_kept;
-          events_kept = ready.stands.events_kept;
-          first_kept = ready.stands.first_kept;
-          jobs_kept = ready.stands.jobs_kept;
-          tasks_kept = tasks_same p _ w.jobs.items (over_none (Said word) p tt) ready.stands.tasks_kept;
-        };
-      };
+      ready = ready_over s w (Said word) p tt tt d ready;
       follows = λ world hooks p₀ world₀ hooks₀ l. Then (Said word) p world hooks l d;
       apart = λ p₀ a. More _ p a (own_of_run s p ready.run) refl;
       turns = λ p₀ t. record { count = t.count; fault = t.fault; now = t.now; rise = t.rise; told = t.told };

@@ -15,7 +15,6 @@ use Rattle.wx_job.specs.Table.{Plan, Done}
 use Rattle.wx_action.specs.declared.handler.Todo.{Todo}
 use Rattle.wx_action.specs.declared.state.Held.{Held}
 use Rattle.wx_action.specs.declared.state.Worker.{Worker}
-use Rattle.wx_action.specs.declared.work.Worked.{Worked}
 use Rattle.wx_action.specs.declared.work.Worked.TheVariants.{On, End}
 use Rattle.wx_action.specs.Start.{Start}
 use Rattle.wx_action.specs.Journal.{settings, window}

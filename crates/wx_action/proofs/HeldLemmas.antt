@@ -2,6 +2,7 @@
 use Rattle.std.proofs.Common.{inl, inr, ◌≡◌, Bool, true, false, ◌||◌, cond, List, [], ◌∷◌, refl, ap, sym, subst, ◌∙◌}
 use Rattle.std.specs.Prelude.{Option, None, Some, is_some, map}
 use Rattle.std.specs.List.{find, list_any, AllByRecursion}
+use Rattle.std.proofs.lemmas.Bool.{or_right}
 use Rattle.wx_control.specs.declared.id.Id.{Id}
 use Rattle.wx_control.specs.declared.job.Job.{Job}
 use Rattle.wx_journal.specs.declared.entry.Entry.{Entry}
@@ -64,14 +65,10 @@ held_runs : (p : List Entry) (id : Id) (held : List Held) → AllByRecursion (He
 held_runs p id [] s none = rw (none refl) refl
 held_runs p id (h ∷ held) s none = runs_or p id (is_of id h) h (find (is_of id) held) refl s.0 (λ other. held_runs p id held s.1 (λ e. none (rw (other, e) refl)))
 
-or_true : (b : Bool) → (b || true) ≡ true
-or_true true = refl
-or_true false = refl
-
 any_in : (id : Id) (ids : List Id) → IsIn id ids → list_any (λ job. same job id) ids ≡ true
 any_in id [] none = absurd none
 any_in id (job ∷ ids) (inl is) = rw (is, self id) refl
-any_in id (job ∷ ids) (inr later) = ap (λ b. same job id || b) (any_in id ids later) ∙ or_true (same job id)
+any_in id (job ∷ ids) (inr later) = ap (λ b. same job id || b) (any_in id ids later) ∙ or_right (same job id) true refl
 
 unseen : (s : Start) (p : List Entry) (id : Id) → GoneRunNone p → (b : Bool) → lives id p ≡ b → list_any (λ job. same job id) (set p) ≡ false → child id p ≡ None
 unseen s p id gone true alive none = let seen : true ≡ false = sym (any_in id (set p) (in_set id p alive)) ∙ none in absurd cc

@@ -32,7 +32,7 @@ use Rattle.wx_action.specs.RunLaws.{own_of_run}
 use Rattle.wx_action.specs.JobLaws.{IsIn, in_set, all_in, none_by_ask, none_by_step, parent_is, parent_is_none}
 use Rattle.wx_action.specs.TurnLaws.{at_end_of_none, other_over_end}
 use Rattle.wx_action.specs.Stands.{Stands, Ready, AtTurn, IsStepAt, HeldStands, held_id, is_living, runs_child}
-use Rattle.wx_action.proofs.StandsLemmas.{Quiet, quiet, held_at, tasks_put, ids_put, stands_quiet}
+use Rattle.wx_action.proofs.StandsLemmas.{quiet, quiet_over, held_at, tasks_put, ids_put, stands_quiet}
 use Rattle.wx_action.proofs.PlanLemmas.{JobDone, jobs_stand, Changes, plan_done}
 
 -- ---- the place of a job
@@ -172,9 +172,6 @@ alive_of : (gone : Bool) (o : Option ℕ) (c : ℕ) → cond gone None o ≡ Som
 alive_of true o c e = absurd cc
 alive_of false o c e = refl
 
-quiet_turn : (at c : ℕ) (p : List Entry) → Quiet p (Turned (record { at = at; kind = Ended c }) ∷ p)
-quiet_turn at c p = record { bag_same = refl; count_same = refl; window_same = refl; lookup_same = refl; first_same = refl; set_same = refl; commands_same = λ i. refl }
-
 -- where none is found the turn is ignored
 pub record NoneEnded (s : Start) (w : Worker) (p : List Entry) : Type 0 where
   pub ready : Ready s w p
@@ -237,7 +234,7 @@ end_kept s w w' n at c h h' p a runs fields change =
     let ids : map held_id w'.jobs.items ≡ set a.before = rw change.items (ids_put hs n h h' change.within change.held change.job_same.same_id ∙ a.stands.jobs_kept) in
     let owed = owes_step s at c (held_id h) (command_of h.task) a.before own here its alive stood.command_is in
     subst (EndKept s w' n at) (sym a.last) (record {
-      ready = record { run = run; stands = stands_quiet s w w' a.before (told at c a.before) a.stands (quiet_turn at c a.before) fields ids (rw change.items tasks) };
+      ready = record { run = run; stands = stands_quiet s w w' a.before (told at c a.before) a.stands (quiet_over (Turned (record { at = at; kind = Ended c })) a.before tt) fields ids (rw change.items tasks) };
       step = record {
         within = subst (λ (xs : List Held). n < length xs) (sym change.items) (rw (length-set hs n h') change.within);
         due = λ x is.

@@ -35,7 +35,7 @@ use Rattle.wx_action.specs.Turns.{StaysInTurn}
 use Rattle.wx_action.specs.RunLaws.{own_of_run}
 use Rattle.wx_action.specs.JobLaws.{AreRising, set_rising, none_by_ask}
 use Rattle.wx_action.specs.Stands.{Stands, Ready, HeldStands, held_id, is_living}
-use Rattle.wx_action.proofs.StandsLemmas.{Quiet, stands_quiet, same_held, tasks_same, over_none}
+use Rattle.wx_action.proofs.StandsLemmas.{stands_quiet, ready_over, same_held}
 use Rattle.wx_action.proofs.PlanLemmas.{jobs_stand, Changes, jobs_change, still_led}
 use Rattle.wx_action.proofs.JobLemmas.{missed, found}
 
@@ -158,9 +158,8 @@ ignored_one s w id ask done rests more p p' owes ready none grown =
     let gone : lives id p ≡ false = missed s w p id ready.stands none in
     let owed : agenda s p ≡ plans (SaysWord Ignored (act_plan (λ job. lives job p) f.acts)) more = f.due ∙ ap (λ (b : Bool). plans (cond b (ask_plan id (sends_of ask) (act_plan (λ job. lives job p) f.acts)) (SaysWord Ignored (act_plan (λ job. lives job p) f.acts))) more) gone in
     let due : Due s p (Said Ignored) = subst (λ (a : Agenda). Admits s p a (Said Ignored)) (sym owed) refl in
-    let still : Quiet p (Said Ignored ∷ p) = record { bag_same = refl; count_same = refl; window_same = refl; lookup_same = refl; first_same = refl; set_same = refl; commands_same = λ i. refl } in
     rw grown (record {
-      ready = record { run = (due, ready.run); stands = stands_quiet s w w p (Said Ignored ∷ p) ready.stands still refl ready.stands.jobs_kept (tasks_same p (Said Ignored ∷ p) w.jobs.items (over_none (Said Ignored) p tt) ready.stands.tasks_kept) };
+      ready = ready_over s w (Said Ignored) p tt tt due ready;
       follows = λ world hooks p₀ world₀ hooks₀ l. Then (Said Ignored) p world hooks l due;
       apart = λ p₀ a. More (Said Ignored) p a (own_of_run s p ready.run) refl;
       turns = λ p₀ t. record { count = t.count; fault = t.fault; now = t.now; rise = t.rise; told = t.told };

@@ -8,45 +8,29 @@ use Rattle.prio_channel.specs.Channel.{Channel}
 use Rattle.prio_channel.specs.SameBag.{SameBag}
 use Rattle.prio_channel.specs.BagLaws.{same-trans, add-bag, same-length}
 use Rattle.wx_control.specs.declared.id.Id.{Id}
-use Rattle.wx_control.specs.declared.level.Level.TheVariants.{Normal, High, Urgent}
 use Rattle.wx_journal.specs.declared.entry.Entry.{Entry}
-use Rattle.wx_journal.specs.declared.entry.Entry.TheVariants.{Sent, Offer, Turn as Turned, Hand, Made, Asked, Pick, Spawn, Wait, Dropped, Gone}
+use Rattle.wx_journal.specs.declared.entry.Entry.TheVariants.{Sent, Offer, Turn as Turned, TurnFault, Word as Said, Hand, Made, Asked, Pick, Spawn, Wait, Dropped, Gone}
 use Rattle.wx_journal.specs.declared.entry.Named.{Named}
 use Rattle.wx_journal.specs.declared.entry.Offered.{Offered}
 use Rattle.wx_journal.specs.declared.entry.Offered.TheVariants.{Queued, Full}
-use Rattle.wx_journal.specs.declared.entry.Turn.{Turn}
 use Rattle.wx_journal.specs.declared.entry.Act.{Act}
 use Rattle.wx_journal.specs.Names.{event_count}
-use Rattle.wx_job.specs.declared.task.JobTask.{JobTask}
-use Rattle.wx_job.specs.History.{child, names_end, SameHistory}
-use Rattle.wx_job.specs.Stands.{Stands as TaskStands, id_of}
+use Rattle.wx_job.specs.History.{child, SameHistory}
+use Rattle.wx_job.proofs.Turns.{stands_history}
 use Rattle.wx_action.specs.declared.state.Held.{Held}
 use Rattle.wx_action.specs.declared.state.Worker.{Worker}
 use Rattle.wx_action.specs.Start.{Start}
 use Rattle.wx_action.specs.Journal.{settings, bag, offered, window, first}
 use Rattle.wx_action.specs.Jobs.{set, command}
-use Rattle.wx_action.specs.Due.{IsRun}
+use Rattle.wx_action.specs.Due.{Due, IsRun}
 use Rattle.wx_action.specs.Handled.{AreEvents, lookup}
-use Rattle.wx_action.specs.Stands.{Stands, HeldStands, IsOffered, held_id}
+use Rattle.wx_action.specs.Stands.{Stands, Ready, HeldStands, IsOffered, held_id}
 use Rattle.wx_action.specs.RunLaws.{own_of_run, window_below}
 
 -- ---- what is held of a job
 
--- a task stands for each journal that has the same history of its job
-pub same_task : (k : JobTask) (p p' : List Entry) → SameHistory (id_of k) p p' → TaskStands k p → TaskStands k p'
-same_task k p p' h s = record {
-  lives_kept = s.lives_kept ∙ sym h.lives_same;
-  waits_kept = s.waits_kept ∙ sym (h.waits_same Normal);
-  high_none = h.waits_same High ∙ s.high_none;
-  urgent_none = h.waits_same Urgent ∙ s.urgent_none;
-  child_kept = s.child_kept ∙ sym h.child_same;
-  end_kept = s.end_kept ∙ sym h.kept_same;
-  state_kept = s.state_kept ∙ sym h.state_same;
-  previous_kept = s.previous_kept ∙ sym h.previous_same;
-}
-
 pub same_held : (p p' : List Entry) (h : Held) → SameHistory (held_id h) p p' → command (held_id h) p' ≡ command (held_id h) p → HeldStands p h → HeldStands p' h
-same_held p p' h same commands s = record { task_stands = same_task h.task p p' same s.task_stands; command_is = commands ∙ s.command_is; handle_is = s.handle_is; handle_command = s.handle_command }
+same_held p p' h same commands s = record { task_stands = stands_history h.task p p' same s.task_stands; command_is = commands ∙ s.command_is; handle_is = s.handle_is; handle_command = s.handle_command }
 
 -- the history of every job, and what each runs, is the same in both journals
 pub record SameJobs (p p' : List Entry) : Type 0 where
@@ -140,6 +124,19 @@ pub record Quiet (p p' : List Entry) : Type 0 where
 pub quiet : (p : List Entry) → Quiet p p
 quiet p = record { bag_same = refl; count_same = refl; window_same = refl; lookup_same = refl; first_same = refl; set_same = refl; commands_same = λ i. refl }
 
+-- a word, a turn and the fault of one change nothing of it
+abbrev pub IsStill : Entry → Type 0
+IsStill (Turned t) = Unit {0}
+IsStill (TurnFault code) = Unit {0}
+IsStill (Said word) = Unit {0}
+IsStill (_) = ⊥
+
+pub quiet_over : (e : Entry) (p : List Entry) → IsStill e → Quiet p (e ∷ p)
+quiet_over (Turned t) p h = record { bag_same = refl; count_same = refl; window_same = refl; lookup_same = refl; first_same = refl; set_same = refl; commands_same = λ i. refl }
+quiet_over (TurnFault code) p h = record { bag_same = refl; count_same = refl; window_same = refl; lookup_same = refl; first_same = refl; set_same = refl; commands_same = λ i. refl }
+quiet_over (Said word) p h = record { bag_same = refl; count_same = refl; window_same = refl; lookup_same = refl; first_same = refl; set_same = refl; commands_same = λ i. refl }
+quiet_over (_) p h = absurd h
+
 pub quiet_then : (p q r : List Entry) → Quiet p q → Quiet q r → Quiet p r
 quiet_then p q r a b = record {
   bag_same = b.bag_same ∙ a.bag_same;
@@ -167,6 +164,14 @@ stands_quiet s w w' p p' stands q fields ids tasks =
       tasks_kept = tasks;
     } in
     rw fields stood
+
+-- the worker behind a word or the fault of a turn
+pub ready_over : (s : Start) (w : Worker) (e : Entry) (p : List Entry) → IsOfNone e → IsStill e → Due s p e → Ready s w p → Ready s w (e ∷ p)
+ready_over s w e p none still due ready =
+    let q = quiet_over e p still in record {
+      run = (due, ready.run);
+      stands = stands_quiet s w w p (e ∷ p) ready.stands q refl (ready.stands.jobs_kept ∙ sym q.set_same) (tasks_same p (e ∷ p) w.jobs.items (over_none e p none) ready.stands.tasks_kept);
+    }
 
 -- an event that is listed under a new name leaves the events of the names below
 events-rise : (m : ℕ) (v : Option (Event × Priority)) (look : ℕ → Option (Event × Priority)) (names : List ℕ) (events : List Event) → AllByRecursion (λ name. name < m) names → AreEvents look names events → AreEvents (λ name. cond (m == name) v (look name)) names events

@@ -1,5 +1,5 @@
 -- The end of a run: what holds of a journal holds of it with entries of its end on top.
-use Rattle.std.proofs.Common.{◌≡◌, ℕ, ◌≤◌, Bool, true, false, cond, List, [], ◌∷◌, ◌++◌, Result, Ok, inl, arith, refl, ap, sym, subst, ◌∙◌, eq-eqb}
+use Rattle.std.proofs.Common.{◌≡◌, ℕ, Bool, true, false, cond, List, [], ◌∷◌, ◌++◌, Result, Ok, inl, refl, ap, sym, subst, ◌∙◌, eq-eqb}
 use Rattle.std.specs.Prelude.{Option, None, Some, ◌||◌, ◌&&◌, not}
 use Rattle.std.specs.List.{AllByRecursion, filter}
 use Rattle.wx_command.specs.declared.spawnable.Spawnable.{Spawnable}
@@ -175,13 +175,6 @@ world_told k p host hooks n k' p' host' hooks' n' l = (tells_both k p host hooks
 
 pub hooks_told : (k : Plan) (p : List Entry) (host hooks : Option (List Entry)) (n : ℕ) (k' : Plan) (p' : List Entry) (host' hooks' : Option (List Entry)) (n' : ℕ) → Led k p host hooks n k' p' host' hooks' n' → TellsOn is_hooks p hooks p' hooks'
 hooks_told k p host hooks n k' p' host' hooks' n' l = (tells_both k p host hooks n k' p' host' hooks' n' l).of_hooks
-
--- the count of faults never falls
-pub faults_rise : (k : Plan) (p : List Entry) (host hooks : Option (List Entry)) (n : ℕ) (k' : Plan) (p' : List Entry) (host' hooks' : Option (List Entry)) (n' : ℕ) → Led k p host hooks n k' p' host' hooks' n' → n ≤ n'
-faults_rise k p host hooks n k' p' host' hooks' n' l = elim l as (λ k' p' host' hooks' n' _. n ≤ n') [
-  | Here ↦ omega arith
-  | OneMore e k₁ p₁ host₁ hooks₁ n₁ n₂ (l → h) d counts ↦ omega (arith, h, counts.later)
-]
 
 -- the first job that lives has ended
 pub record HasEnded (id : Id) (p : List Entry) (host hooks : Option (List Entry)) (p' : List Entry) (host' hooks' : Option (List Entry)) : Type 0 where

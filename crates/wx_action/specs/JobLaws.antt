@@ -15,7 +15,7 @@ use Rattle.wx_journal.specs.Names.{creates, is_created, job_count, NamesItsOwn}
 use Rattle.wx_journal.specs.Told.{tell_if, is_world, is_hooks}
 use Rattle.wx_job.specs.History.{same, lives, child, is_child}
 use Rattle.wx_job.specs.Table.{Plan, Done, Picks, Spawns, Kills, Waits, Drops, Raises, Goes, Makes, Asks, Says, step_plan, ask_plan, end_plan}
-use Rattle.wx_job.specs.Case.{Admits as Follows, is_fault, next, Leads as Led, Here, Then as OneMore}
+use Rattle.wx_job.specs.Case.{Admits as Follows, next, Leads as Led, Here, Then as OneMore}
 use Rattle.wx_job.proofs.Owners.{same-is, child_owner}
 use Rattle.wx_job.proofs.Sound.{Sound, sound_step, sound_ask, sound_end}
 use Rattle.wx_action.specs.Start.{Start}

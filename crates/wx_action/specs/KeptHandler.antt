@@ -38,9 +38,9 @@ AddsTwice act None None = Unit {0}
 AddsTwice act (Some old) (Some new) = (new.names.items ≡ old.names.items) × (new.acts.items ≡ old.acts.items ++ act ∷ []) × (vec_len new.acts ≡ vec_len old.acts + 1) × (vec_capacity new.acts ≡ vec_capacity old.acts)
 AddsTwice act (_) (_) = ⊥
 
--- The jobs are those that the journal shows. The events are those of the names. The ids that were given are counted. The acts are lawful, and what has to be done
--- is theirs. Until they are handed the names and the acts stand there twice. There is room for a quit where none stands
--- last.
+-- The jobs are those that the journal shows, and the events are those of the names. The ids that were given are counted.
+-- The acts are lawful, and what has to be done is theirs. Until they are handed the names and the acts stand there twice.
+-- There is room for a quit where none stands last.
 pub record IsKept (past : List Entry) (held : List Held) (names : List ℕ) (events : List Event) (ids : ℕ) (acts : List Act) (act_room : ℕ) (second : Option Second) (rest : List Todo) : Type 0 where
   pub shown : AreShown past held
   pub are_events : AreEvents (lookup past) names events

@@ -1,6 +1,7 @@
 -- What the plans of a run let come, and what they name.
 use Rattle.std.proofs.Common.{◌≡◌, ℕ, ◌+◌, ◌<◌, Bool, true, false, cond, List, [], ◌∷◌, Result, Ok, Err, arith, refl, sym, subst, eq-eqb}
 use Rattle.std.specs.Prelude.{◌==◌, ◌||◌, Option, None, Some}
+use Rattle.std.proofs.lemmas.Bool.{or_right}
 use Rattle.wx_command.specs.declared.command.Command.{Command}
 use Rattle.wx_command.specs.declared.spawnable.Spawnable.{Spawnable}
 use Rattle.wx_control.specs.declared.id.Id.{Id}
@@ -202,16 +203,12 @@ names_end p own = names_first_end (jobs p) p own
 
 -- ---- the plan of acts
 
-or_true : (a b : Bool) → b ≡ true → (a || b) ≡ true
-or_true true b e = refl
-or_true false b e = e
-
 pub names_acts : (created : Id → Bool) (made tickets children : ℕ) (there : Id → Bool) (acts : List Act) → ((id : Id) → creates id acts ≡ true → created id ≡ true) → AreLawful made acts → PlanNames created made tickets children (act_plan there acts)
 names_acts created made n m there [] h l = tt
 names_acts created made n m there (Create id command ∷ acts) h l = (
   h id (rw (eq-eqb id.0 id.0 refl) refl),
   l.0,
-  names_acts created (made + 1) n m _ acts (λ job e. h job (or_true (id.0 == job.0) (creates job acts) e)) l.1,
+  names_acts created (made + 1) n m _ acts (λ job e. h job (or_right (id.0 == job.0) (creates job acts) e)) l.1,
 )
 names_acts created made n m there (Ask id (One control) ∷ acts) h l =
     either (PlanNames created made n m) (there id) _ _ (names_acts created made (n + 1) m there acts h l) (names_acts created made n m there acts h l)

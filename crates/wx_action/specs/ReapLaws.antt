@@ -24,7 +24,7 @@ use Rattle.wx_journal.specs.Names.{NamesItsOwn, moment}
 use Rattle.wx_job.specs.History.{same, lives, child, unless, is_child, kept}
 use Rattle.wx_job.specs.Table.{Plan, Done, Picks, Spawns, Kills, Waits, Drops, Raises, Goes, Makes, Asks, Says as SaysWord, row, case, choose_control, choose, step_plan, ask_plan, drop_plan}
 use Rattle.wx_job.specs.Case.{Admits as Follows, is_fault, next}
-use Rattle.wx_job.specs.Laws.{unreaped, AreReaped, IsReaping}
+use Rattle.wx_job.specs.Laws.{unreaped, AreReaped, IsReaping, Runs, AfterFaults}
 use Rattle.wx_job.proofs.Owners.{self, same-is}
 use Rattle.wx_config.specs.declared.error.CriticalError.TheVariants.{IoError, Memory}
 use Rattle.wx_action.specs.Start.{Start}
@@ -33,7 +33,6 @@ use Rattle.wx_action.specs.Jobs.{living, parent, act_plan, jobs, first_end, end}
 use Rattle.wx_action.specs.Due.{Agenda, Begins, Sends, Open, Offers, Says, Takes, Hands, Plans, Ends, sends, plans, rest, job_turn, ended_turn, turn_agenda, after_hand, has_quit, agenda, Admits, Due, IsRun, IsTurn}
 use Rattle.wx_journal.specs.Lines.{Answer}
 use Rattle.wx_action.specs.Answer.{Dying, Alive, Dies, IsComplete, IsBroken, Answers}
-use Rattle.wx_action.specs.PlanLaws.{enter, names_end}
 use Rattle.wx_action.specs.RunLaws.{IsQuiet, IsFit, orderly, own_of_run}
 use Rattle.wx_action.specs.JobLaws.{IsIn, in_jobs, one_parent}
 use Rattle.wx_action.specs.EndLaws.{IsOfEnd, of_end, GoneRunNone, none_runs, dying_none, no_child}
@@ -43,91 +42,97 @@ either : {A : Type 0} (P : A → Type 0) (b : Bool) (x y : A) → P x → P y �
 either P true x y h g = h
 either P false x y h g = g
 
--- ---- plans that spawn only where no child runs
+-- ---- plans that spawn only where no child runs, and reap only children that run
 
--- A plan spawns at most once, for a job of which this holds. It lets no child go, and no job is gone by it.
-abbrev pub SpawnsOnce : (Id → Type 0) → Plan → Type 0
-SpawnsOnce free Done = Unit {0}
-SpawnsOnce free (Picks id ticket k) = SpawnsOnce free k
-SpawnsOnce free (Spawns id tag what k f) = free id × SpawnsOnce (λ job. ⊥) k × SpawnsOnce (λ job. ⊥) f
-SpawnsOnce free (Kills c k f) = SpawnsOnce free k × SpawnsOnce free f
-SpawnsOnce free (Waits c k f) = SpawnsOnce free k × SpawnsOnce free f
-SpawnsOnce free (Drops c k) = ⊥
-SpawnsOnce free (Raises ticket k) = SpawnsOnce free k
-SpawnsOnce free (Goes id k) = ⊥
-SpawnsOnce free (Makes id k) = SpawnsOnce free k
-SpawnsOnce free (Asks id level control k) = SpawnsOnce free k
-SpawnsOnce free (SaysWord word k) = SpawnsOnce free k
+-- nothing is such
+abbrev pub Never : {A : Type 0} → A → Type 0
+Never x = ⊥
 
--- for a job of which no child runs
+-- A plan spawns at most once, for a job that is free, and kills and waits only for a child that runs. It lets no child go,
+-- and no job is gone by it.
+abbrev pub SpawnsOnce : (Id → Type 0) → (ℕ → Type 0) → Plan → Type 0
+SpawnsOnce free runs Done = Unit {0}
+SpawnsOnce free runs (Picks id ticket k) = SpawnsOnce free runs k
+SpawnsOnce free runs (Spawns id tag what k f) = free id × SpawnsOnce Never Never k × SpawnsOnce Never Never f
+SpawnsOnce free runs (Kills c k f) = runs c × SpawnsOnce free runs k × SpawnsOnce free runs f
+SpawnsOnce free runs (Waits c k f) = runs c × SpawnsOnce free Never k × SpawnsOnce free runs f
+SpawnsOnce free runs (Drops c k) = ⊥
+SpawnsOnce free runs (Raises ticket k) = SpawnsOnce free runs k
+SpawnsOnce free runs (Goes id k) = ⊥
+SpawnsOnce free runs (Makes id k) = SpawnsOnce free Never k
+SpawnsOnce free runs (Asks id level control k) = SpawnsOnce free runs k
+SpawnsOnce free runs (SaysWord word k) = SpawnsOnce free runs k
+
+-- a job of which no child runs
+abbrev pub IsIdle : List Entry → Id → Type 0
+IsIdle p id = child id p ≡ None
+
 abbrev pub SpawnsIdle : List Entry → Plan → Type 0
-SpawnsIdle p k = SpawnsOnce (λ id. child id p ≡ None) k
+SpawnsIdle p k = SpawnsOnce (IsIdle p) (λ c. Runs c p) k
 
-once_more : (free more : Id → Type 0) → ((id : Id) → free id → more id) → (k : Plan) → SpawnsOnce free k → SpawnsOnce more k
-once_more free more h Done s = tt
-once_more free more h (Picks id ticket k) s = once_more free more h k s
-once_more free more h (Spawns id tag what k f) s = (h id s.0, s.1, s.2)
-once_more free more h (Kills c k f) s = (once_more free more h k s.0, once_more free more h f s.1)
-once_more free more h (Waits c k f) s = (once_more free more h k s.0, once_more free more h f s.1)
-once_more free more h (Drops c k) s = absurd s
-once_more free more h (Raises ticket k) s = once_more free more h k s
-once_more free more h (Goes id k) s = absurd s
-once_more free more h (Makes id k) s = once_more free more h k s
-once_more free more h (Asks id level control k) s = once_more free more h k s
-once_more free more h (SaysWord word k) s = once_more free more h k s
-
-idle_wait : (p : List Entry) (c : ℕ) (answer : Result ProcessEnd HostFault) (id : Id) → child id p ≡ None → child id (Wait c answer ∷ p) ≡ None
-idle_wait p c (Ok status) id h = ap (unless c) h
-idle_wait p c (Err fault) id h = h
+once_more : (free more : Id → Type 0) (runs on : ℕ → Type 0) → ((id : Id) → free id → more id) → ((c : ℕ) → runs c → on c) → (k : Plan) → SpawnsOnce free runs k → SpawnsOnce more on k
+once_more free more runs on h g Done s = tt
+once_more free more runs on h g (Picks id ticket k) s = once_more free more runs on h g k s
+once_more free more runs on h g (Spawns id tag what k f) s = (h id s.0, s.1, s.2)
+once_more free more runs on h g (Kills c k f) s = (g c s.0, once_more free more runs on h g k s.1, once_more free more runs on h g f s.2)
+once_more free more runs on h g (Waits c k f) s = (g c s.0, once_more free more Never Never h (λ c n. n) k s.1, once_more free more runs on h g f s.2)
+once_more free more runs on h g (Drops c k) s = absurd s
+once_more free more runs on h g (Raises ticket k) s = once_more free more runs on h g k s
+once_more free more runs on h g (Goes id k) s = absurd s
+once_more free more runs on h g (Makes id k) s = once_more free more Never Never h (λ c n. n) k s
+once_more free more runs on h g (Asks id level control k) s = once_more free more runs on h g k s
+once_more free more runs on h g (SaysWord word k) s = once_more free more runs on h g k s
 
 idle_made : (b : Bool) (running : Option ℕ) → running ≡ None → cond b None running ≡ None
 idle_made true running h = refl
 idle_made false running h = h
 
 -- after an entry of the plan
+idle_wait : (p : List Entry) (c : ℕ) (answer : Result ProcessEnd HostFault) (k f : Plan) → SpawnsOnce (IsIdle p) Never k → SpawnsIdle p f → SpawnsIdle (Wait c answer ∷ p) (next (Waits c k f) (Wait c answer))
+idle_wait p c (Ok status) k f s t = once_more (IsIdle p) (IsIdle (Wait c (Ok status) ∷ p)) Never (λ d. Runs d (Wait c (Ok status) ∷ p)) (λ id h. ap (unless c) h) (λ d n. absurd n) k s
+idle_wait p c (Err fault) k f s t = t
+
 idle_then : (p : List Entry) (k : Plan) (e : Entry) → Follows p k e → SpawnsIdle p k → SpawnsIdle (e ∷ p) (next k e)
 idle_then p Done e d s = absurd d
 idle_then p (Picks id ticket k) e d s = rw d s
-idle_then p (Spawns id tag what k f) e d s = once_more (λ job. ⊥) (λ job. child job (e ∷ p) ≡ None) (λ job h. absurd h) (cond (is_fault e) f k) (either (SpawnsOnce (λ job. ⊥)) (is_fault e) f k s.2 s.1)
-idle_then p (Kills c k f) e d s = rw d.1 (either (SpawnsIdle p) (is_fault (Kill c d.0)) f k s.1 s.0)
-idle_then p (Waits c k f) e d s =
-    let after : SpawnsIdle p (cond (is_fault (Wait c d.0)) f k) = either (SpawnsIdle p) (is_fault (Wait c d.0)) f k s.1 s.0 in
-    rw d.1 (once_more (λ job. child job p ≡ None) (λ job. child job (Wait c d.0 ∷ p) ≡ None) (idle_wait p c d.0) (cond (is_fault (Wait c d.0)) f k) after)
+idle_then p (Spawns id tag what k f) e d s = once_more Never (IsIdle (e ∷ p)) Never (λ c. Runs c (e ∷ p)) (λ job n. absurd n) (λ c n. absurd n) (cond (is_fault e) f k) (either (SpawnsOnce Never Never) (is_fault e) f k s.2 s.1)
+idle_then p (Kills c k f) e d s = rw d.1 (either (SpawnsIdle p) (is_fault (Kill c d.0)) f k s.2 s.1)
+idle_then p (Waits c k f) e d s = rw d.1 (idle_wait p c d.0 k f s.1 s.2)
 idle_then p (Drops c k) e d s = absurd s
 idle_then p (Raises ticket k) e d s = rw d s
 idle_then p (Goes id k) e d s = absurd s
-idle_then p (Makes id k) e d s = rw d (once_more (λ job. child job p ≡ None) (λ job. child job (Made id ∷ p) ≡ None) (λ job h. idle_made (same id job) (child job p) h) k s)
+idle_then p (Makes id k) e d s = rw d (once_more (IsIdle p) (IsIdle (Made id ∷ p)) Never (λ c. Runs c (Made id ∷ p)) (λ job h. idle_made (same id job) (child job p) h) (λ c n. absurd n) k s)
 idle_then p (Asks id level control k) e d s = rw d s
 idle_then p (SaysWord word k) e d s = rw d s
 
 -- ---- the plans of a run are such
 
-once_row : (free : Id → Type 0) (id : Id) (command : Command) (ticket : ℕ) (control : Control) (running : Option ℕ) → (running ≡ None → free id) → SpawnsOnce free (row id command ticket control running)
-once_row free id command ticket Starts None h = (h refl, tt, tt)
-once_row free id command ticket Starts (Some c) h = tt
-once_row free id command ticket Stop None h = tt
-once_row free id command ticket Stop (Some c) h = ((tt, tt), tt)
+once_row : (free : Id → Type 0) (runs : ℕ → Type 0) (id : Id) (command : Command) (ticket : ℕ) (control : Control) (running : Option ℕ) → (running ≡ None → free id) → ((c : ℕ) → running ≡ Some c → runs c) → SpawnsOnce free runs (row id command ticket control running)
+once_row free runs id command ticket Starts None h g = (h refl, tt, tt)
+once_row free runs id command ticket Starts (Some c) h g = tt
+once_row free runs id command ticket Stop None h g = tt
+once_row free runs id command ticket Stop (Some c) h g = (g c refl, (g c refl, tt, tt), tt)
 
-once_control : (free : Id → Type 0) (id : Id) (command : Command) (running : Option ℕ) (x : Option (ℕ × Control)) → (running ≡ None → free id) → SpawnsOnce free (case id command running (choose_control x))
-once_control free id command running None h = tt
-once_control free id command running (Some x) h = once_row free id command x.0 x.1 running h
+once_control : (free : Id → Type 0) (runs : ℕ → Type 0) (id : Id) (command : Command) (running : Option ℕ) (x : Option (ℕ × Control)) → (running ≡ None → free id) → ((c : ℕ) → running ≡ Some c → runs c) → SpawnsOnce free runs (case id command running (choose_control x))
+once_control free runs id command running None h g = tt
+once_control free runs id command running (Some x) h g = once_row free runs id command x.0 x.1 running h g
 
-once_case : (free : Id → Type 0) (id : Id) (command : Command) (running picks : Option ℕ) (end : Bool) (x : Option (ℕ × Control)) → (running ≡ None → free id) → SpawnsOnce free (case id command running (choose picks end x))
-once_case free id command running None end x h = once_control free id command running x h
-once_case free id command running (Some c) true x h = (tt, tt)
-once_case free id command running (Some c) false x h = once_control free id command running x h
+once_case : (free : Id → Type 0) (runs : ℕ → Type 0) (id : Id) (command : Command) (running : Option ℕ) (end : Bool) (x : Option (ℕ × Control)) → (running ≡ None → free id) → ((c : ℕ) → running ≡ Some c → runs c) → SpawnsOnce free runs (case id command running (choose running end x))
+once_case free runs id command None end x h g = once_control free runs id command None x h g
+once_case free runs id command (Some c) true x h g = (g c refl, tt, tt)
+once_case free runs id command (Some c) false x h g = once_control free runs id command (Some c) x h g
 
 idle_step : (id : Id) (command : Command) (p : List Entry) → SpawnsIdle p (step_plan id command p)
-idle_step id command p = either (SpawnsIdle p) (lives id p) _ Done (once_case (λ job. child job p ≡ None) id command (child id p) (child id p) (kept id p) _ (λ idle. idle)) tt
+idle_step id command p = either (SpawnsIdle p) (lives id p) _ Done (once_case (IsIdle p) (λ c. Runs c p) id command (child id p) (kept id p) _ (λ idle. idle) (λ c runs. (id, runs))) tt
 
-once_ask : (free : Id → Type 0) (id : Id) (ask : AnAsk) → SpawnsOnce free (ask_plan id (sends_of ask) Done)
-once_ask free id (One control) = tt
+once_ask : (free : Id → Type 0) (runs : ℕ → Type 0) (id : Id) (ask : AnAsk) → SpawnsOnce free runs (ask_plan id (sends_of ask) Done)
+once_ask free runs id (One control) = tt
 
-once_acts : (free : Id → Type 0) (there : Id → Bool) (acts : List Act) → SpawnsOnce free (act_plan there acts)
-once_acts free there [] = tt
-once_acts free there (Create id command ∷ acts) = once_acts free (λ job. same id job || there job) acts
-once_acts free there (AsksOf id (One control) ∷ acts) = either (SpawnsOnce free) (there id) _ _ (once_acts free there acts) (once_acts free there acts)
-once_acts free there (Quit ∷ acts) = once_acts free there acts
+once_acts : (free : Id → Type 0) (runs : ℕ → Type 0) (there : Id → Bool) (acts : List Act) → SpawnsOnce free runs (act_plan there acts)
+once_acts free runs there [] = tt
+once_acts free runs there (Create id command ∷ acts) = once_acts free Never (λ job. same id job || there job) acts
+once_acts free runs there (AsksOf id (One control) ∷ acts) = either (SpawnsOnce free runs) (there id) _ _ (once_acts free runs there acts) (once_acts free runs there acts)
+once_acts free runs there (Quit ∷ acts) = once_acts free runs there acts
 
 -- ---- what an agenda owes
 
@@ -162,11 +167,11 @@ owes_turn s p (Arrive event priority) at = tt
 owes_turn s p Work at = either (OwesIdle p) (is_over s p at) Hands _ tt (either (OwesIdle p) (length (bag p) == 0) (Says Idle Open) Takes tt tt)
 owes_turn s p (Job id) at = owes_job p id (living id p)
 owes_turn s p (Ended c) at = owes_ended p (parent c p)
-owes_turn s p (Ask id ask) at = either (OwesIdle p) (lives id p) _ _ (owes_plans p (ask_plan id (sends_of ask) Done) Open (once_ask (λ job. child job p ≡ None) id ask) tt) tt
+owes_turn s p (Ask id ask) at = either (OwesIdle p) (lives id p) _ _ (owes_plans p (ask_plan id (sends_of ask) Done) Open (once_ask (IsIdle p) (λ c. Runs c p) id ask) tt) tt
 owes_turn s p Last at = tt
 
 owes_hand : (e : Entry) (p : List Entry) (acts : List Act) → OwesIdle (e ∷ p) (after_hand acts p)
-owes_hand e p acts = owes_plans (e ∷ p) (act_plan (λ id. lives id p) acts) _ (once_acts (λ job. child job (e ∷ p) ≡ None) (λ id. lives id p) acts) (either IsQuiet (has_quit acts) Ends Open tt tt)
+owes_hand e p acts = owes_plans (e ∷ p) (act_plan (λ id. lives id p) acts) _ (once_acts (IsIdle (e ∷ p)) (λ c. Runs c (e ∷ p)) (λ id. lives id p) acts) (either IsQuiet (has_quit acts) Ends Open tt tt)
 
 -- after an entry that an agenda admits
 owes_rest : (s : Start) (p : List Entry) (k : Agenda) (e : Entry) → Admits s p k e → IsFit p k → OwesIdle p k → OwesIdle (e ∷ p) (rest e k)
@@ -182,17 +187,19 @@ owes_rest s p Ends e d f o = tt
 
 -- ---- what an agenda that admits an entry says of it
 
--- where a child is spawned none of its job runs
+-- where a child is spawned none of its job runs, and one that is killed or waited for runs
 abbrev pub IsFree : List Entry → Entry → Type 0
 IsFree p (Spawn c job tag what answer) = child job p ≡ None
+IsFree p (Kill c answer) = Runs c p
+IsFree p (Wait c answer) = Runs c p
 IsFree p (_) = Unit {0}
 
 free_by_plan : (p : List Entry) (k : Plan) (e : Entry) → Follows p k e → SpawnsIdle p k → IsFree p e
 free_by_plan p Done e d s = absurd d
 free_by_plan p (Picks id ticket k) e d s = subst (IsFree p) (sym d) tt
 free_by_plan p (Spawns id tag what k f) e d s = subst (IsFree p) (sym d.1) s.0
-free_by_plan p (Kills c k f) e d s = subst (IsFree p) (sym d.1) tt
-free_by_plan p (Waits c k f) e d s = subst (IsFree p) (sym d.1) tt
+free_by_plan p (Kills c k f) e d s = subst (IsFree p) (sym d.1) s.0
+free_by_plan p (Waits c k f) e d s = subst (IsFree p) (sym d.1) s.0
 free_by_plan p (Drops c k) e d s = absurd s
 free_by_plan p (Raises ticket k) e d s = subst (IsFree p) (sym d) tt
 free_by_plan p (Goes id k) e d s = absurd s
@@ -412,17 +419,29 @@ reaps s (Gone id ∷ p) r = reaps_end s p (Gone id) tt refl (own_of_run s p r.1)
 reaps s (e ∷ p) r = let h = reaps s p r.1 in reaps_on s p e (λ o. o) r.0 h (owes_rest s p (agenda s p) e r.0 (orderly s p r.1).fit h.owes)
 
 -- what holds of the children of every run, also where one was just let go
-pub run_reaped : (s : Start) (p : List Entry) → IsRun s p → IsReaped p
+run_reaped : (s : Start) (p : List Entry) → IsRun s p → IsReaped p
 run_reaped s p r = (reaps s p r).reaped
 
-reaping : (p : List Entry) → IsReaped p → GoneRunNone p → (id : Id) → is_let_go id p ≡ false → IsReaping id p
-reaping p h none id other = record { each = h.each id; last = λ alive. h.last id alive other; none = none id }
+-- ---- what faults leave
 
--- In a run the children of each job are reaped, but for where the job's child was just let go.
-pub run_reaps : (s : Start) (p : List Entry) → IsRun s p → (id : Id) → is_let_go id p ≡ false → IsReaping id p
-run_reaps s p r id other = reaping p (run_reaped s p r) (none_runs s p r) id other
+after_fault : (e : Entry) (p : List Entry) → IsFree p e → AfterFaults p → AfterFaults (e ∷ p)
+after_fault (Spawn c id tag what (Err fault)) p f h = (rw (self id) refl, h)
+after_fault (Spawn c id tag what (Ok done)) p f h = h
+after_fault (Kill c (Err fault)) p f h = (f, h)
+after_fault (Kill c (Ok done)) p f h = h
+after_fault (Wait c (Err fault)) p f h = (f, h)
+after_fault (Wait c (Ok status)) p f h = h
+after_fault (_) p f h = h
 
--- ---- ends of runs that were broken off
+run_after_faults : (s : Start) (p : List Entry) → IsRun s p → AfterFaults p
+run_after_faults s [] r = tt
+run_after_faults s (e ∷ p) r = after_fault e p (free s p (agenda s p) e r.0 (reaps s p r.1).owes) (run_after_faults s p r.1)
+
+dying_after_faults : (q p : List Entry) → Dying q p → AfterFaults q → AfterFaults p
+dying_after_faults q p l start = elim l as (λ p _. AfterFaults p) [
+  | Alive ↦ start
+  | Dies e p (l → h) d ↦ after_fault e p (free_end p e (of_end p e d)) h
+]
 
 -- ---- after the end
 
@@ -440,19 +459,22 @@ dying_each q p id l start = elim l as (λ p _. AreReaped id p) [
 ended : (p : List Entry) (id : Id) → AreReaped id p → GoneRunNone p → jobs p ≡ [] → IsReaping id p
 ended p id each gone none = record { each = each; last = λ alive. absurd (subst (IsIn id) none (in_jobs id p alive)); none = gone id }
 
--- the children of each job were reaped, and none runs
+-- The children of each job were reaped, and none runs. What faults left is as it must be.
 pub record HasReaped (p : List Entry) : Type 0 where
   pub reaped : (id : Id) → IsReaping id p
   pub none : (id : Id) → child id p ≡ None
+  pub failed : AfterFaults p
 
-has_reaped : (p : List Entry) → ((id : Id) → AreReaped id p) → GoneRunNone p → jobs p ≡ [] → HasReaped p
-has_reaped p each gone none = record { reaped = λ id. ended p id (each id) gone none; none = λ id. no_child p id gone none }
+has_reaped : (p : List Entry) → ((id : Id) → AreReaped id p) → GoneRunNone p → jobs p ≡ [] → AfterFaults p → HasReaped p
+has_reaped p each gone none failed = record { reaped = λ id. ended p id (each id) gone none; none = λ id. no_child p id gone none; failed = failed }
 
-pub complete_reaps : (s : Start) (p : List Entry) → IsComplete s p → HasReaped p
-complete_reaps s p c = has_reaped p (run_reaped s p c.run).each (none_runs s p c.run) c.none
+complete_reaps : (s : Start) (p : List Entry) → IsComplete s p → HasReaped p
+complete_reaps s p c = has_reaped p (run_reaped s p c.run).each (none_runs s p c.run) c.none (run_after_faults s p c.run)
 
-pub broken_reaps : (s : Start) (p : List Entry) → IsBroken s p → HasReaped p
-broken_reaps s p b = has_reaped p (λ id. dying_each b.before p id b.dying ((run_reaped s b.before b.run).each id)) (dying_none b.before p b.dying (none_runs s b.before b.run)) b.none
+broken_reaps : (s : Start) (p : List Entry) → IsBroken s p → HasReaped p
+broken_reaps s p b =
+    has_reaped p (λ id. dying_each b.before p id b.dying ((run_reaped s b.before b.run).each id)) (dying_none b.before p b.dying (none_runs s b.before b.run)) b.none
+    (dying_after_faults b.before p b.dying (run_after_faults s b.before b.run))
 
 -- whatever a run answers
 pub ran_reaps : (s : Start) (p : List Entry) (answer : Answer) → Answers s p answer → HasReaped p

@@ -5,7 +5,7 @@ ghost use Rattle.wx_journal.specs.declared.entry.Entry.{Entry as AnEntry};
 ghost use Rattle.wx_journal.specs.Told.{is_world};
 ghost use Rattle.wx_journal.specs.declared.entry.TurnKind.TheVariants.{Ask as AsksTurn, Job as JobTurn, Ended as EndedTurn};
 ghost use Rattle.wx_journal.specs.declared.entry.Word.TheVariants.{Ignored};
-ghost use Rattle.wx_job.specs.Kept.{Kept};
+ghost use Rattle.wx_job.specs.Steady.{IsSteady};
 ghost use Rattle.wx_action.specs.declared.handler.Todo.{Todo as ATodo};
 ghost use Rattle.wx_action.specs.declared.handler.Todo.TheVariants as todo;
 ghost use Rattle.wx_action.specs.Start.{Start};
@@ -45,7 +45,6 @@ pub fn ask_turn(
 ) -> Result<(), Memory>
     ghost start: { Start }
     requires turn { (at : ℕ) × AtTurn start worker.old at (AsksTurn id ask) journal.old.past }
-    requires room { end_room worker.old ≤ journal.old.spare }
     ensures ready { Ready start worker.new journal.new.past }
     ensures follows { FollowsAlone start journal.old.past journal.new.past }
     ensures apart { StaysApart journal.old.past journal.new.past }
@@ -53,7 +52,7 @@ pub fn ask_turn(
     ensures done { OnOk result (agenda start journal.new.past ≡ Open) }
     ensures err { OnErr result (journal.new.past ≡ journal.old.past) }
     ensures end_room { end_room worker.new ≡ end_room worker.old }
-    ensures room { end_room worker.new ≤ journal.new.spare }
+    ensures room { end_room worker.old ≤ journal.old.spare → end_room worker.new ≤ journal.new.spare }
 {
     let Some(place) = find(worker.jobs.as_slice(), id) else {
         return worker.ignored(journal);
@@ -85,7 +84,7 @@ fn step_at<W: Host, H: Hooks>(
     ensures turns { StaysInTurn journal.old.past journal.new.past }
     ensures done { OnOk result (agenda start journal.new.past ≡ Open) }
     ensures err { OnErr result (journal.new.past ≡ journal.old.past) }
-    ensures kept { Kept W.Plan (W.plan host.old) (W.plan host.new) (W.progress host.old) (W.progress host.new) (W.place host.old) (W.place host.new) }
+    ensures kept { IsSteady W.Plan (W.plan host.old) (W.plan host.new) (W.progress host.old) (W.progress host.new) (W.place host.old) (W.place host.new) }
     ensures faults { CountsOn journal.old.past (W.host_faults host.old) journal.new.past (W.host_faults host.new) }
     ensures hooks { hooks.new ≡ hooks.old }
     ensures room { HasRoom worker.new journal.new.spare (W.spare host.new) }
@@ -110,19 +109,18 @@ fn take_step<W: Host, H: Hooks>(
     ghost start: { Start }
     requires due { IsStepAt start worker.old place at journal.old.past }
     requires ready { Ready start worker.old journal.old.past }
-    requires room { HasRoom worker.old journal.old.spare (W.spare host.old) }
     ensures ready { Ready start worker.new journal.new.past }
     ensures follows { Follows start journal.old.past (W.told host.old) (H.told hooks.old) journal.new.past (W.told host.new) (H.told hooks.new) }
     ensures turns { StaysInTurn journal.old.past journal.new.past }
     ensures done { OnOk result (agenda start journal.new.past ≡ Open) }
     ensures err { OnErr result (journal.new.past ≡ journal.old.past) }
-    ensures kept { Kept W.Plan (W.plan host.old) (W.plan host.new) (W.progress host.old) (W.progress host.new) (W.place host.old) (W.place host.new) }
+    ensures kept { IsSteady W.Plan (W.plan host.old) (W.plan host.new) (W.progress host.old) (W.progress host.new) (W.place host.old) (W.place host.new) }
     ensures faults { CountsOn journal.old.past (W.host_faults host.old) journal.new.past (W.host_faults host.new) }
     ensures plan { H.plan hooks.new ≡ H.plan hooks.old }
     ensures short { H.short hooks.new ≡ false → H.short hooks.old ≡ false }
     ensures promised { Promised (H.short hooks.new) (H.rule (H.plan hooks.old)) (H.stands hooks.old) (H.stands hooks.new) journal.old.past journal.new.past }
     ensures hooks_place { H.place hooks.new ≡ H.place hooks.old }
-    ensures room { HasRoom worker.new journal.new.spare (W.spare host.new) }
+    ensures room { HasRoom worker.old journal.old.spare (W.spare host.old) → HasRoom worker.new journal.new.spare (W.spare host.new) }
 {
     worker.reserve(16, journal)?;
     worker.reserve_host(16, host)?;
@@ -142,19 +140,18 @@ pub fn job_turn<W: Host, H: Hooks>(
 ) -> Result<(), Memory>
     ghost start: { Start }
     requires turn { AtTurn start worker.old at (JobTurn id) journal.old.past }
-    requires room { HasRoom worker.old journal.old.spare (W.spare host.old) }
     ensures ready { Ready start worker.new journal.new.past }
     ensures follows { Follows start journal.old.past (W.told host.old) (H.told hooks.old) journal.new.past (W.told host.new) (H.told hooks.new) }
     ensures turns { StaysInTurn journal.old.past journal.new.past }
     ensures done { OnOk result (agenda start journal.new.past ≡ Open) }
     ensures err { OnErr result (journal.new.past ≡ journal.old.past) }
-    ensures kept { Kept W.Plan (W.plan host.old) (W.plan host.new) (W.progress host.old) (W.progress host.new) (W.place host.old) (W.place host.new) }
+    ensures kept { IsSteady W.Plan (W.plan host.old) (W.plan host.new) (W.progress host.old) (W.progress host.new) (W.place host.old) (W.place host.new) }
     ensures faults { CountsOn journal.old.past (W.host_faults host.old) journal.new.past (W.host_faults host.new) }
     ensures plan { H.plan hooks.new ≡ H.plan hooks.old }
     ensures short { H.short hooks.new ≡ false → H.short hooks.old ≡ false }
     ensures promised { Promised (H.short hooks.new) (H.rule (H.plan hooks.old)) (H.stands hooks.old) (H.stands hooks.new) journal.old.past journal.new.past }
     ensures hooks_place { H.place hooks.new ≡ H.place hooks.old }
-    ensures room { HasRoom worker.new journal.new.spare (W.spare host.new) }
+    ensures room { HasRoom worker.old journal.old.spare (W.spare host.old) → HasRoom worker.new journal.new.spare (W.spare host.new) }
 {
     let Some(place) = find(worker.jobs.as_slice(), id) else {
         return worker.ignored(journal);
@@ -198,19 +195,18 @@ pub fn ended_turn<W: Host, H: Hooks>(
 ) -> Result<(), Memory>
     ghost start: { Start }
     requires turn { AtTurn start worker.old at (EndedTurn child) journal.old.past }
-    requires room { HasRoom worker.old journal.old.spare (W.spare host.old) }
     ensures ready { Ready start worker.new journal.new.past }
     ensures follows { Follows start journal.old.past (W.told host.old) (H.told hooks.old) journal.new.past (W.told host.new) (H.told hooks.new) }
     ensures turns { StaysInTurn journal.old.past journal.new.past }
     ensures done { OnOk result (agenda start journal.new.past ≡ Open) }
     ensures err { OnErr result (journal.new.past ≡ journal.old.past) }
-    ensures kept { Kept W.Plan (W.plan host.old) (W.plan host.new) (W.progress host.old) (W.progress host.new) (W.place host.old) (W.place host.new) }
+    ensures kept { IsSteady W.Plan (W.plan host.old) (W.plan host.new) (W.progress host.old) (W.progress host.new) (W.place host.old) (W.place host.new) }
     ensures faults { CountsOn journal.old.past (W.host_faults host.old) journal.new.past (W.host_faults host.new) }
     ensures plan { H.plan hooks.new ≡ H.plan hooks.old }
     ensures short { H.short hooks.new ≡ false → H.short hooks.old ≡ false }
     ensures promised { Promised (H.short hooks.new) (H.rule (H.plan hooks.old)) (H.stands hooks.old) (H.stands hooks.new) journal.old.past journal.new.past }
     ensures hooks_place { H.place hooks.new ≡ H.place hooks.old }
-    ensures room { HasRoom worker.new journal.new.spare (W.spare host.new) }
+    ensures room { HasRoom worker.old journal.old.spare (W.spare host.old) → HasRoom worker.new journal.new.spare (W.spare host.new) }
 {
     let Some(place) = keep_end(worker, child, at, journal) else {
         return worker.ignored(journal);
@@ -228,7 +224,7 @@ pub fn end_jobs<W: Host>(worker: &mut Worker, host: &mut W, journal: &mut Journa
     ensures none { jobs journal.new.past ≡ [] }
     ensures told { TellsOn is_world journal.old.past (W.told host.old) journal.new.past (W.told host.new) }
     ensures follows { agenda start journal.old.past ≡ Ends → (hooks : Option (List AnEntry)) → Follows start journal.old.past (W.told host.old) hooks journal.new.past (W.told host.new) hooks }
-    ensures kept { Kept W.Plan (W.plan host.old) (W.plan host.new) (W.progress host.old) (W.progress host.new) (W.place host.old) (W.place host.new) }
+    ensures kept { IsSteady W.Plan (W.plan host.old) (W.plan host.new) (W.progress host.old) (W.progress host.new) (W.place host.old) (W.place host.new) }
     ensures faults { CountsOn journal.old.past (W.host_faults host.old) journal.new.past (W.host_faults host.new) }
 {
     for place in 0..worker.jobs.len() {
@@ -252,7 +248,7 @@ fn make<W: Host>(
     ensures follows { FollowsAlone start journal.old.past journal.new.past }
     ensures apart { StaysApart journal.old.past journal.new.past }
     ensures turns { StaysInTurn journal.old.past journal.new.past }
-    ensures kept { Kept W.Plan (W.plan host.old) (W.plan host.new) (W.progress host.old) (W.progress host.new) (W.place host.old) (W.place host.new) }
+    ensures kept { IsSteady W.Plan (W.plan host.old) (W.plan host.new) (W.progress host.old) (W.progress host.new) (W.place host.old) (W.place host.new) }
     ensures faults { W.host_faults host.new ≡ W.host_faults host.old }
     ensures told { W.told host.new ≡ W.told host.old }
     ensures room { HasRoom worker.new journal.new.spare (W.spare host.new) }
@@ -317,7 +313,7 @@ fn perform_one<W: Host>(
     ensures follows { FollowsAlone start journal.old.past journal.new.past }
     ensures apart { StaysApart journal.old.past journal.new.past }
     ensures turns { StaysInTurn journal.old.past journal.new.past }
-    ensures kept { Kept W.Plan (W.plan host.old) (W.plan host.new) (W.progress host.old) (W.progress host.new) (W.place host.old) (W.place host.new) }
+    ensures kept { IsSteady W.Plan (W.plan host.old) (W.plan host.new) (W.progress host.old) (W.progress host.new) (W.place host.old) (W.place host.new) }
     ensures faults { W.host_faults host.new ≡ W.host_faults host.old }
     ensures told { W.told host.new ≡ W.told host.old }
     ensures room { HasRoom worker.new journal.new.spare (W.spare host.new) }
@@ -346,7 +342,7 @@ pub(crate) fn perform<W: Host>(
     ensures follows { FollowsAlone start journal.old.past journal.new.past }
     ensures apart { StaysApart journal.old.past journal.new.past }
     ensures turns { StaysInTurn journal.old.past journal.new.past }
-    ensures kept { Kept W.Plan (W.plan host.old) (W.plan host.new) (W.progress host.old) (W.progress host.new) (W.place host.old) (W.place host.new) }
+    ensures kept { IsSteady W.Plan (W.plan host.old) (W.plan host.new) (W.progress host.old) (W.progress host.new) (W.place host.old) (W.place host.new) }
     ensures faults { W.host_faults host.new ≡ W.host_faults host.old }
     ensures told { W.told host.new ≡ W.told host.old }
     ensures room { HasRoom worker.new journal.new.spare (W.spare host.new) }

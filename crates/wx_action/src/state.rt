@@ -6,7 +6,7 @@ ghost use Rattle.prio_channel.specs.SameBag.{SameBag};
 ghost use Rattle.wx_journal.specs.declared.entry.Entry.{Entry};
 ghost use Rattle.wx_journal.specs.declared.entry.Word.TheVariants.{Ignored};
 ghost use Rattle.wx_journal.specs.Names.{event_count};
-ghost use Rattle.wx_job.specs.Kept.{Kept};
+ghost use Rattle.wx_job.specs.Steady.{IsSteady};
 ghost use Rattle.wx_action.specs.Start.{Start, IsSize};
 ghost use Rattle.wx_action.specs.Journal.{bag};
 ghost use Rattle.wx_action.specs.Due.{agenda, Open, Sends, rest, Offers, Says, begin_of};
@@ -115,7 +115,7 @@ impl Worker {
         ensures room { OnOk result (n + end_room self.now ≤ W.spare host.new) }
         ensures told { W.told host.new ≡ W.told host.old }
         ensures faults { W.host_faults host.new ≡ W.host_faults host.old }
-        ensures same { Kept W.Plan (W.plan host.old) (W.plan host.new) (W.progress host.old) (W.progress host.new) (W.place host.old) (W.place host.new) }
+        ensures same { IsSteady W.Plan (W.plan host.old) (W.plan host.new) (W.progress host.old) (W.progress host.new) (W.place host.old) (W.place host.new) }
     {
         let room = room_besides(self.jobs.len() as u64, n)?;
         host.reserve(room)?;
@@ -134,7 +134,6 @@ impl Worker {
         ghost start: { Start }
         requires due { (more : List (AnEvent × APriority)) × (agenda start journal.old.past ≡ Sends event priority more) }
         requires ready { Ready start self.old journal.old.past }
-        requires room { end_room self.old ≤ journal.old.spare }
         requires fits { length (bag journal.old.past) < start.config.event_channel_size }
         ensures ready { Ready start self.new journal.new.past }
         ensures follows { FollowsAlone start journal.old.past journal.new.past }
@@ -144,7 +143,7 @@ impl Worker {
         ensures bag { OnOk result (length (bag journal.new.past) ≡ length (bag journal.old.past) + 1) }
         ensures err { OnErr result (journal.new.past ≡ journal.old.past) }
         ensures end_room { end_room self.new ≡ end_room self.old }
-        ensures room { end_room self.new ≤ journal.new.spare }
+        ensures room { end_room self.old ≤ journal.old.spare → end_room self.new ≤ journal.new.spare }
     {
         self.reserve(1, journal)?;
         let name = self.named;
@@ -170,7 +169,6 @@ impl Worker {
         ghost start: { Start }
         requires due { agenda start journal.old.past ≡ Offers event priority Open }
         requires ready { Ready start self.old journal.old.past }
-        requires room { end_room self.old ≤ journal.old.spare }
         ensures ready { Ready start self.new journal.new.past }
         ensures follows { FollowsAlone start journal.old.past journal.new.past }
         ensures apart { StaysApart journal.old.past journal.new.past }
@@ -178,7 +176,7 @@ impl Worker {
         ensures done { OnOk result (agenda start journal.new.past ≡ Open) }
         ensures err { OnErr result (journal.new.past ≡ journal.old.past) }
         ensures end_room { end_room self.new ≡ end_room self.old }
-        ensures room { end_room self.new ≤ journal.new.spare }
+        ensures room { end_room self.old ≤ journal.old.spare → end_room self.new ≤ journal.new.spare }
     {
         self.reserve(1, journal)?;
         let name = self.named;
@@ -200,14 +198,13 @@ impl Worker {
         ghost start: { Start }
         requires due { agenda start journal.old.past ≡ Says Ignored Open }
         requires ready { Ready start self.now journal.old.past }
-        requires room { end_room self.now ≤ journal.old.spare }
         ensures ready { Ready start self.now journal.new.past }
         ensures follows { FollowsAlone start journal.old.past journal.new.past }
         ensures apart { StaysApart journal.old.past journal.new.past }
         ensures turns { StaysInTurn journal.old.past journal.new.past }
         ensures done { OnOk result (agenda start journal.new.past ≡ Open) }
         ensures err { OnErr result (journal.new.past ≡ journal.old.past) }
-        ensures room { end_room self.now ≤ journal.new.spare }
+        ensures room { end_room self.now ≤ journal.old.spare → end_room self.now ≤ journal.new.spare }
     {
         self.reserve(1, journal)?;
         journal.push(Entry::Word(Word::Ignored));

@@ -4,7 +4,7 @@ ghost use Rattle.std.specs.List.{filter, list_any};
 ghost use Rattle.wx_journal.specs.declared.entry.Entry.{Entry};
 ghost use Rattle.wx_journal.specs.Names.{moment};
 ghost use Rattle.wx_config.specs.declared.error.CriticalError.TheVariants.{Memory as WantOfMemory};
-ghost use Rattle.wx_job.specs.Kept.{Kept};
+ghost use Rattle.wx_job.specs.Steady.{IsSteady};
 ghost use Rattle.wx_action.specs.Start.{Start};
 ghost use Rattle.wx_action.specs.Journal.{bag, is_over, is_over_of};
 ghost use Rattle.wx_action.specs.Due.{agenda, work, has_quit, is_quit, Open, Takes, Hands};
@@ -252,7 +252,7 @@ fn hand<W: Host, H: Hooks>(
     ensures follows { Follows start journal.old.past (W.told host.old) (H.told hooks.old) journal.new.past (W.told host.new) (H.told hooks.new) }
     ensures works { IfOk result (λ worked. Works start worked journal.new.past) }
     ensures calm { NoneUrgentWaits journal.new.past }
-    ensures kept { Kept W.Plan (W.plan host.old) (W.plan host.new) (W.progress host.old) (W.progress host.new) (W.place host.old) (W.place host.new) }
+    ensures kept { IsSteady W.Plan (W.plan host.old) (W.plan host.new) (W.progress host.old) (W.progress host.new) (W.place host.old) (W.place host.new) }
     ensures faults { CountsOn journal.old.past (W.host_faults host.old) journal.new.past (W.host_faults host.new) }
     ensures plan { H.plan hooks.new ≡ H.plan hooks.old }
     ensures short { H.short hooks.new ≡ false → H.short hooks.old ≡ false }
@@ -284,7 +284,7 @@ pub fn worker<W: Host, H: Hooks>(
     ensures works { IfOk result (λ worked. Works start worked journal.new.past) }
     ensures error { IfErr result (λ error. error ≡ WantOfMemory) }
     ensures calm { NoneUrgentWaits journal.new.past }
-    ensures kept { Kept W.Plan (W.plan host.old) (W.plan host.new) (W.progress host.old) (W.progress host.new) (W.place host.old) (W.place host.new) }
+    ensures kept { IsSteady W.Plan (W.plan host.old) (W.plan host.new) (W.progress host.old) (W.progress host.new) (W.place host.old) (W.place host.new) }
     ensures faults { CountsOn journal.old.past (W.host_faults host.old) journal.new.past (W.host_faults host.new) }
     ensures plan { H.plan hooks.new ≡ H.plan hooks.old }
     ensures short { H.short hooks.new ≡ false → H.short hooks.old ≡ false }

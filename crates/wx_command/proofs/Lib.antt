@@ -1,2 +1,1 @@
 pub mod ExecLaws
-pub mod HashLemmas

@@ -6,5 +6,3 @@ pub mod Commands
 pub mod CommandLaws
 pub mod Spawnables
 pub mod SpawnableLaws
-pub mod Equal
-pub mod EqualLaws

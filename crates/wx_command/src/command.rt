@@ -63,33 +63,6 @@ fn put_exec(
     put_program(prog, args, out)
 }
 
-/// Takes the command at the front, or loses the place.
-#[tactic(auto, unfolding(crate::specs::Commands::read_command))]
-fn take_command(alloc: Global, line: &mut Words) -> Result<Option<Command>, Memory>
-    ensures { IfOk result (λ command. Reads line.new command (read_command line.old)) }
-{
-    let Some(word) = line.next() else {
-        return Ok(None);
-    };
-    if word != b"exec".as_slice() {
-        return Ok(None);
-    }
-    let Some(options) = SpawnOptions::take(alloc, line)? else {
-        return Ok(None);
-    };
-    let found: Option<List<Text>> = List::take(alloc, line)?;
-    let Some(mut args) = found else {
-        return Ok(None);
-    };
-    let Some(prog) = args.take_first() else {
-        return Ok(None);
-    };
-    Ok(Some(Command {
-        program: Program::Exec { prog, args },
-        options,
-    }))
-}
-
 impl Spelled for Command {
     ghost use Rattle.wx_command.specs.Commands.{CommandFits, command_words, read_command};
     ghost use Rattle.wx_command.specs.CommandLaws.{command_form, command_clean};
@@ -110,12 +83,27 @@ impl Spelled for Command {
         }
     }
 
-    fn take(alloc: Global, line: &mut Words) -> Result<Option<Command>, Memory> {
-        let mut ahead = line.fork();
-        let found = take_command(alloc, &mut ahead)?;
-        if found.is_some() {
-            *line = ahead;
+    #[tactic(auto, unfolding(crate::specs::Commands::read_command))]
+    fn read(alloc: Global, line: &mut Words) -> Result<Option<Command>, Memory> {
+        let Some(word) = line.next() else {
+            return Ok(None);
+        };
+        if word != b"exec".as_slice() {
+            return Ok(None);
         }
-        Ok(found)
+        let Some(options) = SpawnOptions::read(alloc, line)? else {
+            return Ok(None);
+        };
+        let found: Option<List<Text>> = List::read(alloc, line)?;
+        let Some(mut args) = found else {
+            return Ok(None);
+        };
+        let Some(prog) = args.take_first() else {
+            return Ok(None);
+        };
+        Ok(Some(Command {
+            program: Program::Exec { prog, args },
+            options,
+        }))
     }
 }

@@ -63,15 +63,10 @@ impl Spelled for SpawnOptions {
         out.push(flag_byte(b'f', self.grant_foreground))
     }
 
-    fn take(_alloc: Global, line: &mut Words) -> Result<Option<SpawnOptions>, Memory> {
-        let mut ahead = line.fork();
-        let Some(word) = ahead.next() else {
-            return Ok(None);
-        };
-        let found = options_in(word);
-        if found.is_some() {
-            *line = ahead;
+    fn read(_alloc: Global, line: &mut Words) -> Result<Option<SpawnOptions>, Memory> {
+        match line.next() {
+            Some(word) => Ok(options_in(word)),
+            None => Ok(None),
         }
-        Ok(found)
     }
 }

@@ -8,7 +8,7 @@ use std::alloc::Global;
 use wx_events::{Copies, List, Memory, Spelled, Text, Words};
 
 /// What is spawned: the program and then its arguments, and how.
-#[derive(Drop, Debug)]
+#[derive(Drop, Debug, PartialEq, Eq)]
 pub struct Spawnable {
     pub words: List<Text>,
     pub options: SpawnOptions,
@@ -44,25 +44,6 @@ impl Command {
     }
 }
 
-impl PartialEq for Spawnable {
-    ghost use Rattle.wx_command.specs.Equal.{spawnable_eq};
-    ghost use Rattle.wx_command.specs.EqualLaws.{spawnable_per};
-
-    ghost eq = { spawnable_eq };
-
-    ghost laws = { spawnable_per };
-
-    fn eq(&self, other: &Spawnable) -> bool {
-        self.words == other.words && self.options == other.options
-    }
-}
-
-impl Eq for Spawnable {
-    ghost use Rattle.wx_command.specs.EqualLaws.{spawnable_equiv};
-
-    ghost laws = { spawnable_equiv };
-}
-
 impl Copies for Spawnable {
     fn copy(&self, alloc: Global) -> Result<Spawnable, Memory> {
         Ok(Spawnable {
@@ -92,16 +73,14 @@ impl Spelled for Spawnable {
         self.words.put_after(out)
     }
 
-    fn take(alloc: Global, line: &mut Words) -> Result<Option<Spawnable>, Memory> {
-        let mut ahead = line.fork();
-        let Some(options) = SpawnOptions::take(alloc, &mut ahead)? else {
+    fn read(alloc: Global, line: &mut Words) -> Result<Option<Spawnable>, Memory> {
+        let Some(options) = SpawnOptions::read(alloc, line)? else {
             return Ok(None);
         };
-        let found: Option<List<Text>> = List::take(alloc, &mut ahead)?;
+        let found: Option<List<Text>> = List::read(alloc, line)?;
         let Some(words) = found else {
             return Ok(None);
         };
-        *line = ahead;
         Ok(Some(Spawnable { words, options }))
     }
 }

@@ -19,6 +19,7 @@ impl<T> Model for Changeable<T> {
 }
 
 impl<T> Changeable<T> {
+    /// This value, which can be replaced.
     pub fn new(value: T) -> Self
         ensures { result ≡ value }
     {
@@ -34,10 +35,19 @@ impl<T> Changeable<T> {
         self.value = value;
     }
 
+    /// The value.
     pub fn get(&self) -> &T
         ensures { result.now ≡ self.now }
     {
         &self.value
+    }
+}
+
+impl<T: Default> Default for Changeable<T> {
+    ghost is_default = { T.is_default };
+
+    fn default() -> Self {
+        Changeable::new(T::default())
     }
 }
 

@@ -3,14 +3,17 @@ ghost use Rattle.std.specs.Prelude.{◌≡◌, ◌++◌, OnOk};
 ghost use Rattle.wx_words.specs.Line.{spaced};
 ghost use Rattle.wx_config.specs.Critical.{critical_words};
 
-use wx_events::{Memory, Spelled, Text};
+use thiserror::Error;
+use wx_events::{Escaped, Memory, Spelled, Text};
 
-/// An error that ends a run.
-#[derive(Drop, Debug)]
+/// An error that ends a run. It is shown by its words.
+#[derive(Drop, Debug, Error)]
 pub enum CriticalError {
     /// A call on the outside failed: what it was about, and the code.
+    #[error("io {about} {err}", about = Escaped(.about))]
     IoError { about: Text, err: u32 },
     /// There was no memory.
+    #[error("memory")]
     Memory,
 }
 

@@ -1,8 +1,9 @@
 // The default settings, and the words of what is watched and of errors: the expected values are worked out by hand.
 use crate::{Changeable, Config, CriticalError, WatchedPath, Watcher};
 use std::alloc::Global;
+use std::hash::{DefaultHasher, Hash, Hasher};
 use std::test::Fail;
-use wx_events::{Copies, Memory, Spelled, Text, Words};
+use wx_events::{Copies, Memory, Spelled, Text, TextPath, Words};
 
 /// The value whose words are this whole line.
 fn read_line<T: Spelled>(alloc: Global, line: &[u8]) -> Result<Option<T>, Memory> {
@@ -74,4 +75,74 @@ fn errors_as_words(rt: HostRuntime) -> Result<(), Fail> {
     CriticalError::from(Memory).put_after(&mut text)?;
     assert!(rt; text.as_slice() == b" io turn 5 memory".as_slice());
     Ok(())
+}
+
+#[test]
+fn errors_are_shown_by_their_words(rt: HostRuntime) -> Result<(), Fail> {
+    let alloc = rt.alloc();
+    let table: [(&[u8], &str); 4] = [
+        (b"turn", "io turn 5"),
+        (b"a b%", "io a%20b%25 5"),
+        (b"", "io % 5"),
+        (b"\xff\n", "io %FF%0A 5"),
+    ];
+    for (about, words) in table {
+        let about = Text::from_slice(alloc, about)?;
+        let error = CriticalError::IoError { about, err: 5 };
+        let shown = format!(in alloc; "{error}")?;
+        assert!(rt; shown.as_str() == words, "for {words}");
+    }
+    let shown = format!(in alloc; "{}", CriticalError::Memory)?;
+    assert!(rt; shown.as_str() == "memory");
+    Ok(())
+}
+
+/// This path, watched so.
+fn watched(alloc: Global, path: &[u8], recursive: bool) -> Result<WatchedPath, Memory> {
+    let path = TextPath::new(Text::from_slice(alloc, path)?);
+    Ok(WatchedPath { path, recursive })
+}
+
+/// The hash of this value.
+fn hash_of<T: Hash>(value: &T) -> u64 {
+    let mut state = DefaultHasher::new();
+    value.hash(&mut state);
+    state.finish()
+}
+
+#[test]
+fn watched_paths_compare_by_path_and_then_depth(rt: HostRuntime) -> Result<(), Fail> {
+    let alloc = rt.alloc();
+    let folder = watched(alloc, b"/a", false)?;
+    let tree = watched(alloc, b"/a", true)?;
+    let below = watched(alloc, b"/a/b", false)?;
+    assert!(rt; folder < tree && tree < below && folder < below);
+    assert!(rt; folder != tree && tree != below);
+    let copy = tree.copy(alloc)?;
+    assert!(rt; copy == tree);
+    assert_eq!(rt; hash_of(&copy), hash_of(&tree));
+    assert!(rt; hash_of(&folder) != hash_of(&tree));
+    Ok(())
+}
+
+#[test]
+fn paths_are_watched_with_all_below_them(rt: HostRuntime) -> Result<(), Fail> {
+    let alloc = rt.alloc();
+    let tree = watched(alloc, b"/a", true)?;
+    let of_text = WatchedPath::from(Text::from_slice(alloc, b"/a")?);
+    assert!(rt; of_text == tree);
+    let of_path = WatchedPath::from(TextPath::new(Text::from_slice(alloc, b"/a")?));
+    assert!(rt; of_path == tree);
+    assert!(rt; of_path.as_ref().text().as_slice() == b"/a".as_slice());
+    let path = TextPath::from(of_path);
+    assert!(rt; path.text().as_slice() == b"/a".as_slice());
+    Ok(())
+}
+
+#[test]
+fn a_default_is_that_of_the_value(rt: HostRuntime) {
+    let throttle: Changeable<u64> = Changeable::default();
+    assert_eq!(rt; *throttle.get(), 0);
+    let watcher: Changeable<Watcher> = Changeable::default();
+    assert_eq!(rt; *watcher.get(), Watcher::Native);
 }

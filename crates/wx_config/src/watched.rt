@@ -16,7 +16,7 @@ pub enum Watcher {
 }
 
 /// A path that is watched, with all below it where it is recursive.
-#[derive(Drop, Debug)]
+#[derive(Drop, Debug, PartialEq, Eq, PartialOrd, Ord, Hash)]
 pub struct WatchedPath {
     pub path: TextPath,
     pub recursive: bool,
@@ -42,6 +42,37 @@ impl WatchedPath {
             recursive: false,
         }
     }
+
+    /// The path.
+    pub fn as_ref(&self) -> &TextPath
+        ensures { result.now ≡ self.now.path }
+    {
+        &self.path
+    }
+}
+
+impl From<TextPath> for WatchedPath {
+    ghost from_gives = { λ path watched. watched ≡ record { path = path; recursive = true } };
+
+    fn from(path: TextPath) -> WatchedPath {
+        WatchedPath::recursive(path)
+    }
+}
+
+impl From<Text> for WatchedPath {
+    ghost from_gives = { λ text watched. watched ≡ record { path = text; recursive = true } };
+
+    fn from(text: Text) -> WatchedPath {
+        WatchedPath::recursive(TextPath::new(text))
+    }
+}
+
+impl From<WatchedPath> for TextPath {
+    ghost from_gives = { λ watched path. path ≡ watched.path };
+
+    fn from(watched: WatchedPath) -> TextPath {
+        watched.path
+    }
 }
 
 impl Copies for WatchedPath {
@@ -50,26 +81,6 @@ impl Copies for WatchedPath {
             path: self.path.copy(alloc)?,
             recursive: self.recursive,
         })
-    }
-}
-
-/// Takes the watcher at the front, or loses the place.
-#[tactic(auto, unfolding(crate::specs::Watched::read_watcher))]
-fn take_watcher(alloc: Global, line: &mut Words) -> Result<Option<Watcher>, Memory>
-    ensures { IfOk result (λ x. Reads line.new x (read_watcher line.old)) }
-{
-    let Some(word) = line.next() else {
-        return Ok(None);
-    };
-    if word == b"native".as_slice() {
-        return Ok(Some(Watcher::Native));
-    }
-    if word != b"poll".as_slice() {
-        return Ok(None);
-    }
-    match u64::take(alloc, line)? {
-        Some(interval) => Ok(Some(Watcher::Poll(interval))),
-        None => Ok(None),
     }
 }
 
@@ -98,31 +109,21 @@ impl Spelled for Watcher {
         }
     }
 
-    fn take(alloc: Global, line: &mut Words) -> Result<Option<Watcher>, Memory> {
-        let mut ahead = line.fork();
-        let found = take_watcher(alloc, &mut ahead)?;
-        if found.is_some() {
-            *line = ahead;
+    #[tactic(auto, unfolding(crate::specs::Watched::read_watcher))]
+    fn read(alloc: Global, line: &mut Words) -> Result<Option<Watcher>, Memory> {
+        let Some(word) = line.next() else {
+            return Ok(None);
+        };
+        if word == b"native".as_slice() {
+            return Ok(Some(Watcher::Native));
         }
-        Ok(found)
-    }
-}
-
-/// Takes the watched path at the front, or loses the place.
-#[tactic(auto, unfolding(crate::specs::Watched::read_path))]
-fn take_path(alloc: Global, line: &mut Words) -> Result<Option<WatchedPath>, Memory>
-    ensures { IfOk result (λ x. Reads line.new x (read_path line.old)) }
-{
-    let Some(word) = line.next() else {
-        return Ok(None);
-    };
-    let recursive = word == b"r".as_slice();
-    if !recursive && word != b"n".as_slice() {
-        return Ok(None);
-    }
-    match TextPath::take(alloc, line)? {
-        Some(path) => Ok(Some(WatchedPath { path, recursive })),
-        None => Ok(None),
+        if word != b"poll".as_slice() {
+            return Ok(None);
+        }
+        match u64::read(alloc, line)? {
+            Some(interval) => Ok(Some(Watcher::Poll(interval))),
+            None => Ok(None),
+        }
     }
 }
 
@@ -146,12 +147,18 @@ impl Spelled for WatchedPath {
         self.path.put_after(out)
     }
 
-    fn take(alloc: Global, line: &mut Words) -> Result<Option<WatchedPath>, Memory> {
-        let mut ahead = line.fork();
-        let found = take_path(alloc, &mut ahead)?;
-        if found.is_some() {
-            *line = ahead;
+    #[tactic(auto, unfolding(crate::specs::Watched::read_path))]
+    fn read(alloc: Global, line: &mut Words) -> Result<Option<WatchedPath>, Memory> {
+        let Some(word) = line.next() else {
+            return Ok(None);
+        };
+        let recursive = word == b"r".as_slice();
+        if !recursive && word != b"n".as_slice() {
+            return Ok(None);
         }
-        Ok(found)
+        match TextPath::read(alloc, line)? {
+            Some(path) => Ok(Some(WatchedPath { path, recursive })),
+            None => Ok(None),
+        }
     }
 }

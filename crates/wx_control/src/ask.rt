@@ -63,8 +63,8 @@ impl Spelled for Ask {
         }
     }
 
-    fn take(alloc: Global, line: &mut Words) -> Result<Option<Ask>, Memory> {
-        match Control::take(alloc, line)? {
+    fn read(alloc: Global, line: &mut Words) -> Result<Option<Ask>, Memory> {
+        match Control::read(alloc, line)? {
             Some(control) => Ok(Some(Ask::One(control))),
             None => Ok(None),
         }

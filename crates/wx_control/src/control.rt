@@ -21,23 +21,6 @@ impl Copies for Control {
     }
 }
 
-/// Takes the control at the front, or loses the place.
-#[tactic(auto, unfolding(crate::specs::Controls::read_control))]
-fn take_control(_alloc: Global, line: &mut Words) -> Result<Option<Control>, Memory>
-    ensures { IfOk result (λ x. Reads line.new x (read_control line.old)) }
-{
-    let Some(word) = line.next() else {
-        return Ok(None);
-    };
-    if word == b"start".as_slice() {
-        Ok(Some(Control::Start))
-    } else if word == b"stop".as_slice() {
-        Ok(Some(Control::Stop))
-    } else {
-        Ok(None)
-    }
-}
-
 impl Spelled for Control {
     ghost use Rattle.wx_control.specs.Controls.{ControlFits, control_words};
     ghost use Rattle.wx_control.specs.ControlLaws.{control_form, control_clean};
@@ -59,12 +42,17 @@ impl Spelled for Control {
         }
     }
 
-    fn take(alloc: Global, line: &mut Words) -> Result<Option<Control>, Memory> {
-        let mut ahead = line.fork();
-        let found = take_control(alloc, &mut ahead)?;
-        if found.is_some() {
-            *line = ahead;
+    #[tactic(auto, unfolding(crate::specs::Controls::read_control))]
+    fn read(_alloc: Global, line: &mut Words) -> Result<Option<Control>, Memory> {
+        let Some(word) = line.next() else {
+            return Ok(None);
+        };
+        if word == b"start".as_slice() {
+            Ok(Some(Control::Start))
+        } else if word == b"stop".as_slice() {
+            Ok(Some(Control::Stop))
+        } else {
+            Ok(None)
         }
-        Ok(found)
     }
 }

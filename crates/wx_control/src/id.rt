@@ -24,8 +24,8 @@ impl Spelled for Id {
         self.0.put_after(out)
     }
 
-    fn take(alloc: Global, line: &mut Words) -> Result<Option<Id>, Memory> {
-        match u32::take(alloc, line)? {
+    fn read(alloc: Global, line: &mut Words) -> Result<Option<Id>, Memory> {
+        match u32::read(alloc, line)? {
             Some(number) => Ok(Some(Id(number))),
             None => Ok(None),
         }

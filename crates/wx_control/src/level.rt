@@ -3,7 +3,7 @@ ghost use Rattle.std.specs.Prelude.{◌≡◌};
 ghost use Rattle.wx_control.specs.Levels.{rank};
 
 use std::alloc::Global;
-use wx_events::{Keyword, Memory, Spelled, Text, Words, put_keyword, take_keyword};
+use wx_events::{Keyword, Memory, Spelled, Text, Words, put_keyword, read_keyword};
 
 /// How pressing a control is, rising in this order.
 #[derive(Clone, Copy, Debug, PartialEq, Eq, PartialOrd, Ord)]
@@ -71,7 +71,7 @@ impl Spelled for Level {
         put_keyword(*self, out)
     }
 
-    fn take(_alloc: Global, line: &mut Words) -> Result<Option<Level>, Memory> {
-        Ok(take_keyword(line))
+    fn read(_alloc: Global, line: &mut Words) -> Result<Option<Level>, Memory> {
+        Ok(read_keyword(line))
     }
 }

@@ -1,9 +1,8 @@
 -- What hooks that follow a script ask for, act by act.
-use Rattle.std.proofs.Common.{◌≡◌, ℕ, ◌+◌, ◌<◌, Bool, true, false, cond, ◌||◌, List, [], ◌∷◌, ◌++◌, Result, Ok, Err, length, drop, get_or, refl, ap, sym, ◌∙◌}
+use Rattle.std.proofs.Common.{◌≡◌, ℕ, Bool, true, false, cond, ◌||◌, List, [], ◌∷◌, ◌++◌, Result, Ok, Err, refl, ap, sym, ◌∙◌}
 use Rattle.std.specs.Prelude.{Option, None, Some, OnOk, ◌==◌}
 use Rattle.std.specs.List.{find, list_any}
-use Rattle.std.proofs.lemmas.Bool.{eqb-true}
-use Rattle.std.proofs.lemmas.List.{drop_more}
+use Rattle.std.proofs.lemmas.Bool.{eqb-true, or_right}
 use Rattle.wx_command.specs.declared.command.Command.{Command}
 use Rattle.wx_control.specs.declared.ask.Ask.{Ask as AnAsk}
 use Rattle.wx_control.specs.declared.id.Id.{Id}
@@ -15,8 +14,7 @@ use Rattle.wx_journal.specs.Names.{creates}
 use Rattle.wx_job.specs.History.{same}
 use Rattle.wx_action.specs.Handled.{ends_with_quit, with_quit}
 use Rattle.wx_action.specs.Jobs.{is_seen}
-use Rattle.wx_engine.specs.declared.script.ScriptAct.{ScriptAct}
-use Rattle.wx_engine.specs.Acted.{is_made, AreMade, is_there, with_ask, with_act, performed}
+use Rattle.wx_engine.specs.Acted.{is_made, AreMade, is_there, with_ask}
 
 -- what holds after a call that went well
 pub ok_then : {T E : Type 0} {A B : Type 0} (r : Result T E) → OnOk r A → (A → B) → OnOk r B
@@ -97,13 +95,9 @@ ask_made p done made job id ask is found =
     let created : creates id done ≡ true = sym (is id) ∙ f.0 in
     there_then p done id job.id ask f.1 (ap (λ b. b || is_seen id p) created)
 
-or_true : (a : Bool) → (a || true) ≡ true
-or_true true = refl
-or_true false = refl
-
 -- of one that was there
 pub ask_held : (p : List Entry) (done : List Act) (job : Job) (id : Id) (ask : AnAsk) → is_seen id p ≡ true → job.id ≡ id → done ++ Asks job.id ask ∷ [] ≡ with_ask p done id ask
-ask_held p done job id ask there its = there_then p done id job.id ask its (ap (λ b. creates id done || b) there ∙ or_true (creates id done))
+ask_held p done job id ask there its = there_then p done id job.id ask its (ap (λ b. creates id done || b) there ∙ or_right (creates id done) true refl)
 
 -- of none
 pub ask_none : (p : List Entry) (done : List Act) (made : List Job) (id : Id) (ask : AnAsk) → AreMade made done → None ≡ find (is_made id) made → is_seen id p ≡ false → done ≡ with_ask p done id ask

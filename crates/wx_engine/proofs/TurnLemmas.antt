@@ -1,32 +1,53 @@
 -- A turn is drawn and served.
-use Rattle.std.proofs.Common.{◌≡◌, ℕ, ◌+◌, ◌≤◌, Bool, false, Option, List, [], ◌∷◌, refl, subst}
+use Rattle.std.proofs.Common.{◌≡◌, ℕ, ◌+◌, ◌≤◌, Bool, true, false, Option, List, [], ◌∷◌, refl, subst}
 use Rattle.wx_journal.specs.declared.entry.Entry.{Entry}
 use Rattle.wx_journal.specs.declared.entry.Entry.TheVariants.{Turn as Turned, TurnFault}
 use Rattle.wx_journal.specs.declared.entry.Turn.{Turn}
 use Rattle.wx_journal.specs.Names.{moment, NamesItsOwn}
-use Rattle.wx_journal.specs.Told.{tell, tells, is_hooks, is_turn}
+use Rattle.wx_journal.specs.Told.{tell, tell_if, tells, is_world, is_hooks, is_turn}
+use Rattle.wx_job.specs.Case.{is_fault}
 use Rattle.wx_action.specs.declared.state.Worker.{Worker}
 use Rattle.wx_action.specs.Start.{Start}
 use Rattle.wx_action.specs.Journal.{turn_count, turn_fault}
-use Rattle.wx_action.specs.Due.{agenda, Open, IsRun}
+use Rattle.wx_action.specs.Due.{agenda, Open, Due, IsRun}
 use Rattle.wx_action.specs.Laws.{NoneUrgentWaits, MomentsRise}
 use Rattle.wx_action.specs.Faults.{CountsOn}
 use Rattle.wx_action.specs.FaultLaws.{counts_entry}
-use Rattle.wx_action.specs.Leads.{Follows, Then, Same, More, Promised}
+use Rattle.wx_action.specs.Leads.{Leads, Follows, Then, Same, More, Promised}
 use Rattle.wx_action.specs.Stands.{Ready}
 use Rattle.wx_action.specs.Turns.{SameTurns, StaysInTurn}
 use Rattle.wx_action.specs.RunLaws.{own_of_run}
 use Rattle.wx_action.specs.TurnLaws.{TellsNoEnd, at_turn, next_turn, promised_apart, promised_then}
-use Rattle.wx_action.proofs.StandsLemmas.{tasks_same, over_none}
+use Rattle.wx_action.proofs.StandsLemmas.{ready_over}
 use Rattle.wx_engine.proofs.BeginLemmas.{calm_begun}
 
--- a turn that was drawn and told
-pub turn_follows : (s : Start) (p₀ : List Entry) (w₀ h₀ : Option (List Entry)) (t : Turn) (p p' : List Entry) (w w' h : Option (List Entry)) → Follows s p₀ w₀ h₀ p w h → agenda s p ≡ Open → p' ≡ Turned t ∷ p → w' ≡ tell (Turned t) w → Follows s p₀ w₀ h₀ p' w' h
-turn_follows s p₀ w₀ h₀ t p p' w w' h so_far open_is grown told = rw (grown, told) (λ q wq hq l. Then (Turned t) p w h (so_far q wq hq l) (rw open_is tt))
+-- ---- a turn that was drawn, or the fault of one
 
--- the fault of one
-pub fault_follows : (s : Start) (p₀ : List Entry) (w₀ h₀ : Option (List Entry)) (code : ℕ) (p p' : List Entry) (w w' h : Option (List Entry)) → Follows s p₀ w₀ h₀ p w h → agenda s p ≡ Open → p' ≡ TurnFault code ∷ p → w' ≡ tell (TurnFault code) w → Follows s p₀ w₀ h₀ p' w' h
-fault_follows s p₀ w₀ h₀ code p p' w w' h so_far open_is grown told = rw (grown, told) (λ q wq hq l. Then (TurnFault code) p w h (so_far q wq hq l) (rw open_is tt))
+-- it was due, is a call on the world alone, and no call on a child that failed
+pub record Drawn (s : Start) (p : List Entry) (e : Entry) (p' : List Entry) : Type 0 where
+  pub due : Due s p e
+  pub world : is_world e ≡ true
+  pub hooks : is_hooks e ≡ false
+  pub calm : is_fault e ≡ false
+  pub grown : p' ≡ e ∷ p
+
+pub turn_drawn : (s : Start) (t : Turn) (p p' : List Entry) → agenda s p ≡ Open → p' ≡ Turned t ∷ p → Drawn s p (Turned t) p'
+turn_drawn s t p p' open_is grown = record { due = rw open_is tt; world = refl; hooks = refl; calm = refl; grown = grown }
+
+pub fault_drawn : (s : Start) (code : ℕ) (p p' : List Entry) → agenda s p ≡ Open → p' ≡ TurnFault code ∷ p → Drawn s p (TurnFault code) p'
+fault_drawn s code p p' open_is grown = record { due = rw open_is tt; world = refl; hooks = refl; calm = refl; grown = grown }
+
+pub drawn_follows : (s : Start) (p₀ : List Entry) (w₀ h₀ : Option (List Entry)) (e : Entry) (p p' : List Entry) (w w' h : Option (List Entry)) → Drawn s p e p' → Follows s p₀ w₀ h₀ p w h → w' ≡ tell e w → Follows s p₀ w₀ h₀ p' w' h
+drawn_follows s p₀ w₀ h₀ e p p' w w' h d so_far told = λ q wq hq l.
+    let on : Leads s q wq hq (e ∷ p) (tell_if (is_world e) e w) (tell_if (is_hooks e) e h) = Then e p w h (so_far q wq hq l) d.due in
+    rw (d.grown, told) (rw (d.world, d.hooks) at on)
+
+pub drawn_promised : (s : Start) (short : Bool) (rule : List Entry → Entry → Type 0) (stood stands : List Entry → Type 0) (e : Entry) (p₀ p p' : List Entry) → Drawn s p e p' → ((q : List Entry) (e : Entry) → NamesItsOwn q → is_hooks e ≡ false → stands q → stands (e ∷ q)) → IsRun s p → Promised short rule stood stands p₀ p → Promised short rule stood stands p₀ p'
+drawn_promised s short rule stood stands e p₀ p p' d keep run so_far =
+    rw d.grown (promised_then short short rule rule stood stands stands p₀ p (e ∷ p) (λ x. x) refl so_far (promised_apart short rule stands p (e ∷ p) keep (More e p Same (own_of_run s p run) d.hooks)))
+
+pub drawn_counts : (s : Start) (e : Entry) (p₀ p p' : List Entry) (n₀ n n' : ℕ) → Drawn s p e p' → CountsOn p₀ n₀ p n → n ≤ n' → CountsOn p₀ n₀ p' n'
+drawn_counts s e p₀ p p' n₀ n n' d so_far later = λ q m before. rw d.grown (counts_entry e p n n' d.calm later q m (so_far q m before))
 
 -- neither leaves an urgent event
 pub turn_calm : (s : Start) (t : Turn) (p p' : List Entry) → IsRun s p → agenda s p ≡ Open → p' ≡ Turned t ∷ p → NoneUrgentWaits p'
@@ -34,15 +55,6 @@ turn_calm s t p p' run open_is grown = rw grown (calm_begun s p [] run open_is)
 
 pub fault_calm : (s : Start) (code : ℕ) (p p' : List Entry) → IsRun s p → agenda s p ≡ Open → p' ≡ TurnFault code ∷ p → NoneUrgentWaits p'
 fault_calm s code p p' run open_is grown = rw grown (calm_begun s p [] run open_is)
-
--- and neither is a call on the hooks
-pub turn_promised : (s : Start) (short : Bool) (rule : List Entry → Entry → Type 0) (stood stands : List Entry → Type 0) (t : Turn) (p₀ p p' : List Entry) → ((q : List Entry) (e : Entry) → NamesItsOwn q → is_hooks e ≡ false → stands q → stands (e ∷ q)) → IsRun s p → Promised short rule stood stands p₀ p → p' ≡ Turned t ∷ p → Promised short rule stood stands p₀ p'
-turn_promised s short rule stood stands t p₀ p p' keep run so_far grown =
-    rw grown (promised_then short short rule rule stood stands stands p₀ p (Turned t ∷ p) (λ x. x) refl so_far (promised_apart short rule stands p (Turned t ∷ p) keep (More (Turned t) p Same (own_of_run s p run) refl)))
-
-pub fault_promised : (s : Start) (short : Bool) (rule : List Entry → Entry → Type 0) (stood stands : List Entry → Type 0) (code : ℕ) (p₀ p p' : List Entry) → ((q : List Entry) (e : Entry) → NamesItsOwn q → is_hooks e ≡ false → stands q → stands (e ∷ q)) → IsRun s p → Promised short rule stood stands p₀ p → p' ≡ TurnFault code ∷ p → Promised short rule stood stands p₀ p'
-fault_promised s short rule stood stands code p₀ p p' keep run so_far grown =
-    rw grown (promised_then short short rule rule stood stands stands p₀ p (TurnFault code ∷ p) (λ x. x) refl so_far (promised_apart short rule stands p (TurnFault code ∷ p) keep (More (TurnFault code) p Same (own_of_run s p run) refl)))
 
 -- what a journal says of its turns after one more, and what was served in it
 pub record Served (t : Turn) (p p' : List Entry) : Type 0 where
@@ -72,25 +84,4 @@ turn_ready s w t p p' ready open_is grown none = (at_turn s w t.at t.kind p' non
 
 -- and with the fault of one
 pub fault_ready : (s : Start) (w : Worker) (code : ℕ) (p p' : List Entry) → Ready s w p → agenda s p ≡ Open → p' ≡ TurnFault code ∷ p → Ready s w p'
-fault_ready s w code p p' ready open_is grown = rw grown (record {
-  run = (rw open_is tt, ready.run);
-  stands = record {
-    config_kept = ready.stands.config_kept;
-    queue_kept = ready.stands.queue_kept;
-    size_kept = ready.stands.size_kept;
-    open_kept = ready.stands.open_kept;
-    named_kept = ready.stands.named_kept;
-    names_kept = ready.stands.names_kept;
-    events_kept = ready.stands.events_kept;
-    first_kept = ready.stands.first_kept;
-    jobs_kept = ready.stands.jobs_kept;
-    tasks_kept = tasks_same p (TurnFault code ∷ p) w.jobs.items (over_none (TurnFault code) p tt) ready.stands.tasks_kept;
-  };
-})
-
--- a turn is no call on a child that failed
-pub turn_counts : (t : Turn) (p₀ p p' : List Entry) (n₀ n n' : ℕ) → CountsOn p₀ n₀ p n → p' ≡ Turned t ∷ p → n ≤ n' → CountsOn p₀ n₀ p' n'
-turn_counts t p₀ p p' n₀ n n' so_far is later = λ q m before. rw is (counts_entry (Turned t) p n n' refl later q m (so_far q m before))
-
-pub fault_counts : (code : ℕ) (p₀ p p' : List Entry) (n₀ n n' : ℕ) → CountsOn p₀ n₀ p n → p' ≡ TurnFault code ∷ p → n ≤ n' → CountsOn p₀ n₀ p' n'
-fault_counts code p₀ p p' n₀ n n' so_far is later = λ q m before. rw is (counts_entry (TurnFault code) p n n' refl later q m (so_far q m before))
+fault_ready s w code p p' ready open_is grown = rw grown (ready_over s w (TurnFault code) p tt tt (rw open_is tt) ready)

@@ -1,5 +1,5 @@
 -- What a run with the world and the hooks of a script comes to.
-use Rattle.std.proofs.Common.{◌≡◌, ℕ, Bool, true, false, cond, if◌then◌else◌, None, Some, List, [], ◌∷◌, ◌++◌, length, nat_le, ◌&&◌, refl, ap, subst, ◌∙◌, arith}
+use Rattle.std.proofs.Common.{◌≡◌, ℕ, Bool, true, false, cond, if◌then◌else◌, None, Some, List, [], ◌∷◌, ◌++◌, length, nat_le, ◌&&◌, refl, ap, subst, ◌∙◌}
 use Rattle.std.proofs.lemmas.List.{append-nil}
 use Rattle.std.specs.List.{filter, list_all}
 use Rattle.wx_events.specs.declared.process.ProcessEnd.TheVariants.{Success}
@@ -7,13 +7,12 @@ use Rattle.wx_journal.specs.declared.entry.Entry.{Entry}
 use Rattle.wx_journal.specs.declared.entry.Entry.TheVariants.{Spawn, Kill, Wait}
 use Rattle.wx_journal.specs.declared.entry.Turn.{Turn as Timed}
 use Rattle.wx_journal.specs.Told.{tell_if, tells, is_world, is_turn}
-use Rattle.wx_action.specs.Start.{IsStart}
 use Rattle.wx_engine.specs.declared.script.Script.{Script}
 use Rattle.wx_engine.specs.declared.script.ScriptTurn.{ScriptTurn}
 use Rattle.wx_engine.specs.declared.script.ScriptTurn.TheVariants.{Turn, Fault}
 use Rattle.wx_engine.specs.Answered.{spawn_answers, kill_answers, wait_answers, AreAnswered, FollowsAnswers}
 use Rattle.wx_engine.specs.Turns.{comes, risen, Rises, Given, first_given, turns_of, FollowsGiven}
-use Rattle.wx_engine.specs.Follows.{IsScript, start_of, given_of, FollowsTurns}
+use Rattle.wx_engine.specs.Follows.{given_of, FollowsTurns}
 
 -- what is told is the old list with the calls in front
 pub tells_filter : (mine : Entry → Bool) (p before : List Entry) → tells mine p (Some before) ≡ Some (filter mine p ++ before)

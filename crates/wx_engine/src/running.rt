@@ -3,7 +3,7 @@ ghost use Rattle.std.specs.Prelude.{◌≡◌, ◌∷◌, ◌++◌, [], ◌+◌,
 ghost use Rattle.wx_journal.specs.declared.entry.Entry.{Entry as AnEntry};
 ghost use Rattle.wx_journal.specs.Names.{moment};
 ghost use Rattle.wx_journal.specs.Told.{is_world, is_hooks, is_turn, tells, Obeys, Rose};
-ghost use Rattle.wx_job.specs.Kept.{Kept};
+ghost use Rattle.wx_job.specs.Steady.{IsSteady};
 ghost use Rattle.wx_config.specs.declared.error.CriticalError.TheVariants.{Memory as WantOfMemory};
 ghost use Rattle.wx_action.specs.Start.{Start, IsStart};
 ghost use Rattle.wx_action.specs.Journal.{turn_count, turn_fault};
@@ -106,7 +106,7 @@ fn serve<W: World, H: Hooks>(
     ensures short { H.short hooks.new ≡ false → H.short hooks.old ≡ false }
     ensures promised { Promised (H.short hooks.new) (H.rule (H.plan hooks.old)) (H.stands hooks.old) (H.stands hooks.new) journal.old.past journal.new.past }
     ensures place { H.place hooks.new ≡ H.place hooks.old }
-    ensures kept { Kept W.Plan (W.plan world.old) (W.plan world.new) (W.progress world.old) (W.progress world.new) (W.place world.old) (W.place world.new) }
+    ensures kept { IsSteady W.Plan (W.plan world.old) (W.plan world.new) (W.progress world.old) (W.progress world.new) (W.place world.old) (W.place world.new) }
     ensures host_faults { CountsOn journal.old.past (W.host_faults world.old) journal.new.past (W.host_faults world.new) }
 {
     match kind {
@@ -137,7 +137,7 @@ fn make_room<W: World>(state: &Worker, world: &mut W, journal: &mut Journal) -> 
     requires room { HasRoom state.now journal.old.spare (W.spare world.old) }
     ensures same { journal.new.past ≡ journal.old.past }
     ensures told { W.told world.new ≡ W.told world.old }
-    ensures kept { Kept W.Plan (W.plan world.old) (W.plan world.new) (W.progress world.old) (W.progress world.new) (W.place world.old) (W.place world.new) }
+    ensures kept { IsSteady W.Plan (W.plan world.old) (W.plan world.new) (W.progress world.old) (W.progress world.new) (W.place world.old) (W.place world.new) }
     ensures host_faults { W.host_faults world.new ≡ W.host_faults world.old }
     ensures room { HasRoom state.now journal.new.spare (W.spare world.new) }
     ensures journal_room { OnOk result (1 + end_room state.now ≤ journal.new.spare) }

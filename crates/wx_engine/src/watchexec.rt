@@ -5,7 +5,7 @@ ghost use Rattle.wx_events.specs.declared.priority.Priority.{Priority as APriori
 ghost use Rattle.wx_control.specs.declared.id.Id.{Id as AnId};
 ghost use Rattle.wx_journal.specs.Told.{is_world, is_hooks, is_turn, tells, Obeys, Rose};
 ghost use Rattle.wx_job.specs.History.{child};
-ghost use Rattle.wx_job.specs.Laws.{IsReaping};
+ghost use Rattle.wx_job.specs.Laws.{IsReaping, AfterFaults};
 ghost use Rattle.wx_config.specs.Defaults.{default_config};
 ghost use Rattle.wx_action.specs.Start.{Start, IsSize, IsStart, is_absolute};
 ghost use Rattle.wx_action.specs.Journal.{turn_count};
@@ -123,8 +123,10 @@ impl Watchexec {
         ensures turns { (W.progress world.new).turns ≡ tells is_turn journal.new.past (W.progress world.old).turns }
         ensures count { turn_count journal.new.past ≤ (W.progress world.old).left + 1 }
 
-        // A call on a child failed only where the count of these rose.
+        // A call on a child failed only where the count of these rose. A job whose spawn failed is pending, and a child that
+        // could not be killed or waited for runs.
         ensures host_faults { Counted [] (W.host_faults world.old) journal.new.past (W.host_faults world.new) }
+        ensures after_faults { AfterFaults journal.new.past }
 
         // Each child of a job is reaped, and none runs.
         ensures children { (id : AnId) → IsReaping id journal.new.past }

@@ -42,21 +42,6 @@ impl Copies for Event {
     }
 }
 
-/// Takes the tag at the front, or loses the place.
-#[tactic(auto, unfolding(crate::specs::Events::read_tag))]
-fn take_tag(_alloc: Global, line: &mut Words) -> Result<Option<Tag>, Memory>
-    ensures { IfOk result (λ tag. Reads line.new tag (read_tag line.old)) }
-{
-    let Some(word) = line.next() else {
-        return Ok(None);
-    };
-    if word == b"unknown".as_slice() {
-        Ok(Some(Tag::Unknown))
-    } else {
-        Ok(None)
-    }
-}
-
 impl Spelled for Tag {
     ghost use Rattle.wx_events.specs.Events.{TagFits, tag_words, read_tag};
     ghost use Rattle.wx_events.specs.EventLaws.{tag_form, tag_clean};
@@ -77,13 +62,16 @@ impl Spelled for Tag {
         }
     }
 
-    fn take(alloc: Global, line: &mut Words) -> Result<Option<Tag>, Memory> {
-        let mut ahead = line.fork();
-        let found = take_tag(alloc, &mut ahead)?;
-        if found.is_some() {
-            *line = ahead;
+    #[tactic(auto, unfolding(crate::specs::Events::read_tag))]
+    fn read(_alloc: Global, line: &mut Words) -> Result<Option<Tag>, Memory> {
+        let Some(word) = line.next() else {
+            return Ok(None);
+        };
+        if word == b"unknown".as_slice() {
+            Ok(Some(Tag::Unknown))
+        } else {
+            Ok(None)
         }
-        Ok(found)
     }
 }
 
@@ -105,8 +93,8 @@ impl Spelled for Event {
         self.tags.put_after(out)
     }
 
-    fn take(alloc: Global, line: &mut Words) -> Result<Option<Event>, Memory> {
-        match List::take(alloc, line)? {
+    fn read(alloc: Global, line: &mut Words) -> Result<Option<Event>, Memory> {
+        match List::read(alloc, line)? {
             Some(tags) => Ok(Some(Event { tags })),
             None => Ok(None),
         }

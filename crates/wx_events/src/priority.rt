@@ -3,7 +3,7 @@ ghost use Rattle.std.specs.Prelude.{◌≡◌};
 ghost use Rattle.wx_events.specs.Priority.{rank, is_urgent};
 
 use std::alloc::Global;
-use wx_words::{Keyword, Memory, Spelled, Text, Words, put_keyword, take_keyword};
+use wx_words::{Keyword, Memory, Spelled, Text, Words, put_keyword, read_keyword};
 
 /// How pressing an event is, rising in this order.
 #[derive(Clone, Copy, Debug, Default, PartialEq, Eq, PartialOrd, Ord, Hash)]
@@ -87,7 +87,7 @@ impl Spelled for Priority {
         put_keyword(*self, out)
     }
 
-    fn take(_alloc: Global, line: &mut Words) -> Result<Option<Priority>, Memory> {
-        Ok(take_keyword(line))
+    fn read(_alloc: Global, line: &mut Words) -> Result<Option<Priority>, Memory> {
+        Ok(read_keyword(line))
     }
 }

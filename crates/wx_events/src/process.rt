@@ -1,12 +1,11 @@
 // Signals, and the ends of processes.
-ghost use Rattle.std.specs.Prelude.{◌≡◌, ◌++◌, IfOk, OnOk};
+ghost use Rattle.std.specs.Prelude.{◌≡◌, ◌++◌, OnOk};
 ghost use Rattle.wx_words.specs.Dotted.{dotted};
-ghost use Rattle.wx_words.specs.Line.{Reads};
 ghost use Rattle.wx_events.specs.Ends.{signal_parts, read_signal_parts, read_end_parts};
 
 use std::alloc::Global;
 use std::num::{NonZeroI32, NonZeroI64};
-use wx_words::{Copies, Memory, Spelled, Text, Words};
+use wx_words::{Copies, Dotted, Memory, Spelled, Text, Words, read_dotted};
 
 /// A signal to a process.
 #[derive(Clone, Copy, Debug, PartialEq, Eq)]
@@ -73,39 +72,40 @@ fn put_signal(signal: Signal, out: &mut Text) -> Result<(), Memory>
     }
 }
 
-/// Takes the signal whose parts are at the front, or loses the place.
-#[tactic(auto, unfolding(crate::specs::Ends::read_signal_parts))]
-fn take_signal(alloc: Global, parts: &mut Words) -> Result<Option<Signal>, Memory>
-    ensures { IfOk result (λ signal. Reads parts.new signal (read_signal_parts parts.old)) }
-{
-    let Some(part) = parts.next() else {
-        return Ok(None);
-    };
-    if part == b"hangup".as_slice() {
-        Ok(Some(Signal::Hangup))
-    } else if part == b"forcestop".as_slice() {
-        Ok(Some(Signal::ForceStop))
-    } else if part == b"interrupt".as_slice() {
-        Ok(Some(Signal::Interrupt))
-    } else if part == b"quit".as_slice() {
-        Ok(Some(Signal::Quit))
-    } else if part == b"terminate".as_slice() {
-        Ok(Some(Signal::Terminate))
-    } else if part == b"user1".as_slice() {
-        Ok(Some(Signal::User1))
-    } else if part == b"user2".as_slice() {
-        Ok(Some(Signal::User2))
-    } else if part == b"continue".as_slice() {
-        Ok(Some(Signal::Continue))
-    } else if part == b"suspend".as_slice() {
-        Ok(Some(Signal::TerminalSuspend))
-    } else if part == b"custom".as_slice() {
-        let Some(n) = i32::take(alloc, parts)? else {
+impl Dotted for Signal {
+    ghost read_parts = { read_signal_parts };
+
+    #[tactic(auto, unfolding(crate::specs::Ends::read_signal_parts))]
+    fn read_parts(alloc: Global, parts: &mut Words) -> Result<Option<Signal>, Memory> {
+        let Some(part) = parts.next() else {
             return Ok(None);
         };
-        Ok(Some(Signal::Custom(n)))
-    } else {
-        Ok(None)
+        if part == b"hangup".as_slice() {
+            Ok(Some(Signal::Hangup))
+        } else if part == b"forcestop".as_slice() {
+            Ok(Some(Signal::ForceStop))
+        } else if part == b"interrupt".as_slice() {
+            Ok(Some(Signal::Interrupt))
+        } else if part == b"quit".as_slice() {
+            Ok(Some(Signal::Quit))
+        } else if part == b"terminate".as_slice() {
+            Ok(Some(Signal::Terminate))
+        } else if part == b"user1".as_slice() {
+            Ok(Some(Signal::User1))
+        } else if part == b"user2".as_slice() {
+            Ok(Some(Signal::User2))
+        } else if part == b"continue".as_slice() {
+            Ok(Some(Signal::Continue))
+        } else if part == b"suspend".as_slice() {
+            Ok(Some(Signal::TerminalSuspend))
+        } else if part == b"custom".as_slice() {
+            let Some(n) = i32::read(alloc, parts)? else {
+                return Ok(None);
+            };
+            Ok(Some(Signal::Custom(n)))
+        } else {
+            Ok(None)
+        }
     }
 }
 
@@ -128,57 +128,46 @@ impl Spelled for Signal {
         put_signal(*self, out)
     }
 
-    fn take(alloc: Global, line: &mut Words) -> Result<Option<Signal>, Memory> {
-        let mut ahead = line.fork();
-        let Some(word) = ahead.next() else {
-            return Ok(None);
-        };
-        let mut parts = Words::dotted(word);
-        let Some(signal) = take_signal(alloc, &mut parts)? else {
-            return Ok(None);
-        };
-        if !parts.is_done() {
-            return Ok(None);
-        }
-        *line = ahead;
-        Ok(Some(signal))
+    fn read(alloc: Global, line: &mut Words) -> Result<Option<Signal>, Memory> {
+        read_dotted(alloc, line)
     }
 }
 
-/// Takes the end whose parts are at the front, or loses the place.
-#[tactic(auto, unfolding(crate::specs::Ends::read_end_parts))]
-fn take_end(alloc: Global, parts: &mut Words) -> Result<Option<ProcessEnd>, Memory>
-    ensures { IfOk result (λ end. Reads parts.new end (read_end_parts parts.old)) }
-{
-    let Some(part) = parts.next() else {
-        return Ok(None);
-    };
-    if part == b"success".as_slice() {
-        Ok(Some(ProcessEnd::Success))
-    } else if part == b"error".as_slice() {
-        let Some(n) = NonZeroI64::take(alloc, parts)? else {
+impl Dotted for ProcessEnd {
+    ghost read_parts = { read_end_parts };
+
+    #[tactic(auto, unfolding(crate::specs::Ends::read_end_parts))]
+    fn read_parts(alloc: Global, parts: &mut Words) -> Result<Option<ProcessEnd>, Memory> {
+        let Some(part) = parts.next() else {
             return Ok(None);
         };
-        Ok(Some(ProcessEnd::ExitError(n)))
-    } else if part == b"signal".as_slice() {
-        let Some(signal) = take_signal(alloc, parts)? else {
-            return Ok(None);
-        };
-        Ok(Some(ProcessEnd::ExitSignal(signal)))
-    } else if part == b"stop".as_slice() {
-        let Some(n) = NonZeroI32::take(alloc, parts)? else {
-            return Ok(None);
-        };
-        Ok(Some(ProcessEnd::ExitStop(n)))
-    } else if part == b"exception".as_slice() {
-        let Some(n) = NonZeroI32::take(alloc, parts)? else {
-            return Ok(None);
-        };
-        Ok(Some(ProcessEnd::Exception(n)))
-    } else if part == b"continued".as_slice() {
-        Ok(Some(ProcessEnd::Continued))
-    } else {
-        Ok(None)
+        if part == b"success".as_slice() {
+            Ok(Some(ProcessEnd::Success))
+        } else if part == b"error".as_slice() {
+            let Some(n) = NonZeroI64::read(alloc, parts)? else {
+                return Ok(None);
+            };
+            Ok(Some(ProcessEnd::ExitError(n)))
+        } else if part == b"signal".as_slice() {
+            let Some(signal) = Signal::read_parts(alloc, parts)? else {
+                return Ok(None);
+            };
+            Ok(Some(ProcessEnd::ExitSignal(signal)))
+        } else if part == b"stop".as_slice() {
+            let Some(n) = NonZeroI32::read(alloc, parts)? else {
+                return Ok(None);
+            };
+            Ok(Some(ProcessEnd::ExitStop(n)))
+        } else if part == b"exception".as_slice() {
+            let Some(n) = NonZeroI32::read(alloc, parts)? else {
+                return Ok(None);
+            };
+            Ok(Some(ProcessEnd::Exception(n)))
+        } else if part == b"continued".as_slice() {
+            Ok(Some(ProcessEnd::Continued))
+        } else {
+            Ok(None)
+        }
     }
 }
 
@@ -219,19 +208,7 @@ impl Spelled for ProcessEnd {
         }
     }
 
-    fn take(alloc: Global, line: &mut Words) -> Result<Option<ProcessEnd>, Memory> {
-        let mut ahead = line.fork();
-        let Some(word) = ahead.next() else {
-            return Ok(None);
-        };
-        let mut parts = Words::dotted(word);
-        let Some(end) = take_end(alloc, &mut parts)? else {
-            return Ok(None);
-        };
-        if !parts.is_done() {
-            return Ok(None);
-        }
-        *line = ahead;
-        Ok(Some(end))
+    fn read(alloc: Global, line: &mut Words) -> Result<Option<ProcessEnd>, Memory> {
+        read_dotted(alloc, line)
     }
 }

@@ -18,7 +18,7 @@ use Rattle.wx_job.specs.declared.choice.Choice.TheVariants.{End, Next, Nothing}
 use Rattle.wx_job.specs.History.{same, lives, waits, child, kept, unless, SameHistory}
 use Rattle.wx_job.specs.Table.{Plan, Done, Picks, Spawns, Kills, Waits, Drops, Raises, Goes, Makes, Asks, Says, row, first, choose, choose_control, pick, case, step_plan, ask_plan, send_plan, end_plan, drop_plan}
 use Rattle.wx_job.specs.Case.{Admits, is_fault, next, Leads, Here, Then}
-use Rattle.wx_job.specs.Laws.{unreaped, AreReaped, reap_failed}
+use Rattle.wx_job.specs.Laws.{unreaped, AreReaped, AfterFaults}
 use Rattle.wx_job.proofs.Owners.{self, owner_below, child_owner, waits_asked, AreAsked}
 use Rattle.wx_job.proofs.Frame.{same_history, history_then, frame_pick, frame_asked, frame_spawn_ok, frame_spawn_err, frame_gone, frame_raise, frame_word, frame_kill, frame_wait_ok, frame_wait_err, frame_drop}
 
@@ -110,13 +110,6 @@ pub record Reaping (id : Id) (k : Plan) (p : List Entry) : Type 0 where
   pub alive : is_done k ≡ false → lives id p ≡ true
   pub none : lives id p ≡ false → child id p ≡ None
 
--- the child whose kill or wait failed runs
-abbrev pub FailingRuns : Id → List Entry → Type 0
-FailingRuns id p = (c : ℕ) → reap_failed p ≡ Some c → child id p ≡ Some c
-
-no_fault : {A : Type 0} (c : ℕ) → ◌≡◌ {A = Option ℕ} None (Some c) → A
-no_fault c e = cc
-
 -- a job that lives isn't gone
 lives_on : {b : Bool} {A : Type 0} → b ≡ true → b ≡ false → A
 lives_on alive dead = let both : true ≡ false = sym alive ∙ dead in absurd cc
@@ -127,7 +120,7 @@ pub record Entered (id : Id) (p : List Entry) (k : Plan) (e : Entry) : Type 0 wh
   pub sound : Sound id (child id (e ∷ p)) (ticket_count (e ∷ p)) (next k e)
   pub calm : is_hooks e ≡ false
   pub reaps : Reaping id k p → Reaping id (next k e) (e ∷ p)
-  pub failing : FailingRuns id p → FailingRuns id (e ∷ p)
+  pub failing : AfterFaults p → AfterFaults (e ∷ p)
 
 child_below : (id : Id) (d : ℕ) (p : List Entry) → NamesItsOwn p → child id p ≡ Some d → d < child_count p
 child_below id d p own runs = owner_below d id p own (child_owner id d p own runs)
@@ -143,7 +136,7 @@ one_pick id p t k own s = record {
   sound = s.2;
   calm = refl;
   reaps = λ r. record { each = r.each; last = λ l g. r.last l refl; alive = λ d. r.alive refl; none = λ dead. lives_on (r.alive refl) dead };
-  failing = λ h c e. no_fault c e;
+  failing = λ h. h;
 }
 
 one_raise : (id : Id) (p : List Entry) (t : ℕ) (k : Plan) → NamesItsOwn p → Sound id (child id p) (ticket_count p) (Raises t k) → Entered id p (Raises t k) (Raise t)
@@ -153,7 +146,7 @@ one_raise id p t k own s = record {
   sound = s.1;
   calm = refl;
   reaps = λ r. record { each = r.each; last = λ l g. r.last l refl; alive = λ d. r.alive refl; none = λ dead. lives_on (r.alive refl) dead };
-  failing = λ h c e. h c e;
+  failing = λ h. h;
 }
 
 one_word : (id : Id) (p : List Entry) (w : _) (k : Plan) → NamesItsOwn p → Sound id (child id p) (ticket_count p) (Says w k) → Entered id p (Says w k) (Said w)
@@ -163,7 +156,7 @@ one_word id p w k own s = record {
   sound = s;
   calm = refl;
   reaps = λ r. record { each = r.each; last = λ l g. r.last l refl; alive = λ d. r.alive refl; none = λ dead. lives_on (r.alive refl) dead };
-  failing = λ h c e. no_fault c e;
+  failing = λ h. h;
 }
 
 one_asked : (id : Id) (p : List Entry) (level : _) (control : Control) (k : Plan) → NamesItsOwn p → Sound id (child id p) (ticket_count p) (Asks id level control k) → Entered id p (Asks id level control k) (Asked (ticket_count p) id level control)
@@ -173,7 +166,7 @@ one_asked id p level control k own s = record {
   sound = s.1;
   calm = refl;
   reaps = λ r. record { each = r.each; last = λ l g. r.last l refl; alive = λ d. r.alive refl; none = λ dead. lives_on (r.alive refl) dead };
-  failing = λ h c e. no_fault c e;
+  failing = λ h. h;
 }
 
 one_kill : (id : Id) (p : List Entry) (d : ℕ) (answer : _) (k f : Plan) → NamesItsOwn p → Sound id (child id p) (ticket_count p) (Kills d k f) → Entered id p (Kills d k f) (Kill d answer)
@@ -183,7 +176,7 @@ one_kill id p d (Ok a) k f own s = record {
   sound = s.1;
   calm = refl;
   reaps = λ r. record { each = r.each; last = λ l g. r.last l refl; alive = λ e. r.alive refl; none = λ dead. lives_on (r.alive refl) dead };
-  failing = λ h c e. no_fault c e;
+  failing = λ h. h;
 }
 one_kill id p d (Err a) k f own s = record {
   own = (child_below id d p own s.0, own);
@@ -191,7 +184,7 @@ one_kill id p d (Err a) k f own s = record {
   sound = s.2;
   calm = refl;
   reaps = λ r. record { each = r.each; last = λ l g. r.last l refl; alive = λ e. r.alive refl; none = λ dead. lives_on (r.alive refl) dead };
-  failing = λ h c e. s.0 ∙ e;
+  failing = λ h. ((id, s.0), h);
 }
 
 one_wait : (id : Id) (p : List Entry) (d : ℕ) (answer : _) (k f : Plan) → NamesItsOwn p → Sound id (child id p) (ticket_count p) (Waits d k f) → Entered id p (Waits d k f) (Wait d answer)
@@ -201,7 +194,7 @@ one_wait id p d (Ok status) k f own s = record {
   sound = rw (gone_child d (child id p) s.0) s.1;
   calm = refl;
   reaps = λ r. record { each = r.each; last = λ l g. ap (unless d) (r.last l refl); alive = λ e. r.alive refl; none = λ dead. lives_on (r.alive refl) dead };
-  failing = λ h c e. no_fault c e;
+  failing = λ h. h;
 }
 one_wait id p d (Err a) k f own s = record {
   own = (child_below id d p own s.0, own);
@@ -209,7 +202,7 @@ one_wait id p d (Err a) k f own s = record {
   sound = s.2;
   calm = refl;
   reaps = λ r. record { each = r.each; last = λ l g. r.last l refl; alive = λ e. r.alive refl; none = λ dead. lives_on (r.alive refl) dead };
-  failing = λ h c e. s.0 ∙ e;
+  failing = λ h. ((id, s.0), h);
 }
 
 one_spawn : (id : Id) (p : List Entry) (tag : _) (what : _) (answer : _) (k f : Plan) → NamesItsOwn p → Sound id (child id p) (ticket_count p) (Spawns id tag what k f) → Entered id p (Spawns id tag what k f) (Spawn (child_count p) id tag what answer)
@@ -219,7 +212,7 @@ one_spawn id p tag what (Ok a) k f own s = record {
   sound = rw (self id) (s.2 (child_count p));
   calm = refl;
   reaps = λ r. record { each = (λ e. r.last (r.alive refl) refl ∙ s.1, r.each); last = λ l g. rw (self id) refl; alive = λ e. r.alive refl; none = λ dead. lives_on (r.alive refl) dead };
-  failing = λ h c e. no_fault c e;
+  failing = λ h. h;
 }
 one_spawn id p tag what (Err a) k f own s = record {
   own = (refl, own);
@@ -227,7 +220,7 @@ one_spawn id p tag what (Err a) k f own s = record {
   sound = s.3;
   calm = refl;
   reaps = λ r. record { each = (λ e. r.last (r.alive refl) refl ∙ s.1, r.each); last = λ l g. r.last l refl; alive = λ e. r.alive refl; none = λ dead. lives_on (r.alive refl) dead };
-  failing = λ h c e. no_fault c e;
+  failing = λ h. (rw (self id) refl, h);
 }
 
 one_drop : (id : Id) (p : List Entry) (d : ℕ) → NamesItsOwn p → child id p ≡ Some d → Entered id p (Drops d (Goes id Done)) (Dropped d)
@@ -237,7 +230,7 @@ one_drop id p d own runs = record {
   sound = (refl, gone_child d (child id p) runs, refl);
   calm = refl;
   reaps = λ r. record { each = r.each; last = λ l g. absurd cc; alive = λ e. r.alive refl; none = λ dead. lives_on (r.alive refl) dead };
-  failing = λ h c e. no_fault c e;
+  failing = λ h. h;
 }
 
 one_gone : (id : Id) (p : List Entry) → NamesItsOwn p → child id p ≡ None → Entered id p (Goes id Done) (Gone id)
@@ -247,7 +240,7 @@ one_gone id p own idle = record {
   sound = tt;
   calm = refl;
   reaps = λ r. record { each = r.each; last = λ l g. (let dead : (not (same id id) && lives id p) ≡ false = rw (self id) refl in absurd cc); alive = λ e. absurd cc; none = λ dead. idle };
-  failing = λ h c e. no_fault c e;
+  failing = λ h. h;
 }
 
 one : (id : Id) (p : List Entry) (k : Plan) (e : Entry) → Admits p k e → NamesItsOwn p → Sound id (child id p) (ticket_count p) k → Entered id p k e
@@ -275,7 +268,7 @@ pub record Followed (stands : List Entry → Type 0) (id : Id) (k : Plan) (p : L
   pub others : (i : Id) → i ≢ id → SameHistory i p p'
   pub sound : Sound id (child id p') (ticket_count p') k'
   pub reaps : Reaping id k p → Reaping id k' p'
-  pub failing : FailingRuns id p → FailingRuns id p'
+  pub failing : AfterFaults p → AfterFaults p'
   pub calm : stands p → stands p'
 
 pub follow : (stands : List Entry → Type 0) → KeepsOther stands → (id : Id) (k : Plan) (p : List Entry) (host hooks : Option (List Entry)) (n : ℕ) (k' : Plan) (p' : List Entry) (host' hooks' : Option (List Entry)) (n' : ℕ) → Leads k p host hooks n k' p' host' hooks' n' → NamesItsOwn p → Sound id (child id p) (ticket_count p) k → Followed stands id k p k' p'

@@ -8,16 +8,16 @@ use Rattle.wx_control.specs.declared.level.Level.TheVariants.{Normal}
 use Rattle.wx_journal.specs.declared.child.SpawnTag.{SpawnTag}
 use Rattle.wx_journal.specs.declared.child.HostFault.{HostFault}
 use Rattle.wx_journal.specs.declared.entry.Entry.{Entry}
-use Rattle.wx_journal.specs.declared.entry.Entry.TheVariants.{Word as Said, Asked, Pick, Spawn, Kill, Wait, Dropped, Raise, Gone}
+use Rattle.wx_journal.specs.declared.entry.Entry.TheVariants.{Word as Said, Asked, Spawn, Kill, Wait, Raise}
 use Rattle.wx_journal.specs.declared.entry.Word.{Word}
 use Rattle.wx_journal.specs.Names.{moment}
 use Rattle.wx_job.specs.declared.state.CommandState.{CommandState}
 use Rattle.wx_job.specs.declared.state.CommandState.TheVariants.{Pending, Running, Finished}
 use Rattle.wx_job.specs.declared.task.Waiting.{Waiting}
 use Rattle.wx_job.specs.declared.task.JobTask.{JobTask}
-use Rattle.wx_job.specs.History.{same, lives, waits, child, finish}
+use Rattle.wx_job.specs.History.{same, lives, child, finish}
 use Rattle.wx_job.specs.Table.{Done, Goes, drop_plan, end_plan}
-use Rattle.wx_job.specs.Stands.{Stands, SameTask, IsEnding, child_of, running_of, ticketed, with_end}
+use Rattle.wx_job.specs.Stands.{Stands, child_of, ticketed}
 
 self : (id : Id) → same id id ≡ true
 self id = eq-eqb id.0 id.0 refl

@@ -1,5 +1,5 @@
 -- What a call that followed a plan, or did nothing, leaves.
-use Rattle.std.proofs.Common.{◌≡◌, ℕ, ◌<◌, Bool, true, false, cond, List, [], ◌∷◌, Option, None, Result, Ok, Err, refl, arith, ap, sym, subst}
+use Rattle.std.proofs.Common.{◌≡◌, ℕ, ◌<◌, Bool, true, false, cond, List, Option, None, Result, Ok, Err, refl, arith, ap, sym, subst}
 use Rattle.std.specs.Prelude.{OnOk, OnErr}
 use Rattle.wx_command.specs.declared.command.Command.{Command}
 use Rattle.wx_control.specs.declared.id.Id.{Id}
@@ -7,41 +7,31 @@ use Rattle.wx_control.specs.declared.ask.Ask.{Ask}
 use Rattle.wx_control.specs.declared.ask.Sends.{Sends}
 use Rattle.wx_control.specs.Asks.{sends_of}
 use Rattle.wx_journal.specs.declared.entry.Entry.{Entry}
-use Rattle.wx_journal.specs.declared.entry.Entry.TheVariants.{Spawn, Raise}
-use Rattle.wx_job.specs.declared.state.CommandState.TheVariants.{Pending}
 use Rattle.wx_journal.specs.Names.{NamesItsOwn, ticket_count, count}
 use Rattle.wx_journal.specs.Told.{Rose}
-use Rattle.wx_job.specs.History.{lives, child, state}
+use Rattle.wx_job.specs.History.{lives, child}
 use Rattle.wx_job.specs.Table.{Plan, Done, step_plan, end_plan, send_plan}
 use Rattle.wx_job.specs.Case.{is_fault, Leads, Here, FollowsHost, FollowsAlone}
-use Rattle.wx_job.specs.Laws.{LeavesOthers, IsReaping, spawn_failed, AfterFaults}
+use Rattle.wx_job.specs.Laws.{LeavesOthers, IsReaping, AfterFaults}
 use Rattle.wx_job.proofs.Frame.{same_history}
 use Rattle.wx_job.proofs.Sound.{Sound, is_done, KeepsOther, follow, faults_rose, sound_step, sound_end, sound_send}
 
 pub record Left (stands : List Entry → Type 0) (id : Id) (p p' : List Entry) : Type 0 where
   pub leaves : LeavesOthers id p p'
   pub reaped : IsReaping id p → IsReaping id p'
-  pub failed : AfterFaults id p → AfterFaults id p'
+  pub failed : AfterFaults p → AfterFaults p'
   pub calm : stands p → stands p'
 
 -- a plan that owes something is that of a job that lives
 abbrev pub IsOfLiving : Id → Plan → List Entry → Type 0
 IsOfLiving id k p = is_done k ≡ false → lives id p ≡ true
 
--- after a failed spawn the state is Pending
-spawn_pending : (id : Id) (p : List Entry) → spawn_failed id p ≡ true → state id p ≡ Pending
-spawn_pending id [] e = refl
-spawn_pending id (Raise ticket ∷ p) e = spawn_pending id p e
-spawn_pending id (Spawn c job tag what (Err fault) ∷ p) e = rw e refl
-spawn_pending id (Spawn c job tag what (Ok done) ∷ p) e = cc
-spawn_pending id (_ ∷ p) e = cc
-
 pub left_done : (stands : List Entry → Type 0) → KeepsOther stands → (id : Id) (k : Plan) (p : List Entry) (host hooks : Option (List Entry)) (n : ℕ) (p' : List Entry) (host' hooks' : Option (List Entry)) (n' : ℕ) → Leads k p host hooks n Done p' host' hooks' n' → NamesItsOwn p → Sound id (child id p) (ticket_count p) k → IsOfLiving id k p → Left stands id p p'
 left_done stands keep id k p host hooks n p' host' hooks' n' l own s living =
     let f = follow stands keep id k p host hooks n Done p' host' hooks' n' l own s in record {
       leaves = record { own = f.own; others = f.others };
       reaped = λ r. let after = f.reaps (record { each = r.each; last = λ alive going. r.last alive; alive = living; none = r.none }) in record { each = after.each; last = λ alive. after.last alive refl; none = after.none };
-      failed = λ r. record { pending = spawn_pending id p'; runs = f.failing r.runs };
+      failed = f.failing;
       calm = f.calm;
     }
 

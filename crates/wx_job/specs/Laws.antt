@@ -5,7 +5,7 @@ use Rattle.wx_control.specs.declared.id.Id.{Id}
 use Rattle.wx_control.specs.declared.ask.Ask.{Ask}
 use Rattle.wx_control.specs.Asks.{sends_of}
 use Rattle.wx_journal.specs.declared.entry.Entry.{Entry}
-use Rattle.wx_journal.specs.declared.entry.Entry.TheVariants.{Made, Asked, Pick, Spawn, Kill, Wait, Dropped, Raise, Gone}
+use Rattle.wx_journal.specs.declared.entry.Entry.TheVariants.{Made, Asked, Pick, Spawn, Kill, Wait, Dropped, Gone}
 use Rattle.wx_journal.specs.Names.{NamesItsOwn}
 use Rattle.wx_job.specs.declared.state.CommandState.TheVariants.{Pending}
 use Rattle.wx_job.specs.History.{same, lives, child, state, unless, owner, SameHistory}
@@ -34,25 +34,17 @@ pub record IsReaping (id : Id) (p : List Entry) : Type 0 where
   pub last : lives id p ≡ true → unreaped id p ≡ child id p
   pub none : lives id p ≡ false → child id p ≡ None
 
--- the last call on a child was a spawn for this job, which failed, and only tickets were raised since
-abbrev pub spawn_failed : Id → List Entry → Bool
-spawn_failed id [] = false
-spawn_failed id (Raise ticket ∷ p) = spawn_failed id p
-spawn_failed id (Spawn c job tag what (Err fault) ∷ p) = same job id
-spawn_failed id (_ ∷ p) = false
+-- the child of this name runs: it is that of some job
+abbrev pub Runs : ℕ → List Entry → Type 0
+Runs c p = (id : Id) × (child id p ≡ Some c)
 
--- the child whose kill or wait failed, where this was the last call on a child, and only tickets were raised since
-abbrev pub reap_failed : List Entry → Option ℕ
-reap_failed [] = None
-reap_failed (Raise ticket ∷ p) = reap_failed p
-reap_failed (Kill c (Err fault) ∷ p) = Some c
-reap_failed (Wait c (Err fault) ∷ p) = Some c
-reap_failed (_ ∷ p) = None
-
--- after a failed spawn the state is Pending, and after a failed kill or wait the child still runs
-pub record AfterFaults (id : Id) (p : List Entry) : Type 0 where
-  pub pending : spawn_failed id p ≡ true → state id p ≡ Pending
-  pub runs : (c : ℕ) → reap_failed p ≡ Some c → child id p ≡ Some c
+-- after each failed spawn the state of its job is Pending, and after each failed kill or wait the child still runs
+abbrev pub AfterFaults : List Entry → Type 0
+AfterFaults [] = Unit {0}
+AfterFaults (Spawn c id tag what (Err fault) ∷ p) = (state id (Spawn c id tag what (Err fault) ∷ p) ≡ Pending) × AfterFaults p
+AfterFaults (Kill c (Err fault) ∷ p) = Runs c (Kill c (Err fault) ∷ p) × AfterFaults p
+AfterFaults (Wait c (Err fault) ∷ p) = Runs c (Wait c (Err fault) ∷ p) × AfterFaults p
+AfterFaults (_ ∷ p) = AfterFaults p
 
 -- a child of this job
 abbrev pub is_owner : Id → Option Id → Bool

@@ -5,4 +5,4 @@ pub mod Table
 pub mod Case
 pub mod Stands
 pub mod Laws
-pub mod Kept
+pub mod Steady

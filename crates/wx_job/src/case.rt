@@ -11,7 +11,7 @@ ghost use Rattle.wx_job.specs.declared.choice.Choice.TheVariants.{End, Next};
 ghost use Rattle.wx_job.specs.History.{finish};
 ghost use Rattle.wx_job.specs.Table.{Plan, Done, Raises, Kills, Waits, reap, fresh, row, ended, spawns, prepared, is_spawning, case};
 ghost use Rattle.wx_job.specs.Case.{FollowsHost};
-ghost use Rattle.wx_job.specs.Kept.{Kept};
+ghost use Rattle.wx_job.specs.Steady.{IsSteady};
 ghost use Rattle.wx_job.specs.Stands.{Stands, child_of, running_of, choice_of, ticketed};
 
 use crate::choice::Choice;
@@ -33,7 +33,7 @@ impl JobTask {
         requires host_room { 1 ≤ H.spare host.old }
         ensures stands { Stands self.now journal.new.past }
         ensures follows { (k : Plan) → FollowsHost (Raises ticket k) journal.old.past (H.told host.old) (H.host_faults host.old) k journal.new.past (H.told host.new) (H.host_faults host.new) }
-        ensures kept { Kept H.Plan (H.plan host.old) (H.plan host.new) (H.progress host.old) (H.progress host.new) (H.place host.old) (H.place host.new) }
+        ensures kept { IsSteady H.Plan (H.plan host.old) (H.plan host.new) (H.progress host.old) (H.progress host.new) (H.place host.old) (H.place host.new) }
         ensures moment { moment journal.new.past ≡ moment journal.old.past }
         ensures journal_room { journal.old.spare ≤ journal.new.spare + 1 }
         ensures host_room { H.spare host.old ≤ H.spare host.new + 1 }
@@ -55,7 +55,7 @@ impl JobTask {
         ensures stands { Stands self.now journal.new.past }
         ensures ok { OnOk result ((k : Plan) (f : Plan) → FollowsHost (Kills child k f) journal.old.past (H.told host.old) (H.host_faults host.old) k journal.new.past (H.told host.new) (H.host_faults host.new)) }
         ensures err { OnErr result ((k : Plan) (f : Plan) → FollowsHost (Kills child k f) journal.old.past (H.told host.old) (H.host_faults host.old) f journal.new.past (H.told host.new) (H.host_faults host.new)) }
-        ensures kept { Kept H.Plan (H.plan host.old) (H.plan host.new) (H.progress host.old) (H.progress host.new) (H.place host.old) (H.place host.new) }
+        ensures kept { IsSteady H.Plan (H.plan host.old) (H.plan host.new) (H.progress host.old) (H.progress host.new) (H.place host.old) (H.place host.new) }
         ensures moment { moment journal.new.past ≡ moment journal.old.past }
         ensures journal_room { journal.old.spare ≤ journal.new.spare + 1 }
         ensures host_room { H.spare host.old ≤ H.spare host.new + 1 }
@@ -84,7 +84,7 @@ impl JobTask {
         ensures err { OnErr result ((k : Plan) (f : Plan) → FollowsHost (Waits child k f) journal.old.past (H.told host.old) (H.host_faults host.old) f journal.new.past (H.told host.new) (H.host_faults host.new)) }
         ensures fields { self.new ≡ record self.old { state = self.new.state; kept = self.new.kept } }
         ensures runs { OnErr result (self.new.state ≡ self.old.state) }
-        ensures kept { Kept H.Plan (H.plan host.old) (H.plan host.new) (H.progress host.old) (H.progress host.new) (H.place host.old) (H.place host.new) }
+        ensures kept { IsSteady H.Plan (H.plan host.old) (H.plan host.new) (H.progress host.old) (H.progress host.new) (H.place host.old) (H.place host.new) }
         ensures moment { moment journal.new.past ≡ moment journal.old.past }
         ensures journal_room { journal.old.spare ≤ journal.new.spare + 1 }
         ensures host_room { H.spare host.old ≤ H.spare host.new + 1 }
@@ -119,7 +119,7 @@ impl JobTask {
         ensures not_done { OnFalse result ((k : Plan) → FollowsHost (reap child ticket k) journal.old.past (H.told host.old) (H.host_faults host.old) Done journal.new.past (H.told host.new) (H.host_faults host.new)) }
         ensures fields { self.new ≡ record self.old { state = self.new.state; kept = self.new.kept } }
         ensures runs { OnFalse result (self.new.state ≡ self.old.state) }
-        ensures kept { Kept H.Plan (H.plan host.old) (H.plan host.new) (H.progress host.old) (H.progress host.new) (H.place host.old) (H.place host.new) }
+        ensures kept { IsSteady H.Plan (H.plan host.old) (H.plan host.new) (H.progress host.old) (H.progress host.new) (H.place host.old) (H.place host.new) }
         ensures moment { moment journal.new.past ≡ moment journal.old.past }
         ensures journal_room { journal.old.spare ≤ journal.new.spare + 3 }
         ensures host_room { H.spare host.old ≤ H.spare host.new + 3 }
@@ -155,7 +155,7 @@ impl JobTask {
         ensures stands { Stands self.new journal.new.past }
         ensures follows { (k : Plan) → FollowsHost (fresh self.old.id self.old.command k) journal.old.past (H.told host.old) (H.host_faults host.old) k journal.new.past (H.told host.new) (H.host_faults host.new) }
         ensures fields { self.new ≡ record self.old { state = self.new.state; previous = self.new.previous; kept = self.new.kept } }
-        ensures kept { Kept H.Plan (H.plan host.old) (H.plan host.new) (H.progress host.old) (H.progress host.new) (H.place host.old) (H.place host.new) }
+        ensures kept { IsSteady H.Plan (H.plan host.old) (H.plan host.new) (H.progress host.old) (H.progress host.new) (H.place host.old) (H.place host.new) }
         ensures moment { moment journal.new.past ≡ moment journal.old.past }
         ensures journal_room { journal.old.spare ≤ journal.new.spare + 1 }
         ensures host_room { H.spare host.old ≤ H.spare host.new + 1 }
@@ -197,7 +197,7 @@ impl JobTask {
         ensures stands { Stands self.new journal.new.past }
         ensures follows { FollowsHost (row self.old.id self.old.command ticket Start (child_of self.old.state)) journal.old.past (H.told host.old) (H.host_faults host.old) Done journal.new.past (H.told host.new) (H.host_faults host.new) }
         ensures fields { self.new ≡ record self.old { state = self.new.state; previous = self.new.previous; kept = self.new.kept } }
-        ensures kept { Kept H.Plan (H.plan host.old) (H.plan host.new) (H.progress host.old) (H.progress host.new) (H.place host.old) (H.place host.new) }
+        ensures kept { IsSteady H.Plan (H.plan host.old) (H.plan host.new) (H.progress host.old) (H.progress host.new) (H.place host.old) (H.place host.new) }
         ensures journal_room { journal.old.spare ≤ journal.new.spare + 2 }
         ensures host_room { H.spare host.old ≤ H.spare host.new + 2 }
     {
@@ -224,7 +224,7 @@ impl JobTask {
         ensures stands { Stands self.new journal.new.past }
         ensures follows { FollowsHost (row self.old.id self.old.command ticket Stop (child_of self.old.state)) journal.old.past (H.told host.old) (H.host_faults host.old) Done journal.new.past (H.told host.new) (H.host_faults host.new) }
         ensures fields { self.new ≡ record self.old { state = self.new.state; previous = self.new.previous; kept = self.new.kept } }
-        ensures kept { Kept H.Plan (H.plan host.old) (H.plan host.new) (H.progress host.old) (H.progress host.new) (H.place host.old) (H.place host.new) }
+        ensures kept { IsSteady H.Plan (H.plan host.old) (H.plan host.new) (H.progress host.old) (H.progress host.new) (H.place host.old) (H.place host.new) }
         ensures journal_room { journal.old.spare ≤ journal.new.spare + 4 }
         ensures host_room { H.spare host.old ≤ H.spare host.new + 4 }
     {
@@ -247,7 +247,7 @@ impl JobTask {
         ensures stands { Stands self.new journal.new.past }
         ensures follows { FollowsHost (ended child) journal.old.past (H.told host.old) (H.host_faults host.old) Done journal.new.past (H.told host.new) (H.host_faults host.new) }
         ensures fields { self.new ≡ record self.old { state = self.new.state; kept = self.new.kept } }
-        ensures kept { Kept H.Plan (H.plan host.old) (H.plan host.new) (H.progress host.old) (H.progress host.new) (H.place host.old) (H.place host.new) }
+        ensures kept { IsSteady H.Plan (H.plan host.old) (H.plan host.new) (H.progress host.old) (H.progress host.new) (H.place host.old) (H.place host.new) }
         ensures journal_room { journal.old.spare ≤ journal.new.spare + 1 }
         ensures host_room { H.spare host.old ≤ H.spare host.new + 1 }
     {
@@ -330,7 +330,7 @@ impl JobTask {
         ensures stands { Stands self.new journal.new.past }
         ensures follows { FollowsHost (row self.old.id self.old.command waiting.now.ticket control (child_of self.old.state)) journal.old.past (H.told host.old) (H.host_faults host.old) Done journal.new.past (H.told host.new) (H.host_faults host.new) }
         ensures fields { self.new ≡ record self.old { state = self.new.state; previous = self.new.previous; kept = self.new.kept } }
-        ensures kept { Kept H.Plan (H.plan host.old) (H.plan host.new) (H.progress host.old) (H.progress host.new) (H.place host.old) (H.place host.new) }
+        ensures kept { IsSteady H.Plan (H.plan host.old) (H.plan host.new) (H.progress host.old) (H.progress host.new) (H.place host.old) (H.place host.new) }
         ensures journal_room { journal.old.spare ≤ journal.new.spare + 4 }
         ensures host_room { H.spare host.old ≤ H.spare host.new + 4 }
     {
@@ -359,7 +359,7 @@ impl JobTask {
         ensures stands { Stands self.new journal.new.past }
         ensures ok { OnOk result (FollowsHost (case self.old.id self.old.command (child_of self.old.state) choice) journal.old.past (H.told host.old) (H.host_faults host.old) Done journal.new.past (H.told host.new) (H.host_faults host.new)) }
         ensures fields { self.new ≡ record self.old { waiting = self.new.waiting; state = self.new.state; previous = self.new.previous; kept = self.new.kept } }
-        ensures kept { Kept H.Plan (H.plan host.old) (H.plan host.new) (H.progress host.old) (H.progress host.new) (H.place host.old) (H.place host.new) }
+        ensures kept { IsSteady H.Plan (H.plan host.old) (H.plan host.new) (H.progress host.old) (H.progress host.new) (H.place host.old) (H.place host.new) }
         ensures task { OnErr result (self.new ≡ self.old) }
         ensures journal { OnErr result (journal.new ≡ journal.old) }
         ensures host { OnErr result (host.new ≡ host.old) }

@@ -10,7 +10,7 @@ ghost use Rattle.wx_journal.specs.Told.{Rose};
 ghost use Rattle.wx_job.specs.History.{child as running, state, previous};
 ghost use Rattle.wx_job.specs.Table.{Plan, Done, Asks, send_plan, pick, is_spawning, Goes, answer_of, step_plan, drop_plan, end_plan};
 ghost use Rattle.wx_job.specs.Case.{Leads, FollowsHost, FollowsAlone, is_fault};
-ghost use Rattle.wx_job.specs.Kept.{Kept};
+ghost use Rattle.wx_job.specs.Steady.{IsSteady};
 ghost use Rattle.wx_job.specs.Laws.{LeavesOthers, IsReaping, AfterFaults};
 ghost use Rattle.wx_job.specs.Stands.{Stands, SameJob, SameTask, IsEnding, child_of, id_of, command_of, gone_of, running_of, with_end};
 
@@ -121,10 +121,10 @@ impl JobTask {
         ensures journal { OnErr result (journal.new ≡ journal.old) }
         ensures host { OnErr result (host.new ≡ host.old) }
         ensures hooks { hooks.new ≡ hooks.old }
-        ensures kept { Kept H.Plan (H.plan host.old) (H.plan host.new) (H.progress host.old) (H.progress host.new) (H.place host.old) (H.place host.new) }
+        ensures kept { IsSteady H.Plan (H.plan host.old) (H.plan host.new) (H.progress host.old) (H.progress host.new) (H.place host.old) (H.place host.new) }
         ensures leaves { NamesItsOwn journal.old.past → LeavesOthers (id_of self.old) journal.old.past journal.new.past }
         ensures reaped { NamesItsOwn journal.old.past → IsReaping (id_of self.old) journal.old.past → IsReaping (id_of self.old) journal.new.past }
-        ensures failed { NamesItsOwn journal.old.past → AfterFaults (id_of self.old) journal.old.past → AfterFaults (id_of self.old) journal.new.past }
+        ensures failed { NamesItsOwn journal.old.past → AfterFaults journal.old.past → AfterFaults journal.new.past }
         ensures hooks_stand { NamesItsOwn journal.old.past → K.stands hooks.old journal.old.past → K.stands hooks.new journal.new.past }
         ensures faults { count is_fault journal.old.past < count is_fault journal.new.past → Rose (H.host_faults host.old) (H.host_faults host.new) }
         ensures journal_room { journal.old.spare ≤ journal.new.spare + 16 }
@@ -145,7 +145,7 @@ impl JobTask {
     }
 
     /// Keeps the end of the running child, and does one step. The journal's last entry is the turn that told this end.
-    /// It answers as `step` does; the end is kept also where memory is wanted.
+    /// It answers as `step` does. This end is what the step picks, so memory is never wanted.
     pub fn ended<H: Host, K: JobHooks>(
         &mut self,
         alloc: Global,
@@ -170,10 +170,10 @@ impl JobTask {
         ensures journal { OnErr result (journal.new ≡ journal.old) }
         ensures host { OnErr result (host.new ≡ host.old) }
         ensures hooks { hooks.new ≡ hooks.old }
-        ensures kept { Kept H.Plan (H.plan host.old) (H.plan host.new) (H.progress host.old) (H.progress host.new) (H.place host.old) (H.place host.new) }
+        ensures kept { IsSteady H.Plan (H.plan host.old) (H.plan host.new) (H.progress host.old) (H.progress host.new) (H.place host.old) (H.place host.new) }
         ensures leaves { NamesItsOwn journal.old.past → LeavesOthers (id_of self.old) journal.old.past journal.new.past }
         ensures reaped { NamesItsOwn journal.old.past → IsReaping (id_of self.old) journal.old.past → IsReaping (id_of self.old) journal.new.past }
-        ensures failed { NamesItsOwn journal.old.past → AfterFaults (id_of self.old) journal.old.past → AfterFaults (id_of self.old) journal.new.past }
+        ensures failed { NamesItsOwn journal.old.past → AfterFaults journal.old.past → AfterFaults journal.new.past }
         ensures hooks_stand { NamesItsOwn journal.old.past → K.stands hooks.old journal.old.past → K.stands hooks.new journal.new.past }
         ensures faults { count is_fault journal.old.past < count is_fault journal.new.past → Rose (H.host_faults host.old) (H.host_faults host.new) }
         ensures journal_room { journal.old.spare ≤ journal.new.spare + 16 }
@@ -192,7 +192,7 @@ impl JobTask {
         ensures job { SameJob self.old self.new }
         ensures leads { (hooks : Option (List Entry)) → Leads (end_plan (id_of self.old) journal.old.past) journal.old.past (H.told host.old) hooks (H.host_faults host.old) Done journal.new.past (H.told host.new) hooks (H.host_faults host.new) }
         ensures gone { gone_of self.new ≡ true }
-        ensures kept { Kept H.Plan (H.plan host.old) (H.plan host.new) (H.progress host.old) (H.progress host.new) (H.place host.old) (H.place host.new) }
+        ensures kept { IsSteady H.Plan (H.plan host.old) (H.plan host.new) (H.progress host.old) (H.progress host.new) (H.place host.old) (H.place host.new) }
         ensures leaves { NamesItsOwn journal.old.past → LeavesOthers (id_of self.old) journal.old.past journal.new.past }
         ensures reaped { NamesItsOwn journal.old.past → IsReaping (id_of self.old) journal.old.past → IsReaping (id_of self.old) journal.new.past }
         ensures journal_room { journal.old.spare ≤ journal.new.spare + 2 }
@@ -319,7 +319,7 @@ impl JobTask {
         ensures stands { Stands self.new journal.new.past }
         ensures follows { FollowsHost (drop_plan child (Goes self.old.id Done)) journal.old.past (H.told host.old) (H.host_faults host.old) Done journal.new.past (H.told host.new) (H.host_faults host.new) }
         ensures fields { self.new ≡ record self.old { waiting = self.new.waiting; kept = false; gone = true } }
-        ensures kept { Kept H.Plan (H.plan host.old) (H.plan host.new) (H.progress host.old) (H.progress host.new) (H.place host.old) (H.place host.new) }
+        ensures kept { IsSteady H.Plan (H.plan host.old) (H.plan host.new) (H.progress host.old) (H.progress host.new) (H.place host.old) (H.place host.new) }
         ensures journal_room { journal.old.spare ≤ journal.new.spare + 2 }
         ensures host_room { H.spare host.old ≤ H.spare host.new + 2 }
     {
@@ -356,7 +356,7 @@ impl JobTask {
         ensures journal { OnErr result (journal.new ≡ journal.old) }
         ensures host { OnErr result (host.new ≡ host.old) }
         ensures past { OnErr result (journal.new.past ≡ journal.old.past) }
-        ensures kept { Kept H.Plan (H.plan host.old) (H.plan host.new) (H.progress host.old) (H.progress host.new) (H.place host.old) (H.place host.new) }
+        ensures kept { IsSteady H.Plan (H.plan host.old) (H.plan host.new) (H.progress host.old) (H.progress host.new) (H.place host.old) (H.place host.new) }
         ensures journal_room { journal.old.spare ≤ journal.new.spare + 5 }
         ensures host_room { H.spare host.old ≤ H.spare host.new + 4 }
     {

@@ -13,10 +13,10 @@ use wx_events::{Memory, Spelled, Text, Words};
 fn take_create(alloc: Global, line: &mut Words) -> Result<Option<Act>, Memory>
     ensures { IfOk result (λ x. Reads line.new x (read_create line.old)) }
 {
-    let Some(job) = Id::take(alloc, line)? else {
+    let Some(job) = Id::read(alloc, line)? else {
         return Ok(None);
     };
-    let Some(command) = Command::take(alloc, line)? else {
+    let Some(command) = Command::read(alloc, line)? else {
         return Ok(None);
     };
     Ok(Some(Act::Create(job, command)))
@@ -26,32 +26,13 @@ fn take_create(alloc: Global, line: &mut Words) -> Result<Option<Act>, Memory>
 fn take_ask(alloc: Global, line: &mut Words) -> Result<Option<Act>, Memory>
     ensures { IfOk result (λ x. Reads line.new x (read_ask_act line.old)) }
 {
-    let Some(job) = Id::take(alloc, line)? else {
+    let Some(job) = Id::read(alloc, line)? else {
         return Ok(None);
     };
-    let Some(ask) = Ask::take(alloc, line)? else {
+    let Some(ask) = Ask::read(alloc, line)? else {
         return Ok(None);
     };
     Ok(Some(Act::Ask(job, ask)))
-}
-
-/// Takes the act at the front, or loses the place.
-#[tactic(auto, unfolding(crate::specs::Acts::read_act))]
-fn take_act(alloc: Global, line: &mut Words) -> Result<Option<Act>, Memory>
-    ensures { IfOk result (λ x. Reads line.new x (read_act line.old)) }
-{
-    let Some(word) = line.next() else {
-        return Ok(None);
-    };
-    if word == b"create".as_slice() {
-        take_create(alloc, line)
-    } else if word == b"ask".as_slice() {
-        take_ask(alloc, line)
-    } else if word == b"quit".as_slice() {
-        Ok(Some(Act::Quit))
-    } else {
-        Ok(None)
-    }
 }
 
 impl Spelled for Act {
@@ -85,12 +66,19 @@ impl Spelled for Act {
         }
     }
 
-    fn take(alloc: Global, line: &mut Words) -> Result<Option<Act>, Memory> {
-        let mut ahead = line.fork();
-        let found = take_act(alloc, &mut ahead)?;
-        if found.is_some() {
-            *line = ahead;
+    #[tactic(auto, unfolding(crate::specs::Acts::read_act))]
+    fn read(alloc: Global, line: &mut Words) -> Result<Option<Act>, Memory> {
+        let Some(word) = line.next() else {
+            return Ok(None);
+        };
+        if word == b"create".as_slice() {
+            take_create(alloc, line)
+        } else if word == b"ask".as_slice() {
+            take_ask(alloc, line)
+        } else if word == b"quit".as_slice() {
+            Ok(Some(Act::Quit))
+        } else {
+            Ok(None)
         }
-        Ok(found)
     }
 }

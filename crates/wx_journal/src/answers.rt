@@ -36,7 +36,7 @@ fn take_fault(alloc: Global, line: &mut Words) -> Result<Option<HostFault>, Memo
     if word != b"fault".as_slice() {
         return Ok(None);
     }
-    match u32::take(alloc, line)? {
+    match u32::read(alloc, line)? {
         Some(code) => Ok(Some(HostFault(code))),
         None => Ok(None),
     }
@@ -49,7 +49,7 @@ pub fn take_answer<T: Spelled>(
 ) -> Result<Option<Result<T, HostFault>>, Memory>
     ensures { IfOk result (λ x. Taken line.old line.new x (read_answer T.read line.old)) }
 {
-    if let Some(value) = T::take(alloc, line)? {
+    if let Some(value) = T::take_front(alloc, line)? {
         return Ok(Some(Ok(value)));
     }
     let mut ahead = line.fork();

@@ -1,6 +1,6 @@
 // What is said of children.
 use std::alloc::Global;
-use wx_events::{Keyword, Memory, Spelled, Text, Words, put_keyword, take_keyword};
+use wx_events::{Keyword, Memory, Spelled, Text, Words, put_keyword, read_keyword};
 
 /// What spawns a child.
 #[derive(Clone, Copy, Debug, PartialEq, Eq)]
@@ -56,7 +56,7 @@ impl Spelled for SpawnTag {
         put_keyword(*self, out)
     }
 
-    fn take(_alloc: Global, line: &mut Words) -> Result<Option<SpawnTag>, Memory> {
-        Ok(take_keyword(line))
+    fn read(_alloc: Global, line: &mut Words) -> Result<Option<SpawnTag>, Memory> {
+        Ok(read_keyword(line))
     }
 }

@@ -21,10 +21,10 @@ pub fn put_ranked(priority: Priority, event: &Event, out: &mut Text) -> Result<(
 fn take_arrive(alloc: Global, line: &mut Words) -> Result<Option<TurnKind>, Memory>
     ensures { IfOk result (λ x. Reads line.new x (read_arrive line.old)) }
 {
-    let Some(priority) = Priority::take(alloc, line)? else {
+    let Some(priority) = Priority::read(alloc, line)? else {
         return Ok(None);
     };
-    let Some(event) = Event::take(alloc, line)? else {
+    let Some(event) = Event::read(alloc, line)? else {
         return Ok(None);
     };
     Ok(Some(TurnKind::Arrive(event, priority)))
@@ -34,7 +34,7 @@ fn take_arrive(alloc: Global, line: &mut Words) -> Result<Option<TurnKind>, Memo
 fn take_job(alloc: Global, line: &mut Words) -> Result<Option<TurnKind>, Memory>
     ensures { IfOk result (λ x. Reads line.new x (read_job line.old)) }
 {
-    match Id::take(alloc, line)? {
+    match Id::read(alloc, line)? {
         Some(job) => Ok(Some(TurnKind::Job(job))),
         None => Ok(None),
     }
@@ -44,7 +44,7 @@ fn take_job(alloc: Global, line: &mut Words) -> Result<Option<TurnKind>, Memory>
 fn take_ended(alloc: Global, line: &mut Words) -> Result<Option<TurnKind>, Memory>
     ensures { IfOk result (λ x. Reads line.new x (read_ended line.old)) }
 {
-    match u64::take(alloc, line)? {
+    match u64::read(alloc, line)? {
         Some(child) => Ok(Some(TurnKind::Ended(child))),
         None => Ok(None),
     }
@@ -54,38 +54,13 @@ fn take_ended(alloc: Global, line: &mut Words) -> Result<Option<TurnKind>, Memor
 fn take_ask(alloc: Global, line: &mut Words) -> Result<Option<TurnKind>, Memory>
     ensures { IfOk result (λ x. Reads line.new x (read_ask_turn line.old)) }
 {
-    let Some(job) = Id::take(alloc, line)? else {
+    let Some(job) = Id::read(alloc, line)? else {
         return Ok(None);
     };
-    let Some(ask) = Ask::take(alloc, line)? else {
+    let Some(ask) = Ask::read(alloc, line)? else {
         return Ok(None);
     };
     Ok(Some(TurnKind::Ask(job, ask)))
-}
-
-/// Takes what a turn brings, or loses the place.
-#[tactic(auto, unfolding(crate::specs::Kinds::read_kind))]
-fn take_kind(alloc: Global, line: &mut Words) -> Result<Option<TurnKind>, Memory>
-    ensures { IfOk result (λ x. Reads line.new x (read_kind line.old)) }
-{
-    let Some(word) = line.next() else {
-        return Ok(None);
-    };
-    if word == b"arrive".as_slice() {
-        take_arrive(alloc, line)
-    } else if word == b"work".as_slice() {
-        Ok(Some(TurnKind::Work))
-    } else if word == b"job".as_slice() {
-        take_job(alloc, line)
-    } else if word == b"ended".as_slice() {
-        take_ended(alloc, line)
-    } else if word == b"ask".as_slice() {
-        take_ask(alloc, line)
-    } else if word == b"last".as_slice() {
-        Ok(Some(TurnKind::Last))
-    } else {
-        Ok(None)
-    }
 }
 
 impl Spelled for TurnKind {
@@ -127,12 +102,25 @@ impl Spelled for TurnKind {
         }
     }
 
-    fn take(alloc: Global, line: &mut Words) -> Result<Option<TurnKind>, Memory> {
-        let mut ahead = line.fork();
-        let found = take_kind(alloc, &mut ahead)?;
-        if found.is_some() {
-            *line = ahead;
+    #[tactic(auto, unfolding(crate::specs::Kinds::read_kind))]
+    fn read(alloc: Global, line: &mut Words) -> Result<Option<TurnKind>, Memory> {
+        let Some(word) = line.next() else {
+            return Ok(None);
+        };
+        if word == b"arrive".as_slice() {
+            take_arrive(alloc, line)
+        } else if word == b"work".as_slice() {
+            Ok(Some(TurnKind::Work))
+        } else if word == b"job".as_slice() {
+            take_job(alloc, line)
+        } else if word == b"ended".as_slice() {
+            take_ended(alloc, line)
+        } else if word == b"ask".as_slice() {
+            take_ask(alloc, line)
+        } else if word == b"last".as_slice() {
+            Ok(Some(TurnKind::Last))
+        } else {
+            Ok(None)
         }
-        Ok(found)
     }
 }

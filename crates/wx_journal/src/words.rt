@@ -13,7 +13,7 @@ use std::alloc::Global;
 use wx_config::{WatchedPath, Watcher};
 use wx_events::{
     Event, Keyword, List, Memory, Priority, Spelled, Text, TextPath, Words, put_items, put_keyword,
-    take_keyword,
+    read_keyword,
 };
 
 const OFFERED: [Offered; 2] = [Offered::Queued, Offered::Full];
@@ -60,8 +60,8 @@ impl Spelled for Offered {
         put_keyword(*self, out)
     }
 
-    fn take(_alloc: Global, line: &mut Words) -> Result<Option<Offered>, Memory> {
-        Ok(take_keyword(line))
+    fn read(_alloc: Global, line: &mut Words) -> Result<Option<Offered>, Memory> {
+        Ok(read_keyword(line))
     }
 }
 
@@ -109,8 +109,8 @@ impl Spelled for Word {
         put_keyword(*self, out)
     }
 
-    fn take(_alloc: Global, line: &mut Words) -> Result<Option<Word>, Memory> {
-        Ok(take_keyword(line))
+    fn read(_alloc: Global, line: &mut Words) -> Result<Option<Word>, Memory> {
+        Ok(read_keyword(line))
     }
 }
 

@@ -33,7 +33,8 @@ abbrev pub after_line : ℕ → (Script → Result Script ℕ) → Option Script
 after_line n next None = Err n
 after_line n next (Some s) = next s
 
--- the script with these lines from number n on, of which a line feed stands behind each but the last; or the number of the first that can't stand there
+-- the script with these lines from number n on, of which a line feed stands behind each but the last; or the number of
+-- the first that can't stand there
 unfoldable pub scan : ℕ → List (List ℕ) → Script → Result Script ℕ
 scan n [] s = Ok s
 scan n (line ∷ []) s = if length line == 0 then Ok s else Err n

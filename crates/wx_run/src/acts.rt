@@ -13,20 +13,17 @@ use wx_events::{List, Memory, Spelled, Words};
 fn take_create(alloc: Global, line: &mut Words) -> Result<Option<ScriptAct>, Memory>
     ensures { IfOk result (λ act. Reads line.new act (read_create line.old)) }
 {
-    match Command::take(alloc, line)? {
-        Some(command) => Ok(Some(ScriptAct::Create(command))),
-        None => Ok(None),
-    }
+    Ok(Command::read(alloc, line)?.map(ScriptAct::Create))
 }
 
 /// Takes the job and what is to be asked of it, or loses the place.
 fn take_ask(alloc: Global, line: &mut Words) -> Result<Option<ScriptAct>, Memory>
     ensures { IfOk result (λ act. Reads line.new act (read_ask_act line.old)) }
 {
-    let Some(job) = Id::take(alloc, line)? else {
+    let Some(job) = Id::read(alloc, line)? else {
         return Ok(None);
     };
-    let Some(ask) = Ask::take(alloc, line)? else {
+    let Some(ask) = Ask::read(alloc, line)? else {
         return Ok(None);
     };
     Ok(Some(ScriptAct::Ask(job, ask)))

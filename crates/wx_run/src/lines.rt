@@ -38,7 +38,7 @@ pub enum Line {
 fn take_untagged(alloc: Global, line: &mut Words) -> Result<Option<Priority>, Memory>
     ensures { IfOk result (λ priority. Reads line.new priority (read_untagged line.old)) }
 {
-    let Some(priority) = Priority::take(alloc, line)? else {
+    let Some(priority) = Priority::read(alloc, line)? else {
         return Ok(None);
     };
     if take_literal(b"0", line) {
@@ -72,7 +72,7 @@ fn is_scripted(kind: &TurnKind) -> bool
 fn take_kind(alloc: Global, line: &mut Words) -> Result<Option<TurnKind>, Memory>
     ensures { IfOk result (λ kind. Reads line.new kind (read_kind line.old)) }
 {
-    let Some(kind) = TurnKind::take(alloc, line)? else {
+    let Some(kind) = TurnKind::read(alloc, line)? else {
         return Ok(None);
     };
     if is_scripted(&kind) {
@@ -91,15 +91,9 @@ fn take_set(alloc: Global, line: &mut Words) -> Result<Option<Line>, Memory>
         return Ok(None);
     };
     if word == b"throttle".as_slice() {
-        match u64::take(alloc, line)? {
-            Some(throttle) => Ok(Some(Line::Throttle(throttle))),
-            None => Ok(None),
-        }
+        Ok(u64::read(alloc, line)?.map(Line::Throttle))
     } else if word == b"size".as_slice() {
-        match u32::take(alloc, line)? {
-            Some(size) => Ok(Some(Line::Size(size))),
-            None => Ok(None),
-        }
+        Ok(u32::read(alloc, line)?.map(Line::Size))
     } else {
         Ok(None)
     }
@@ -109,7 +103,7 @@ fn take_set(alloc: Global, line: &mut Words) -> Result<Option<Line>, Memory>
 fn take_turn(alloc: Global, line: &mut Words) -> Result<Option<Line>, Memory>
     ensures { IfOk result (λ said. Reads line.new said (read_turn line.old)) }
 {
-    let Some(at) = u64::take(alloc, line)? else {
+    let Some(at) = u64::read(alloc, line)? else {
         return Ok(None);
     };
     let Some(kind) = take_kind(alloc, line)? else {
@@ -134,7 +128,7 @@ fn take_form(alloc: Global, line: &mut Words) -> Result<Option<Line>, Memory>
     } else if word == b"turn".as_slice() {
         take_turn(alloc, line)
     } else if word == b"turnfault".as_slice() {
-        Ok(u32::take(alloc, line)?.map(Line::Fault))
+        Ok(u32::read(alloc, line)?.map(Line::Fault))
     } else if word == b"action".as_slice() {
         Ok(take_acts(alloc, line)?.map(Line::Acts))
     } else if word == b"spawn".as_slice() {

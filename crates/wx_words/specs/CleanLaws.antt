@@ -11,7 +11,6 @@ use Rattle.std.proofs.lemmas.Bool.Decides.{nat_tests}
 use Rattle.std.proofs.lemmas.List.{append-nil}
 use Rattle.std.proofs.lemmas.List.Elements.{All-from_recursion}
 use Rattle.std.proofs.lemmas.List.Splits.{slice_split_none, slice_split_at}
-use Rattle.wx_words.specs.Combine.{pair_words}
 use Rattle.wx_words.specs.Clean.{IsClean, AllClean, is_clean}
 use Rattle.wx_words.specs.Line.{parts, words_of, spaced, joined}
 use Rattle.wx_words.specs.Texts.{AllBytes, text_word, escaped, escaped_byte, is_plain}
@@ -69,9 +68,6 @@ list_clean fits words each xs all = (number_clean (length xs) all.0, items_clean
 
 pub keyword_clean : {X : Type 0} (word : X → List ℕ) → ((x : X) → IsClean (word x)) → (x : X) → Unit {0} → AllClean (word x ∷ [])
 keyword_clean word each x fits = (each x, tt)
-
-pub pair_clean : {A B : Type 0} (fa : A → Type 0) (fb : B → Type 0) (wa : A → List (List ℕ)) (wb : B → List (List ℕ)) → ((a : A) → fa a → AllClean (wa a)) → ((b : B) → fb b → AllClean (wb b)) → (p : A × B) → fa p.0 × fb p.1 → AllClean (pair_words wa wb p)
-pair_clean fa fb wa wb first second p fits = each_append IsClean (wa p.0) (wb p.1) (first p.0 fits.0) (second p.1 fits.1)
 
 -- ---- lines
 

@@ -2,7 +2,6 @@
 use Rattle.std.proofs.Common.{◌≡◌, ℕ, Bool, true, false, cond, Option, None, Some, List, [], ◌∷◌, ◌++◌, refl, sym, ap, subst, ◌∙◌, append_assoc, inl, inr, ◌⊎◌}
 use Rattle.std.specs.Str.{bytes_eq}
 use Rattle.std.specs.List.{AllByRecursion}
-use Rattle.std.proofs.lemmas.Option.{some_pair_parts}
 use Rattle.wx_words.specs.Line.{◌>>=◌}
 use Rattle.wx_words.specs.LineLaws.{bytes_same, bytes_again}
 use Rattle.wx_words.specs.OptionLaws.{bind_some, guarded}
@@ -112,12 +111,3 @@ rows_take {V} see {X} fits words rows all (w ∷ ws) x rest e = at rows all w ws
           | inl p ↦ subst (λ (v : List ℕ). fits x × Stood see (words x) (v ∷ ws) rest) (sym (bytes_same w row.0 p.0)) (all.0.takes ws x rest p.1)
           | inr p ↦ at rows all.1 w ws x rest p
         ]
-
--- ---- what both laws give
-
--- what is spelled is spelled by one value, and where it ends is no choice
-pub one_value : {V : Type 0} {see : List ℕ → V} {X : Type 0} {fits : X → Type 0} {words : X → Words} {read : Reader X} → IsForm see fits words read
-    → (x y : X) (r s : Words) → fits x → fits y → words x ++ r ≡ words y ++ s → (x ≡ y) × (r ≡ s)
-one_value {V} {see} {X} {fits} {words} {read} form x y r s p q e =
-    let both : ◌≡◌ {A = Option (X × Words)} (Some (x, r)) (Some (y, s)) = sym (form.again x r p) ∙ ap read e ∙ form.again y s q in
-    some_pair_parts x y r s both

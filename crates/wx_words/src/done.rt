@@ -24,12 +24,11 @@ impl Spelled for () {
         out.append(b" ok")
     }
 
-    fn take(_alloc: Global, line: &mut Words) -> Result<Option<()>, Memory> {
-        let mut ahead = line.fork();
-        if !take_literal(b"ok", &mut ahead) {
-            return Ok(None);
+    fn read(_alloc: Global, line: &mut Words) -> Result<Option<()>, Memory> {
+        if take_literal(b"ok", line) {
+            Ok(Some(()))
+        } else {
+            Ok(None)
         }
-        *line = ahead;
-        Ok(Some(()))
     }
 }

@@ -1,7 +1,7 @@
 // Values of a list, each with a word of its own.
 ghost use Rattle.std.specs.Prelude.{◌≡◌, ℕ, [], ◌∷◌, ◌++◌, List, Option, Some, None, OnOk, MatchBool};
 ghost use Rattle.wx_words.specs.Combine.{read_literal};
-ghost use Rattle.wx_words.specs.Line.{spaced, Taken};
+ghost use Rattle.wx_words.specs.Line.{spaced, Reads};
 ghost use Rattle.wx_words.specs.Keywords.{with_word, read_keyword};
 ghost use Rattle.wx_words.specs.Clean.{IsClean};
 
@@ -50,19 +50,11 @@ pub fn put_keyword<K: Keyword>(value: K, out: &mut Text) -> Result<(), Memory>
     out.append(value.word())
 }
 
-/// Takes the value whose word is at the front.
-pub fn take_keyword<K: Keyword>(line: &mut Words) -> Option<K>
-    ensures { Taken line.old line.new result (read_keyword K.word K.all line.old) }
+/// Takes the value whose word is at the front, or loses the place.
+pub fn read_keyword<K: Keyword>(line: &mut Words) -> Option<K>
+    ensures { Reads line.new result (read_keyword K.word K.all line.old) }
 {
-    let mut ahead = line.fork();
-    let Some(word) = ahead.next() else {
-        return None;
-    };
-    let found = with_word(word);
-    if found.is_some() {
-        *line = ahead;
-    }
-    found
+    with_word(line.next()?)
 }
 
 /// Takes this word, or loses the place.

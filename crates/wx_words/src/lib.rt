@@ -3,6 +3,7 @@
 
 mod cursor;
 mod done;
+mod dotted;
 mod keyword;
 mod list;
 mod lists;
@@ -19,11 +20,12 @@ mod text;
 mod texts;
 
 pub use cursor::{Words, cut};
-pub use keyword::{Keyword, put_keyword, take_keyword, take_literal, with_word};
+pub use dotted::{Dotted, read_dotted};
+pub use keyword::{Keyword, put_keyword, read_keyword, take_literal, with_word};
 pub use list::{Copies, List, Memory};
 pub use lists::put_items;
 pub use numbers::number_of;
 pub use path::TextPath;
 pub use spelled::Spelled;
 pub use text::Text;
-pub use texts::text_in;
+pub use texts::{Escaped, text_in};

@@ -1,8 +1,10 @@
 ghost use Rattle.std.specs.Prelude.{IsTrue, ◌≡◌, ℕ, ◌+◌, ◌<◌, [], ◌∷◌, ◌++◌, length, IfOk, OnOk, OnErr, ◌==◌, slice_get, option_map, remove, Some, IfSome, IfNone};
 ghost use Rattle.std.specs.Option.{option_copied};
 ghost use Rattle.std.specs.Cmp.Lexicographic.{pointwise, lists_per, lists_equiv};
+ghost use Rattle.std.specs.Hash.{slice, items_Alike};
 
 use std::alloc::Global;
+use std::hash::{Hash, Hasher};
 use std::marker::Model;
 
 /// Want of memory.
@@ -23,6 +25,7 @@ impl<T: Drop> From<std::alloc::AllocFailed<T>> for Memory {
 
 /// A value that owns memory, and can be copied.
 pub trait Copies {
+    /// An equal value. It fails only for want of memory.
     fn copy(&self, alloc: Global) -> Result<Self, Memory>
         ensures { IfOk result (λ copied. copied ≡ self.now) };
 }
@@ -42,6 +45,7 @@ impl<T> Model for List<T> {
 }
 
 impl<T> List<T> {
+    /// The empty list. It takes no memory.
     pub fn new(alloc: Global) -> Self
         ensures { result ≡ [] }
     {
@@ -50,24 +54,28 @@ impl<T> List<T> {
         }
     }
 
+    /// How many items there are.
     pub fn len(&self) -> usize
         ensures { result ≡ length self.now }
     {
         self.items.len()
     }
 
+    /// Whether there is no item.
     pub fn is_empty(&self) -> bool
         ensures { result ≡ (length self.now == 0) }
     {
         self.items.is_empty()
     }
 
+    /// The items, in order.
     pub fn as_slice(&self) -> &[T]
         ensures { result.now ≡ self.now }
     {
         self.items.as_slice()
     }
 
+    /// Adds an item at the end. It fails only for want of memory. Then it drops the item, and the list is as it was.
     pub fn push(&mut self, x: T) -> Result<(), Memory>
     where
         T: Drop,
@@ -117,6 +125,7 @@ impl<T> List<T> {
         }
     }
 
+    /// These items as a list.
     pub fn from_vec(items: Vec<T>) -> Self
         ensures { result ≡ items.items }
     {
@@ -147,4 +156,14 @@ impl<T: PartialEq> PartialEq for List<T> {
 
 impl<T: Eq> Eq for List<T> {
     ghost laws = { lists_equiv T.Eq.laws };
+}
+
+impl<T: Hash> Hash for List<T> {
+    ghost hash_input = { slice T.hash_input };
+
+    ghost respects_eq = { (items_Alike (record { fed = T.respects_eq })).fed };
+
+    fn hash<H: Hasher>(&self, state: &mut H) {
+        self.items.as_slice().hash(state);
+    }
 }

@@ -3,7 +3,7 @@ ghost use Rattle.std.specs.Prelude.{◌≡◌, ℕ, ◌+◌, ◌<◌, [], ◌∷
 ghost use Rattle.std.specs.List.{flat_map, AllByRecursion};
 ghost use Rattle.wx_words.specs.CleanLaws.{list_clean};
 ghost use Rattle.wx_words.specs.ListLaws.{list_form};
-ghost use Rattle.wx_words.specs.Line.{spaced, joined, Taken, Reads};
+ghost use Rattle.wx_words.specs.Line.{spaced, joined, Reads};
 ghost use Rattle.wx_words.specs.Lists.{list_words, read_items, read_list};
 
 use crate::cursor::Words;
@@ -32,7 +32,7 @@ fn take_items<T: Spelled>(
 {
     let mut items = List::new(alloc);
     for _ in 0..count {
-        let Some(item) = T::take(alloc, line)? else {
+        let Some(item) = T::read(alloc, line)? else {
             return Ok(None);
         };
         items.push(item)?;
@@ -58,15 +58,10 @@ impl<T: Spelled> Spelled for List<T> {
     }
 
     #[tactic(auto, unfolding(crate::specs::Lists::read_list))]
-    fn take(alloc: Global, line: &mut Words) -> Result<Option<List<T>>, Memory> {
-        let mut ahead = line.fork();
-        let Some(count) = u64::take(alloc, &mut ahead)? else {
-            return Ok(None);
-        };
-        let found = take_items(alloc, count, &mut ahead)?;
-        if found.is_some() {
-            *line = ahead;
+    fn read(alloc: Global, line: &mut Words) -> Result<Option<List<T>>, Memory> {
+        match u64::read(alloc, line)? {
+            Some(count) => take_items(alloc, count, line),
+            None => Ok(None),
         }
-        Ok(found)
     }
 }

@@ -26,15 +26,13 @@ impl Spelled for NonZeroI64 {
         self.get().put_after(out)
     }
 
-    fn take(alloc: Global, line: &mut Words) -> Result<Option<NonZeroI64>, Memory> {
-        let mut ahead = line.fork();
-        let Some(n) = i64::take(alloc, &mut ahead)? else {
+    fn read(alloc: Global, line: &mut Words) -> Result<Option<NonZeroI64>, Memory> {
+        let Some(n) = i64::read(alloc, line)? else {
             return Ok(None);
         };
         let Some(found) = NonZeroI64::new(n) else {
             return Ok(None);
         };
-        *line = ahead;
         Ok(Some(found))
     }
 }
@@ -54,15 +52,13 @@ impl Spelled for NonZeroI32 {
         self.get().put_after(out)
     }
 
-    fn take(alloc: Global, line: &mut Words) -> Result<Option<NonZeroI32>, Memory> {
-        let mut ahead = line.fork();
-        let Some(n) = i32::take(alloc, &mut ahead)? else {
+    fn read(alloc: Global, line: &mut Words) -> Result<Option<NonZeroI32>, Memory> {
+        let Some(n) = i32::read(alloc, line)? else {
             return Ok(None);
         };
         let Some(found) = NonZeroI32::new(n) else {
             return Ok(None);
         };
-        *line = ahead;
         Ok(Some(found))
     }
 }

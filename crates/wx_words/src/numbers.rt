@@ -1,6 +1,6 @@
 // Numbers as words.
 ghost use Rattle.std.specs.Prelude.{◌≡◌, ℕ, ◌+◌, ◌<◌, ◌≤◌, ◌^◌, [], ◌∷◌, ◌++◌, List, Option, Some, None, OnOk, IfOk, decimal};
-ghost use Rattle.wx_words.specs.Line.{spaced, joined, Taken};
+ghost use Rattle.wx_words.specs.Line.{spaced, joined, Reads};
 ghost use Rattle.wx_words.specs.Texts.{text_in};
 ghost use Rattle.wx_words.specs.NumberLaws.{number_form, u32_form};
 ghost use Rattle.wx_words.specs.Numbers.{number_in, read_number, read_u32, with_digits};
@@ -58,16 +58,11 @@ impl Spelled for u64 {
         out.append_number(*self)
     }
 
-    fn take(_alloc: Global, line: &mut Words) -> Result<Option<u64>, Memory> {
-        let mut ahead = line.fork();
-        let Some(word) = ahead.next() else {
-            return Ok(None);
-        };
-        let found = number_of(word);
-        if found.is_some() {
-            *line = ahead;
+    fn read(_alloc: Global, line: &mut Words) -> Result<Option<u64>, Memory> {
+        match line.next() {
+            Some(word) => Ok(number_of(word)),
+            None => Ok(None),
         }
-        Ok(found)
     }
 }
 
@@ -86,21 +81,15 @@ impl Spelled for u32 {
         (*self as u64).put_after(out)
     }
 
-    fn take(_alloc: Global, line: &mut Words) -> Result<Option<u32>, Memory> {
+    fn read(_alloc: Global, line: &mut Words) -> Result<Option<u32>, Memory> {
         Ok(take_u32(line))
     }
 }
 
-/// Takes the number below 2 ^ 32 at the front.
+/// Takes the number below 2 ^ 32 at the front, or loses the place.
 fn take_u32(line: &mut Words) -> Option<u32>
-    ensures { Taken line.old line.new result (read_u32 line.old) }
+    ensures { Reads line.new result (read_u32 line.old) }
 {
-    let mut ahead = line.fork();
-    let n = number_of(ahead.next()?)?;
-    if n < 1 << 32 {
-        *line = ahead;
-        Some(n as u32)
-    } else {
-        None
-    }
+    let n = number_of(line.next()?)?;
+    if n < 1 << 32 { Some(n as u32) } else { None }
 }

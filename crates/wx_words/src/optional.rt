@@ -44,15 +44,10 @@ impl Spelled for Option<u64> {
         }
     }
 
-    fn take(_alloc: Global, line: &mut Words) -> Result<Option<Option<u64>>, Memory> {
-        let mut ahead = line.fork();
-        let Some(word) = ahead.next() else {
-            return Ok(None);
-        };
-        let found = optional_of(word);
-        if found.is_some() {
-            *line = ahead;
+    fn read(_alloc: Global, line: &mut Words) -> Result<Option<Option<u64>>, Memory> {
+        match line.next() {
+            Some(word) => Ok(optional_of(word)),
+            None => Ok(None),
         }
-        Ok(found)
     }
 }

@@ -6,6 +6,8 @@ use crate::list::{Copies, Memory};
 use crate::spelled::Spelled;
 use crate::text::Text;
 use std::alloc::Global;
+use std::cmp::Ordering;
+use std::hash::{Hash, Hasher};
 use std::marker::Model;
 
 /// A path as a text, which contracts see as its bytes.
@@ -66,8 +68,8 @@ impl Spelled for TextPath {
         self.text.put_after(out)
     }
 
-    fn take(alloc: Global, line: &mut Words) -> Result<Option<TextPath>, Memory> {
-        match Text::take(alloc, line)? {
+    fn read(alloc: Global, line: &mut Words) -> Result<Option<TextPath>, Memory> {
+        match Text::read(alloc, line)? {
             Some(text) => Ok(Some(TextPath { text })),
             None => Ok(None),
         }
@@ -92,4 +94,49 @@ impl Eq for TextPath {
     ghost use Rattle.std.specs.Cmp.Lexicographic.{nat_list_eq_equiv};
 
     ghost laws = { nat_list_eq_equiv };
+}
+
+impl PartialOrd for TextPath {
+    ghost use Rattle.std.specs.Prelude.{Some};
+    ghost use Rattle.std.specs.Ordering.{nat_cmp};
+    ghost use Rattle.std.specs.Cmp.Lexicographic.{slice_cmp, texts_po};
+
+    ghost partial_cmp = { λ x y. Some (slice_cmp nat_cmp x y) };
+
+    ghost laws = { texts_po };
+
+    fn partial_cmp(&self, other: &TextPath) -> Option<Ordering> {
+        Some(self.cmp(other))
+    }
+}
+
+impl Ord for TextPath {
+    ghost use Rattle.std.specs.Prelude.{refl};
+    ghost use Rattle.std.specs.Ordering.{nat_cmp};
+    ghost use Rattle.std.specs.Cmp.Lexicographic.{slice_cmp, texts_ties, nat_list_cmp_total};
+
+    ghost cmp = { slice_cmp nat_cmp };
+
+    ghost total = { nat_list_cmp_total };
+
+    ghost matches_partial_cmp = { λ x y. refl };
+
+    ghost matches_eq = { texts_ties };
+
+    fn cmp(&self, other: &TextPath) -> Ordering {
+        self.text.cmp(&other.text)
+    }
+}
+
+impl Hash for TextPath {
+    ghost use Rattle.std.specs.Hash.{slice, u8 as byte, same_Alike};
+    ghost use Rattle.std.specs.Cmp.Lexicographic.{bytes_decides};
+
+    ghost hash_input = { slice byte };
+
+    ghost respects_eq = { (same_Alike (slice byte) bytes_decides).fed };
+
+    fn hash<H: Hasher>(&self, state: &mut H) {
+        self.text.hash(state);
+    }
 }

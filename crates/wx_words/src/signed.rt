@@ -2,7 +2,7 @@
 ghost use Rattle.std.specs.Prelude.{◌≡◌, FitsSigned};
 ghost use Rattle.std.specs.Int.{w32, w64};
 ghost use Rattle.wx_words.specs.Texts.{text_in};
-ghost use Rattle.wx_words.specs.Line.{Taken};
+ghost use Rattle.wx_words.specs.Line.{Reads};
 ghost use Rattle.wx_words.specs.Signed.{signed_in, signed_words, read_i64, read_i32};
 ghost use Rattle.wx_words.specs.SignedLaws.{i64_form, i32_form, i64_clean, i32_clean};
 
@@ -29,28 +29,24 @@ fn signed_of(word: &[u8]) -> Option<i128>
     }
 }
 
-/// Takes the number of 64 bits at the front.
+/// Takes the number of 64 bits at the front, or loses the place.
 fn take_i64(line: &mut Words) -> Option<i64>
-    ensures { Taken line.old line.new result (read_i64 line.old) }
+    ensures { Reads line.new result (read_i64 line.old) }
 {
-    let mut ahead = line.fork();
-    let n = signed_of(ahead.next()?)?;
+    let n = signed_of(line.next()?)?;
     if i64::MIN as i128 <= n && n <= i64::MAX as i128 {
-        *line = ahead;
         Some(n as i64)
     } else {
         None
     }
 }
 
-/// Takes the number of 32 bits at the front.
+/// Takes the number of 32 bits at the front, or loses the place.
 fn take_i32(line: &mut Words) -> Option<i32>
-    ensures { Taken line.old line.new result (read_i32 line.old) }
+    ensures { Reads line.new result (read_i32 line.old) }
 {
-    let mut ahead = line.fork();
-    let n = signed_of(ahead.next()?)?;
+    let n = signed_of(line.next()?)?;
     if i32::MIN as i128 <= n && n <= i32::MAX as i128 {
-        *line = ahead;
         Some(n as i32)
     } else {
         None
@@ -73,7 +69,7 @@ impl Spelled for i64 {
         out.append_signed(*self)
     }
 
-    fn take(_alloc: Global, line: &mut Words) -> Result<Option<i64>, Memory> {
+    fn read(_alloc: Global, line: &mut Words) -> Result<Option<i64>, Memory> {
         Ok(take_i64(line))
     }
 }
@@ -93,7 +89,7 @@ impl Spelled for i32 {
         (*self as i64).put_after(out)
     }
 
-    fn take(_alloc: Global, line: &mut Words) -> Result<Option<i32>, Memory> {
+    fn read(_alloc: Global, line: &mut Words) -> Result<Option<i32>, Memory> {
         Ok(take_i32(line))
     }
 }

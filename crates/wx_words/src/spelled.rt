@@ -2,7 +2,7 @@
 ghost use Rattle.std.specs.Prelude.{◌≡◌, ℕ, ◌++◌, List, Option, OnOk, IfOk, IfSome, IfNone};
 ghost use Rattle.wx_words.specs.Texts.{text_in};
 ghost use Rattle.wx_words.specs.Forms.{IsForm, Stood};
-ghost use Rattle.wx_words.specs.Line.{spaced, joined, Taken};
+ghost use Rattle.wx_words.specs.Line.{spaced, joined, Reads, Taken};
 ghost use Rattle.wx_words.specs.Clean.{AllClean};
 
 use crate::cursor::Words;
@@ -25,9 +25,9 @@ pub trait Spelled: Drop {
     fn put_after(&self, out: &mut Text) -> Result<(), Memory>
         ensures { OnOk result (out.new ≡ out.old ++ spaced (words self.now)) };
 
-    /// Takes the value at the front.
-    fn take(alloc: Global, line: &mut Words) -> Result<Option<Self>, Memory>
-        ensures { IfOk result (λ x. Taken line.old line.new x (read line.old)) };
+    /// Takes the value at the front, or loses the place.
+    fn read(alloc: Global, line: &mut Words) -> Result<Option<Self>, Memory>
+        ensures { IfOk result (λ x. Reads line.new x (read line.old)) };
 
     // what is spelled is read again, whatever follows, and what is read was spelled so, up to escapes in texts
     ghost form: { IsForm text_in fits words read };
@@ -35,13 +35,19 @@ pub trait Spelled: Drop {
     // no word has a space or a control byte
     ghost clean: { (x : Self) → fits x → AllClean (words x) };
 
-    /// Takes the value at the front: what stood there spells it, and nothing else does.
+    /// Takes the value at the front, and leaves the line where none stands there: what is taken spells the value, and
+    /// nothing else does.
     final fn take_front(alloc: Global, line: &mut Words) -> Result<Option<Self>, Memory>
         ensures exact { IfOk result (λ o. Taken line.old line.new o (read line.old)) }
         ensures some { IfOk result (λ o. IfSome o (λ x. fits x × Stood text_in (words x) line.old line.new)) }
         ensures none { IfOk result (λ o. IfNone o ((x : Self) (rest : List (List ℕ)) → fits x → line.old ≡ words x ++ rest → ⊥)) }
     {
-        Self::take(alloc, line)
+        let mut ahead = line.fork();
+        let found = Self::read(alloc, &mut ahead)?;
+        if found.is_some() {
+            *line = ahead;
+        }
+        Ok(found)
     }
 
     /// Appends the words with one space between them.

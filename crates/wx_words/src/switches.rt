@@ -1,6 +1,6 @@
 // What is on or off, as a word.
 use crate::cursor::Words;
-use crate::keyword::{Keyword, put_keyword, take_keyword};
+use crate::keyword::{Keyword, put_keyword, read_keyword};
 use crate::list::Memory;
 use crate::spelled::Spelled;
 use crate::text::Text;
@@ -47,7 +47,7 @@ impl Spelled for bool {
         put_keyword(*self, out)
     }
 
-    fn take(_alloc: Global, line: &mut Words) -> Result<Option<bool>, Memory> {
-        Ok(take_keyword(line))
+    fn read(_alloc: Global, line: &mut Words) -> Result<Option<bool>, Memory> {
+        Ok(read_keyword(line))
     }
 }

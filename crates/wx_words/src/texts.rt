@@ -1,6 +1,6 @@
 // Texts as words.
 ghost use Rattle.std.specs.Prelude.{◌≡◌, ℕ, ◌+◌, ◌*◌, ◌<◌, ◌≤◌, ◌^◌, [], ◌∷◌, ◌++◌, List, Option, Some, None, OnOk, IfOk, IfSome, IfNone, length, true};
-ghost use Rattle.wx_words.specs.Line.{spaced, joined, Taken};
+ghost use Rattle.wx_words.specs.Line.{spaced, joined};
 ghost use Rattle.wx_words.specs.CleanLaws.{text_words_clean};
 ghost use Rattle.wx_words.specs.TextLaws.{text_form};
 ghost use Rattle.wx_words.specs.Texts.{AllBytes, escaped_byte, escaped, text_word, hex_in, unescaped, text_in, read_text, is_plain, onto};
@@ -11,6 +11,7 @@ use crate::list::Memory;
 use crate::spelled::Spelled;
 use crate::text::Text;
 use std::alloc::Global;
+use std::fmt;
 
 /// The hexadecimal digit of a number.
 fn hex_digit(n: u8) -> u8
@@ -105,6 +106,27 @@ pub fn text_in(alloc: Global, word: &[u8]) -> Result<Option<Text>, Memory>
     }
 }
 
+/// A text that is shown as the word that stands for it.
+#[derive(Clone, Copy)]
+pub struct Escaped<'a>(pub &'a Text);
+
+impl fmt::Display for Escaped<'_> {
+    fn fmt<W: fmt::Write>(&self, f: &mut fmt::Formatter<W>) -> fmt::Result {
+        let bytes = self.0.as_slice();
+        if bytes.is_empty() {
+            return f.write_str("%");
+        }
+        for b in bytes {
+            if is_plain(*b) {
+                f.write_char(*b as char)?;
+            } else {
+                write!(f, "%{b:02X}")?;
+            }
+        }
+        Ok(())
+    }
+}
+
 impl Spelled for Text {
     ghost words = { λ t. text_word t ∷ [] };
 
@@ -124,15 +146,10 @@ impl Spelled for Text {
         put_bytes(self.as_slice(), out)
     }
 
-    fn take(alloc: Global, line: &mut Words) -> Result<Option<Text>, Memory> {
-        let mut ahead = line.fork();
-        let Some(word) = ahead.next() else {
-            return Ok(None);
-        };
-        let found = text_in(alloc, word)?;
-        if found.is_some() {
-            *line = ahead;
+    fn read(alloc: Global, line: &mut Words) -> Result<Option<Text>, Memory> {
+        match line.next() {
+            Some(word) => text_in(alloc, word),
+            None => Ok(None),
         }
-        Ok(found)
     }
 }

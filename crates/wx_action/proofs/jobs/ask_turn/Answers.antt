@@ -11,18 +11,18 @@ use Rattle.wx_action.proofs.jobs.ask_turn.Goals as goal
 
 pub ignored-requires : goal.ignored-requires
 ignored-requires g c =
-    let at = at_turn g.start c.args.worker.now c.requires.0.0 (Ask c.args.id c.args.ask) c.args.journal.now.past tt c.requires.0.1 in
+    let at = at_turn g.start c.args.worker.now c.requires.0 (Ask c.args.id c.args.ask) c.args.journal.now.past tt c.requires.1 in
     let none : position (is_living c.args.id) c.as_slice.result.now ≡ None = sym c.find.ensures ∙ c.in_default.is in
     let gone = missed g.start c.args.worker.now c.args.journal.now.past c.args.id at.ready.stands (rw c.as_slice.ensures.value at none) in
-    (at.due ∙ rw gone refl, (at.ready, c.requires.1))
+    (at.due ∙ rw gone refl, at.ready)
 
 pub returns-in_err-reserve-clause-ready : goal.returns-in_err-reserve-clause-ready
 returns-in_err-reserve-clause-ready g c =
-    rw c.in_err-reserve.ensures.same (at_turn g.start c.args.worker.now c.requires.0.0 (Ask c.args.id c.args.ask) c.args.journal.now.past tt c.requires.0.1).ready
+    rw c.in_err-reserve.ensures.same (at_turn g.start c.args.worker.now c.requires.0 (Ask c.args.id c.args.ask) c.args.journal.now.past tt c.requires.1).ready
 
 pub returns-in_err-send-clause-ready : goal.returns-in_err-send-clause-ready
 returns-in_err-send-clause-ready g c =
-    let at = at_turn g.start c.args.worker.now c.requires.0.0 (Ask c.args.id c.args.ask) c.args.journal.now.past tt c.requires.0.1 in
+    let at = at_turn g.start c.args.worker.now c.requires.0 (Ask c.args.id c.args.ask) c.args.journal.now.past tt c.requires.1 in
     let some : position (is_living c.args.id) c.as_slice.result.now ≡ Some c.in-Some.place = sym c.find.ensures ∙ c.in-Some.is in
     let f = found g.start c.args.worker.now c.args.journal.now.past c.args.id c.in-Some.place c.index_mut.result.now at.ready.stands (rw c.as_slice.ensures.value at some) c.index_mut.ensures.value in
     same_done g.start c.args.worker.now _ c.in-Some.place c.index_mut.result.now (record c.index_mut.result.now { task = c.send.new.self }) c.args.journal.now.past c.send.new.journal.past at.ready (c.in_err-send.ensures.past ∙ c.in_ok-reserve.ensures.same) refl
@@ -30,7 +30,7 @@ returns-in_err-send-clause-ready g c =
 
 done : (g : _) (c : goal.In_ok-send g) → AskDone g.start (record c.args.worker.now { jobs = with_item c.args.worker.now.jobs c.in-Some.place (record c.index_mut.result.now { task = c.send.new.self }) }) c.args.journal.now.past c.send.new.journal.past
 done g c =
-    let at = at_turn g.start c.args.worker.now c.requires.0.0 (Ask c.args.id c.args.ask) c.args.journal.now.past tt c.requires.0.1 in
+    let at = at_turn g.start c.args.worker.now c.requires.0 (Ask c.args.id c.args.ask) c.args.journal.now.past tt c.requires.1 in
     let some : position (is_living c.args.id) c.as_slice.result.now ≡ Some c.in-Some.place = sym c.find.ensures ∙ c.in-Some.is in
     let place = rw c.as_slice.ensures.value at some in
     let f = found g.start c.args.worker.now c.args.journal.now.past c.args.id c.in-Some.place c.index_mut.result.now at.ready.stands place c.index_mut.ensures.value in

@@ -1,5 +1,5 @@
 use Rattle.std.proofs.Common.{◌≡◌}
-use Rattle.wx_job.specs.Kept.{Kept}
+use Rattle.wx_job.specs.Steady.{IsSteady}
 use Rattle.wx_action.specs.Due.{Agenda}
 use Rattle.wx_action.specs.Leads.{FollowsAlone, StaysApart}
 use Rattle.wx_action.specs.Turns.{StaysInTurn}
@@ -17,7 +17,7 @@ invariant-loop-one g l = record {
   follows : FollowsAlone g.start l.initial.journal.past l.journal.past;
   apart : StaysApart l.initial.journal.past l.journal.past;
   turns : StaysInTurn l.initial.journal.past l.journal.past;
-  kept : Kept g.W.Outside.Plan (g.W.Outside.plan l.initial.host) (g.W.Outside.plan l.host) (g.W.Outside.progress l.initial.host) (g.W.Outside.progress l.host) (g.W.Outside.place l.initial.host) (g.W.Outside.place l.host);
+  kept : IsSteady g.W.Outside.Plan (g.W.Outside.plan l.initial.host) (g.W.Outside.plan l.host) (g.W.Outside.progress l.initial.host) (g.W.Outside.progress l.host) (g.W.Outside.place l.initial.host) (g.W.Outside.place l.host);
   faults : g.W.Outside.host_faults l.host ≡ g.W.Outside.host_faults l.initial.host;
   told : g.W.Outside.told l.host ≡ g.W.Outside.told l.initial.host;
   room : HasRoom l.worker l.journal.spare (g.W.Outside.spare l.host);

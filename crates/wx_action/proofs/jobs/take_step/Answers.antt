@@ -10,7 +10,7 @@ step_at-requires g c = λ κs lives. (
     lives.1,
     (
       rw c.in_ok-reserve.ensures.same c.requires.1.1.0,
-      (rw c.in_ok-reserve.ensures.same c.requires.1.1.1.0, (c.in_ok-reserve.ensures.room, (c.in_ok-reserve_host.ensures.room, c.in_ok-reserve-2.ensures.room))),
+      (rw c.in_ok-reserve.ensures.same c.requires.1.1.1, (c.in_ok-reserve.ensures.room, (c.in_ok-reserve_host.ensures.room, c.in_ok-reserve-2.ensures.room))),
     ),
   ),
 )

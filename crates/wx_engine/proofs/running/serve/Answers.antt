@@ -8,7 +8,7 @@ use Rattle.wx_engine.proofs.running.serve.Goals as goal
 
 pub arrive-requires : goal.arrive-requires
 arrive-requires g c =
-    let d = at_turn g.start c.args.state.now c.args.at (Arrive c.in-Arrive.event c.in-Arrive.priority) c.args.journal.now.past tt (rw c.in-Arrive.is at c.requires.1.1.0) in (d.due, (d.ready, c.requires.1.1.1.in_journal))
+    let d = at_turn g.start c.args.state.now c.args.at (Arrive c.in-Arrive.event c.in-Arrive.priority) c.args.journal.now.past tt (rw c.in-Arrive.is at c.requires.1.1.0) in (d.due, d.ready)
 
 pub returns-in_err-arrive-in-Arrive-clause-calm : goal.returns-in_err-arrive-in-Arrive-clause-calm
 returns-in_err-arrive-in-Arrive-clause-calm g c = rw c.in_err-arrive-in-Arrive.ensures.err (turned g.start c.args.state.now c.args.at c.args.kind c.args.journal.now.past c.requires.1.1.0).calm

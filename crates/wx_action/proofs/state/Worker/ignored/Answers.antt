@@ -4,7 +4,7 @@ use Rattle.wx_action.proofs.ArriveLemmas.{Steps, said_done}
 use Rattle.wx_action.proofs.state.Worker.ignored.Goals as goal
 
 done : (g : _) (c : goal.After-push g) → Steps g.start c.args.self.now c.args.journal.now.past c.push.new.self.past
-done g c = said_done g.start c.args.self.now c.args.journal.now.past c.push.new.self.past Ignored Open c.requires.1.0 c.requires.0 (rw c.in_ok-reserve.ensures.same at c.push.ensures.past)
+done g c = said_done g.start c.args.self.now c.args.journal.now.past c.push.new.self.past Ignored Open c.requires.1 c.requires.0 (rw c.in_ok-reserve.ensures.same at c.push.ensures.past)
 
 pub returns-clause-ready : goal.returns-clause-ready
 returns-clause-ready g c = (done g c).ready

@@ -13,5 +13,8 @@ returns-clause-children g c = (ran_reaps c.args.self _ c.run.result c.run.ensure
 pub returns-clause-none_runs : goal.returns-clause-none_runs
 returns-clause-none_runs g c = (ran_reaps c.args.self _ c.run.result c.run.ensures.answers).none
 
+pub returns-clause-after_faults : goal.returns-clause-after_faults
+returns-clause-after_faults g c = (ran_reaps c.args.self _ c.run.result c.run.ensures.answers).failed
+
 pub returns-clause-rule : goal.returns-clause-rule
 returns-clause-rule g c = λ short stood. c.run.ensures.promised.rule_kept short stood [] Same
