@@ -1,5 +1,6 @@
 use Rattle.std.proofs.Common.{◌≡◌, ℕ, ◌+◌, ◌≤◌, ◌<◌, List, [], ◌∷◌, ◌++◌, length, take, get_or, arith}
 use Rattle.std.proofs.lemmas.List.{take_more, get_or_default, take_all}
+use Rattle.wx_words.specs.EachLaws.{each_append, each_weaker}
 use Rattle.wx_events.specs.declared.priority.Priority.{Priority}
 use Rattle.wx_events.specs.Priority.{rank}
 use Rattle.prio_channel.specs.Channel.{AllAtMost}
@@ -7,12 +8,10 @@ use Rattle.prio_channel.specs.Greatest.{IsGreatestAt}
 
 -- a list that is bounded by a priority is bounded by a greater one
 at_most-rise : {T : Type 0} (q r : Priority) (xs : List (T × Priority)) → rank q ≤ rank r → AllAtMost q xs → AllAtMost r xs
-at_most-rise q r [] le h = tt
-at_most-rise q r (x ∷ xs) le h = (omega (arith, h.0), at_most-rise q r xs le h.1)
+at_most-rise q r xs le h = each_weaker (λ x. rank x.1 ≤ rank q) (λ x. rank x.1 ≤ rank r) (λ x least. omega (arith, least, le)) xs h
 
 at_most-append : {T : Type 0} (q : Priority) (xs : List (T × Priority)) (x : T × Priority) → AllAtMost q xs → rank x.1 ≤ rank q → AllAtMost q (xs ++ x ∷ [])
-at_most-append q [] x h le = (le, tt)
-at_most-append q (y ∷ xs) x h le = (h.0, at_most-append q xs x h.1 le)
+at_most-append q xs x h le = each_append (λ y. rank y.1 ≤ rank q) xs (x ∷ []) h (le, tt)
 
 -- the pair at `best` is as great as the first i
 abbrev pub IsBest : {T : Type 0} → List (T × Priority) → ℕ → ℕ → Type 0

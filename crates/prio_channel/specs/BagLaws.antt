@@ -1,7 +1,8 @@
 -- Laws of bags.
-use Rattle.std.proofs.Common.{◌≡◌, ℕ, zero, suc, ◌≤◌, ◌<◌, List, [], ◌∷◌, ◌++◌, length, slice_get, arith, refl, sym, ap, subst, ◌∙◌}
+use Rattle.std.proofs.Common.{◌≡◌, ℕ, zero, suc, ◌≤◌, ◌<◌, List, [], ◌∷◌, ◌++◌, length, slice_get, arith, refl, sym, ap, ◌∙◌}
 use Rattle.std.specs.Prelude.{Some, remove}
 use Rattle.std.specs.List.{AllByRecursion}
+use Rattle.wx_words.specs.EachLaws.{each_at}
 use Rattle.prio_channel.specs.SameBag.{SameBag}
 
 get-below : {X : Type 0} (xs : List X) (i k : ℕ) → k < i → slice_get (remove xs i) k ≡ slice_get xs k
@@ -133,12 +134,7 @@ add-bag xs [] x b = rw b (0, refl, refl)
 add-bag xs (y ∷ ys) x b =
     (b.0, get-append xs b.0 x y b.1, rw (remove-append xs b.0 x y b.1) (add-bag (remove xs b.0) ys x b.2))
 
--- what holds of each item holds of the one at a place, and of the others
-all-at : {X : Type 0} (P : X → Type 0) (xs : List X) (i : ℕ) (x : X) → slice_get xs i ≡ Some x → AllByRecursion P xs → P x
-all-at P [] i x e all = cc
-all-at P (y ∷ xs) zero x e all = let same : y ≡ x = cc in subst P same all.0
-all-at P (y ∷ xs) (suc i) x e all = all-at P xs i x e all.1
-
+-- what holds of each item holds of all but one
 all-remove : {X : Type 0} (P : X → Type 0) (xs : List X) (i : ℕ) → AllByRecursion P xs → AllByRecursion P (remove xs i)
 all-remove P [] zero all = tt
 all-remove P [] (suc i) all = tt
@@ -149,4 +145,4 @@ all-remove P (x ∷ xs) (suc i) all = (all.0, all-remove P xs i all.1)
 pub all-same : {X : Type 0} (P : X → Type 0) (xs ys : List X) → SameBag xs ys → AllByRecursion P xs → AllByRecursion P ys
 all-same P xs [] b all = tt
 all-same P xs (y ∷ ys) b all =
-    (all-at P xs b.0 y b.1 all, all-same P (remove xs b.0) ys b.2 (all-remove P xs b.0 all))
+    (each_at P xs b.0 y all b.1, all-same P (remove xs b.0) ys b.2 (all-remove P xs b.0 all))

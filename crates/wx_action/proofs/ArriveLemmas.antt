@@ -20,6 +20,7 @@ use Rattle.wx_action.specs.Due.{Agenda, agenda, Due, Offers, Says, Sends}
 use Rattle.wx_action.specs.Leads.{FollowsAlone, Then, StaysApart, More}
 use Rattle.wx_action.specs.Turns.{StaysInTurn}
 use Rattle.wx_action.specs.RunLaws.{own_of_run}
+use Rattle.wx_action.specs.JobLaws.{turns_over}
 use Rattle.wx_action.specs.Stands.{Ready, IsOffered}
 use Rattle.wx_action.proofs.StandsLemmas.{ready_over, offered_is, stands_offered, stands_sent}
 
@@ -38,7 +39,7 @@ said_done s w p p' word more ready due grown =
       ready = ready_over s w (Said word) p tt tt d ready;
       follows = λ world hooks p₀ world₀ hooks₀ l. Then (Said word) p world hooks l d;
       apart = λ p₀ a. More _ p a (own_of_run s p ready.run) refl;
-      turns = λ p₀ t. record { count = t.count; fault = t.fault; now = t.now; rise = t.rise; told = t.told };
+      turns = turns_over _ _ refl;
     })
 
 pub offer_done : (s : Start) (w : Worker) (p p' : List Entry) (event : Event) (priority : Priority) (more : Agenda) (new : Channel Named) (result : Offered) → Ready s w p → agenda s p ≡ Offers event priority more
@@ -53,7 +54,7 @@ offer_done s w p p' event priority more new result ready due is size closed grow
       ready = record { run = (d, ready.run); stands = stands_offered s w p event priority new result ready.run ready.stands is' size closed };
       follows = λ world hooks p₀ world₀ hooks₀ l. Then (Offer (event_count p) None result event priority) p world hooks l d;
       apart = λ p₀ a. More _ p a (own_of_run s p ready.run) refl;
-      turns = λ p₀ t. record { count = t.count; fault = t.fault; now = t.now; rise = t.rise; told = t.told };
+      turns = turns_over _ _ refl;
     }))
 
 pub send_done : (s : Start) (w : Worker) (p p' : List Entry) (event : Event) (priority : Priority) (more : List (Event × Priority)) (new : Channel Named) (result : Offered) → Ready s w p → agenda s p ≡ Sends event priority more
@@ -68,7 +69,7 @@ send_done s w p p' event priority more new Queued ready due fits is size closed 
       ready = record { run = (d, ready.run); stands = stands_sent s w p event priority new ready.run ready.stands is'.0 size closed };
       follows = λ world hooks p₀ world₀ hooks₀ l. Then (Sent (event_count p) event priority) p world hooks l d;
       apart = λ p₀ a. More _ p a (own_of_run s p ready.run) refl;
-      turns = λ p₀ t. record { count = t.count; fault = t.fault; now = t.now; rise = t.rise; told = t.told };
+      turns = turns_over _ _ refl;
     }))
 send_done s w p p' event priority more new Full ready due fits is size closed grown =
     let n : length w.queue.items ≡ length (bag p) = same-length w.queue.items (bag p) ready.stands.queue_kept in

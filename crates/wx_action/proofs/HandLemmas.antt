@@ -19,15 +19,15 @@ use Rattle.wx_action.specs.declared.work.Worked.TheVariants.{On, End}
 use Rattle.wx_action.specs.Start.{Start}
 use Rattle.wx_action.specs.Journal.{settings, window}
 use Rattle.wx_action.specs.Jobs.{set, command, creation, or_else, act_plan, AreLawful}
-use Rattle.wx_action.specs.Due.{agenda, Due, IsRun, Hands, Open, Ends, plans, has_quit}
+use Rattle.wx_action.specs.Due.{agenda, Due, IsRun, Hands, Open, Ends, plans, has_quit, after_acts}
 use Rattle.wx_action.specs.Laws.{NoneUrgentWaits}
 use Rattle.wx_action.specs.Leads.{FollowsHooks, Then, Promised}
-use Rattle.wx_action.specs.Perform.{AreCommanded, OwesActs, after_acts}
+use Rattle.wx_action.specs.Perform.{AreCommanded, OwesActs}
 use Rattle.wx_action.specs.Stands.{Stands, Ready, HeldStands, held_id, is_here, Works}
 use Rattle.wx_action.specs.Todo.{AreTodo}
 use Rattle.wx_action.specs.Turns.{StaysInTurn}
 use Rattle.wx_action.specs.RunLaws.{none_waits}
-use Rattle.wx_action.specs.JobLaws.{IsIn, command_kept, creation_is}
+use Rattle.wx_action.specs.JobLaws.{IsIn, command_kept, creation_is, turns_over}
 use Rattle.wx_action.proofs.StandsLemmas.{same_held, over_hand}
 
 -- the entry of a batch that was due
@@ -124,7 +124,7 @@ works_by s p false e = e
 
 -- a batch is no turn
 pub turns_hand : (n : ℕ) (names : List ℕ) (acts : List Act) (p p' : List Entry) → p' ≡ Hand n names acts ∷ p → StaysInTurn p p'
-turns_hand n names acts p p' grown = rw grown (λ p₀ t. record { count = t.count; fault = t.fault; now = t.now; rise = t.rise; told = t.told })
+turns_hand n names acts p p' grown = rw grown (turns_over (Hand n names acts) p refl)
 
 -- the acts of a batch owe no batch
 not_hands_acts : (k : Plan) (ends : Bool) → plans k (after_acts ends) ≡ Hands → ⊥

@@ -17,16 +17,11 @@ use Rattle.wx_action.specs.declared.state.Held.{Held}
 use Rattle.wx_action.specs.Due.{is_quit}
 use Rattle.wx_action.specs.Handled.{ends_with_quit, creations, asks_of}
 use Rattle.wx_action.specs.Jobs.{AreLawful}
+use Rattle.wx_action.specs.Last.{last_added}
 use Rattle.wx_action.specs.KeptHandler.{HasSecondRoom, AreTwice, StaysTwice, AddsTwice, IsKept, quit_room}
 use Rattle.wx_action.specs.Todo.{IsNew, AreTodo}
 
 -- ---- one act more
-
--- the act that was added stands last
-pub ends_last : (acts : List Act) (act : Act) → ends_with_quit (acts ++ act ∷ []) ≡ is_quit act
-ends_last [] act = refl
-ends_last (first ∷ []) act = refl
-ends_last (first ∷ next ∷ acts) act = ends_last (next ∷ acts) act
 
 pub creations_create : (acts : List Act) (id : Id) (command : Command) → creations (acts ++ Create id command ∷ []) ≡ creations acts + 1
 creations_create [] id command = refl
@@ -149,8 +144,8 @@ kept_create past shown names events ids acts room second mid second' rest id com
       counted = omega arith;
       lawful = lawful_create (job_count past) acts id command k.lawful (omega arith);
       todo = todo_create acts rest id command held k.todo new;
-      room = rw (ends_last acts (Create id command)) (omega (arith, length-append acts (Create id command ∷ [])));
-      twice = rw (ends_last acts (Create id command)) (twice_adds names acts (quit_room acts) 1 (Create id command) mid second' (twice_stays names acts (quit_room acts) second mid k.twice stays) free adds);
+      room = rw (last_added is_quit acts (Create id command)) (omega (arith, length-append acts (Create id command ∷ [])));
+      twice = rw (last_added is_quit acts (Create id command)) (twice_adds names acts (quit_room acts) 1 (Create id command) mid second' (twice_stays names acts (quit_room acts) second mid k.twice stays) free adds);
     })
 
 pub kept_ask : (past : List Entry) (shown : List Held) (names : List ℕ) (events : List Event) (ids : ℕ) (acts : List Act) (room : ℕ) (second mid second' : Option Second) (rest : List Todo) (id : Id) (ask : AnAsk) (done : Flag) (acts' : List Act) (room' : ℕ) (rest' : List Todo) → IsKept past shown names events ids acts room second rest → length acts + 2 ≤ room' → StaysTwice second mid → HasSecondRoom 2 mid → AddsTwice (Ask id ask) mid second' → acts' ≡ acts ++ Ask id ask ∷ [] → rest' ≡ rest ++ todo.Ask id ask done ∷ [] → IsKept past shown names events ids acts' room' second' rest'
@@ -160,8 +155,8 @@ kept_ask past shown names events ids acts room second mid second' rest id ask do
   counted = rw (creations_ask acts id ask) k.counted;
   lawful = lawful_ask (job_count past) acts id ask k.lawful;
   todo = todo_ask acts rest id ask done k.todo;
-  room = rw (ends_last acts (Ask id ask)) (omega (arith, length-append acts (Ask id ask ∷ [])));
-  twice = rw (ends_last acts (Ask id ask)) (twice_adds names acts (quit_room acts) 1 (Ask id ask) mid second' (twice_stays names acts (quit_room acts) second mid k.twice stays) free adds);
+  room = rw (last_added is_quit acts (Ask id ask)) (omega (arith, length-append acts (Ask id ask ∷ [])));
+  twice = rw (last_added is_quit acts (Ask id ask)) (twice_adds names acts (quit_room acts) 1 (Ask id ask) mid second' (twice_stays names acts (quit_room acts) second mid k.twice stays) free adds);
 })
 
 pub kept_quit : (past : List Entry) (shown : List Held) (names : List ℕ) (events : List Event) (ids : ℕ) (acts : List Act) (room : ℕ) (second second' : Option Second) (rest : List Todo) (acts' : List Act) (room' : ℕ) → IsKept past shown names events ids acts room second rest → ends_with_quit acts ≡ false → AddsTwice Quit second second' → acts' ≡ acts ++ Quit ∷ [] → room' ≡ room → IsKept past shown names events ids acts' room' second' rest
@@ -173,6 +168,6 @@ kept_quit past shown names events ids acts room second second' rest acts' room' 
       counted = rw (creations_quit acts) k.counted;
       lawful = lawful_quit (job_count past) acts k.lawful;
       todo = todo_quit acts rest k.todo;
-      room = rw (ends_last acts Quit) (omega (arith, free, length-append acts (Quit ∷ [])));
-      twice = rw (ends_last acts Quit) (twice_adds names acts (quit_room acts) 0 Quit second second' k.twice (rw none at k.twice.room) adds);
+      room = rw (last_added is_quit acts Quit) (omega (arith, free, length-append acts (Quit ∷ [])));
+      twice = rw (last_added is_quit acts Quit) (twice_adds names acts (quit_room acts) 0 Quit second second' k.twice (rw none at k.twice.room) adds);
     })

@@ -1,5 +1,5 @@
 -- What is found of a job.
-use Rattle.std.proofs.Common.{inl, inr, ◌≡◌, Bool, true, false, ◌||◌, cond, List, [], ◌∷◌, refl, ap, sym, subst, ◌∙◌}
+use Rattle.std.proofs.Common.{inl, inr, ◌≡◌, ℕ, ◌≤◌, Bool, true, false, ◌||◌, cond, List, [], ◌∷◌, refl, arith, ne_eqb, ap, sym, subst, ◌∙◌}
 use Rattle.std.specs.Prelude.{Option, None, Some, is_some, map}
 use Rattle.std.specs.List.{find, list_any, AllByRecursion}
 use Rattle.std.proofs.lemmas.Bool.{or_right}
@@ -10,11 +10,11 @@ use Rattle.wx_job.specs.History.{same, lives, child}
 use Rattle.wx_job.proofs.Owners.{self, same-is}
 use Rattle.wx_action.specs.declared.state.Held.{Held}
 use Rattle.wx_action.specs.declared.state.Worker.{Worker}
-use Rattle.wx_action.specs.HeldJobs.{IsHandle, AreShown, is_of, handles, runs}
+use Rattle.wx_action.specs.HeldJobs.{IsHandle, AreBelow, AreShown, is_of, handles, runs}
 use Rattle.wx_action.specs.Jobs.{set, is_seen}
 use Rattle.wx_action.specs.Start.{Start}
 use Rattle.wx_action.specs.Stands.{HeldStands, Ready, held_id}
-use Rattle.wx_action.specs.JobLaws.{IsIn, in_set}
+use Rattle.wx_action.specs.JobLaws.{IsIn, in_set, set_rising}
 use Rattle.wx_action.specs.EndLaws.{GoneRunNone, none_runs}
 
 -- ---- the handle on a job
@@ -47,6 +47,11 @@ there_none p id held shown e = rw (← e) at (is_there p id held shown)
 pub handle_some : (p : List Entry) (id : Id) (held : List Held) (h : Held) → AreShown p held → Some h ≡ find (is_of id) held → IsHandle p id h.handle
 handle_some p id held h shown e = (found_held p id held shown.seen.handles).handle h (sym e)
 
+-- an id that was never given is that of no job that is seen
+pub not_seen : (n : ℕ) (id : Id) (ids : List Id) → AreBelow n ids → n ≤ id.0 → list_any (λ job. same job id) ids ≡ false
+not_seen n id [] below given = refl
+not_seen n id (job ∷ ids) below given = rw (ne_eqb job.0 id.0 (λ e. absurd (omega (arith, e, below.0, given)))) (not_seen n id ids below.1 given)
+
 -- ---- what a worker holds is what the journal shows
 
 held_handles : (p : List Entry) (held : List Held) → AllByRecursion (HeldStands p) held → AllByRecursion (λ job. IsHandle p job.0 job.1) (handles held)
@@ -77,7 +82,9 @@ unseen s p id gone false dead none = gone id dead
 pub shown : (s : Start) (w : Worker) (p : List Entry) → Ready s w p → AreShown p w.jobs.items
 shown s w p ready =
     let ids : map (λ (job : Id × Job). job.0) (handles w.jobs.items) ≡ set p = held_ids p w.jobs.items ready.stands.tasks_kept ∙ ready.stands.jobs_kept in
+    let rising = set_rising s p ready.run in
     record {
-      seen = record { ids = ids; handles = held_handles p w.jobs.items ready.stands.tasks_kept };
+      seen = record { ids = ids; rising = rising.rising; handles = held_handles p w.jobs.items ready.stands.tasks_kept };
+      below = rising.below;
       running = λ id. held_runs p id w.jobs.items ready.stands.tasks_kept (λ none. unseen s p id (none_runs s p ready.run) (lives id p) refl (rw ids at none));
     }

@@ -1,11 +1,12 @@
 -- The turns of jobs.
-use Rattle.std.proofs.Common.{◌≡◌, ◌≢◌, ℕ, zero, suc, ◌+◌, ◌<◌, Bool, true, false, cond, List, [], ◌∷◌, length, get_or, inl, inr, arith, refl, ap, sym, subst, ◌∙◌, eq-eqb, length-set}
-use Rattle.std.specs.Prelude.{Option, None, Some, map, not, ◌&&◌}
+use Rattle.std.proofs.Common.{◌≡◌, ◌≢◌, ℕ, zero, suc, ◌+◌, ◌<◌, Bool, true, false, cond, List, [], ◌∷◌, length, get_or, set as put, inl, inr, arith, refl, ap, sym, subst, ◌∙◌, eq-eqb, length-set}
+use Rattle.std.specs.Prelude.{Option, None, Some, map, not}
 use Rattle.std.specs.List.{AllByRecursion, position, position_from}
-use Rattle.std.proofs.lemmas.Bool.{eqb-true}
+use Rattle.std.proofs.lemmas.Bool.{and_parts}
 use Rattle.std.proofs.lemmas.Grind.{get_or-set_at}
 use Rattle.std.proofs.lemmas.List.Quantifiers.{position-Some}
 use Rattle.std.proofs.lemmas.Iterator.Adapters.{position_from-zero}
+use Rattle.wx_words.specs.OptionLaws.{neither, refused}
 use Rattle.wx_command.specs.declared.command.Command.{Command}
 use Rattle.wx_control.specs.declared.id.Id.{Id}
 use Rattle.wx_control.specs.declared.ask.Ask.{Ask}
@@ -15,11 +16,12 @@ use Rattle.wx_journal.specs.declared.entry.Entry.TheVariants.{Turn as Turned}
 use Rattle.wx_journal.specs.declared.entry.TurnKind.TheVariants.{Ended}
 use Rattle.wx_journal.specs.declared.entry.Word.TheVariants.{Ignored}
 use Rattle.wx_journal.specs.Names.{NamesItsOwn, moment}
+use Rattle.wx_job.specs.declared.task.JobTask.{JobTask}
 use Rattle.wx_job.specs.History.{lives, child, same, is_child}
 use Rattle.wx_job.specs.Table.{Done, send_plan, step_plan, ask_plan}
 use Rattle.wx_job.specs.Case.{FollowsAlone as FollowsPlan, Leads as LeadsOn, Here as Stays}
 use Rattle.wx_job.specs.Laws.{LeavesOthers}
-use Rattle.wx_job.specs.Stands.{Stands as TaskStands, IsEnding, command_of, gone_of, running_of}
+use Rattle.wx_job.specs.Stands.{Stands as TaskStands, SameJob, IsEnding, command_of, gone_of, running_of}
 use Rattle.wx_job.proofs.Owners.{self, same-is}
 use Rattle.wx_action.specs.declared.state.Held.{Held}
 use Rattle.wx_action.specs.declared.state.Worker.{Worker}
@@ -29,7 +31,7 @@ use Rattle.wx_action.specs.Due.{agenda, Open, Says, plans, ask_turn, job_turn, e
 use Rattle.wx_action.specs.Leads.{FollowsAlone, StaysApart, Promised}
 use Rattle.wx_action.specs.Turns.{StaysInTurn}
 use Rattle.wx_action.specs.RunLaws.{own_of_run}
-use Rattle.wx_action.specs.JobLaws.{IsIn, in_set, all_in, none_by_ask, none_by_step, parent_is, parent_is_none}
+use Rattle.wx_action.specs.JobLaws.{IsIn, in_set, all_in, is_child_some, none_by_ask, none_by_step, parent_is, parent_is_none}
 use Rattle.wx_action.specs.TurnLaws.{at_end_of_none, other_over_end}
 use Rattle.wx_action.specs.Stands.{Stands, Ready, AtTurn, IsStepAt, HeldStands, held_id, is_living, runs_child}
 use Rattle.wx_action.proofs.StandsLemmas.{quiet, quiet_over, held_at, tasks_put, ids_put, stands_quiet}
@@ -37,20 +39,12 @@ use Rattle.wx_action.proofs.PlanLemmas.{JobDone, jobs_stand, Changes, plan_done}
 
 -- ---- the place of a job
 
-none_by : (t : Bool) (i : ℕ) (o : Option ℕ) → cond t (Some i) o ≡ None → (t ≡ false) × (o ≡ None)
-none_by true i o e = absurd cc
-none_by false i o e = (refl, e)
-
 none_from : (t : Held → Bool) (i : ℕ) (hs : List Held) → position_from t i hs ≡ None → AllByRecursion (λ h. t h ≡ false) hs
 none_from t i [] e = tt
-none_from t i (h ∷ hs) e = let g = none_by (t h) i (position_from t (i + 1) hs) e in (g.0, none_from t (i + 1) hs g.1)
+none_from t i (h ∷ hs) e = let g = neither (t h) i (position_from t (i + 1) hs) e in (g.0, none_from t (i + 1) hs g.1)
 
 pub none_at : (t : Held → Bool) (hs : List Held) → position t hs ≡ None → AllByRecursion (λ h. t h ≡ false) hs
 none_at t hs e = none_from t 0 hs (sym (position_from-zero t hs) ∙ e)
-
-both_true : (a b : Bool) → (a && b) ≡ true → (a ≡ true) × (b ≡ true)
-both_true true b e = (refl, e)
-both_true false b e = absurd cc
 
 -- what was found in a list that is this one
 pub placed : (t : Held → Bool) (xs hs : List Held) (o r : Option ℕ) → xs ≡ hs → o ≡ position t xs → o ≡ r → position t hs ≡ r
@@ -94,7 +88,7 @@ pub found : (s : Start) (w : Worker) (p : List Entry) (id : Id) (n : ℕ) (h : H
 found s w p id n h stands e is =
     let at = position-Some (is_living id) w.jobs.items n h e in
     let test : is_living id h ≡ true = rw (← is) at at.1 in
-    let both = both_true (same h.handle.id id) (not (gone_of h.task)) test in
+    let both = and_parts (same h.handle.id id) (not (gone_of h.task)) test in
     let stood : HeldStands p h = held_at p w.jobs.items n h at.0 is stands.tasks_kept in
     let names : held_id h ≡ id = sym stood.handle_is ∙ same-is h.handle.id id both.0 in record {
       within = at.0;
@@ -104,6 +98,11 @@ found s w p id n h stands e is =
     }
 
 -- ---- controls are asked
+
+-- what is held of a job that is found changes with its task
+pub changed : (s : Start) (w : Worker) (p p' : List Entry) (id : Id) (n : ℕ) (h : Held) (k : JobTask) → Stands s w p → position (is_living id) w.jobs.items ≡ Some n → h ≡ get_or w.jobs.items n h
+    → SameJob h.task k → TaskStands k p' → Changes w.jobs.items (put w.jobs.items n (record h { task = k })) n h (record h { task = k }) p'
+changed s w p p' id n h k stands place is same stood = record { within = (found s w p id n h stands place is).within; held = is; items = refl; handle_same = refl; job_same = same; task_stands = stood }
 
 pub record AskDone (s : Start) (w' : Worker) (p p' : List Entry) : Type 0 where
   pub ready : Ready s w' p'
@@ -150,10 +149,6 @@ step_done s w w' n at h h' p p' world world' hooks hooks' m m' ready step fields
 
 -- ---- the end of a child
 
-runs_some : (c : ℕ) (o : Option ℕ) → is_child c o ≡ true → o ≡ Some c
-runs_some c None e = absurd cc
-runs_some c (Some d) e = ap (λ n. Some n) (eqb-true d c e)
-
 -- a child of none that is held
 never_runs : (c : ℕ) (p : List Entry) (hs : List Held) → AllByRecursion (HeldStands p) hs → AllByRecursion (λ h. runs_child c h ≡ false) hs → (id : Id) → IsIn id (map held_id hs) → child id p ≡ Some c → ⊥
 never_runs c p [] s none id here runs = here
@@ -167,10 +162,6 @@ is_in_place : (hs : List Held) (n : ℕ) (h : Held) → n < length hs → h ≡ 
 is_in_place [] n h lt is = absurd (omega arith)
 is_in_place (x ∷ hs) zero h lt is = inl (ap held_id (sym is))
 is_in_place (x ∷ hs) (suc n) h lt is = inr (is_in_place hs n h (omega arith) is)
-
-alive_of : (gone : Bool) (o : Option ℕ) (c : ℕ) → cond gone None o ≡ Some c → not gone ≡ true
-alive_of true o c e = absurd cc
-alive_of false o c e = refl
 
 -- where none is found the turn is ignored
 pub record NoneEnded (s : Start) (w : Worker) (p : List Entry) : Type 0 where
@@ -195,7 +186,7 @@ one_ends s w n at c h p a e is =
     let place = position-Some (runs_child c) w.jobs.items n h e in
     let test : runs_child c h ≡ true = rw (← is) at place.1 in
     let stood : HeldStands a.before h = held_at a.before w.jobs.items n h place.0 is a.stands.tasks_kept in
-    record { within = place.0; ending = record { before = a.before; last = a.last; stands = stood.task_stands }; runs = runs_some c (running_of h.task) test }
+    record { within = place.0; ending = record { before = a.before; last = a.last; stands = stood.task_stands }; runs = is_child_some c (running_of h.task) test }
 
 -- a journal with the turn that told the end of this child
 abbrev told : ℕ → ℕ → List Entry → List Entry
@@ -222,7 +213,7 @@ end_kept s w w' n at c h h' p a runs fields change =
     let jobs = jobs_stand s w a.before (record { run = run.1; stands = a.stands }) in
     let stood : HeldStands a.before h = held_at a.before hs n h change.within change.held a.stands.tasks_kept in
     let its : child (held_id h) a.before ≡ Some c = sym stood.task_stands.child_kept ∙ runs in
-    let alive : lives (held_id h) a.before ≡ true = sym stood.task_stands.lives_kept ∙ alive_of (gone_of h.task) _ c runs in
+    let alive : lives (held_id h) a.before ≡ true = sym stood.task_stands.lives_kept ∙ ap not (refused (gone_of h.task) _ c runs).0 in
     let here : IsIn (held_id h) (set a.before) = rw a.stands.jobs_kept at (is_in_place hs n h change.within change.held) in
     let new : HeldStands (told at c a.before) h' = record {
       task_stands = subst (TaskStands h'.task) a.last change.task_stands;

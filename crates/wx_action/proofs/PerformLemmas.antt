@@ -33,7 +33,8 @@ use Rattle.wx_action.specs.Perform.{AreCommanded, OwesActs}
 use Rattle.wx_action.specs.Leads.{FollowsAlone, Then, StaysApart, More}
 use Rattle.wx_action.specs.Turns.{StaysInTurn}
 use Rattle.wx_action.specs.RunLaws.{own_of_run}
-use Rattle.wx_action.specs.JobLaws.{AreRising, set_rising, none_by_ask}
+use Rattle.wx_action.specs.HeldJobs.{AreRising}
+use Rattle.wx_action.specs.JobLaws.{set_rising, none_by_ask, turns_over}
 use Rattle.wx_action.specs.Stands.{Stands, Ready, HeldStands, held_id, is_living}
 use Rattle.wx_action.proofs.StandsLemmas.{stands_quiet, ready_over, same_held}
 use Rattle.wx_action.proofs.PlanLemmas.{jobs_stand, Changes, jobs_change, still_led}
@@ -128,7 +129,7 @@ made_by s w w' held rests more p f ready fields items =
       ready = record { run = run; stands = rw fields stood };
       follows = λ world hooks p₀ world₀ hooks₀ l. Then (Made f.id) p world hooks l due;
       apart = λ p₀ a. More (Made f.id) p a (own_of_run s p ready.run) refl;
-      turns = λ p₀ t. record { count = t.count; fault = t.fault; now = t.now; rise = t.rise; told = t.told };
+      turns = turns_over _ _ refl;
       owes = record { acts = f.acts; is_todo = f.is_todo; commanded = commanded_same p (Made f.id ∷ p) f.acts (λ i. refl) f.later; due = ap (λ (a : Agenda). rest (Made f.id) a) f.due };
     }
 
@@ -162,7 +163,7 @@ ignored_one s w id ask done rests more p p' owes ready none grown =
       ready = ready_over s w (Said Ignored) p tt tt due ready;
       follows = λ world hooks p₀ world₀ hooks₀ l. Then (Said Ignored) p world hooks l due;
       apart = λ p₀ a. More (Said Ignored) p a (own_of_run s p ready.run) refl;
-      turns = λ p₀ t. record { count = t.count; fault = t.fault; now = t.now; rise = t.rise; told = t.told };
+      turns = turns_over _ _ refl;
       owes = record { acts = f.acts; is_todo = f.is_todo; commanded = commanded_same p (Said Ignored ∷ p) f.acts (λ i. refl) f.commanded; due = ap (λ (a : Agenda). rest (Said Ignored) a) owed };
     })
 
@@ -206,7 +207,7 @@ asked_one s w w' n h h' id (One control) done rests more p p' owes ready at fiel
       ready = record { run = (due, ready.run); stands = stands };
       follows = λ world hooks p₀ world₀ hooks₀ l. Then (Asked (ticket_count p) id (sends_of (One control)).level control) p world hooks l due;
       apart = λ p₀ a. More (Asked (ticket_count p) id (sends_of (One control)).level control) p a (own_of_run s p ready.run) refl;
-      turns = λ p₀ t. record { count = t.count; fault = t.fault; now = t.now; rise = t.rise; told = t.told };
+      turns = turns_over _ _ refl;
       owes = record { acts = f.acts; is_todo = f.is_todo; commanded = commanded_same p (Asked (ticket_count p) id (sends_of (One control)).level control ∷ p) f.acts (λ i. refl) f.commanded; due = ap (λ (a : Agenda). rest (Asked (ticket_count p) id (sends_of (One control)).level control) a) owed };
     })
 

@@ -1,7 +1,8 @@
 -- A plan of jobs is followed.
-use Rattle.std.proofs.Common.{◌≡◌, ◌≢◌, ℕ, ◌<◌, Bool, true, false, cond, List, [], ◌∷◌, length, get_or, set as put, arith, refl, ap, sym, subst, ◌∙◌}
+use Rattle.std.proofs.Common.{◌≡◌, ◌≢◌, ℕ, ◌<◌, List, [], ◌∷◌, length, get_or, set as put, arith, refl, ap, sym, subst, ◌∙◌}
 use Rattle.std.specs.Prelude.{Option, map}
 use Rattle.std.specs.List.{AllByRecursion}
+use Rattle.wx_words.specs.EachLaws.{each_weaker}
 use Rattle.wx_control.specs.declared.id.Id.{Id}
 use Rattle.wx_journal.specs.declared.entry.Entry.{Entry}
 use Rattle.wx_journal.specs.declared.entry.Entry.TheVariants.{Begin, Sent, Turn as Turned, TurnFault, Offer, Take, Hand, Made, Spawn, Kill, Wait}
@@ -11,6 +12,7 @@ use Rattle.wx_job.specs.Case.{Admits as Lets, is_fault, next, Leads as LeadsOn, 
 use Rattle.wx_job.specs.Laws.{LeavesOthers}
 use Rattle.wx_job.specs.Stands.{Stands as TaskStands, SameJob}
 use Rattle.wx_job.proofs.Frame.{same_history}
+use Rattle.wx_job.proofs.Owners.{either}
 use Rattle.wx_action.specs.declared.state.Held.{Held}
 use Rattle.wx_action.specs.declared.state.Worker.{Worker}
 use Rattle.wx_action.specs.Start.{Start}
@@ -19,7 +21,8 @@ use Rattle.wx_action.specs.Due.{Agenda, agenda, plans, IsRun}
 use Rattle.wx_action.specs.Leads.{Follows, StaysApart}
 use Rattle.wx_action.specs.Turns.{StaysInTurn}
 use Rattle.wx_action.specs.RunLaws.{own_of_run}
-use Rattle.wx_action.specs.JobLaws.{AreRising, set_rising, MakesNone, plans_lead}
+use Rattle.wx_action.specs.HeldJobs.{AreRising}
+use Rattle.wx_action.specs.JobLaws.{set_rising, MakesNone, plans_lead}
 use Rattle.wx_action.specs.Stands.{Stands, Ready, HeldStands, held_id}
 use Rattle.wx_action.proofs.StandsLemmas.{Quiet, quiet, quiet_then, stands_quiet, same_held, ids_put, tasks_put, held_at, AreApart}
 
@@ -48,16 +51,12 @@ quiet_entry (Hand n names acts) p h = absurd h
 quiet_entry (Made job) p h = absurd h
 quiet_entry (_) p h = record { bag_same = refl; count_same = refl; window_same = refl; lookup_same = refl; first_same = refl; set_same = refl; commands_same = λ i. refl }
 
-one_of : (b : Bool) (k f : Plan) → MakesNone k → MakesNone f → MakesNone (cond b k f)
-one_of true k f h g = h
-one_of false k f h g = g
-
 entered : (p : List Entry) (k : Plan) (e : Entry) → Lets p k e → MakesNone k → IsOfJob e × MakesNone (next k e)
 entered p Done e d h = absurd d
 entered p (Picks id ticket k) e d h = rw d (tt, h)
-entered p (Spawns id tag what k f) e d h = rw d.1 (tt, one_of (is_fault (Spawn (child_count p) id tag what d.0)) f k h.1 h.0)
-entered p (Kills c k f) e d h = rw d.1 (tt, one_of (is_fault (Kill c d.0)) f k h.1 h.0)
-entered p (Waits c k f) e d h = rw d.1 (tt, one_of (is_fault (Wait c d.0)) f k h.1 h.0)
+entered p (Spawns id tag what k f) e d h = rw d.1 (tt, either MakesNone (is_fault (Spawn (child_count p) id tag what d.0)) f k h.1 h.0)
+entered p (Kills c k f) e d h = rw d.1 (tt, either MakesNone (is_fault (Kill c d.0)) f k h.1 h.0)
+entered p (Waits c k f) e d h = rw d.1 (tt, either MakesNone (is_fault (Wait c d.0)) f k h.1 h.0)
 entered p (Drops c k) e d h = rw d (tt, h)
 entered p (Raises ticket k) e d h = rw d (tt, h)
 entered p (Goes id k) e d h = rw d (tt, h)
@@ -92,8 +91,7 @@ pub record JobsStand (p : List Entry) (hs : List Held) : Type 0 where
   pub ids_apart : AreApart (map held_id hs)
 
 apart_all : (id : Id) (ids : List Id) → AllByRecursion (λ job. id.0 < job.0) ids → AllByRecursion (λ job. job ≢ id) ids
-apart_all id [] h = tt
-apart_all id (x ∷ ids) h = (λ e. (let same : x.0 ≡ id.0 = ap (λ (j : Id). j.0) e in absurd (omega (arith, h.0))), apart_all id ids h.1)
+apart_all id ids h = each_weaker (λ job. id.0 < job.0) (λ job. job ≢ id) (λ job lt e. let same : job.0 ≡ id.0 = ap (λ (j : Id). j.0) e in absurd (omega (arith, lt))) ids h
 
 apart_rising : (ids : List Id) → AreRising ids → AreApart ids
 apart_rising [] r = tt

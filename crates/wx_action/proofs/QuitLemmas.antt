@@ -1,9 +1,8 @@
 -- The last act.
 use Rattle.std.proofs.Common.{◌≡◌, suc, ◌-◌, Bool, false, List, [], ◌∷◌, length, slice_get, refl, ap, ◌∙◌, arith}
-use Rattle.std.specs.Prelude.{Option, None, Some, ◌||◌}
-use Rattle.std.specs.List.{list_any}
+use Rattle.std.specs.Prelude.{Option, None, Some}
 use Rattle.wx_journal.specs.declared.entry.Act.{Act}
-use Rattle.wx_action.specs.Due.{is_quit, has_quit}
+use Rattle.wx_action.specs.Due.{is_quit}
 use Rattle.wx_action.specs.Handled.{ends_with_quit}
 
 is_quit_at : Option Act → Bool
@@ -20,8 +19,3 @@ quit_at_end (act ∷ next ∷ acts) = let e : length (act ∷ next ∷ acts) - 1
 pub at_end : (acts : List Act) (act : Act) → Some act ≡ slice_get acts (length acts - 1) → is_quit act ≡ ends_with_quit acts
 unfolding is_quit_at
 at_end acts act is = ap is_quit_at is ∙ quit_at_end acts
-
--- the acts ask for the end where one of them is a quit
-pub any_quits : (acts : List Act) → list_any is_quit acts ≡ has_quit acts
-any_quits [] = refl
-any_quits (act ∷ acts) = ap (λ (b : Bool). is_quit act || b) (any_quits acts)

@@ -16,7 +16,7 @@ use Rattle.wx_journal.specs.declared.entry.Offered.TheVariants.{Queued, Full}
 use Rattle.wx_journal.specs.declared.entry.Act.{Act}
 use Rattle.wx_journal.specs.Names.{event_count}
 use Rattle.wx_job.specs.History.{child, SameHistory}
-use Rattle.wx_job.proofs.Turns.{stands_history}
+use Rattle.wx_job.proofs.StandsLemmas.{stands_history}
 use Rattle.wx_action.specs.declared.state.Held.{Held}
 use Rattle.wx_action.specs.declared.state.Worker.{Worker}
 use Rattle.wx_action.specs.Start.{Start}

@@ -24,6 +24,7 @@ use Rattle.wx_action.specs.Leads.{Then, More}
 use Rattle.wx_action.specs.Stands.{Stands, Ready, Collects}
 use Rattle.wx_action.specs.BagLaws.{is_taken}
 use Rattle.wx_action.specs.RunLaws.{own_of_run}
+use Rattle.wx_action.specs.JobLaws.{turns_over}
 use Rattle.wx_action.proofs.ArriveLemmas.{Steps, said_done}
 use Rattle.wx_action.proofs.StandsLemmas.{events-append, tasks_same, over_none}
 
@@ -74,7 +75,7 @@ take_done s w p p' at start x queue batch found ready due now takes most size cl
         };
         follows = λ world hooks p₀ world₀ hooks₀ l. Then (Take x.0.name) p world hooks l d;
         apart = λ p₀ a. More _ p a own refl;
-        turns = λ p₀ t. record { count = t.count; fault = t.fault; now = t.now; rise = t.rise; told = t.told };
+        turns = turns_over _ _ refl;
       });
       collected = rw is_found (collects_take s p p' x.0.name _ grown (ap (agenda s) grown ∙ after));
     }

@@ -20,7 +20,7 @@ pub data Dying (q : List Entry) : List Entry → Type 0 where
   Alive : Dying q q
   Dies : (e : Entry) (p : List Entry) → Dying q p → Follows p (end p) e → Dying q (e ∷ p)
 
--- a run that was broken off, and then its end
+-- a run that stopped anywhere, also at its end, and then the end of its jobs
 pub record IsBroken (s : Start) (p : List Entry) : Type 0 where
   pub before : List Entry
   pub run : IsRun s before

@@ -1,7 +1,8 @@
 -- In a run an item of the bag is found by its name, and the journal lists it.
-use Rattle.std.proofs.Common.{◌≡◌, ℕ, zero, suc, ◌+◌, ◌≤◌, ◌<◌, Bool, true, false, cond, List, [], ◌∷◌, ◌++◌, slice_get, arith, refl, ap, sym, subst, ◌∙◌, eq-eqb, ne_eqb}
+use Rattle.std.proofs.Common.{◌≡◌, ℕ, zero, suc, ◌+◌, ◌≤◌, ◌<◌, Bool, false, cond, List, [], ◌∷◌, ◌++◌, slice_get, arith, refl, ap, sym, subst, ◌∙◌, eq-eqb, ne_eqb}
 use Rattle.std.specs.Prelude.{Option, Some, remove, ◌==◌}
 use Rattle.std.specs.List.{AllByRecursion}
+use Rattle.wx_words.specs.EachLaws.{each_append, each_weaker, each_at}
 use Rattle.wx_events.specs.declared.event.Event.{Event}
 use Rattle.wx_events.specs.declared.priority.Priority.{Priority}
 use Rattle.prio_channel.specs.Channel.{AllAtMost}
@@ -12,6 +13,7 @@ use Rattle.wx_journal.specs.declared.entry.Entry.TheVariants.{Sent, Offer, Take,
 use Rattle.wx_journal.specs.declared.entry.Offered.TheVariants.{Queued, Full}
 use Rattle.wx_journal.specs.declared.entry.Named.{Named}
 use Rattle.wx_journal.specs.Names.{event_count, NamesItsOwn}
+use Rattle.wx_job.proofs.Owners.{either}
 use Rattle.wx_action.specs.Journal.{listed, named, without, bag, is_urgent_named, is_urgent_in}
 use Rattle.wx_action.specs.Due.{IsGreatest}
 
@@ -34,29 +36,19 @@ abbrev pub AreListed : (ℕ → Option (Event × Priority)) → List Item → Ty
 AreListed look xs = AllByRecursion (λ x. look x.0.name ≡ Some (x.0.event, x.1)) xs
 
 below-rise : (m n : ℕ) (xs : List Item) → m ≤ n → AreBelow m xs → AreBelow n xs
-below-rise m n [] le h = tt
-below-rise m n (x ∷ xs) le h = (omega arith, below-rise m n xs le h.1)
-
-all-append : {X : Type 0} (P : X → Type 0) (xs : List X) (x : X) → AllByRecursion P xs → P x → AllByRecursion P (xs ++ x ∷ [])
-all-append P [] x h p = (p, tt)
-all-append P (y ∷ xs) x h p = (h.0, all-append P xs x h.1 p)
+below-rise m n xs le h = each_weaker (λ x. x.0.name < m) (λ x. x.0.name < n) (λ x lt. omega (arith, lt, le)) xs h
 
 rising-append : (xs : List Item) (x : Item) → AreBelow x.0.name xs → AreRising xs → AreRising (xs ++ x ∷ [])
 rising-append [] x b r = (tt, tt)
-rising-append (y ∷ xs) x b r = (all-append (λ z. y.0.name < z.0.name) xs x r.0 b.0, rising-append xs x b.1 r.1)
-
--- what holds of each item of a list holds of what a choice of two lists gives
-choose : (P : List Item → Type 0) (b : Bool) (xs ys : List Item) → P xs → P ys → P (cond b xs ys)
-choose P true xs ys p q = p
-choose P false xs ys p q = q
+rising-append (y ∷ xs) x b r = (each_append (λ z. y.0.name < z.0.name) xs (x ∷ []) r.0 (b.0, tt), rising-append xs x b.1 r.1)
 
 all-without : (P : Item → Type 0) (name : ℕ) (xs : List Item) → AllByRecursion P xs → AllByRecursion P (without name xs)
 all-without P name [] h = tt
-all-without P name (x ∷ xs) h = choose (AllByRecursion P) (x.0.name == name) xs (x ∷ without name xs) h.1 (h.0, all-without P name xs h.1)
+all-without P name (x ∷ xs) h = either (AllByRecursion P) (x.0.name == name) xs (x ∷ without name xs) h.1 (h.0, all-without P name xs h.1)
 
 rising-without : (name : ℕ) (xs : List Item) → AreRising xs → AreRising (without name xs)
 rising-without name [] r = tt
-rising-without name (x ∷ xs) r = choose AreRising (x.0.name == name) xs (x ∷ without name xs) r.1 (all-without (λ z. x.0.name < z.0.name) name xs r.0, rising-without name xs r.1)
+rising-without name (x ∷ xs) r = either AreRising (x.0.name == name) xs (x ∷ without name xs) r.1 (all-without (λ z. x.0.name < z.0.name) name xs r.0, rising-without name xs r.1)
 
 -- an event that is listed under a new name leaves what is listed under the names below
 not-new : (m n : ℕ) → n < m → (m == n) ≡ false
@@ -97,8 +89,8 @@ with_item : (xs : List Item) (look : ℕ → Option (Event × Priority)) (m : �
 with_item xs look m event priority r b l =
     let x : Item = (record { name = m; event = event }, priority) in (
       rising-append xs x b r,
-      all-append (λ z. z.0.name < m + 1) xs x (below-rise m (m + 1) xs (omega arith) b) (omega arith),
-      all-append (λ z. cond (m == z.0.name) (Some (event, priority)) (look z.0.name) ≡ Some (z.0.event, z.1)) xs x (listed-rise m (Some (event, priority)) look xs b l) (listed-new m (Some (event, priority)) look),
+      each_append (λ z. z.0.name < m + 1) xs (x ∷ []) (below-rise m (m + 1) xs (omega arith) b) (omega arith, tt),
+      each_append (λ z. cond (m == z.0.name) (Some (event, priority)) (look z.0.name) ≡ Some (z.0.event, z.1)) xs (x ∷ []) (listed-rise m (Some (event, priority)) look xs b l) (listed-new m (Some (event, priority)) look, tt),
     )
 
 pub bag_facts : (p : List Entry) → NamesItsOwn p → BagFacts p
@@ -146,11 +138,6 @@ without-at [] i x r e = cc
 without-at (y ∷ ys) zero x r e = let same : y ≡ x = cc in rw (same, eq-eqb x.0.name x.0.name refl) refl
 without-at (y ∷ ys) (suc i) x r e = rw (older y.0.name x.0.name (above-at y.0.name ys i x r.0 e)) (ap (λ zs. y ∷ zs) (without-at ys i x r.1 e))
 
-all-at : {X : Type 0} (P : X → Type 0) (xs : List X) (i : ℕ) (x : X) → AllByRecursion P xs → slice_get xs i ≡ Some x → P x
-all-at P [] i x h e = cc
-all-at P (y ∷ ys) zero x h e = let same : y ≡ x = cc in subst P same h.0
-all-at P (y ∷ ys) (suc i) x h e = all-at P ys i x h.1 e
-
 -- what is known of an item that a queue gave, where the queue is the bag
 pub record IsTaken (p : List Entry) (x : Item) (rest : List Item) : Type 0 where
   pub is_named : named x.0.name (bag p) ≡ Some x
@@ -165,12 +152,12 @@ is_taken p queue rest x own same takes most =
     let facts = bag_facts p own in
     let there = take-bag queue (bag p) takes.0 x same takes.1 in
     let found : named x.0.name (bag p) ≡ Some x = named-at (bag p) there.0 x facts.rising there.1 in
-    let is_listed : listed x.0.name p ≡ Some (x.0.event, x.1) = all-at (λ z. listed z.0.name p ≡ Some (z.0.event, z.1)) (bag p) there.0 x facts.are_listed there.1 in
+    let is_listed : listed x.0.name p ≡ Some (x.0.event, x.1) = each_at (λ z. listed z.0.name p ≡ Some (z.0.event, z.1)) (bag p) there.0 x facts.are_listed there.1 in
     record {
       is_named = found;
       is_rest = rw (without-at (bag p) there.0 x facts.rising there.1) (same-trans rest (remove queue takes.0) (remove (bag p) there.0) takes.2 there.2);
       is_greatest = rw found (all-same _ queue (bag p) same most);
       is_listed = is_listed;
-      is_below = all-at (λ z. z.0.name < event_count p) (bag p) there.0 x facts.below there.1;
+      is_below = each_at (λ z. z.0.name < event_count p) (bag p) there.0 x facts.below there.1;
       urgency = ap is_urgent_in is_listed;
     }

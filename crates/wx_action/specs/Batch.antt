@@ -3,7 +3,7 @@ use Rattle.std.specs.Prelude.{◌≡◌, ℕ, ◌<◌, ◌≤◌, List, [], leng
 use Rattle.wx_events.specs.declared.event.Event.{Event}
 use Rattle.wx_journal.specs.declared.entry.Act.{Act}
 
--- their names and events, and for how many more there is room
+-- their names and events, and for how many more there is room, capped by the room for acts
 pub record Waiting : Type 0 where
   pub names : List ℕ
   pub events : List Event

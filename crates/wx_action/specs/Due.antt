@@ -1,6 +1,7 @@
 -- The written machine: which entries may come next.
 use Rattle.std.specs.Prelude.{◌≡◌, ℕ, Bool, true, false, ◌||◌, ◌==◌, if◌then◌else◌, Option, None, Some, List, [], ◌∷◌, length}
 use Rattle.std.specs.Option.{IsSomeAnd}
+use Rattle.std.specs.List.{list_any}
 use Rattle.wx_events.specs.declared.event.Event.{Event}
 use Rattle.wx_events.specs.declared.priority.Priority.{Priority}
 use Rattle.prio_channel.specs.Channel.{AllAtMost}
@@ -99,12 +100,14 @@ is_quit Quit = true
 
 -- these acts ask for the end
 abbrev pub has_quit : List Act → Bool
-has_quit [] = false
-has_quit (act ∷ acts) = is_quit act || has_quit acts
+has_quit acts = list_any is_quit acts
 
--- what the acts of a batch ask for, and then the end where they ask for it
+-- what comes after the acts of a batch: the end, where they ask for it
+abbrev pub after_acts : Bool → Agenda
+after_acts ends = if ends then Ends else Open
+
 abbrev pub after_hand : List Act → List Entry → Agenda
-after_hand acts p = plans (act_plan (λ id. lives id p) acts) (if has_quit acts then Ends else Open)
+after_hand acts p = plans (act_plan (λ id. lives id p) acts) (after_acts (has_quit acts))
 
 abbrev pub agenda : Start → List Entry → Agenda
 agenda s [] = Begins

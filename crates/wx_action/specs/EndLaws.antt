@@ -2,6 +2,7 @@
 use Rattle.std.proofs.Common.{◌≡◌, ℕ, Bool, true, false, cond, List, [], ◌∷◌, ◌++◌, Result, Ok, inl, refl, ap, sym, subst, ◌∙◌, eq-eqb}
 use Rattle.std.specs.Prelude.{Option, None, Some, ◌||◌, ◌&&◌, not}
 use Rattle.std.specs.List.{AllByRecursion, filter}
+use Rattle.std.proofs.lemmas.Bool.{and_right}
 use Rattle.wx_command.specs.declared.spawnable.Spawnable.{Spawnable}
 use Rattle.wx_control.specs.declared.id.Id.{Id}
 use Rattle.wx_journal.specs.declared.child.SpawnTag.{SpawnTag}
@@ -24,7 +25,7 @@ use Rattle.wx_action.specs.Leads.{Follows as LeadsOn, Then, StaysApart, More}
 use Rattle.wx_action.specs.Turns.{SameTurns, StaysInTurn}
 use Rattle.wx_action.specs.PlanLaws.{IsOfPlan, IsLiving, enter, names_end}
 use Rattle.wx_action.specs.RunLaws.{IsFit, orderly}
-use Rattle.wx_action.specs.JobLaws.{IsIn, of_filter, in_jobs, agenda_plan, turns_plan}
+use Rattle.wx_action.specs.JobLaws.{IsIn, of_filter, in_jobs, agenda_plan, turns_plan, same_turns}
 
 -- the entries of an end
 abbrev pub IsOfEnd : Entry → Type 0
@@ -64,10 +65,6 @@ pub record KeepsAll (s : Start) (q p : List Entry) : Type 0 where
   pub commands : (id : Id) → command id p ≡ command id q
   pub gone : (id : Id) → lives id q ≡ false → lives id p ≡ false
 
-and_false : (a b : Bool) → b ≡ false → (a && b) ≡ false
-and_false true b e = e
-and_false false b e = refl
-
 keeps_one : (s : Start) (p : List Entry) (e : Entry) → IsOfEnd e → (NamesItsOwn p → NamesItsOwn (e ∷ p)) → KeepsAll s p (e ∷ p)
 keeps_one s p (Dropped c) o own = record {
   batched = λ h. h;
@@ -91,7 +88,7 @@ keeps_one s p (Gone job) o own = record {
   apart = λ mine p₀ a. More (Gone job) p a mine refl;
   same_set = refl;
   commands = λ id. refl;
-  gone = λ id h. and_false (not (same job id)) (lives id p) h;
+  gone = λ id h. and_right (not (same job id)) (lives id p) h;
 }
 keeps_one s p (_) o own = absurd o
 
@@ -117,7 +114,7 @@ dying_keeps s q p l = elim l as (λ p _. KeepsAll s q p) [
 
 -- the turns are those before the end
 pub dying_turns : (s : Start) (q p : List Entry) → Dying q p → SameTurns q p
-dying_turns s q p l = (dying_keeps s q p l).turns q (record { count = refl; fault = refl; now = refl; rise = λ h. h; told = λ before. refl })
+dying_turns s q p l = (dying_keeps s q p l).turns q (same_turns q)
 
 -- ---- the end of a run that was not broken off
 

@@ -1,35 +1,26 @@
 -- What counts the faults of calls on children.
-use Rattle.std.proofs.Common.{◌≡◌, ◌⊎◌, inl, inr, ℕ, zero, suc, ◌+◌, ◌≤◌, ◌<◌, Bool, true, false, cond, List, [], ◌∷◌, Option, None, Some, length, refl, arith, ap}
+use Rattle.std.proofs.Common.{◌≡◌, ℕ, ◌+◌, ◌≤◌, Bool, true, false, cond, List, [], ◌∷◌, Option, None, Some, length, refl, arith, ap}
 use Rattle.wx_journal.specs.declared.entry.Entry.{Entry}
 use Rattle.wx_journal.specs.declared.entry.Entry.TheVariants.{Spawn, Kill, Wait, Dropped, Gone}
-use Rattle.wx_journal.specs.Told.{Rose, tell_if, is_world}
+use Rattle.wx_journal.specs.Told.{tell_if, is_world}
 use Rattle.wx_job.specs.Case.{is_fault}
+use Rattle.wx_job.specs.Faults.{fault_count, Counted, CountsOn}
 use Rattle.wx_action.specs.Start.{Start}
 use Rattle.wx_action.specs.Leads.{Leads, Here, Then, FollowsHooks, FollowsAlone}
 use Rattle.wx_action.specs.Answer.{Dying, Alive, Dies}
 use Rattle.wx_action.specs.EndLaws.{IsOfEnd, of_end}
-use Rattle.wx_action.specs.Faults.{fault_count, Counted, CountsOn}
-
-less_or_not : (a b : ℕ) → (a < b) ⊎ (b ≤ a)
-less_or_not a zero = inr (omega arith)
-less_or_not zero (suc b) = inl (omega arith)
-less_or_not (suc a) (suc b) = more (less_or_not a b)
-  where
-    more : (a < b) ⊎ (b ≤ a) → (suc a < suc b) ⊎ (suc b ≤ suc a)
-    more (inl lt) = inl (omega (arith, lt))
-    more (inr le) = inr (omega (arith, le))
 
 -- a step from one count to the next
-pub counts_on : (p p' : List Entry) (n n' : ℕ) → n ≤ n' → (fault_count p < fault_count p' → Rose n n') → CountsOn p n p' n'
-counts_on p p' n n' later rose p₀ n₀ before = record { later = omega (arith, later, before.later); rose = λ lt. by_first (less_or_not (fault_count p₀) (fault_count p)) lt }
-  where
-    by_first : (fault_count p₀ < fault_count p) ⊎ (fault_count p ≤ fault_count p₀) → fault_count p₀ < fault_count p' → Rose n₀ n'
-    by_first (inl first) lt = let r = before.rose first in omega (arith, r, later)
-    by_first (inr le) lt = let r = rose (omega (arith, le, lt)) in omega (arith, r, before.later)
+pub counts_on : (p p' : List Entry) (n n' : ℕ) → Counted p n p' n' → CountsOn p n p' n'
+counts_on p p' n n' c p₀ n₀ before = record { later = omega (arith, c.later, before.later); rose = omega (arith, c.later, c.rose, before.later, before.rose) }
+
+-- where no call failed
+calm_counts : (p p' : List Entry) (n n' : ℕ) → n ≤ n' → fault_count p' ≤ fault_count p → CountsOn p n p' n'
+calm_counts p p' n n' later few = counts_on p p' n n' (record { later = later; rose = omega (arith, later, few) })
 
 -- an entry that holds no fault is no fault more
 pub counts_entry : (e : Entry) (p : List Entry) (n n' : ℕ) → is_fault e ≡ false → n ≤ n' → CountsOn p n (e ∷ p) n'
-counts_entry e p n n' calm later = counts_on p (e ∷ p) n n' later (λ lt. let same : fault_count (e ∷ p) ≡ fault_count p = rw calm refl in absurd (omega (arith, lt, same)))
+counts_entry e p n n' calm later = calm_counts p (e ∷ p) n n' later (let same : fault_count (e ∷ p) ≡ fault_count p = rw calm refl in omega (arith, same))
 
 -- each fault was told to the world
 no_fault : (e : Entry) → is_world e ≡ false → is_fault e ≡ false
@@ -62,8 +53,8 @@ no_more n n' told = let none : told.more ≡ [] = cc told.is_told in let length_
 -- a call that the world isn't told of adds no fault
 pub counts_hooks : (s : Start) (p p' : List Entry) (hooks hooks' : Option (List Entry)) (n n' : ℕ) → FollowsHooks s p hooks p' hooks' → n ≤ n' → CountsOn p n p' n'
 counts_hooks s p p' hooks hooks' n n' follows later =
-    let few = no_more _ _ (leads_told s p hooks p' (Some []) hooks' (follows (Some []) p (Some []) hooks Here)) in
-    counts_on p p' n n' later (λ lt. absurd (omega (arith, lt, few)))
+    let few : fault_count p' ≤ fault_count p = no_more _ _ (leads_told s p hooks p' (Some []) hooks' (follows (Some []) p (Some []) hooks Here)) in
+    calm_counts p p' n n' later few
 
 pub counts_alone : (s : Start) (p p' : List Entry) (n n' : ℕ) → FollowsAlone s p p' → n ≤ n' → CountsOn p n p' n'
 counts_alone s p p' n n' follows later = counts_hooks s p p' None None n n' (λ world. follows world None) later
@@ -79,8 +70,8 @@ dying_calm q _ Alive = refl
 dying_calm q _ (Dies e p so_far due) = let calm = calm_end e (of_end p e due) in rw calm (dying_calm q p so_far)
 
 pub counts_end : (p p' : List Entry) (n n' : ℕ) → Dying p p' → n ≤ n' → CountsOn p n p' n'
-counts_end p p' n n' dying later = counts_on p p' n n' later (λ lt. absurd (omega (arith, lt, dying_calm p p' dying)))
+counts_end p p' n n' dying later = calm_counts p p' n n' later (omega (arith, dying_calm p p' dying))
 
 -- what was counted from the first journal and count
 pub counted_from : (p : List Entry) (n : ℕ) (p' : List Entry) (n' : ℕ) → CountsOn p n p' n' → Counted p n p' n'
-counted_from p n p' n' on = on p n (record { later = omega arith; rose = λ lt. absurd (omega (arith, lt)) })
+counted_from p n p' n' on = on p n (record { later = omega arith; rose = omega arith })

@@ -1,5 +1,5 @@
 -- What contracts see of the handler that is lent to an action.
-use Rattle.std.specs.Prelude.{◌≡◌, ℕ, ◌+◌, Bool, false, Option, Some, if◌then◌else◌, List, [], ◌∷◌, ◌++◌}
+use Rattle.std.specs.Prelude.{◌≡◌, ℕ, ◌+◌, Bool, Option, Some, if◌then◌else◌, List, [], ◌∷◌, ◌++◌}
 use Rattle.wx_events.specs.declared.event.Event.{Event}
 use Rattle.wx_events.specs.declared.priority.Priority.{Priority}
 use Rattle.wx_journal.specs.declared.entry.Entry.{Entry}
@@ -9,6 +9,7 @@ use Rattle.wx_control.specs.declared.id.Id.{Id}
 use Rattle.wx_control.specs.declared.ask.Ask.{Ask}
 use Rattle.wx_action.specs.Journal.{listed}
 use Rattle.wx_action.specs.Due.{is_quit}
+use Rattle.wx_action.specs.Last.{last_is}
 
 -- the journal so far, the names and the events of the batch, the acts so far, and whether they were handed
 pub record Handled : Type 0 where
@@ -20,9 +21,7 @@ pub record Handled : Type 0 where
 
 -- whether the last of these acts is a quit
 abbrev pub ends_with_quit : List Act → Bool
-ends_with_quit [] = false
-ends_with_quit (act ∷ []) = is_quit act
-ends_with_quit (act ∷ next ∷ acts) = ends_with_quit (next ∷ acts)
+ends_with_quit acts = last_is is_quit acts
 
 -- the acts with a quit behind them: one that stands last already is not repeated
 abbrev pub with_quit : List Act → List Act

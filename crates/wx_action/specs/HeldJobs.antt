@@ -1,9 +1,10 @@
 -- The jobs that an action sees.
-use Rattle.std.specs.Prelude.{◌≡◌, Bool, false, is_some, Option, None, Some, List, map}
+use Rattle.std.specs.Prelude.{◌≡◌, ℕ, ◌<◌, Bool, false, is_some, Option, None, Some, List, [], ◌∷◌, map}
 use Rattle.std.specs.List.{find, AllByRecursion}
 use Rattle.wx_control.specs.declared.id.Id.{Id}
 use Rattle.wx_control.specs.declared.job.Job.{Job}
 use Rattle.wx_journal.specs.declared.entry.Entry.{Entry}
+use Rattle.wx_journal.specs.Names.{job_count}
 use Rattle.wx_job.specs.History.{same, child}
 use Rattle.wx_job.specs.Stands.{running_of}
 use Rattle.wx_action.specs.declared.state.Held.{Held}
@@ -14,9 +15,18 @@ pub record IsHandle (p : List Entry) (id : Id) (job : Job) : Type 0 where
   pub names : job.id ≡ id
   pub runs : command id p ≡ Some job.command
 
+-- ids that rise, and ids below a number
+abbrev pub AreRising : List Id → Type 0
+AreRising [] = Unit {0}
+AreRising (id ∷ ids) = AllByRecursion (λ job. id.0 < job.0) ids × AreRising ids
+
+abbrev pub AreBelow : ℕ → List Id → Type 0
+AreBelow n ids = AllByRecursion (λ id. id.0 < n) ids
+
 -- these are all jobs that a handler sees, by rising id, each with a handle
 pub record AreSeen (p : List Entry) (jobs : List (Id × Job)) : Type 0 where
   pub ids : map (λ job. job.0) jobs ≡ set p
+  pub rising : AreRising (set p)
   pub handles : AllByRecursion (λ job. IsHandle p job.0 job.1) jobs
 
 -- ---- what is held of them
@@ -34,7 +44,9 @@ abbrev pub runs : Option Held → Bool
 runs None = false
 runs (Some h) = is_some (running_of h.task)
 
--- what is held is of the jobs that a handler sees, and says whether the child of each job runs
+-- What is held is of the jobs that a handler sees, and says whether the child of each job runs. Their ids were given
+-- before.
 pub record AreShown (p : List Entry) (held : List Held) : Type 0 where
   pub seen : AreSeen p (handles held)
+  pub below : AreBelow (job_count p) (set p)
   pub running : (id : Id) → runs (find (is_of id) held) ≡ is_some (child id p)

@@ -1,8 +1,10 @@
 -- The jobs of a run: their names, their commands, their children, and the plans that are followed for them.
 use Rattle.std.proofs.Common.{◌≡◌, ℕ, ◌+◌, ◌≤◌, ◌<◌, Bool, true, false, cond, List, [], ◌∷◌, ◌++◌, inl, inr, arith, refl, ap, sym, subst, ◌∙◌, eq-eqb, ne_eqb}
-use Rattle.std.specs.Prelude.{Option, None, Some, ◌||◌, ◌&&◌, not, ◌⊎◌}
+use Rattle.std.specs.Prelude.{Option, None, Some, ◌||◌, not, ◌⊎◌}
 use Rattle.std.specs.List.{AllByRecursion, filter}
-use Rattle.std.proofs.lemmas.Bool.{eqb-true}
+use Rattle.std.proofs.lemmas.Bool.{eqb-true, and_parts, or_right}
+use Rattle.wx_words.specs.EachLaws.{each_append, each_weaker, each_filter}
+use Rattle.wx_words.specs.OptionLaws.{neither}
 use Rattle.wx_command.specs.declared.command.Command.{Command}
 use Rattle.wx_control.specs.declared.id.Id.{Id}
 use Rattle.wx_control.specs.declared.ask.Ask.{Ask}
@@ -12,7 +14,7 @@ use Rattle.wx_journal.specs.declared.entry.Act.TheVariants.{Create}
 use Rattle.wx_journal.specs.declared.entry.Entry.{Entry}
 use Rattle.wx_journal.specs.declared.entry.Entry.TheVariants.{Begin, Turn as Turned, TurnFault, Take, Hand, Made, Gone}
 use Rattle.wx_journal.specs.Names.{creates, is_created, job_count, NamesItsOwn}
-use Rattle.wx_journal.specs.Told.{tell_if, is_world, is_hooks}
+use Rattle.wx_journal.specs.Told.{tell_if, is_world, is_hooks, is_turn}
 use Rattle.wx_job.specs.History.{same, lives, child, is_child}
 use Rattle.wx_job.specs.Table.{Plan, Done, Picks, Spawns, Kills, Waits, Drops, Raises, Goes, Makes, Asks, Says, step_plan, ask_plan, end_plan}
 use Rattle.wx_job.specs.Case.{Admits as Follows, next, Leads as Led, Here, Then as OneMore}
@@ -20,6 +22,7 @@ use Rattle.wx_job.proofs.Owners.{same-is, child_owner}
 use Rattle.wx_job.proofs.Sound.{Sound, sound_step, sound_ask, sound_end}
 use Rattle.wx_action.specs.Start.{Start}
 use Rattle.wx_action.specs.Jobs.{set, jobs, creation, or_else, command, parent_among, parent, AreLawful}
+use Rattle.wx_action.specs.HeldJobs.{AreRising, AreBelow}
 use Rattle.wx_action.specs.Due.{Agenda, plans, rest, agenda, Admits, Due, IsRun}
 use Rattle.wx_action.specs.Leads.{Follows as LeadsOn, Then, StaysApart, More}
 use Rattle.wx_action.specs.Turns.{SameTurns, StaysInTurn}
@@ -78,14 +81,10 @@ in_made : (id job : Id) (b : Bool) (p : List Entry) → same job id ≡ b → (l
 in_made id job true p is more e = in_last id (set p) job (same-is job id is)
 in_made id job false p is more e = in_front id (set p) (job ∷ []) (more e)
 
-and_right : (a b : Bool) → (a && b) ≡ true → b ≡ true
-and_right true b e = e
-and_right false b e = absurd cc
-
 pub in_set : (id : Id) (p : List Entry) → lives id p ≡ true → IsIn id (set p)
 in_set id [] e = absurd cc
 in_set id (Made job ∷ p) e = in_made id job (same job id) p refl (λ g. in_set id p g) e
-in_set id (Gone job ∷ p) e = in_set id p (and_right (not (same job id)) (lives id p) e)
+in_set id (Gone job ∷ p) e = in_set id p (and_parts (not (same job id)) (lives id p) e).1
 in_set id (Hand n names acts ∷ p) e = in_filter (λ job. lives job p) id (set p) (in_set id p e) e
 in_set id (_ ∷ p) e = in_set id p e
 
@@ -94,32 +93,12 @@ in_jobs id p e = in_filter (λ job. lives job p) id (set p) (in_set id p e) e
 
 -- ---- the names of the set rise, and are those of jobs that were made
 
-abbrev pub AreRising : List Id → Type 0
-AreRising [] = Unit {0}
-AreRising (id ∷ ids) = AllByRecursion (λ job. id.0 < job.0) ids × AreRising ids
-
-abbrev pub AreBelow : ℕ → List Id → Type 0
-AreBelow n ids = AllByRecursion (λ id. id.0 < n) ids
-
 below_rise : (n : ℕ) (ids : List Id) → AreBelow n ids → AreBelow (n + 1) ids
-below_rise n [] h = tt
-below_rise n (id ∷ ids) h = (omega arith, below_rise n ids h.1)
-
-all_last : (P : Id → Type 0) (ids : List Id) (id : Id) → AllByRecursion P ids → P id → AllByRecursion P (ids ++ id ∷ [])
-all_last P [] id h g = (g, tt)
-all_last P (x ∷ ids) id h g = (h.0, all_last P ids id h.1 g)
-
-all_kept : (P : Id → Type 0) (b : Bool) (x : Id) (xs : List Id) → P x → AllByRecursion P xs → AllByRecursion P (cond b (x ∷ xs) xs)
-all_kept P true x xs h g = (h, g)
-all_kept P false x xs h g = g
-
-pub all_filter : (P : Id → Type 0) (test : Id → Bool) (xs : List Id) → AllByRecursion P xs → AllByRecursion P (filter test xs)
-all_filter P test [] h = tt
-all_filter P test (x ∷ xs) h = all_kept P (test x) x (filter test xs) h.0 (all_filter P test xs h.1)
+below_rise n ids h = each_weaker (λ id. id.0 < n) (λ id. id.0 < n + 1) (λ id lt. omega (arith, lt)) ids h
 
 rising_last : (ids : List Id) (id : Id) → AreRising ids → AreBelow id.0 ids → AreRising (ids ++ id ∷ [])
 rising_last [] id r b = (tt, tt)
-rising_last (x ∷ ids) id r b = (all_last (λ job. x.0 < job.0) ids id r.0 b.0, rising_last ids id r.1 b.1)
+rising_last (x ∷ ids) id r b = (each_append (λ job. x.0 < job.0) ids (id ∷ []) r.0 (b.0, tt), rising_last ids id r.1 b.1)
 
 rising_kept : (b : Bool) (x : Id) (xs : List Id) → AllByRecursion (λ job. x.0 < job.0) xs → AreRising xs → AreRising (cond b (x ∷ xs) xs)
 rising_kept true x xs h r = (h, r)
@@ -127,7 +106,7 @@ rising_kept false x xs h r = r
 
 rising_filter : (test : Id → Bool) (xs : List Id) → AreRising xs → AreRising (filter test xs)
 rising_filter test [] r = tt
-rising_filter test (x ∷ xs) r = rising_kept (test x) x (filter test xs) (all_filter (λ job. x.0 < job.0) test xs r.0) (rising_filter test xs r.1)
+rising_filter test (x ∷ xs) r = rising_kept (test x) x (filter test xs) (each_filter (λ job. x.0 < job.0) test xs r.0) (rising_filter test xs r.1)
 
 pub record IsRising (p : List Entry) : Type 0 where
   pub rising : AreRising (set p)
@@ -138,12 +117,12 @@ made_rising [] made = record { rising = tt; below = tt }
 made_rising (Made id ∷ p) made =
     let h = made_rising p made.1 in record {
       rising = rising_last (set p) id h.rising (subst (λ n. AreBelow n (set p)) (sym made.0) h.below);
-      below = all_last (λ job. job.0 < job_count p + 1) (set p) id (below_rise (job_count p) (set p) h.below) (let is : id.0 ≡ job_count p = made.0 in omega arith);
+      below = each_append (λ job. job.0 < job_count p + 1) (set p) (id ∷ []) (below_rise (job_count p) (set p) h.below) ((let is : id.0 ≡ job_count p = made.0 in omega arith), tt);
     }
 made_rising (Hand n names acts ∷ p) made =
     let h = made_rising p made in record {
       rising = rising_filter (λ id. lives id p) (set p) h.rising;
-      below = all_filter (λ id. id.0 < job_count p) (λ id. lives id p) (set p) h.below;
+      below = each_filter (λ id. id.0 < job_count p) (λ id. lives id p) (set p) h.below;
     }
 made_rising (_ ∷ p) made = let h = made_rising p made in record { rising = h.rising; below = h.below }
 
@@ -161,10 +140,6 @@ pub command_kept : (s : Start) (p : List Entry) (n : ℕ) (names : List ℕ) (ac
 command_kept s p n names acts id r here =
     let lawful = (hand_of_run s p n names acts r).2 in
     ap (λ o. or_else o (command id p)) (creation_none (job_count p) id acts lawful (all_in (λ job. job.0 < job_count p) id (set p) (set_rising s p r.1).below here))
-
-or_right : (a b : Bool) → b ≡ true → (a || b) ≡ true
-or_right true b e = refl
-or_right false b e = e
 
 created_in : (id : Id) (p : List Entry) → NamesItsOwn p → IsIn id (set p) → is_created id p ≡ true
 created_in id [] own h = absurd h
@@ -206,7 +181,7 @@ created_command id (_ ∷ p) e = created_command id p e
 
 -- ---- the job whose child it is
 
-is_child_some : (c : ℕ) (o : Option ℕ) → is_child c o ≡ true → o ≡ Some c
+pub is_child_some : (c : ℕ) (o : Option ℕ) → is_child c o ≡ true → o ≡ Some c
 is_child_some c None e = absurd cc
 is_child_some c (Some d) e = ap (λ n. Some n) (eqb-true d c e)
 
@@ -228,17 +203,13 @@ parent_runs c id p e = (parent_of c id (set p) p e).runs
 pub parent_in : (c : ℕ) (id : Id) (p : List Entry) → parent c p ≡ Some id → IsIn id (set p)
 parent_in c id p e = (parent_of c id (set p) p e).here
 
-none_first : (c : ℕ) (job : Id) (b : Bool) (o : Option Id) → cond b (Some job) o ≡ None → (b ≡ false) × (o ≡ None)
-none_first c job true o e = absurd cc
-none_first c job false o e = (refl, e)
-
 none_of : (c : ℕ) (id : Id) (ids : List Id) (p : List Entry) → parent_among ids c p ≡ None → IsIn id ids → child id p ≡ Some c → ⊥
 none_of c id [] p e h runs = h
 none_of c id (job ∷ ids) p e (inl is) runs =
-    let other = (none_first c job (is_child c (child job p)) (parent_among ids c p) e).0 in
+    let other = (neither (is_child c (child job p)) job (parent_among ids c p) e).0 in
     let its : is_child c (child job p) ≡ true = ap (λ j. is_child c (child j p)) is ∙ ap (is_child c) runs ∙ eq-eqb c c refl in
     let both : true ≡ false = sym its ∙ other in cc
-none_of c id (job ∷ ids) p e (inr h) runs = none_of c id ids p (none_first c job (is_child c (child job p)) (parent_among ids c p) e).1 h runs
+none_of c id (job ∷ ids) p e (inr h) runs = none_of c id ids p (neither (is_child c (child job p)) job (parent_among ids c p) e).1 h runs
 
 pub parent_none : (c : ℕ) (id : Id) (p : List Entry) → parent c p ≡ None → IsIn id (set p) → child id p ≡ Some c → ⊥
 parent_none c id p e here runs = none_of c id (set p) p e here runs
@@ -258,10 +229,23 @@ pub calm_plan : (e : Entry) → IsOfPlan e → is_hooks e ≡ false
 calm_plan (Hand n names acts) o = absurd o
 calm_plan (_) o = refl
 
+-- a journal has its own turns
+pub same_turns : (p : List Entry) → SameTurns p p
+same_turns p = record { count = refl; early = refl; fault = refl; now = refl; rise = λ h. h; told = λ before. refl }
+
+-- an entry that is no turn leaves them
+pub turns_over : (e : Entry) (p : List Entry) → is_turn e ≡ false → StaysInTurn p (e ∷ p)
+turns_over (Turned t) p other = absurd cc
+turns_over (TurnFault code) p other = absurd cc
+turns_over (_) p other = λ p₀ h. record { count = h.count; early = h.early; fault = h.fault; now = h.now; rise = h.rise; told = h.told }
+
+no_turn : (e : Entry) → IsOfPlan e → is_turn e ≡ false
+no_turn (Turned t) o = absurd o
+no_turn (TurnFault code) o = absurd o
+no_turn (_) o = refl
+
 pub turns_plan : (e : Entry) (p₀ p : List Entry) → IsOfPlan e → SameTurns p₀ p → SameTurns p₀ (e ∷ p)
-turns_plan (Turned t) p₀ p o h = absurd o
-turns_plan (TurnFault code) p₀ p o h = absurd o
-turns_plan (_) p₀ p o h = record { count = h.count; fault = h.fault; now = h.now; rise = h.rise; told = h.told }
+turns_plan e p₀ p o h = turns_over e p (no_turn e o) p₀ h
 
 pub command_plan : (e : Entry) (id : Id) (p : List Entry) → IsOfPlan e → command id (e ∷ p) ≡ command id p
 command_plan (Hand n names acts) id p o = absurd o
@@ -332,10 +316,6 @@ sound_makes_none id running n (Goes job k) s = subst MakesNone (sym s.2) tt
 sound_makes_none id running n (Makes job k) s = absurd s
 sound_makes_none id running n (Asks job level control k) s = sound_makes_none id running (n + 1) k s.1
 sound_makes_none id running n (Says word k) s = sound_makes_none id running n k s
-
-one_of : (b : Bool) (k f : Plan) → MakesNone k → MakesNone f → MakesNone (cond b k f)
-one_of true k f h g = h
-one_of false k f h g = g
 
 pub none_by_step : (id : Id) (command : Command) (p : List Entry) → NamesItsOwn p → MakesNone (step_plan id command p)
 none_by_step id command p own = sound_makes_none id (child id p) _ (step_plan id command p) (sound_step id command p own)

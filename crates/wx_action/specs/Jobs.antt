@@ -12,7 +12,8 @@ use Rattle.wx_journal.specs.declared.entry.Word.TheVariants.{Ignored}
 use Rattle.wx_job.specs.History.{same, lives, child, is_child}
 use Rattle.wx_job.specs.Table.{Plan, Done, Makes, Says, ask_plan, end_plan}
 
--- the jobs that a handler sees, by rising name: those that were made, without those that were gone before a batch was handed
+-- the jobs that a handler sees, in the order in which they were made, which in a run is by rising name: those that were
+-- made, without those that were gone before a batch was handed
 abbrev pub set : List Entry → List Id
 set [] = []
 set (Made id ∷ p) = set p ++ id ∷ []
@@ -23,7 +24,7 @@ set (_ ∷ p) = set p
 abbrev pub is_seen : Id → List Entry → Bool
 is_seen id p = list_any (λ job. same job id) (set p)
 
--- the jobs that live, by rising name
+-- the jobs that live, in the same order
 abbrev pub jobs : List Entry → List Id
 jobs p = filter (λ id. lives id p) (set p)
 
@@ -68,7 +69,7 @@ act_plan there (Create id command ∷ acts) = Makes id (act_plan (λ job. same i
 act_plan there (Ask id ask ∷ acts) = if there id then ask_plan id (sends_of ask) (act_plan there acts) else Says Ignored (act_plan there acts)
 act_plan there (Quit ∷ acts) = act_plan there acts
 
--- the end: each job that lives ends, by rising name
+-- the end: each job that lives ends, in this order
 abbrev pub first_end : List Id → List Entry → Plan
 first_end [] p = Done
 first_end (id ∷ ids) p = end_plan id p

@@ -1,9 +1,10 @@
 -- What a journal says. It is a list of entries, the newest first, so each definition goes by the newest entry.
-use Rattle.std.specs.Prelude.{ℕ, ◌+◌, Bool, false, not, ◌&&◌, ◌==◌, nat_le, if◌then◌else◌, Option, None, Some, List, [], ◌∷◌, ◌++◌, length}
+use Rattle.std.specs.Prelude.{ℕ, ◌+◌, Bool, true, false, not, ◌&&◌, ◌==◌, nat_le, if◌then◌else◌, Option, None, Some, List, [], ◌∷◌, ◌++◌, length}
 use Rattle.wx_events.specs.declared.event.Event.{Event}
 use Rattle.wx_events.specs.declared.priority.Priority.{Priority}
 use Rattle.wx_events.specs.Priority.{is_urgent}
-use Rattle.wx_journal.specs.Names.{moment}
+use Rattle.wx_journal.specs.Names.{moment, count}
+use Rattle.wx_journal.specs.Told.{is_turn, is_hooks}
 use Rattle.wx_journal.specs.declared.entry.Entry.{Entry}
 use Rattle.wx_journal.specs.declared.entry.Entry.TheVariants.{Sent, Turn as Turned, TurnFault, Offer, Take, Hand}
 use Rattle.wx_journal.specs.declared.entry.Named.{Named}
@@ -11,6 +12,7 @@ use Rattle.wx_journal.specs.declared.entry.Offered.{Offered}
 use Rattle.wx_journal.specs.declared.entry.Offered.TheVariants.{Queued, Full}
 use Rattle.wx_config.specs.declared.config.Config.{Config}
 use Rattle.wx_action.specs.Start.{Start}
+use Rattle.wx_action.specs.Told.{is_last}
 
 -- the settings that stand: nothing changes those of the start yet
 abbrev pub settings : Start → List Entry → Config
@@ -84,17 +86,21 @@ is_over_of throttle window first at = not (length window == 0) && nat_le (first 
 abbrev pub is_over : Start → List Entry → ℕ → Bool
 is_over s p at = is_over_of (settings s p).throttle (window p) (first p) at
 
--- how many turns were asked for, and how many batches were handed
+-- a turn but a last one, or the fault of a turn
+abbrev pub is_early : Entry → Bool
+is_early (Turned t) = not (is_last t.kind)
+is_early (TurnFault code) = true
+is_early (_) = false
+
+-- how many turns were asked for, how many of them were no last ones, and how many batches were handed
 abbrev pub turn_count : List Entry → ℕ
-turn_count [] = 0
-turn_count (Turned t ∷ p) = turn_count p + 1
-turn_count (TurnFault code ∷ p) = turn_count p + 1
-turn_count (_ ∷ p) = turn_count p
+turn_count p = count is_turn p
+
+abbrev pub early_count : List Entry → ℕ
+early_count p = count is_early p
 
 abbrev pub hand_count : List Entry → ℕ
-hand_count [] = 0
-hand_count (Hand n names acts ∷ p) = hand_count p + 1
-hand_count (_ ∷ p) = hand_count p
+hand_count p = count is_hooks p
 
 -- the code of the turn that failed
 abbrev pub turn_fault : List Entry → Option ℕ

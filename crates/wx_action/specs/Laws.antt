@@ -6,6 +6,7 @@ use Rattle.wx_journal.specs.declared.entry.Entry.TheVariants.{Turn as Turned, Ha
 use Rattle.wx_journal.specs.Names.{moment}
 use Rattle.wx_action.specs.Start.{Start}
 use Rattle.wx_action.specs.Journal.{is_urgent_named, passed, batches, window, is_over}
+use Rattle.wx_action.specs.Last.{last_is}
 
 -- batches, one behind the other
 abbrev pub joined : List (List ℕ) → List ℕ
@@ -25,11 +26,6 @@ UrgentLast urgent [] = Unit {0}
 UrgentLast urgent (name ∷ []) = Unit {0}
 UrgentLast urgent (name ∷ next ∷ names) = (urgent name ≡ false) × UrgentLast urgent (next ∷ names)
 
-abbrev pub is_last_urgent : (ℕ → Bool) → List ℕ → Bool
-is_last_urgent urgent [] = false
-is_last_urgent urgent (name ∷ []) = urgent name
-is_last_urgent urgent (name ∷ next ∷ names) = is_last_urgent urgent (next ∷ names)
-
 -- which events are urgent, by a journal
 abbrev pub urgent_in : List Entry → ℕ → Bool
 urgent_in p name = is_urgent_named name p
@@ -38,7 +34,7 @@ urgent_in p name = is_urgent_named name p
 pub record IsBatch (s : Start) (p : List Entry) (names : List ℕ) : Type 0 where
   pub some : 0 < length names
   pub urgent_last : UrgentLast (urgent_in p) names
-  pub in_time : is_last_urgent (urgent_in p) names ≡ false → is_over s p (moment p) ≡ true
+  pub in_time : last_is (urgent_in p) names ≡ false → is_over s p (moment p) ≡ true
 
 -- each batch is one
 abbrev pub AreBatches : Start → List Entry → Type 0

@@ -23,7 +23,8 @@ FollowsHooks s p hooks p' hooks' = (world : Option (List Entry)) → Follows s p
 abbrev pub FollowsAlone : Start → List Entry → List Entry → Type 0
 FollowsAlone s p p' = (world hooks : Option (List Entry)) → Follows s p world hooks p' world hooks
 
--- the new journal is the old one with entries on top that are no calls on the hooks
+-- the new journal is the old one with entries on top that are no calls on the hooks, and each of these came behind a
+-- journal that names its own
 pub data Apart (old : List Entry) : List Entry → Type 0 where
   Same : Apart old old
   More : (e : Entry) (p : List Entry) → Apart old p → NamesItsOwn p → is_hooks e ≡ false → Apart old (e ∷ p)

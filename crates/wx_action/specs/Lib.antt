@@ -3,7 +3,6 @@ pub mod BagLaws
 pub mod Batch
 pub mod Due
 pub mod EndLaws
-pub mod Faults
 pub mod FaultLaws
 pub mod Handled
 pub mod HeldJobs
@@ -11,6 +10,7 @@ pub mod JobLaws
 pub mod Jobs
 pub mod Journal
 pub mod KeptHandler
+pub mod Last
 pub mod Laws
 pub mod Leads
 pub mod OneSpelling

@@ -20,7 +20,7 @@ use Rattle.wx_journal.specs.Names.{NamesItsOwn, creates, is_created, job_count, 
 use Rattle.wx_job.specs.History.{same, lives, child, kept}
 use Rattle.wx_job.specs.Table.{Plan, Done, Picks, Spawns, Kills, Waits, Drops, Raises, Goes, Makes, Asks, Says, row, case, choose_control, choose, step_plan, ask_plan, end_plan}
 use Rattle.wx_job.specs.Case.{Admits as Follows, is_fault, next}
-use Rattle.wx_job.proofs.Owners.{owner_below, child_owner}
+use Rattle.wx_job.proofs.Owners.{either, owner_below, child_owner}
 use Rattle.wx_job.proofs.Sound.{Sound, sound_step, sound_ask, sound_end}
 use Rattle.wx_action.specs.Jobs.{AreLawful, act_plan, jobs, first_end, end}
 
@@ -122,11 +122,6 @@ enter p (Goes id k) e d n = rw d (record { own = λ own. own; in_order = λ o. o
 enter p (Makes id k) e d n = rw d (record { own = λ own. (n.0, own); in_order = λ o. (n.1, o); names = n.2 })
 enter p (Asks id level control k) e d n = rw d (record { own = λ own. (refl, own); in_order = λ o. o; names = n })
 enter p (Says word k) e d n = rw d (record { own = λ own. own; in_order = λ o. o; names = n })
-
--- what a choice of two gives, where both do
-either : {A : Type 0} (P : A → Type 0) (b : Bool) (x y : A) → P x → P y → P (cond b x y)
-either P true x y h g = h
-either P false x y h g = g
 
 pub enter_living : (p : List Entry) (k : Plan) (e : Entry) → Follows p k e → IsLiving p k → IsLiving (e ∷ p) (next k e)
 enter_living p Done e d l = absurd d

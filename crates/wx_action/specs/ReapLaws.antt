@@ -1,7 +1,6 @@
 -- In a run each child of a job is reaped before the next spawn, save a last one, and after the end no child runs.
 use Rattle.std.proofs.Common.{◌≡◌, ℕ, Bool, true, false, cond, List, [], ◌∷◌, Result, Ok, Err, refl, ap, sym, subst, ◌∙◌, eq-eqb}
 use Rattle.std.specs.Prelude.{Option, None, Some, ◌==◌, ◌&&◌, ◌||◌, not, length}
-use Rattle.std.proofs.lemmas.Bool.{eqb-true}
 use Rattle.wx_events.specs.declared.event.Event.{Event}
 use Rattle.wx_events.specs.declared.priority.Priority.{Priority}
 use Rattle.wx_events.specs.declared.process.ProcessEnd.{ProcessEnd}
@@ -25,7 +24,7 @@ use Rattle.wx_job.specs.History.{same, lives, child, unless, is_child, kept}
 use Rattle.wx_job.specs.Table.{Plan, Done, Picks, Spawns, Kills, Waits, Drops, Raises, Goes, Makes, Asks, Says as SaysWord, row, case, choose_control, choose, step_plan, ask_plan, drop_plan}
 use Rattle.wx_job.specs.Case.{Admits as Follows, is_fault, next}
 use Rattle.wx_job.specs.Laws.{unreaped, AreReaped, IsReaping, Runs, AfterFaults}
-use Rattle.wx_job.proofs.Owners.{self, same-is}
+use Rattle.wx_job.proofs.Owners.{self, same-is, either}
 use Rattle.wx_config.specs.declared.error.CriticalError.TheVariants.{IoError, Memory}
 use Rattle.wx_action.specs.Start.{Start}
 use Rattle.wx_action.specs.Journal.{bag, is_over, is_urgent_named}
@@ -34,13 +33,8 @@ use Rattle.wx_action.specs.Due.{Agenda, Begins, Sends, Open, Offers, Says, Takes
 use Rattle.wx_journal.specs.Lines.{Answer}
 use Rattle.wx_action.specs.Answer.{Dying, Alive, Dies, IsComplete, IsBroken, Answers}
 use Rattle.wx_action.specs.RunLaws.{IsQuiet, IsFit, orderly, own_of_run}
-use Rattle.wx_action.specs.JobLaws.{IsIn, in_jobs, one_parent}
+use Rattle.wx_action.specs.JobLaws.{IsIn, in_jobs, is_child_some, one_parent}
 use Rattle.wx_action.specs.EndLaws.{IsOfEnd, of_end, GoneRunNone, none_runs, dying_none, no_child}
-
--- what a choice of two gives, where both do
-either : {A : Type 0} (P : A → Type 0) (b : Bool) (x y : A) → P x → P y → P (cond b x y)
-either P true x y h g = h
-either P false x y h g = g
 
 -- ---- plans that spawn only where no child runs, and reap only children that run
 
@@ -83,10 +77,6 @@ once_more free more runs on h g (Makes id k) s = once_more free more Never Never
 once_more free more runs on h g (Asks id level control k) s = once_more free more runs on h g k s
 once_more free more runs on h g (SaysWord word k) s = once_more free more runs on h g k s
 
-idle_made : (b : Bool) (running : Option ℕ) → running ≡ None → cond b None running ≡ None
-idle_made true running h = refl
-idle_made false running h = h
-
 -- after an entry of the plan
 idle_wait : (p : List Entry) (c : ℕ) (answer : Result ProcessEnd HostFault) (k f : Plan) → SpawnsOnce (IsIdle p) Never k → SpawnsIdle p f → SpawnsIdle (Wait c answer ∷ p) (next (Waits c k f) (Wait c answer))
 idle_wait p c (Ok status) k f s t = once_more (IsIdle p) (IsIdle (Wait c (Ok status) ∷ p)) Never (λ d. Runs d (Wait c (Ok status) ∷ p)) (λ id h. ap (unless c) h) (λ d n. absurd n) k s
@@ -101,7 +91,7 @@ idle_then p (Waits c k f) e d s = rw d.1 (idle_wait p c d.0 k f s.1 s.2)
 idle_then p (Drops c k) e d s = absurd s
 idle_then p (Raises ticket k) e d s = rw d s
 idle_then p (Goes id k) e d s = absurd s
-idle_then p (Makes id k) e d s = rw d (once_more (IsIdle p) (IsIdle (Made id ∷ p)) Never (λ c. Runs c (Made id ∷ p)) (λ job h. idle_made (same id job) (child job p) h) (λ c n. absurd n) k s)
+idle_then p (Makes id k) e d s = rw d (once_more (IsIdle p) (IsIdle (Made id ∷ p)) Never (λ c. Runs c (Made id ∷ p)) (λ job h. either (λ o. o ≡ None) (same id job) None (child job p) refl h) (λ c n. absurd n) k s)
 idle_then p (Asks id level control k) e d s = rw d s
 idle_then p (SaysWord word k) e d s = rw d s
 
@@ -298,10 +288,6 @@ pub record IsReaped (p : List Entry) : Type 0 where
 not_let_go : (e : Entry) (p : List Entry) → (IsOfEnd e → ⊥) → (id : Id) → is_let_go id (e ∷ p) ≡ false
 not_let_go (Dropped c) p never id = absurd (never tt)
 not_let_go (_) p never id = refl
-
-is_child_some : (c : ℕ) (running : Option ℕ) → is_child c running ≡ true → running ≡ Some c
-is_child_some c None e = absurd cc
-is_child_some c (Some d) e = ap (λ n. Some n) (eqb-true d c e)
 
 unless_other : (c : ℕ) (running : Option ℕ) → is_child c running ≡ false → unless c running ≡ running
 unless_other c None e = refl

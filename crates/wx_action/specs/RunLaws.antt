@@ -1,9 +1,11 @@
 -- The laws of every run, proved.
-use Rattle.std.proofs.Common.{◌≡◌, ℕ, ◌≤◌, ◌<◌, Bool, true, false, cond, List, [], ◌∷◌, ◌++◌, length, arith, refl, ap, sym, subst, ◌∙◌, append_assoc, ne_eqb}
+use Rattle.std.proofs.Common.{◌≡◌, ℕ, ◌+◌, ◌<◌, Bool, true, false, cond, List, [], ◌∷◌, ◌++◌, length, arith, refl, ap, sym, subst, ◌∙◌, append_assoc, ne_eqb}
 use Rattle.std.specs.Prelude.{Option, None, Some, ◌==◌, ◌&&◌, ◌||◌, not}
 use Rattle.std.specs.Option.{IsSomeAnd}
 use Rattle.std.specs.List.{AllByRecursion}
+use Rattle.std.proofs.lemmas.Bool.{eqb-true, or_left}
 use Rattle.std.proofs.lemmas.List.{append-nil}
+use Rattle.wx_words.specs.EachLaws.{each_append, each_weaker}
 use Rattle.wx_events.specs.declared.event.Event.{Event}
 use Rattle.wx_events.specs.declared.priority.Priority.{Priority}
 use Rattle.wx_command.specs.declared.command.Command.{Command}
@@ -22,13 +24,15 @@ use Rattle.wx_journal.specs.Told.{is_hooks}
 use Rattle.wx_job.specs.History.{lives}
 use Rattle.wx_job.specs.Table.{Plan, Done, step_plan, ask_plan}
 use Rattle.wx_job.specs.Case.{next}
+use Rattle.wx_job.proofs.Owners.{either}
 use Rattle.wx_action.specs.Start.{Start}
 use Rattle.wx_action.specs.Jobs.{living, parent, AreLawful, act_plan, end}
 use Rattle.wx_action.specs.Journal.{listed, named, bag, window, batches, is_over, is_urgent_named, is_urgent_in}
 use Rattle.wx_action.specs.Due.{Agenda, Begins, Sends, Open, Offers, Says, Takes, Hands, Plans, Ends, sends, plans, rest, job_turn, ended_turn, turn_agenda, after_hand, has_quit, agenda, Admits, IsRun, IsTurn, IsGreatest}
 use Rattle.wx_action.specs.BagLaws.{AreBelow, own_before, bag_facts}
 use Rattle.wx_action.specs.PlanLaws.{IsOfPlan, of_plan, Names, IsLiving, MadeInOrder, enter, enter_living, names_step, names_ask, names_end, names_acts, living_step, living_ask, living_acts}
-use Rattle.wx_action.specs.Laws.{joined, IsBatched, NoneUrgent, UrgentLast, is_last_urgent, urgent_in, IsBatch, AreBatches, NoneUrgentWaits}
+use Rattle.wx_action.specs.Last.{last_is, last_added}
+use Rattle.wx_action.specs.Laws.{joined, IsBatched, NoneUrgent, UrgentLast, urgent_in, IsBatch, AreBatches, NoneUrgentWaits}
 
 -- ---- what an agenda that admits an entry says of it
 
@@ -78,31 +82,23 @@ admits_hand s p Ends n names acts d = absurd (of_plan p (end p) (Hand n names ac
 
 -- ---- a run names only what its own entries made
 
-found_name : (a b : ℕ) → (a == b) ≡ true → a ≡ b
-found_name a b e = grind arith
-
 below_by_test : (n name : ℕ) (x : Named × Priority) (o : Option (Named × Priority)) (P : Named × Priority → Type 0) (t : Bool) → (x.0.name == name) ≡ t → x.0.name < n → (IsSomeAnd o P → name < n) → IsSomeAnd (cond t (Some x) o) P → name < n
-below_by_test n name x o P true e lt later h = let same = found_name x.0.name name e in omega arith
+below_by_test n name x o P true e lt later h = let same = eqb-true x.0.name name e in omega arith
 below_by_test n name x o P false e lt later h = later h
 
 named_below : (n name : ℕ) (xs : List (Named × Priority)) (P : Named × Priority → Type 0) → AreBelow n xs → IsSomeAnd (named name xs) P → name < n
 named_below n name [] P b h = absurd h
 named_below n name (x ∷ xs) P b h = below_by_test n name x (named name xs) P (x.0.name == name) refl b.0 (λ g. named_below n name xs P b.1 g) h
 
-below-rise : (m n : ℕ) (names : List ℕ) → m ≤ n → AllByRecursion (λ name. name < m) names → AllByRecursion (λ name. name < n) names
-below-rise m n [] le h = tt
-below-rise m n (name ∷ names) le h = (omega arith, below-rise m n names le h.1)
-
-each-append : (P : ℕ → Type 0) (names : List ℕ) (name : ℕ) → AllByRecursion P names → P name → AllByRecursion P (names ++ name ∷ [])
-each-append P [] name h p = (p, tt)
-each-append P (x ∷ names) name h p = (h.0, each-append P names name h.1 p)
+below-rise : (n : ℕ) (names : List ℕ) → AllByRecursion (λ name. name < n) names → AllByRecursion (λ name. name < n + 1) names
+below-rise n names h = each_weaker (λ name. name < n) (λ name. name < n + 1) (λ name lt. omega (arith, lt)) names h
 
 -- the names in the window are those of events
 pub window_below : (p : List Entry) → NamesItsOwn p → AllByRecursion (λ name. name < event_count p) (window p)
 window_below [] own = tt
-window_below (Sent name event priority ∷ p) own = below-rise _ _ (window p) (omega arith) (window_below p own.1)
-window_below (Offer name item result event priority ∷ p) own = below-rise _ _ (window p) (omega arith) (window_below p own.2)
-window_below (Take name ∷ p) own = each-append (λ m. m < event_count p) (window p) name (window_below p own.1) own.0
+window_below (Sent name event priority ∷ p) own = below-rise (event_count p) (window p) (window_below p own.1)
+window_below (Offer name item result event priority ∷ p) own = below-rise (event_count p) (window p) (window_below p own.2)
+window_below (Take name ∷ p) own = each_append (λ m. m < event_count p) (window p) (name ∷ []) (window_below p own.1) (own.0, tt)
 window_below (Hand n names acts ∷ p) own = tt
 window_below (e ∷ p) own = window_below p (own_before e p own)
 
@@ -135,11 +131,6 @@ fit_sends : (p : List Entry) (xs : List (Event × Priority)) → IsFit p (sends 
 fit_sends p [] = tt
 fit_sends p (x ∷ xs) = tt
 
--- what a choice of two agendas owes
-either : (P : Agenda → Type 0) (b : Bool) (k f : Agenda) → P k → P f → P (cond b k f)
-either P true k f h g = h
-either P false k f h g = g
-
 fit_job : (p : List Entry) (id : Id) (command : Option Command) → NamesItsOwn p → IsFit p (job_turn id command p)
 fit_job p id None own = tt
 fit_job p id (Some command) own = fit_plans p (step_plan id command p) Open (names_step id command p own) tt (living_step id command p)
@@ -156,13 +147,10 @@ fit_turn s p (Ended c) at own = fit_ended p (parent c p) own
 fit_turn s p (Ask id ask) at own = either (IsFit p) (lives id p) _ _ (fit_plans p (ask_plan id (sends_of ask) Done) Open (names_ask id ask p own) tt (living_ask id ask p)) tt
 fit_turn s p Last at own = tt
 
-or_false : (b : Bool) (c : Bool) → b ≡ true → (b || c) ≡ true
-or_false b c e = rw e refl
-
 fit_hand : (p : List Entry) (n : ℕ) (names : List ℕ) (acts : List Act) → AreLawful (job_count p) acts → IsFit (Hand n names acts ∷ p) (after_hand acts p)
 fit_hand p n names acts lawful =
     fit_plans (Hand n names acts ∷ p) (act_plan (λ id. lives id p) acts) _
-    (names_acts (λ id. creates id acts || is_created id p) (job_count p) _ _ (λ id. lives id p) acts (λ id e. or_false (creates id acts) (is_created id p) e) lawful)
+    (names_acts (λ id. creates id acts || is_created id p) (job_count p) _ _ (λ id. lives id p) acts (λ id e. or_left (creates id acts) (is_created id p) e) lawful)
     (either IsQuiet (has_quit acts) Ends Open tt tt)
     (living_acts (λ id. lives id p) (λ id. lives id p) acts)
 
@@ -274,10 +262,10 @@ last-calm urgent [] h = tt
 last-calm urgent (name ∷ []) h = tt
 last-calm urgent (name ∷ next ∷ names) h = (h.0, last-calm urgent (next ∷ names) h.1)
 
-last-append : (urgent : ℕ → Bool) (names : List ℕ) (name : ℕ) → NoneUrgent urgent names → UrgentLast urgent (names ++ name ∷ []) × (is_last_urgent urgent (names ++ name ∷ []) ≡ urgent name)
-last-append urgent [] name h = (tt, refl)
-last-append urgent (x ∷ []) name h = ((h.0, tt), refl)
-last-append urgent (x ∷ y ∷ names) name h = let g = last-append urgent (y ∷ names) name h.1 in ((h.0, g.0), g.1)
+urgent-append : (urgent : ℕ → Bool) (names : List ℕ) (name : ℕ) → NoneUrgent urgent names → UrgentLast urgent (names ++ name ∷ [])
+urgent-append urgent [] name h = tt
+urgent-append urgent (x ∷ []) name h = (h.0, tt)
+urgent-append urgent (x ∷ y ∷ names) name h = (h.0, urgent-append urgent (y ∷ names) name h.1)
 
 some-append : (names : List ℕ) (name : ℕ) → 0 < length (names ++ name ∷ [])
 some-append [] name = omega arith
@@ -358,15 +346,15 @@ waits_turn s p Last at now h = h
 waits_take : (s : Start) (p : List Entry) (name : ℕ) (urgent over : Bool) → is_urgent_named name p ≡ urgent → is_over s (Take name ∷ p) (moment p) ≡ over → NoneUrgentWaits p → Waits s (Take name ∷ p) (cond (urgent || over) Hands Open)
 waits_take s p name true over u o h = record {
   some = some-append (window p) name;
-  urgent_last = (last-append (urgent_in p) (window p) name h).0;
-  in_time = λ calm_last. (let other : is_last_urgent (urgent_in p) (window p ++ name ∷ []) ≡ true = (last-append (urgent_in p) (window p) name h).1 ∙ u in absurd cc);
+  urgent_last = urgent-append (urgent_in p) (window p) name h;
+  in_time = λ calm_last. (let other : last_is (urgent_in p) (window p ++ name ∷ []) ≡ true = last_added (urgent_in p) (window p) name ∙ u in absurd cc);
 }
 waits_take s p name false true u o h = record {
   some = some-append (window p) name;
-  urgent_last = (last-append (urgent_in p) (window p) name h).0;
+  urgent_last = urgent-append (urgent_in p) (window p) name h;
   in_time = λ calm_last. o;
 }
-waits_take s p name false false u o h = each-append (λ m. urgent_in p m ≡ false) (window p) name h u
+waits_take s p name false false u o h = each_append (λ m. urgent_in p m ≡ false) (window p) (name ∷ []) h (u, tt)
 
 -- no urgent event waits before an entry that is no call on the hooks
 calm_before : (s : Start) (p : List Entry) (e : Entry) → Waits s p (agenda s p) → is_hooks e ≡ false → Admits s p (agenda s p) e → NoneUrgentWaits p

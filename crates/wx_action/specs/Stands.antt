@@ -14,7 +14,7 @@ use Rattle.wx_journal.specs.declared.entry.TurnKind.TheVariants.{Work}
 use Rattle.wx_journal.specs.declared.entry.Word.TheVariants.{Idle}
 use Rattle.wx_journal.specs.Names.{event_count, moment}
 use Rattle.wx_control.specs.declared.id.Id.{Id}
-use Rattle.wx_job.specs.History.{same, is_child}
+use Rattle.wx_job.specs.History.{is_child}
 use Rattle.wx_job.specs.Table.{step_plan}
 use Rattle.wx_job.specs.Stands.{Stands as TaskStands, id_of, command_of, gone_of, running_of}
 use Rattle.wx_action.specs.Jobs.{set, command}
@@ -28,6 +28,7 @@ use Rattle.wx_action.specs.Start.{Start}
 use Rattle.wx_action.specs.Journal.{settings, bag, window, first}
 use Rattle.wx_action.specs.Due.{agenda, plans, Open, Hands, Ends, IsRun}
 use Rattle.wx_action.specs.Handled.{AreEvents, lookup}
+use Rattle.wx_action.specs.HeldJobs.{is_of}
 
 -- what is held of a job: its task stands for it, and runs what its creation says, and the handle names both
 pub record HeldStands (p : List Entry) (h : Held) : Type 0 where
@@ -39,13 +40,13 @@ pub record HeldStands (p : List Entry) (h : Held) : Type 0 where
 abbrev pub held_id : Held → Id
 held_id h = id_of h.task
 
--- it is of the job of this name, which isn't gone
-abbrev pub is_living : Id → Held → Bool
-is_living id h = same h.handle.id id && not (gone_of h.task)
-
 -- its job isn't gone
 abbrev pub is_here : Held → Bool
 is_here h = not (gone_of h.task)
+
+-- it is of the job of this name, which isn't gone
+abbrev pub is_living : Id → Held → Bool
+is_living id h = is_of id h && is_here h
 
 -- this child runs
 abbrev pub runs_child : ℕ → Held → Bool

@@ -3,12 +3,13 @@ use Rattle.std.specs.Prelude.{◌≡◌, Option, List}
 use Rattle.wx_journal.specs.declared.entry.Entry.{Entry}
 use Rattle.wx_journal.specs.Names.{moment}
 use Rattle.wx_journal.specs.Told.{tells, is_turn}
-use Rattle.wx_action.specs.Journal.{turn_count, turn_fault}
+use Rattle.wx_action.specs.Journal.{turn_count, early_count, turn_fault}
 use Rattle.wx_action.specs.Laws.{MomentsRise}
 
 -- the second journal has the turns of the first
 pub record SameTurns (p p' : List Entry) : Type 0 where
   pub count : turn_count p' ≡ turn_count p
+  pub early : early_count p' ≡ early_count p
   pub fault : turn_fault p' ≡ turn_fault p
   pub now : moment p' ≡ moment p
   pub rise : MomentsRise p → MomentsRise p'

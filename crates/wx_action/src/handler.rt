@@ -220,15 +220,16 @@ impl<'a> ActionHandler<'a> {
         }
     }
 
-    /// Creates a job that runs this command, and answers its id, which no job had before, with a handle on it. It
-    /// answers `IdsSpent` exactly where 2^32 - 1 ids were given before, and `Memory` for want of memory. The handler
-    /// stays as it was where no job is created.
+    /// Creates a job that runs this command, and answers its id, the next one that wasn't given, with a handle on it. No
+    /// job that the handler shows has this id. It answers `IdsSpent` exactly where 2^32 - 1 ids were given before, and
+    /// `Memory` for want of memory. The handler stays as it was where no job is created.
     pub fn create_job(
         &mut self,
         alloc: Global,
         command: Command,
     ) -> Result<(Id, Job), CreateRefused>
         ensures id { IfOk result (λ made. made.0.0 ≡ job_count self.old.past + creations self.old.acts) }
+        ensures new { IfOk result (λ made. is_seen made.0 self.old.past ≡ false) }
         ensures handle { IfOk result (λ made. made.1.id ≡ made.0) }
         ensures command { IfOk result (λ made. made.1.command ≡ command) }
         ensures created { IfOk result (λ made. self.new ≡ record self.old { acts = self.old.acts ++ Create made.0 command ∷ [] }) }

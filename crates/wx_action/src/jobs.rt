@@ -13,7 +13,7 @@ ghost use Rattle.wx_action.specs.Jobs.{jobs};
 ghost use Rattle.wx_action.specs.Due.{Agenda, agenda, Says, Open, Ends};
 ghost use Rattle.wx_action.specs.Answer.{Dying};
 ghost use Rattle.wx_action.specs.EndLaws.{TellsOn};
-ghost use Rattle.wx_action.specs.Faults.{CountsOn};
+ghost use Rattle.wx_job.specs.Faults.{CountsOn};
 ghost use Rattle.wx_action.specs.Perform.{OwesActs, IsFirst, IsDone};
 ghost use Rattle.wx_action.specs.Leads.{StaysApart, FollowsAlone, Follows, Promised};
 ghost use Rattle.wx_action.specs.Turns.{StaysInTurn};

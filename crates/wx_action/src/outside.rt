@@ -22,7 +22,7 @@ pub struct Turned {
 /// What gives the turns of a run.
 pub trait World: Host {
     /// The next turn, or the fault for which there is none. It is the last turn exactly where no turn is left; else
-    /// one turn less is left. Moments never go back. A fault comes only where the count of turn faults rose.
+    /// fewer turns are left. Moments never go back. A fault comes only where the count of turn faults rose.
     fn turn(&mut self) -> Result<Turned, TurnFault>
         requires { 1 ≤ Self.spare self.old }
         ensures told { Self.told self.new ≡ tell (turned result) (Self.told self.old) }

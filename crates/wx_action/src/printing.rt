@@ -25,7 +25,7 @@ fn follow(entry: &Entry, names: &mut List<u64>) -> Result<(), Memory>
     }
 }
 
-/// The names of the events that were taken since the last batch, in order.
+/// The names of the events that were taken since the last batch, in order. It fails only for want of memory.
 pub fn lost(alloc: Global, journal: &Journal) -> Result<List<u64>, Memory>
     ensures { IfOk result (λ names. names ≡ window journal.now.past) }
 {
@@ -36,18 +36,21 @@ pub fn lost(alloc: Global, journal: &Journal) -> Result<List<u64>, Memory>
     Ok(names)
 }
 
-/// Appends a journal, an entry a line and the oldest first, and the end line with the answer of the run.
+/// The text of a journal, an entry a line and the oldest first, and of the end line with the answer of the run. Both are
+/// such that the text has one spelling. It fails only for want of memory.
 pub fn print_journal(
     alloc: Global,
     journal: &Journal,
     answer: &Result<(), CriticalError>,
-    out: &mut Text,
-) -> Result<(), Memory>
-    ensures { OnOk result (out.new ≡ out.old ++ printed journal.now.past answer.now) }
+) -> Result<Text, Memory>
+    ensures text { IfOk result (λ text. text ≡ printed journal.now.past answer.now) }
+    ensures fits { OnOk result (JournalFits journal.now.past × AnswerFits answer.now) }
 {
     let names = lost(alloc, journal)?;
-    put_lines(journal.as_slice(), out)?;
-    put_end(answer, &names, out)
+    let mut text = Text::new(alloc);
+    put_lines(journal.as_slice(), &mut text)?;
+    put_end(answer, &names, &mut text)?;
+    Ok(text)
 }
 
 /// A printed journal is the text of one journal and of one answer.

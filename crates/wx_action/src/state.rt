@@ -123,7 +123,7 @@ impl Worker {
     }
 
     /// Lists an event that was sent before the run, and puts it into the queue, where there is room. It fails only for
-    /// want of memory, and leaves all as it was then.
+    /// want of memory. The worker stays as it was then, and no entry is added.
     pub fn send(
         &mut self,
         alloc: Global,
@@ -142,6 +142,7 @@ impl Worker {
         ensures done { OnOk result (agenda start journal.new.past ≡ rest (Entry.Sent self.old.named event priority) (agenda start journal.old.past)) }
         ensures bag { OnOk result (length (bag journal.new.past) ≡ length (bag journal.old.past) + 1) }
         ensures err { OnErr result (journal.new.past ≡ journal.old.past) }
+        ensures same { OnErr result (self.new ≡ self.old) }
         ensures end_room { end_room self.new ≡ end_room self.old }
         ensures room { end_room self.old ≤ journal.old.spare → end_room self.new ≤ journal.new.spare }
     {
@@ -158,7 +159,8 @@ impl Worker {
         Ok(())
     }
 
-    /// Offers an event that arrived to the queue. It fails only for want of memory, and leaves all as it was then.
+    /// Offers an event that arrived to the queue. It fails only for want of memory. The worker stays as it was then, and no
+    /// entry is added.
     pub fn arrive(
         &mut self,
         alloc: Global,
@@ -175,6 +177,7 @@ impl Worker {
         ensures turns { StaysInTurn journal.old.past journal.new.past }
         ensures done { OnOk result (agenda start journal.new.past ≡ Open) }
         ensures err { OnErr result (journal.new.past ≡ journal.old.past) }
+        ensures same { OnErr result (self.new ≡ self.old) }
         ensures end_room { end_room self.new ≡ end_room self.old }
         ensures room { end_room self.old ≤ journal.old.spare → end_room self.new ≤ journal.new.spare }
     {
@@ -193,7 +196,7 @@ impl Worker {
         Ok(())
     }
 
-    /// Says of a turn that what it is about isn't there. It fails only for want of memory, and leaves all as it was then.
+    /// Says of a turn that what it is about isn't there. It fails only for want of memory, and adds no entry then.
     pub fn ignored(&self, journal: &mut Journal) -> Result<(), Memory>
         ghost start: { Start }
         requires due { agenda start journal.old.past ≡ Says Ignored Open }

@@ -121,8 +121,7 @@ fn expect_text(
     let mut journal = Journal::new(alloc)?;
     journal.reserve(1)?;
     journal.push(Entry::Take(0));
-    let mut text = Text::new(alloc);
-    print_journal(alloc, &journal, &answer, &mut text)?;
+    let text = print_journal(alloc, &journal, &answer)?;
     assert!(rt; text.as_slice() == want, "at {want:?}");
     Ok(())
 }

@@ -1,16 +1,16 @@
 // A Work turn: an event is taken, and the window is handed where it is due.
 ghost use Rattle.std.specs.Prelude.{◌≡◌, ◌∷◌, [], ◌+◌, ◌<◌, ◌≤◌, ◌==◌, ◌||◌, nat_le, true, false, if◌then◌else◌, length, List, Option, IfOk, IfErr, OnErr};
-ghost use Rattle.std.specs.List.{filter, list_any};
+ghost use Rattle.std.specs.List.{filter};
 ghost use Rattle.wx_journal.specs.declared.entry.Entry.{Entry};
 ghost use Rattle.wx_journal.specs.Names.{moment};
 ghost use Rattle.wx_config.specs.declared.error.CriticalError.TheVariants.{Memory as WantOfMemory};
 ghost use Rattle.wx_job.specs.Steady.{IsSteady};
 ghost use Rattle.wx_action.specs.Start.{Start};
 ghost use Rattle.wx_action.specs.Journal.{bag, is_over, is_over_of};
-ghost use Rattle.wx_action.specs.Due.{agenda, work, has_quit, is_quit, Open, Takes, Hands};
-ghost use Rattle.wx_action.specs.Faults.{CountsOn};
+ghost use Rattle.wx_action.specs.Due.{agenda, work, has_quit, Open, Takes, Hands, after_acts};
+ghost use Rattle.wx_job.specs.Faults.{CountsOn};
 ghost use Rattle.wx_action.specs.Leads.{StaysApart, FollowsAlone, FollowsHooks, Follows, Promised};
-ghost use Rattle.wx_action.specs.Perform.{OwesActs, after_acts};
+ghost use Rattle.wx_action.specs.Perform.{OwesActs};
 ghost use Rattle.wx_action.specs.Laws.{NoneUrgentWaits};
 ghost use Rattle.wx_action.specs.Turns.{StaysInTurn};
 ghost use Rattle.wx_action.specs.Stands.{Stands, Ready, AtWork, Collects, Works, HasRoom, is_here, end_room};
@@ -65,19 +65,11 @@ fn due_or_kept(is_urgent: bool, is_over: bool) -> Collected
     }
 }
 
-/// Whether one of the acts is a quit.
-fn any_quit(acts: &[Act]) -> bool
-    ensures { result ≡ list_any is_quit acts.now }
-{
-    acts.iter().any(|act| is_quit(act))
-}
-
 /// Whether the acts ask for the end.
-#[tactic(auto, using(crate::proofs::QuitLemmas::any_quits))]
 fn asks_for_end(acts: &[Act]) -> bool
     ensures { result ≡ has_quit acts.now }
 {
-    any_quit(acts)
+    acts.iter().any(|act| is_quit(act))
 }
 
 impl Worker {

@@ -1,7 +1,7 @@
 -- Commands are read again from their words.
 use Rattle.std.proofs.Common.{◌≡◌, ℕ, Some, List, ◌++◌, refl}
 use Rattle.std.specs.Prelude.{codes}
-use Rattle.wx_words.specs.Texts.{AllBytes, text_in}
+use Rattle.wx_words.specs.Texts.{AllBytes, text_words, text_in}
 use Rattle.wx_words.specs.TextLaws.{text_form}
 use Rattle.wx_words.specs.CombineLaws.{pair_form, row_of, row_again, rows_take}
 use Rattle.wx_words.specs.Forms.{IsForm, Stood}
@@ -10,7 +10,7 @@ use Rattle.wx_words.specs.CleanLaws.{clean, text_words_clean}
 use Rattle.wx_command.specs.OptionsLaws.{options_form, options_word_clean}
 use Rattle.wx_command.specs.Filled.{FilledFits}
 use Rattle.wx_command.specs.FilledLaws.{filled_form, filled_clean}
-use Rattle.wx_command.specs.Commands.{text_words, ProgramFits, CommandFits, exec_words, with_options, command_words, make_exec, read_exec, command_rows, read_command}
+use Rattle.wx_command.specs.Commands.{ProgramFits, CommandFits, exec_words, with_options, command_words, make_exec, read_exec, command_rows, read_command}
 use Rattle.wx_command.specs.declared.command.SpawnOptions.{SpawnOptions}
 use Rattle.wx_command.specs.declared.program.Program.{Program}
 use Rattle.wx_command.specs.declared.program.Program.TheVariants.{Exec}

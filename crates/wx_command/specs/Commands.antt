@@ -1,16 +1,13 @@
 -- Commands as words.
 use Rattle.std.specs.Prelude.{ℕ, List, [], ◌∷◌, codes}
 use Rattle.wx_words.specs.Combine.{Reader, pair_words, read_pair, read_as, read_rows}
-use Rattle.wx_words.specs.Texts.{AllBytes, text_word, read_text}
+use Rattle.wx_words.specs.Texts.{AllBytes, text_words, read_text}
 use Rattle.wx_command.specs.Options.{options_words, read_options}
 use Rattle.wx_command.specs.Filled.{FilledFits, filled_words, read_filled}
 use Rattle.wx_command.specs.declared.command.SpawnOptions.{SpawnOptions}
 use Rattle.wx_command.specs.declared.program.Program.{Program}
 use Rattle.wx_command.specs.declared.program.Program.TheVariants.{Exec}
 use Rattle.wx_command.specs.declared.command.Command.{Command}
-
-abbrev pub text_words : List ℕ → List (List ℕ)
-text_words t = text_word t ∷ []
 
 -- the programs whose texts are those of the code
 abbrev pub ProgramFits : Program → Type 0

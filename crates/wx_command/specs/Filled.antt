@@ -1,12 +1,11 @@
 -- Lists with at least one item, as words: the length, then the items.
-use Rattle.std.specs.Prelude.{ℕ, ◌^◌, ◌<◌, Option, None, Some, List, [], ◌∷◌, length}
-use Rattle.std.specs.List.{AllByRecursion}
+use Rattle.std.specs.Prelude.{ℕ, Option, None, Some, List, [], ◌∷◌}
 use Rattle.wx_words.specs.Line.{◌>>=◌}
 use Rattle.wx_words.specs.Combine.{Reader}
-use Rattle.wx_words.specs.Lists.{list_words, read_list}
+use Rattle.wx_words.specs.Lists.{ListFits, list_words, read_list}
 
 abbrev pub FilledFits : {X : Type 0} → (X → Type 0) → X × List X → Type 0
-FilledFits fits p = (length (p.0 ∷ p.1) < 2 ^ 64) × AllByRecursion fits (p.0 ∷ p.1)
+FilledFits fits p = ListFits fits (p.0 ∷ p.1)
 
 abbrev pub filled_words : {X : Type 0} → (X → List (List ℕ)) → X × List X → List (List ℕ)
 filled_words words p = list_words words (p.0 ∷ p.1)

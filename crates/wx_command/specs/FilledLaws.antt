@@ -1,10 +1,9 @@
 -- A list with at least one item is read from its length and its items.
-use Rattle.std.proofs.Common.{◌≡◌, ℕ, ◌^◌, ◌<◌, Some, List, [], ◌∷◌, ◌++◌, length, refl, ap, subst}
-use Rattle.std.specs.List.{AllByRecursion}
+use Rattle.std.proofs.Common.{◌≡◌, ℕ, Some, List, [], ◌∷◌, ◌++◌, refl, ap, subst}
 use Rattle.wx_words.specs.Line.{◌>>=◌}
 use Rattle.wx_words.specs.OptionLaws.{bind_some}
 use Rattle.wx_words.specs.Combine.{Reader}
-use Rattle.wx_words.specs.Lists.{list_words, read_list}
+use Rattle.wx_words.specs.Lists.{ListFits, list_words, read_list}
 use Rattle.wx_words.specs.ListLaws.{list_form}
 use Rattle.wx_words.specs.Forms.{Stood, IsForm}
 use Rattle.wx_words.specs.FormLaws.{same_read}
@@ -32,7 +31,7 @@ filled_form {V} {see} {X} {fits} {words} {read} form = record { again = again; t
         let b = bind_some (first_of a.0.0) (λ q. Some (q, a.0.1)) (p, rest) a.2 in
         let t = (list_form form).takes ws a.0.0 a.0.1 a.1 in
         same_read (λ (q : X × List X) (r : Words). FilledFits fits q × Stood see (filled_words words q) ws r) b.0 p a.0.1 rest b.2
-        (subst (λ (xs : List X). ((length xs < 2 ^ 64) × AllByRecursion fits xs) × Stood see (list_words words xs) ws a.0.1) (first_some a.0.0 b.0 b.1) t)
+        (subst (λ (xs : List X). ListFits fits xs × Stood see (list_words words xs) ws a.0.1) (first_some a.0.0 b.0 b.1) t)
 
 pub filled_clean : {X : Type 0} (fits : X → Type 0) (words : X → Words) → ((x : X) → fits x → AllClean (words x)) → (p : X × List X) → FilledFits fits p → AllClean (filled_words words p)
 filled_clean fits words each p all = list_clean fits words each (p.0 ∷ p.1) all

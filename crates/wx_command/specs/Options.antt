@@ -1,7 +1,7 @@
 -- The options of a spawn as a word: a letter for each that is on, and a hyphen for each that is off.
-use Rattle.std.specs.Prelude.{ℕ, ◌==◌, Bool, true, false, if◌then◌else◌, Option, None, Some, option_map, List, [], ◌∷◌}
+use Rattle.std.specs.Prelude.{ℕ, ◌==◌, Bool, true, false, if◌then◌else◌, Option, None, Some, List, [], ◌∷◌}
 use Rattle.wx_words.specs.Line.{◌>>=◌}
-use Rattle.wx_words.specs.Combine.{Reader}
+use Rattle.wx_words.specs.Combine.{Reader, read_word_by}
 use Rattle.wx_command.specs.declared.command.SpawnOptions.{SpawnOptions}
 
 -- this letter or a hyphen
@@ -34,5 +34,4 @@ options_in (g ∷ s ∷ r ∷ f ∷ x ∷ w) = None
 
 -- the options at the front
 abbrev pub read_options : Reader SpawnOptions
-read_options [] = None
-read_options (w ∷ ws) = option_map (λ o. (o, ws)) (options_in w)
+read_options ws = read_word_by options_in ws

@@ -1,6 +1,6 @@
 -- What is spawned is read again from its words.
 use Rattle.std.proofs.Common.{refl}
-use Rattle.wx_words.specs.Texts.{AllBytes, text_in}
+use Rattle.wx_words.specs.Texts.{AllBytes, text_words, text_in}
 use Rattle.wx_words.specs.TextLaws.{text_form}
 use Rattle.wx_words.specs.CombineLaws.{pair_form, as_form}
 use Rattle.wx_words.specs.ListLaws.{list_form}
@@ -8,7 +8,6 @@ use Rattle.wx_words.specs.Forms.{IsForm}
 use Rattle.wx_words.specs.Clean.{AllClean}
 use Rattle.wx_words.specs.CleanLaws.{list_clean, text_words_clean}
 use Rattle.wx_command.specs.OptionsLaws.{options_form, options_word_clean}
-use Rattle.wx_command.specs.Commands.{text_words}
 use Rattle.wx_command.specs.Spawnables.{SpawnableFits, spawnable_words, make_spawnable, read_spawnable}
 use Rattle.wx_command.specs.declared.spawnable.Spawnable.{Spawnable}
 

@@ -1,11 +1,9 @@
 -- What a command spawns, and its words.
-use Rattle.std.specs.Prelude.{ℕ, ◌^◌, ◌<◌, List, ◌∷◌, length}
-use Rattle.std.specs.List.{AllByRecursion}
+use Rattle.std.specs.Prelude.{ℕ, List, ◌∷◌}
 use Rattle.wx_words.specs.Combine.{Reader, pair_words, read_pair, read_as}
-use Rattle.wx_words.specs.Lists.{list_words, read_list}
-use Rattle.wx_words.specs.Texts.{AllBytes, read_text}
+use Rattle.wx_words.specs.Lists.{ListFits, list_words, read_list}
+use Rattle.wx_words.specs.Texts.{AllBytes, text_words, read_text}
 use Rattle.wx_command.specs.Options.{options_words, read_options}
-use Rattle.wx_command.specs.Commands.{text_words}
 use Rattle.wx_command.specs.declared.command.SpawnOptions.{SpawnOptions}
 use Rattle.wx_command.specs.declared.command.Command.{Command}
 use Rattle.wx_command.specs.declared.program.Program.{Program}
@@ -19,11 +17,8 @@ program_texts (Exec prog args) = prog ∷ args
 abbrev pub spawnable_of : Command → Spawnable
 spawnable_of c = record { words = program_texts c.program; options = c.options }
 
-abbrev pub TextsFit : List (List ℕ) → Type 0
-TextsFit texts = (length texts < 2 ^ 64) × AllByRecursion AllBytes texts
-
 abbrev pub SpawnableFits : Spawnable → Type 0
-SpawnableFits s = Unit {0} × TextsFit s.words
+SpawnableFits s = Unit {0} × ListFits AllBytes s.words
 
 -- the options, then the list of texts
 abbrev pub spawnable_words : Spawnable → List (List ℕ)

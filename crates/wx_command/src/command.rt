@@ -2,7 +2,8 @@
 ghost use Rattle.std.specs.Prelude.{◌≡◌, ◌∷◌, ◌++◌, OnOk, IfOk};
 ghost use Rattle.wx_words.specs.Line.{spaced, Reads};
 ghost use Rattle.wx_words.specs.Lists.{list_words};
-ghost use Rattle.wx_command.specs.Commands.{text_words, with_options, read_command};
+ghost use Rattle.wx_words.specs.Texts.{text_words};
+ghost use Rattle.wx_command.specs.Commands.{ProgramFits, with_options, read_command};
 ghost use Rattle.wx_command.specs.declared.program.Program.TheVariants.{Exec};
 
 use crate::program::Program;
@@ -41,7 +42,8 @@ impl Copies for Command {
 /// Appends the words of a program and its arguments, each with a space before it.
 #[tactic(auto, using(wx_words::specs::LineLaws::spaces))]
 fn put_program(prog: &Text, args: &List<Text>, out: &mut Text) -> Result<(), Memory>
-    ensures { OnOk result (out.new ≡ out.old ++ spaced (list_words text_words (prog.now ∷ args.now))) }
+    ensures text { OnOk result (out.new ≡ out.old ++ spaced (list_words text_words (prog.now ∷ args.now))) }
+    ensures fits { OnOk result (ProgramFits (Exec prog.now args.now)) }
 {
     let args = args.as_slice();
     (args.len() as u64 + 1).put_after(out)?;
@@ -56,7 +58,8 @@ fn put_exec(
     args: &List<Text>,
     out: &mut Text,
 ) -> Result<(), Memory>
-    ensures { OnOk result (out.new ≡ out.old ++ spaced (with_options options (Exec prog.now args.now))) }
+    ensures text { OnOk result (out.new ≡ out.old ++ spaced (with_options options (Exec prog.now args.now))) }
+    ensures fits { OnOk result (ProgramFits (Exec prog.now args.now)) }
 {
     out.append(b" exec")?;
     options.put_after(out)?;

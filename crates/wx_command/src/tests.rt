@@ -17,7 +17,7 @@ fn line_of<T: Spelled>(alloc: Global, value: &T) -> Result<Text, Memory> {
 /// The value whose words are this whole line.
 fn read_line<T: Spelled>(alloc: Global, line: &[u8]) -> Result<Option<T>, Memory> {
     let mut words = Words::new(line);
-    let found = T::take_front(alloc, &mut words)?;
+    let found = T::take(alloc, &mut words)?;
     if words.is_done() { Ok(found) } else { Ok(None) }
 }
 

@@ -74,7 +74,7 @@ pub struct Config {
     pub throttle: Changeable<u64>,
     /// The number of the filter.
     pub filterer: u32,
-    /// Kept for its name alone: errors are shown in the turn that found them.
+    /// Kept for its name alone: no error is shown yet.
     pub error_channel_size: u32,
     /// How many events the queue holds.
     pub event_channel_size: u32,

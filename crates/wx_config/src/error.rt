@@ -1,7 +1,7 @@
 // Why a run ends before its last turn.
 ghost use Rattle.std.specs.Prelude.{◌≡◌, ◌++◌, OnOk};
 ghost use Rattle.wx_words.specs.Line.{spaced};
-ghost use Rattle.wx_config.specs.Critical.{critical_words};
+ghost use Rattle.wx_config.specs.Critical.{critical_words, CriticalFits};
 
 use thiserror::Error;
 use wx_events::{Escaped, Memory, Spelled, Text};
@@ -18,10 +18,12 @@ pub enum CriticalError {
 }
 
 impl CriticalError {
-    /// Appends the words of an error that ended a run, each with a space before it.
+    /// Appends the words of an error that ended a run, each with a space before it. A part of the words may stand in
+    /// `out` where memory runs out.
     #[tactic(auto, using(wx_words::specs::LineLaws::spaces))]
     pub fn put_after(&self, out: &mut Text) -> Result<(), Memory>
-        ensures { OnOk result (out.new ≡ out.old ++ spaced (critical_words self.now)) }
+        ensures text { OnOk result (out.new ≡ out.old ++ spaced (critical_words self.now)) }
+        ensures fits { OnOk result (CriticalFits self.now) }
     {
         match self {
             CriticalError::IoError { about, err } => {

@@ -8,7 +8,7 @@ use wx_events::{Copies, Memory, Spelled, Text, TextPath, Words};
 /// The value whose words are this whole line.
 fn read_line<T: Spelled>(alloc: Global, line: &[u8]) -> Result<Option<T>, Memory> {
     let mut words = Words::new(line);
-    let found = T::take_front(alloc, &mut words)?;
+    let found = T::take(alloc, &mut words)?;
     if words.is_done() { Ok(found) } else { Ok(None) }
 }
 

@@ -11,7 +11,7 @@ pub struct Flag {
 }
 
 impl Flag {
-    /// A flag, raised at once where `value` is true. It fails only for want of memory.
+    /// A flag. It fails only for want of memory. The value isn't looked at yet: a flag holds nothing so far.
     pub fn new(_alloc: Global, _value: bool) -> Result<Flag, Memory> {
         Ok(Flag { state: () })
     }

@@ -87,7 +87,7 @@ fn line_of<T: Spelled>(alloc: Global, value: &T) -> Result<Text, Memory> {
 /// The value whose words are this whole line.
 fn read_line<T: Spelled>(alloc: Global, line: &[u8]) -> Result<Option<T>, Memory> {
     let mut words = Words::new(line);
-    let found = T::take_front(alloc, &mut words)?;
+    let found = T::take(alloc, &mut words)?;
     if words.is_done() { Ok(found) } else { Ok(None) }
 }
 
@@ -171,13 +171,10 @@ fn names_as_words(rt: HostRuntime) -> Result<(), Fail> {
 fn a_name_a_level_and_a_control(rt: HostRuntime) -> Result<(), Fail> {
     let alloc = rt.alloc();
     let mut words = Words::new(b"7 normal stop");
-    assert_eq!(rt; Id::take_front(alloc, &mut words)?, Some(Id(7)));
-    assert_eq!(rt; Id::take_front(alloc, &mut words)?, None);
-    assert_eq!(rt; Level::take_front(alloc, &mut words)?, Some(Level::Normal));
-    assert_eq!(rt;
-        Control::take_front(alloc, &mut words)?,
-        Some(Control::Stop)
-    );
+    assert_eq!(rt; Id::take(alloc, &mut words)?, Some(Id(7)));
+    assert_eq!(rt; Id::take(alloc, &mut words)?, None);
+    assert_eq!(rt; Level::take(alloc, &mut words)?, Some(Level::Normal));
+    assert_eq!(rt; Control::take(alloc, &mut words)?, Some(Control::Stop));
     assert!(rt; words.is_done());
     Ok(())
 }

@@ -1,5 +1,6 @@
 -- What hooks that follow a script ask for, act by act.
 use Rattle.std.proofs.Common.{◌≡◌, ℕ, Bool, true, false, cond, ◌||◌, List, [], ◌∷◌, ◌++◌, Result, Ok, Err, refl, ap, sym, ◌∙◌}
+use mathlib.Core.Bool.{or-false}
 use Rattle.std.specs.Prelude.{Option, None, Some, OnOk, ◌==◌}
 use Rattle.std.specs.List.{find, list_any}
 use Rattle.std.proofs.lemmas.Bool.{eqb-true, or_right}
@@ -23,10 +24,6 @@ ok_then (Err e) h f = tt
 
 -- ---- which jobs were created
 
-or_false : (b : Bool) → (b || false) ≡ b
-or_false true = refl
-or_false false = refl
-
 or_assoc : (a b c : Bool) → (a || (b || c)) ≡ ((a || b) || c)
 or_assoc true b c = refl
 or_assoc false b c = refl
@@ -42,12 +39,12 @@ creates_quit id (Create other command ∷ acts) = ap (λ b. other.0 == id.0 || b
 creates_quit id (_ ∷ acts) = creates_quit id acts
 
 creates_more : (id : Id) (acts : List Act) (job : Id) (command : Command) → creates id (acts ++ Create job command ∷ []) ≡ (creates id acts || same job id)
-creates_more id [] job command = or_false (same job id)
+creates_more id [] job command = or-false (same job id)
 creates_more id (Create other what ∷ acts) job command = ap (λ b. other.0 == id.0 || b) (creates_more id acts job command) ∙ or_assoc (other.0 == id.0) (creates id acts) (same job id)
 creates_more id (_ ∷ acts) job command = creates_more id acts job command
 
 any_more : (id : Id) (made : List Job) (job : Job) → list_any (is_made id) (made ++ job ∷ []) ≡ (list_any (is_made id) made || is_made id job)
-any_more id [] job = or_false (is_made id job)
+any_more id [] job = or-false (is_made id job)
 any_more id (other ∷ made) job = ap (λ b. is_made id other || b) (any_more id made job) ∙ or_assoc (is_made id other) (list_any (is_made id) made) (is_made id job)
 
 pub made_ask : (made : List Job) (acts : List Act) (job : Id) (ask : AnAsk) → AreMade made acts → AreMade made (acts ++ Asks job ask ∷ [])

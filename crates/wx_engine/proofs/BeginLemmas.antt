@@ -17,6 +17,7 @@ use Rattle.wx_action.specs.Turns.{StaysInTurn}
 use Rattle.wx_action.specs.Jobs.{set, jobs}
 use Rattle.wx_action.specs.Stands.{Stands, Ready, held_id, end_room}
 use Rattle.wx_action.specs.RunLaws.{none_waits}
+use Rattle.wx_action.specs.JobLaws.{turns_over}
 
 -- what is known once the beginning is listed
 pub record Begun (s : Start) (w : Worker) (p p' : List Entry) : Type 0 where
@@ -34,7 +35,7 @@ begun s w e p p' empty is grown stands = rw (grown, is, empty) (record {
   count = refl;
   follows = λ world hooks p₀ world₀ hooks₀ l. Then (begin_of s) [] world hooks l refl;
   apart = λ p₀ a. More (begin_of s) [] a tt refl;
-  turns = λ p₀ t. record { count = t.count; fault = t.fault; now = t.now; rise = t.rise; told = t.told };
+  turns = turns_over _ _ refl;
 })
 
 sends_no_batch : (xs : List (Event × Priority)) → sends xs ≡ Hands → ⊥

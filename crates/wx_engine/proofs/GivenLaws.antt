@@ -6,7 +6,7 @@ use Rattle.wx_journal.specs.declared.entry.TurnKind.TheVariants.{Last}
 use Rattle.wx_engine.specs.declared.script.ScriptTurn.{ScriptTurn}
 use Rattle.wx_engine.specs.declared.script.ScriptTurn.TheVariants.{Turn, Fault}
 use Rattle.wx_engine.specs.Answered.{spawn_answers, kill_answers, wait_answers}
-use Rattle.wx_engine.specs.Turns.{entry_of, entry_or_last, Given, given, first_given, turns_of, FollowsGiven}
+use Rattle.wx_engine.specs.Turns.{entry_of, entry_or_last, Given, given, newest, turns_of, FollowsGiven}
 
 -- the next of the turns that are left, and those after it
 next_turn : (turns : List ScriptTurn) (k : ℕ) (x : ScriptTurn) (rest : List ScriptTurn) → x ∷ rest ≡ drop k turns → slice_get turns k ≡ Some x
@@ -42,7 +42,7 @@ pub rest_more : (turns : List ScriptTurn) (told : List Entry) (x : ScriptTurn) (
 rest_more turns told x rest left = rw (← turns_more x told) (rest_after turns (length (turns_of told)) x rest left)
 
 -- one more entry is given
-more : (plan : Given) (past : List Entry) (e : Entry) → e ≡ given plan (length past) → past ≡ first_given plan (length past) → e ∷ past ≡ first_given plan (suc (length past))
+more : (plan : Given) (past : List Entry) (e : Entry) → e ≡ given plan (length past) → past ≡ newest (given plan) (length past) → e ∷ past ≡ newest (given plan) (suc (length past))
 more plan past e is so_far = λ i. is i ∷ so_far i
 
 pub follows_more : (plan : Given) (told : List Entry) (x : ScriptTurn) (rest : List ScriptTurn) → x ∷ rest ≡ drop (length (turns_of told)) plan.turns → FollowsGiven plan told → FollowsGiven plan (entry_of x ∷ told)

@@ -1,5 +1,6 @@
 -- A turn is drawn and served.
-use Rattle.std.proofs.Common.{◌≡◌, ℕ, ◌+◌, ◌≤◌, Bool, true, false, Option, List, [], ◌∷◌, refl, subst}
+use Rattle.std.proofs.Common.{◌≡◌, ℕ, ◌+◌, ◌≤◌, ◌<◌, Bool, true, false, cond, Option, List, [], ◌∷◌, refl, arith, subst}
+use Rattle.std.specs.Prelude.{not}
 use Rattle.wx_journal.specs.declared.entry.Entry.{Entry}
 use Rattle.wx_journal.specs.declared.entry.Entry.TheVariants.{Turn as Turned, TurnFault}
 use Rattle.wx_journal.specs.declared.entry.Turn.{Turn}
@@ -8,15 +9,17 @@ use Rattle.wx_journal.specs.Told.{tell, tell_if, tells, is_world, is_hooks, is_t
 use Rattle.wx_job.specs.Case.{is_fault}
 use Rattle.wx_action.specs.declared.state.Worker.{Worker}
 use Rattle.wx_action.specs.Start.{Start}
-use Rattle.wx_action.specs.Journal.{turn_count, turn_fault}
+use Rattle.wx_action.specs.Journal.{turn_count, early_count, turn_fault}
 use Rattle.wx_action.specs.Due.{agenda, Open, Due, IsRun}
 use Rattle.wx_action.specs.Laws.{NoneUrgentWaits, MomentsRise}
-use Rattle.wx_action.specs.Faults.{CountsOn}
+use Rattle.wx_job.specs.Faults.{CountsOn}
 use Rattle.wx_action.specs.FaultLaws.{counts_entry}
 use Rattle.wx_action.specs.Leads.{Leads, Follows, Then, Same, More, Promised}
 use Rattle.wx_action.specs.Stands.{Ready}
 use Rattle.wx_action.specs.Turns.{SameTurns, StaysInTurn}
 use Rattle.wx_action.specs.RunLaws.{own_of_run}
+use Rattle.wx_action.specs.JobLaws.{same_turns}
+use Rattle.wx_action.specs.Told.{is_last}
 use Rattle.wx_action.specs.TurnLaws.{TellsNoEnd, at_turn, next_turn, promised_apart, promised_then}
 use Rattle.wx_action.proofs.StandsLemmas.{ready_over}
 use Rattle.wx_engine.proofs.BeginLemmas.{calm_begun}
@@ -59,24 +62,37 @@ fault_calm s code p p' run open_is grown = rw grown (calm_begun s p [] run open_
 -- what a journal says of its turns after one more, and what was served in it
 pub record Served (t : Turn) (p p' : List Entry) : Type 0 where
   pub count : turn_count p' ≡ turn_count p + 1
+  pub early : early_count p' ≤ early_count p + 1
   pub fault : turn_fault p' ≡ turn_fault p
   pub now : moment p' ≡ t.at
   pub rise : moment p ≤ t.at → MomentsRise p → MomentsRise p'
   pub told : (before : Option (List Entry)) → tells is_turn p' before ≡ tell (Turned t) (tells is_turn p before)
 
+early_one : (t : Turn) (p : List Entry) → early_count (Turned t ∷ p) ≤ early_count p + 1
+early_one t p = by_kind (is_last t.kind)
+  where
+    by_kind : (last : Bool) → cond (not last) (early_count p + 1) (early_count p) ≤ early_count p + 1
+    by_kind true = omega arith
+    by_kind false = omega arith
+
+-- but for a last turn one turn less is left
+pub early_drawn : (t : Turn) (p : List Entry) (left left' n : ℕ) → (is_last t.kind ≡ false → left' < left) → early_count p + left ≤ n → early_count (Turned t ∷ p) ≤ n
+early_drawn t p left left' n falls few = by_kind (is_last t.kind) falls
+  where
+    by_kind : (last : Bool) → (last ≡ false → left' < left) → cond (not last) (early_count p + 1) (early_count p) ≤ n
+    by_kind true falls = omega (arith, few)
+    by_kind false falls = let less = falls refl in omega (arith, less, few)
+
 pub served : (t : Turn) (p mid p' : List Entry) → mid ≡ Turned t ∷ p → StaysInTurn mid p' → Served t p p'
 served t p mid p' grown stays =
-    let same : SameTurns (Turned t ∷ p) p' = subst (λ (q : List Entry). SameTurns q p') grown (stays mid (record { count = refl; fault = refl; now = refl; rise = λ r. r; told = λ b. refl })) in record {
+    let same : SameTurns (Turned t ∷ p) p' = subst (λ (q : List Entry). SameTurns q p') grown (stays mid (same_turns mid)) in record {
       count = same.count;
+      early = let one = early_one t p in omega (arith, one, same.early);
       fault = same.fault;
       now = same.now;
       rise = λ later so_far. same.rise (later, so_far);
       told = λ before. same.told before;
     }
-
--- a journal has its own turns
-pub same_turns : (p : List Entry) → SameTurns p p
-same_turns p = record { count = refl; fault = refl; now = refl; rise = λ r. r; told = λ before. refl }
 
 -- a worker that stood for the journal before a turn stands for it with that turn, where this tells no end of a child
 pub turn_ready : (s : Start) (w : Worker) (t : Turn) (p p' : List Entry) → Ready s w p → agenda s p ≡ Open → p' ≡ Turned t ∷ p → TellsNoEnd t.kind → Ready s w p'

@@ -74,7 +74,7 @@ pub keeps_stand : (plan : List (List ScriptAct)) (next : ℕ) (p : List Entry) (
 keeps_stand plan next p (Hand n names acts) other stands = absurd cc
 keeps_stand plan next p (_) other stands = stands
 
--- in each of these calls
+-- each call on the hooks among these entries asks for just what the script says
 abbrev pub FollowsActs : List (List ScriptAct) → List Entry → Type 0
 FollowsActs plan [] = Unit {0}
 FollowsActs plan (Hand n names acts ∷ p) = (acts ≡ acted plan (hand_count p) p) × FollowsActs plan p

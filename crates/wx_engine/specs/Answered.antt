@@ -1,11 +1,11 @@
 -- What a world that follows a script answers to the calls on children.
-use Rattle.std.specs.Prelude.{◌≡◌, ℕ, zero, suc, min, Option, None, Some, Result, Ok, List, [], ◌∷◌, length, slice_get}
+use Rattle.std.specs.Prelude.{◌≡◌, ℕ, min, Option, None, Some, Result, Ok, List, [], ◌∷◌, length, slice_get}
 use Rattle.wx_events.specs.declared.process.ProcessEnd.{ProcessEnd}
 use Rattle.wx_events.specs.declared.process.ProcessEnd.TheVariants.{Success}
 use Rattle.wx_journal.specs.declared.child.HostFault.{HostFault}
 use Rattle.wx_journal.specs.declared.entry.Entry.{Entry}
 use Rattle.wx_journal.specs.declared.entry.Entry.TheVariants.{Spawn, Kill, Wait}
-use Rattle.wx_engine.specs.Turns.{Given}
+use Rattle.wx_engine.specs.Turns.{Given, newest}
 
 -- what is written, and Ok with the usual where nothing is
 abbrev pub or_usual : {A : Type 0} → A → Option (Result A HostFault) → Result A HostFault
@@ -16,14 +16,9 @@ or_usual usual (Some answer) = answer
 abbrev pub answer_at : {A : Type 0} → A → List (Result A HostFault) → ℕ → Result A HostFault
 answer_at usual lines k = or_usual usual (slice_get lines k)
 
--- the answers to the first n calls, the newest first
-abbrev pub first_answers : {A : Type 0} → A → List (Result A HostFault) → ℕ → List (Result A HostFault)
-first_answers usual lines zero = []
-first_answers usual lines (suc n) = answer_at usual lines n ∷ first_answers usual lines n
-
--- these are the first ones
+-- these are the answers to the first calls, the newest first
 abbrev pub AreAnswered : {A : Type 0} → A → List (Result A HostFault) → List (Result A HostFault) → Type 0
-AreAnswered usual lines answers = answers ≡ first_answers usual lines (length answers)
+AreAnswered usual lines answers = answers ≡ newest (answer_at usual lines) (length answers)
 
 -- so many of these were given once there were these answers
 abbrev pub IsGiven : {A : Type 0} → ℕ → List (Result A HostFault) → List (Result A HostFault) → Type 0

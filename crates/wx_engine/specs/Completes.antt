@@ -1,4 +1,4 @@
--- When a run answers otherwise than Ok.
+-- What a run answers where no turn failed.
 use Rattle.std.specs.Prelude.{Ok, Err}
 use Rattle.wx_config.specs.declared.error.CriticalError.TheVariants.{IoError, Memory}
 use Rattle.wx_journal.specs.Lines.{Answer}

@@ -11,7 +11,7 @@ use Rattle.wx_engine.specs.declared.script.Script.{Script}
 use Rattle.wx_engine.specs.declared.script.ScriptTurn.{ScriptTurn}
 use Rattle.wx_engine.specs.declared.script.ScriptTurn.TheVariants.{Turn, Fault}
 use Rattle.wx_engine.specs.Answered.{spawn_answers, kill_answers, wait_answers, AreAnswered, FollowsAnswers}
-use Rattle.wx_engine.specs.Turns.{comes, risen, Rises, Given, first_given, turns_of, FollowsGiven}
+use Rattle.wx_engine.specs.Turns.{comes, risen, Rises, Given, given, newest, turns_of, FollowsGiven}
 use Rattle.wx_engine.specs.Follows.{given_of, FollowsTurns}
 
 -- what is told is the old list with the calls in front
@@ -27,7 +27,7 @@ tells_filter mine (e ∷ p) before =
 pub follows_turns : (s : Script) (plan : Given) (told p : List Entry)
     → plan ≡ given_of s → FollowsGiven plan told → Some (turns_of told) ≡ tells is_turn p (Some []) → FollowsTurns s p
 follows_turns s plan told p is follows tells_run =
-    subst (λ (turns : List Entry). turns ≡ first_given (given_of s) (length turns)) same (follows ∙ ap (λ (g : Given). first_given g (length (turns_of told))) is)
+    subst (λ (turns : List Entry). turns ≡ newest (given (given_of s)) (length turns)) same (follows ∙ ap (λ (g : Given). newest (given g) (length (turns_of told))) is)
   where
     whole : Some (turns_of told) ≡ Some (turns_of p)
     whole = tells_run ∙ tells_filter is_turn p [] ∙ ap Some (append-nil (turns_of p))

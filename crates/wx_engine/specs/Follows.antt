@@ -28,7 +28,7 @@ start_of s = record {
 abbrev pub given_of : Script → Given
 given_of s = record { turns = s.turns; last = s.last; spawns = s.spawns; kills = s.kills; waits = s.waits }
 
--- the turns of the run are the script's first ones
+-- the turns of the run are the script's first ones, and then last turns at its last moment
 abbrev pub FollowsTurns : Script → List Entry → Type 0
 FollowsTurns s p = FollowsGiven (given_of s) p
 

@@ -47,10 +47,10 @@ entry_or_last last (Some turn) = entry_of turn
 abbrev pub given : Given → ℕ → Entry
 given plan k = entry_or_last plan.last (slice_get plan.turns k)
 
--- the entries of the first n turns, the newest first
-abbrev pub first_given : Given → ℕ → List Entry
-first_given plan zero = []
-first_given plan (suc n) = given plan n ∷ first_given plan n
+-- the items at the first n indexes, the newest first
+abbrev pub newest : {A : Type 0} → (ℕ → A) → ℕ → List A
+newest at zero = []
+newest at (suc n) = at n ∷ newest at n
 
 -- the turns and turn faults among these entries
 abbrev pub turns_of : List Entry → List Entry
@@ -58,4 +58,4 @@ turns_of p = filter is_turn p
 
 -- they are the first ones that are given
 abbrev pub FollowsGiven : Given → List Entry → Type 0
-FollowsGiven plan p = turns_of p ≡ first_given plan (length (turns_of p))
+FollowsGiven plan p = turns_of p ≡ newest (given plan) (length (turns_of p))

@@ -1,5 +1,5 @@
 // Hooks as a user writes them, and a run with them: its text is worked out by hand.
-ghost use Rattle.std.specs.Prelude.{◌≡◌, ◌^◌, false, None, IfOk};
+ghost use Rattle.std.specs.Prelude.{◌≡◌, ◌^◌, IfOk};
 ghost use Rattle.wx_engine.specs.Follows.{IsScript};
 
 use crate::tests::{arrive, empty, engine_with, job, program, turn, work};
@@ -22,12 +22,6 @@ impl JobHooks for Restarts {
     ghost plan = { λ _. tt };
 
     ghost rule = { λ _ _ _. Unit {0} };
-
-    ghost stands = { λ _ _. Unit {0} };
-
-    ghost short = { λ _. false };
-
-    ghost told = { λ _. None };
 
     ghost spare = { λ _. 2 ^ 64 };
 
@@ -99,8 +93,7 @@ fn hooks_of_a_user(rt: HostRuntime) -> Result<(), Fail> {
     let mut journal = Journal::new(alloc)?;
     let engine = engine_with(alloc, script.throttle, 4)?;
     let answer = engine.main(alloc, &mut world, &mut hooks, &mut journal);
-    let mut text = Text::new(alloc);
-    print_journal(alloc, &journal, &answer, &mut text)?;
+    let text = print_journal(alloc, &journal, &answer)?;
     let (_, rest) = cut(text.as_slice(), 10).ok_or("a beginning")?;
     assert!(rt; rest == LINES);
     Ok(())

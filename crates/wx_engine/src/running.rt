@@ -6,13 +6,13 @@ ghost use Rattle.wx_journal.specs.Told.{is_world, is_hooks, is_turn, tells, Obey
 ghost use Rattle.wx_job.specs.Steady.{IsSteady};
 ghost use Rattle.wx_config.specs.declared.error.CriticalError.TheVariants.{Memory as WantOfMemory};
 ghost use Rattle.wx_action.specs.Start.{Start, IsStart};
-ghost use Rattle.wx_action.specs.Journal.{turn_count, turn_fault};
+ghost use Rattle.wx_action.specs.Journal.{turn_count, early_count, turn_fault};
 ghost use Rattle.wx_action.specs.Jobs.{jobs};
 ghost use Rattle.wx_action.specs.Due.{agenda, begin_of, Open, IsRun};
 ghost use Rattle.wx_action.specs.Told.{is_last};
 ghost use Rattle.wx_action.specs.Laws.{IsBatched, AreBatches, NoneUrgentWaits, MomentsRise};
 ghost use Rattle.wx_action.specs.Answer.{Answers};
-ghost use Rattle.wx_action.specs.Faults.{Counted, CountsOn};
+ghost use Rattle.wx_job.specs.Faults.{Counted, CountsOn};
 ghost use Rattle.wx_action.specs.Leads.{StaysApart, FollowsAlone, Follows, Promised};
 ghost use Rattle.wx_action.specs.Turns.{StaysInTurn};
 ghost use Rattle.wx_action.specs.TurnLaws.{TellsNoEnd};
@@ -188,6 +188,7 @@ fn serve_turns<W: World, H: Hooks>(
     ensures rise { MomentsRise journal.new.past }
     ensures turns { TellsTurns journal.old.past (W.progress world.old).turns journal.new.past (W.progress world.new).turns }
     ensures count { turn_count journal.new.past ≤ turn_count journal.old.past + (W.progress world.old).left + 1 }
+    ensures early { early_count journal.new.past ≤ early_count journal.old.past + (W.progress world.old).left }
     ensures cause { IfErr result (λ error. HasCause error (W.progress world.old).turn_faults (W.progress world.new).turn_faults) }
     ensures promised { Promised (H.short hooks.new) (H.rule (H.plan hooks.old)) (H.stands hooks.old) (H.stands hooks.new) journal.old.past journal.new.past }
     ensures short { H.short hooks.new ≡ false → H.short hooks.old ≡ false }
@@ -239,6 +240,7 @@ pub(crate) fn run<W: World, H: Hooks>(
     ensures rise { MomentsRise journal.new.past }
     ensures turns { (W.progress world.new).turns ≡ tells is_turn journal.new.past (W.progress world.old).turns }
     ensures count { turn_count journal.new.past ≤ (W.progress world.old).left + 1 }
+    ensures early { early_count journal.new.past ≤ (W.progress world.old).left }
     ensures cause { IfErr result (λ error. HasCause error (W.progress world.old).turn_faults (W.progress world.new).turn_faults) }
     ensures promised { Promised (H.short hooks.new) (H.rule (H.plan hooks.old)) (H.stands hooks.old) (H.stands hooks.new) [] journal.new.past }
     ensures short { H.short hooks.new ≡ false → H.short hooks.old ≡ false }

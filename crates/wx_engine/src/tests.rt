@@ -297,8 +297,7 @@ fn run_text(alloc: Global, engine: Watchexec, script: &Script) -> Result<(u64, T
     let mut hooks = ScriptHooks::new(alloc, script)?;
     let mut journal = Journal::new(alloc)?;
     let answer = engine.main(alloc, &mut world, &mut hooks, &mut journal);
-    let mut text = Text::new(alloc);
-    print_journal(alloc, &journal, &answer, &mut text)?;
+    let text = print_journal(alloc, &journal, &answer)?;
     Ok((journal.len(), text))
 }
 

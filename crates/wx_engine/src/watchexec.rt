@@ -8,10 +8,10 @@ ghost use Rattle.wx_job.specs.History.{child};
 ghost use Rattle.wx_job.specs.Laws.{IsReaping, AfterFaults};
 ghost use Rattle.wx_config.specs.Defaults.{default_config};
 ghost use Rattle.wx_action.specs.Start.{Start, IsSize, IsStart, is_absolute};
-ghost use Rattle.wx_action.specs.Journal.{turn_count};
+ghost use Rattle.wx_action.specs.Journal.{turn_count, early_count};
 ghost use Rattle.wx_action.specs.Laws.{IsBatched, AreBatches, NoneUrgentWaits, MomentsRise};
 ghost use Rattle.wx_action.specs.Answer.{Answers};
-ghost use Rattle.wx_action.specs.Faults.{Counted};
+ghost use Rattle.wx_job.specs.Faults.{Counted};
 ghost use Rattle.wx_engine.specs.Sent.{Refuses};
 ghost use Rattle.wx_engine.specs.Run.{HasCause, Ran};
 ghost use Rattle.wx_engine.specs.Completes.{IsOkOrMemory};
@@ -117,13 +117,15 @@ impl Watchexec {
         ensures cause { IfErr result (λ error. HasCause error (W.progress world.old).turn_faults (W.progress world.new).turn_faults) }
         ensures completes { (Rose (W.progress world.old).turn_faults (W.progress world.new).turn_faults → ⊥) → IsOkOrMemory result }
 
-        // It lists what was told: the turns, and the calls on world and hooks.
+        // It lists what was told: the turns, and the calls on world and hooks. At most one turn more came than were left, and
+        // it is a last one.
         ensures world { W.told world.new ≡ tells is_world journal.new.past (W.told world.old) }
         ensures hooks { H.told hooks.new ≡ tells is_hooks journal.new.past (H.told hooks.old) }
         ensures turns { (W.progress world.new).turns ≡ tells is_turn journal.new.past (W.progress world.old).turns }
         ensures count { turn_count journal.new.past ≤ (W.progress world.old).left + 1 }
+        ensures one_more { early_count journal.new.past ≤ (W.progress world.old).left }
 
-        // A call on a child failed only where the count of these rose. A job whose spawn failed is pending, and a child that
+        // The count of failed calls on children rose with each. A job whose spawn failed is pending, and a child that
         // could not be killed or waited for runs.
         ensures host_faults { Counted [] (W.host_faults world.old) journal.new.past (W.host_faults world.new) }
         ensures after_faults { AfterFaults journal.new.past }

@@ -1,9 +1,8 @@
 -- Priorities and events as words.
-use Rattle.std.specs.Prelude.{ℕ, ◌^◌, ◌<◌, List, [], ◌∷◌, length, codes}
-use Rattle.std.specs.List.{AllByRecursion}
+use Rattle.std.specs.Prelude.{ℕ, List, [], ◌∷◌, codes}
 use Rattle.wx_words.specs.Combine.{Reader, read_as, read_nothing, read_rows}
 use Rattle.wx_words.specs.Keywords.{read_keyword}
-use Rattle.wx_words.specs.Lists.{list_words, read_list}
+use Rattle.wx_words.specs.Lists.{ListFits, list_words, read_list}
 use Rattle.wx_events.specs.declared.priority.Priority.{Priority}
 use Rattle.wx_events.specs.declared.priority.Priority.TheVariants.{Low, Normal, High, Urgent}
 use Rattle.wx_events.specs.declared.event.Tag.{Tag}
@@ -41,7 +40,7 @@ read_tag ws = read_rows tag_rows ws
 
 -- an event is its list of tags
 abbrev pub EventFits : Event → Type 0
-EventFits e = (length e.tags < 2 ^ 64) × AllByRecursion TagFits e.tags
+EventFits e = ListFits TagFits e.tags
 
 abbrev pub event_words : Event → List (List ℕ)
 event_words e = list_words tag_words e.tags

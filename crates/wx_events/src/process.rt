@@ -1,7 +1,7 @@
 // Signals, and the ends of processes.
 ghost use Rattle.std.specs.Prelude.{◌≡◌, ◌++◌, OnOk};
 ghost use Rattle.wx_words.specs.Dotted.{dotted};
-ghost use Rattle.wx_events.specs.Ends.{signal_parts, read_signal_parts, read_end_parts};
+ghost use Rattle.wx_events.specs.Ends.{SignalFits, signal_parts, read_signal_parts, read_end_parts};
 
 use std::alloc::Global;
 use std::num::{NonZeroI32, NonZeroI64};
@@ -53,7 +53,8 @@ impl Copies for ProcessEnd {
 
 /// Appends the parts of a signal with a dot between them.
 fn put_signal(signal: Signal, out: &mut Text) -> Result<(), Memory>
-    ensures { OnOk result (out.new ≡ out.old ++ dotted (signal_parts signal)) }
+    ensures text { OnOk result (out.new ≡ out.old ++ dotted (signal_parts signal)) }
+    ensures fits { OnOk result (SignalFits signal) }
 {
     match signal {
         Signal::Hangup => out.append(b"hangup"),
@@ -110,7 +111,7 @@ impl Dotted for Signal {
 }
 
 impl Spelled for Signal {
-    ghost use Rattle.wx_events.specs.Ends.{SignalFits, signal_words, read_signal};
+    ghost use Rattle.wx_events.specs.Ends.{signal_words, read_signal};
     ghost use Rattle.wx_events.specs.EndLaws.{signal_form, signal_clean};
 
     ghost words = { signal_words };

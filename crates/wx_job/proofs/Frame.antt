@@ -9,7 +9,8 @@ use Rattle.wx_control.specs.declared.level.Level.{Level}
 use Rattle.wx_journal.specs.declared.child.SpawnTag.{SpawnTag}
 use Rattle.wx_journal.specs.declared.child.HostFault.{HostFault}
 use Rattle.wx_journal.specs.declared.entry.Entry.{Entry}
-use Rattle.wx_journal.specs.declared.entry.Entry.TheVariants.{Word as Said, Asked, Pick, Spawn, Kill, Wait, Dropped, Raise, Gone}
+use Rattle.wx_journal.specs.declared.entry.Entry.TheVariants.{Turn as Turned, Word as Said, Asked, Pick, Spawn, Kill, Wait, Dropped, Raise, Gone}
+use Rattle.wx_journal.specs.declared.entry.TurnKind.TheVariants as turn
 use Rattle.wx_journal.specs.declared.entry.Word.{Word}
 use Rattle.wx_journal.specs.Names.{NamesItsOwn, moment}
 use Rattle.wx_job.specs.declared.state.CommandState.{CommandState}
@@ -56,6 +57,9 @@ frame_word i w p = record { lives_same = refl; waits_same = λ l. refl; child_sa
 
 pub frame_kill : (i : Id) (c : ℕ) (a : Result (Unit {0}) HostFault) (p : List Entry) → SameHistory i p (Kill c a ∷ p)
 frame_kill i c a p = record { lives_same = refl; waits_same = λ l. refl; child_same = refl; kept_same = refl; state_same = refl; previous_same = refl }
+
+pub frame_turn : (i : Id) (at : ℕ) (id : Id) (p : List Entry) → SameHistory i p (Turned (record { at = at; kind = turn.Job id }) ∷ p)
+frame_turn i at id p = record { lives_same = refl; waits_same = λ l. refl; child_same = refl; kept_same = refl; state_same = refl; previous_same = refl }
 
 -- entries that name a child of another job
 pub not_child : (o : Option ℕ) (d : ℕ) → (o ≡ Some d → ⊥) → (is_child d o ≡ false) × (unless d o ≡ o)

@@ -1,5 +1,6 @@
 pub mod CaseLemmas
 pub mod StandsLemmas
+pub mod SteadyLemmas
 pub mod Sets
 pub mod Owners
 pub mod Frame

@@ -3,6 +3,8 @@ use Rattle.std.proofs.Common.{◌≡◌, ◌≢◌, ℕ, ◌+◌, ◌<◌, Bool,
 use Rattle.std.specs.Prelude.{◌==◌, ◌&&◌}
 use Rattle.std.specs.List.{AllByRecursion}
 use Rattle.std.proofs.lemmas.Bool.{eqb-true}
+use Rattle.wx_words.specs.EachLaws.{each_append, each_weaker}
+use Rattle.wx_words.specs.OptionLaws.{refused}
 use Rattle.wx_events.specs.declared.process.ProcessEnd.{ProcessEnd}
 use Rattle.wx_control.specs.declared.id.Id.{Id}
 use Rattle.wx_control.specs.declared.control.Control.{Control}
@@ -13,7 +15,7 @@ use Rattle.wx_journal.specs.declared.entry.Entry.TheVariants.{Begin, Sent, Turn 
 use Rattle.wx_journal.specs.Names.{NamesItsOwn, ticket_count, child_count, moment}
 use Rattle.wx_job.specs.declared.state.CommandState.{CommandState}
 use Rattle.wx_job.specs.declared.state.CommandState.TheVariants.{Pending, Running, Finished}
-use Rattle.wx_job.specs.History.{same, without, waits, child, unless, state, finish, owner}
+use Rattle.wx_job.specs.History.{same, lives, without, waits, child, unless, state, finish, owner}
 use Rattle.wx_job.specs.Stands.{child_of}
 use Rattle.wx_job.specs.Laws.{unreaped}
 
@@ -27,7 +29,7 @@ pub other-is : (a b : Id) → a ≢ b → same b a ≡ false
 other-is a b ne = ne_eqb b.0 a.0 (λ e. ne (ap (λ (n : ℕ). record { 0 = n }) (sym e)))
 
 -- what a choice of two gives, where both do
-either : {A : Type 0} (P : A → Type 0) (b : Bool) (x y : A) → P x → P y → P (cond b x y)
+pub either : {A : Type 0} (P : A → Type 0) (b : Bool) (x y : A) → P x → P y → P (cond b x y)
 either P true x y h g = h
 either P false x y h g = g
 
@@ -78,10 +80,6 @@ unless_some c (Some x) d e = by_test (x == c) e
 abbrev Spawned : (Id → List Entry → Option ℕ) → Type 0
 Spawned look = (id : Id) (c : ℕ) (p : List Entry) → NamesItsOwn p → look id p ≡ Some c → owner c p ≡ Some id
 
-none_of : (b : Bool) (o : Option ℕ) (c : ℕ) → cond b None o ≡ Some c → o ≡ Some c
-none_of true o c e = cc
-none_of false o c e = e
-
 spawned_ok : (c d : ℕ) (id job : Id) (p : List Entry) (o : Option ℕ) (b : Bool) → same job id ≡ b → NamesItsOwn p → d ≡ child_count p → (o ≡ Some c → owner c p ≡ Some id) → cond b (Some d) o ≡ Some c → cond (d == c) (Some job) (owner c p) ≡ Some id
 spawned_ok c d id job p o true is own name look e = let found : d ≡ c = cc in rw found (owner_new c job id (owner c p) is)
 spawned_ok c d id job p o false is own name look e = owner_kept c d id job p own name (look e)
@@ -96,7 +94,7 @@ child_owner id c (Offer name item result event priority ∷ p) own e = child_own
 child_owner id c (Said word ∷ p) own e = child_owner id c p own e
 child_owner id c (Take name ∷ p) own e = child_owner id c p own.1 e
 child_owner id c (Hand n names acts ∷ p) own e = child_owner id c p own.1 e
-child_owner id c (Made job ∷ p) own e = child_owner id c p own.1 (none_of (same job id) (child id p) c e)
+child_owner id c (Made job ∷ p) own e = child_owner id c p own.1 (refused (same job id) (child id p) c e).1
 child_owner id c (Asked ticket job level control ∷ p) own e = child_owner id c p own.1 e
 child_owner id c (Pick job ticket ∷ p) own e = child_owner id c p own.1 e
 child_owner id c (Kill d answer ∷ p) own e = child_owner id c p own.1 e
@@ -118,7 +116,7 @@ unreaped_owner id c (Offer name item result event priority ∷ p) own e = unreap
 unreaped_owner id c (Said word ∷ p) own e = unreaped_owner id c p own e
 unreaped_owner id c (Take name ∷ p) own e = unreaped_owner id c p own.1 e
 unreaped_owner id c (Hand n names acts ∷ p) own e = unreaped_owner id c p own.1 e
-unreaped_owner id c (Made job ∷ p) own e = unreaped_owner id c p own.1 (none_of (same job id) (unreaped id p) c e)
+unreaped_owner id c (Made job ∷ p) own e = unreaped_owner id c p own.1 (refused (same job id) (unreaped id p) c e).1
 unreaped_owner id c (Asked ticket job level control ∷ p) own e = unreaped_owner id c p own.1 e
 unreaped_owner id c (Pick job ticket ∷ p) own e = unreaped_owner id c p own.1 e
 unreaped_owner id c (Kill d answer ∷ p) own e = unreaped_owner id c p own.1 e
@@ -173,12 +171,10 @@ state_owner id c (Spawn d job tag what (Err fault) ∷ p) own e = owner_kept c d
 -- ---- the tickets that wait were asked
 
 below_rise : (n : ℕ) (xs : List (ℕ × Control)) → AllByRecursion (λ x. x.0 < n) xs → AllByRecursion (λ x. x.0 < n + 1) xs
-below_rise n [] h = tt
-below_rise n (x ∷ xs) h = (omega (arith, h.0), below_rise n xs h.1)
+below_rise n xs h = each_weaker (λ x. x.0 < n) (λ x. x.0 < n + 1) (λ x lt. omega (arith, lt)) xs h
 
 below_append : (n : ℕ) (xs : List (ℕ × Control)) (x : ℕ × Control) → AllByRecursion (λ y. y.0 < n) xs → x.0 < n → AllByRecursion (λ y. y.0 < n) (xs ++ x ∷ [])
-below_append n [] x h lt = (lt, tt)
-below_append n (y ∷ xs) x h lt = (h.0, below_append n xs x h.1 lt)
+below_append n xs x h lt = each_append (λ y. y.0 < n) xs (x ∷ []) h (lt, tt)
 
 below_without : (n ticket : ℕ) (xs : List (ℕ × Control)) → AllByRecursion (λ y. y.0 < n) xs → AllByRecursion (λ y. y.0 < n) (without ticket xs)
 below_without n ticket [] h = tt
@@ -200,7 +196,7 @@ waits_asked id level (Hand n names acts ∷ p) own = waits_asked id level p own.
 waits_asked id level (Made job ∷ p) own = either (AreAsked (ticket_count p)) (same job id) [] (waits id level p) tt (waits_asked id level p own.1)
 waits_asked id level (Asked ticket job at control ∷ p) own =
     let here = below_rise (ticket_count p) (waits id level p) (waits_asked id level p own.1) in
-    either (AreAsked (ticket_count p + 1)) (same job id && rank at == rank level) (waits id level p ++ (ticket, control) ∷ []) (waits id level p) (below_append (ticket_count p + 1) (waits id level p) (ticket, control) here (let name : ticket ≡ ticket_count p = own.0 in omega arith)) here
+    either (AreAsked (ticket_count p + 1)) (same job id && rank at == rank level && lives id p) (waits id level p ++ (ticket, control) ∷ []) (waits id level p) (below_append (ticket_count p + 1) (waits id level p) (ticket, control) here (let name : ticket ≡ ticket_count p = own.0 in omega arith)) here
 waits_asked id level (Pick job ticket ∷ p) own = let here = waits_asked id level p own.1 in either (AreAsked (ticket_count p)) (same job id) (without ticket (waits id level p)) (waits id level p) (below_without (ticket_count p) ticket (waits id level p) here) here
 waits_asked id level (Spawn d job tag what answer ∷ p) own = waits_asked id level p own.1
 waits_asked id level (Kill d answer ∷ p) own = waits_asked id level p own.1

@@ -1,6 +1,6 @@
 -- What the plan of a job names is the job's, and what following it leaves.
 use Rattle.std.proofs.Common.{◌≡◌, ◌≢◌, ℕ, ◌+◌, ◌≤◌, ◌<◌, Bool, true, false, cond, List, [], ◌∷◌, Option, Some, None, Ok, Err, refl, arith, ap, sym, subst, ◌∙◌, eq-eqb}
-use Rattle.std.specs.Prelude.{not, ◌&&◌}
+use Rattle.std.specs.Prelude.{not, ◌&&◌, ◌-◌, ◌^◌, min}
 use Rattle.wx_command.specs.declared.command.Command.{Command}
 use Rattle.wx_control.specs.declared.id.Id.{Id}
 use Rattle.wx_control.specs.declared.control.Control.{Control}
@@ -11,13 +11,14 @@ use Rattle.wx_control.specs.declared.ask.Ask.TheVariants.{One}
 use Rattle.wx_control.specs.Asks.{sends_of}
 use Rattle.wx_journal.specs.declared.entry.Entry.{Entry}
 use Rattle.wx_journal.specs.declared.entry.Entry.TheVariants.{Word as Said, Asked, Pick, Spawn, Kill, Wait, Dropped, Raise, Gone}
-use Rattle.wx_journal.specs.Names.{NamesItsOwn, ticket_count, child_count, count}
-use Rattle.wx_journal.specs.Told.{is_hooks, Rose, Counts}
+use Rattle.wx_journal.specs.Names.{NamesItsOwn, ticket_count, child_count}
+use Rattle.wx_journal.specs.Told.{is_hooks, Counts}
 use Rattle.wx_job.specs.declared.choice.Choice.{Choice}
 use Rattle.wx_job.specs.declared.choice.Choice.TheVariants.{End, Next, Nothing}
 use Rattle.wx_job.specs.History.{same, lives, waits, child, kept, unless, SameHistory}
 use Rattle.wx_job.specs.Table.{Plan, Done, Picks, Spawns, Kills, Waits, Drops, Raises, Goes, Makes, Asks, Says, row, first, choose, choose_control, pick, case, step_plan, ask_plan, send_plan, end_plan, drop_plan}
 use Rattle.wx_job.specs.Case.{Admits, is_fault, next, Leads, Here, Then}
+use Rattle.wx_job.specs.Faults.{fault_count, Counted}
 use Rattle.wx_job.specs.Laws.{unreaped, AreReaped, AfterFaults}
 use Rattle.wx_job.proofs.Owners.{self, owner_below, child_owner, waits_asked, AreAsked}
 use Rattle.wx_job.proofs.Frame.{same_history, history_then, frame_pick, frame_asked, frame_spawn_ok, frame_spawn_err, frame_gone, frame_raise, frame_word, frame_kill, frame_wait_ok, frame_wait_err, frame_drop}
@@ -285,14 +286,17 @@ follow stands keep id k p host hooks n k' p' host' hooks' n' l own s = elim l as
       }
 ]
 
--- ---- a fault comes only where the count rose
+-- ---- each fault raised the count
 
-rose_on : (old mid new : ℕ) (a b : ℕ) (bad : Bool) → Counts bad mid new → (old ≤ mid) × (a < b → Rose old mid) → (old ≤ new) × (a < cond bad (b + 1) b → Rose old new)
-rose_on old mid new a b true counts h = let le = counts.later in let rose = counts.rose refl in (omega arith, λ lt. omega arith)
-rose_on old mid new a b false counts h = let le = counts.later in (omega arith, λ lt. let rose = h.1 lt in omega arith)
+counted_more : (n mid new : ℕ) (a b : ℕ) (bad : Bool) → Counts bad mid new → (n ≤ mid) × (min (n + (b - a)) (2 ^ 64 - 1) ≤ mid) → (n ≤ new) × (min (n + (cond bad (b + 1) b - a)) (2 ^ 64 - 1) ≤ new)
+counted_more n mid new a b true counts h = let le = counts.later in let rose = counts.rose refl in (omega (arith, h.0), omega (arith, h.1))
+counted_more n mid new a b false counts h = let le = counts.later in (omega (arith, h.0), omega (arith, h.1))
 
-pub faults_rose : (k : Plan) (p : List Entry) (host hooks : Option (List Entry)) (n : ℕ) (k' : Plan) (p' : List Entry) (host' hooks' : Option (List Entry)) (n' : ℕ) → Leads k p host hooks n k' p' host' hooks' n' → (n ≤ n') × (count is_fault p < count is_fault p' → Rose n n')
-faults_rose k p host hooks n k' p' host' hooks' n' l = elim l as (λ k' p' host' hooks' n' _. (n ≤ n') × (count is_fault p < count is_fault p' → Rose n n')) [
-  | Here ↦ (omega arith, λ lt. absurd (omega arith))
-  | Then e k₁ p₁ host₁ hooks₁ n₁ n₂ (l → h) d counts ↦ rose_on n n₁ n₂ (count is_fault p) (count is_fault p₁) (is_fault e) counts h
+leads_counts : (k : Plan) (p : List Entry) (host hooks : Option (List Entry)) (n : ℕ) (k' : Plan) (p' : List Entry) (host' hooks' : Option (List Entry)) (n' : ℕ) → Leads k p host hooks n k' p' host' hooks' n' → (n ≤ n') × (min (n + (fault_count p' - fault_count p)) (2 ^ 64 - 1) ≤ n')
+leads_counts k p host hooks n k' p' host' hooks' n' l = elim l as (λ k' p' host' hooks' n' _. (n ≤ n') × (min (n + (fault_count p' - fault_count p)) (2 ^ 64 - 1) ≤ n')) [
+  | Here ↦ (omega arith, omega arith)
+  | Then e k₁ p₁ host₁ hooks₁ n₁ n₂ (l → h) d counts ↦ counted_more n n₁ n₂ (fault_count p) (fault_count p₁) (is_fault e) counts h
 ]
+
+pub leads_counted : (k : Plan) (p : List Entry) (host hooks : Option (List Entry)) (n : ℕ) (k' : Plan) (p' : List Entry) (host' hooks' : Option (List Entry)) (n' : ℕ) → Leads k p host hooks n k' p' host' hooks' n' → Counted p n p' n'
+leads_counted k p host hooks n k' p' host' hooks' n' l = let h = leads_counts k p host hooks n k' p' host' hooks' n' l in record { later = h.0; rose = h.1 }

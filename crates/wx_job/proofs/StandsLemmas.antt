@@ -3,8 +3,7 @@ use Rattle.std.proofs.Common.{◌≡◌, ℕ, true, false, List, [], ◌∷◌, 
 use Rattle.std.specs.Prelude.{◌==◌, map}
 use Rattle.wx_events.specs.declared.process.ProcessEnd.{ProcessEnd}
 use Rattle.wx_command.specs.declared.spawnable.Spawnable.{Spawnable}
-use Rattle.wx_control.specs.declared.id.Id.{Id}
-use Rattle.wx_control.specs.declared.level.Level.TheVariants.{Normal}
+use Rattle.wx_control.specs.declared.level.Level.TheVariants.{Normal, High, Urgent}
 use Rattle.wx_journal.specs.declared.child.SpawnTag.{SpawnTag}
 use Rattle.wx_journal.specs.declared.child.HostFault.{HostFault}
 use Rattle.wx_journal.specs.declared.entry.Entry.{Entry}
@@ -15,22 +14,34 @@ use Rattle.wx_job.specs.declared.state.CommandState.{CommandState}
 use Rattle.wx_job.specs.declared.state.CommandState.TheVariants.{Pending, Running, Finished}
 use Rattle.wx_job.specs.declared.task.Waiting.{Waiting}
 use Rattle.wx_job.specs.declared.task.JobTask.{JobTask}
-use Rattle.wx_job.specs.History.{same, lives, child, finish}
+use Rattle.wx_job.specs.History.{lives, child, finish, SameHistory}
 use Rattle.wx_job.specs.Table.{Done, Goes, drop_plan, end_plan}
-use Rattle.wx_job.specs.Stands.{Stands, child_of, ticketed}
+use Rattle.wx_job.specs.Stands.{Stands, child_of, id_of, ticketed}
+use Rattle.wx_job.proofs.Owners.{self}
+use Rattle.wx_job.proofs.Frame.{frame_raise, frame_kill, frame_word}
 
-self : (id : Id) → same id id ≡ true
-self id = eq-eqb id.0 id.0 refl
+-- what leaves the history of its job leaves a task
+pub stands_history : (k : JobTask) (p p' : List Entry) → SameHistory (id_of k) p p' → Stands k p → Stands k p'
+stands_history k p p' h s = record {
+  lives_kept = s.lives_kept ∙ sym h.lives_same;
+  waits_kept = s.waits_kept ∙ sym (h.waits_same Normal);
+  high_none = h.waits_same High ∙ s.high_none;
+  urgent_none = h.waits_same Urgent ∙ s.urgent_none;
+  child_kept = s.child_kept ∙ sym h.child_same;
+  end_kept = s.end_kept ∙ sym h.kept_same;
+  state_kept = s.state_kept ∙ sym h.state_same;
+  previous_kept = s.previous_kept ∙ sym h.previous_same;
+}
 
 -- entries that say nothing of a job
 pub stands-raise : (k : JobTask) (p : List Entry) (t : ℕ) → Stands k p → Stands k (Raise t ∷ p)
-stands-raise k p t s = record { lives_kept = s.lives_kept; waits_kept = s.waits_kept; high_none = s.high_none; urgent_none = s.urgent_none; child_kept = s.child_kept; end_kept = s.end_kept; state_kept = s.state_kept; previous_kept = s.previous_kept }
+stands-raise k p t s = stands_history k p _ (frame_raise (id_of k) t p) s
 
 pub stands-kill : (k : JobTask) (p : List Entry) (c : ℕ) (a : Result (Unit {0}) HostFault) → Stands k p → Stands k (Kill c a ∷ p)
-stands-kill k p c a s = record { lives_kept = s.lives_kept; waits_kept = s.waits_kept; high_none = s.high_none; urgent_none = s.urgent_none; child_kept = s.child_kept; end_kept = s.end_kept; state_kept = s.state_kept; previous_kept = s.previous_kept }
+stands-kill k p c a s = stands_history k p _ (frame_kill (id_of k) c a p) s
 
 pub stands-word : (k : JobTask) (p : List Entry) (w : Word) → Stands k p → Stands k (Said w ∷ p)
-stands-word k p w s = record { lives_kept = s.lives_kept; waits_kept = s.waits_kept; high_none = s.high_none; urgent_none = s.urgent_none; child_kept = s.child_kept; end_kept = s.end_kept; state_kept = s.state_kept; previous_kept = s.previous_kept }
+stands-word k p w s = stands_history k p _ (frame_word (id_of k) w p) s
 
 -- the child that runs, by the journal
 child-is : (k : JobTask) (p : List Entry) (c : ℕ) → Stands k p → k.gone ≡ false → child_of k.state ≡ Some c → child k.id p ≡ Some c
@@ -100,11 +111,12 @@ map-append : (ws : List Waiting) (w : Waiting) → map ticketed (ws ++ w ∷ [])
 map-append [] w = refl
 map-append (x ∷ ws) w = ap (λ xs. ticketed x ∷ xs) (map-append ws w)
 
-pub stands-asked : (k k' : JobTask) (p : List Entry) (w : Waiting) → Stands k p → k'.waiting.items ≡ k.waiting.items ++ w ∷ [] → k' ≡ record k { waiting = k'.waiting } → Stands k' (Asked w.ticket k.id Normal w.control ∷ p)
-stands-asked k k' p w s items fields =
+pub stands-asked : (k k' : JobTask) (p : List Entry) (w : Waiting) → Stands k p → k.gone ≡ false → k'.waiting.items ≡ k.waiting.items ++ w ∷ [] → k' ≡ record k { waiting = k'.waiting } → Stands k' (Asked w.ticket k.id Normal w.control ∷ p)
+stands-asked k k' p w s here items fields =
+    let alive : lives k.id p ≡ true = sym s.lives_kept ∙ rw here refl in
     let stood : Stands (record k { waiting = k'.waiting }) (Asked w.ticket k.id Normal w.control ∷ p) = record {
       lives_kept = s.lives_kept;
-      waits_kept = rw (self k.id, items) (map-append k.waiting.items w ∙ ap (λ xs. xs ++ ticketed w ∷ []) s.waits_kept);
+      waits_kept = rw (self k.id, alive, items) (map-append k.waiting.items w ∙ ap (λ xs. xs ++ ticketed w ∷ []) s.waits_kept);
       high_none = rw (self k.id) s.high_none;
       urgent_none = rw (self k.id) s.urgent_none;
       child_kept = s.child_kept;

@@ -1,5 +1,5 @@
 -- What a call that followed a plan, or did nothing, leaves.
-use Rattle.std.proofs.Common.{◌≡◌, ℕ, ◌<◌, Bool, true, false, cond, List, Option, None, Result, Ok, Err, refl, arith, ap, sym, subst}
+use Rattle.std.proofs.Common.{◌≡◌, ℕ, Bool, true, false, cond, List, Option, None, Result, Ok, Err, refl, arith, sym, subst}
 use Rattle.std.specs.Prelude.{OnOk, OnErr}
 use Rattle.wx_command.specs.declared.command.Command.{Command}
 use Rattle.wx_control.specs.declared.id.Id.{Id}
@@ -7,14 +7,14 @@ use Rattle.wx_control.specs.declared.ask.Ask.{Ask}
 use Rattle.wx_control.specs.declared.ask.Sends.{Sends}
 use Rattle.wx_control.specs.Asks.{sends_of}
 use Rattle.wx_journal.specs.declared.entry.Entry.{Entry}
-use Rattle.wx_journal.specs.Names.{NamesItsOwn, ticket_count, count}
-use Rattle.wx_journal.specs.Told.{Rose}
+use Rattle.wx_journal.specs.Names.{NamesItsOwn, ticket_count}
 use Rattle.wx_job.specs.History.{lives, child}
 use Rattle.wx_job.specs.Table.{Plan, Done, step_plan, end_plan, send_plan}
-use Rattle.wx_job.specs.Case.{is_fault, Leads, Here, FollowsHost, FollowsAlone}
+use Rattle.wx_job.specs.Case.{Leads, Here, FollowsHost, FollowsAlone}
+use Rattle.wx_job.specs.Faults.{Counted}
 use Rattle.wx_job.specs.Laws.{LeavesOthers, IsReaping, AfterFaults}
 use Rattle.wx_job.proofs.Frame.{same_history}
-use Rattle.wx_job.proofs.Sound.{Sound, is_done, KeepsOther, follow, faults_rose, sound_step, sound_end, sound_send}
+use Rattle.wx_job.proofs.Sound.{Sound, is_done, KeepsOther, follow, leads_counted, sound_step, sound_end, sound_send}
 
 pub record Left (stands : List Entry → Type 0) (id : Id) (p p' : List Entry) : Type 0 where
   pub leaves : LeavesOthers id p p'
@@ -42,9 +42,13 @@ pub left : {A E : Type 0} (stands : List Entry → Type 0) → KeepsOther stands
 left stands keep (Ok a) id k p p' host host' n n' ok err own s living = left_done stands keep id k p host None n p' host' None n' (ok k p host None n None Here) own s living
 left stands keep (Err a) id k p p' host host' n n' ok err own s living = rw err (left_same stands id p own)
 
-pub faults : {A E : Type 0} (r : Result A E) (k : Plan) (p p' : List Entry) (host host' : Option (List Entry)) (n n' : ℕ) → OnOk r (FollowsHost k p host n Done p' host' n') → OnErr r (p' ≡ p) → count is_fault p < count is_fault p' → Rose n n'
-faults (Ok a) k p p' host host' n n' ok err lt = (faults_rose k p host None n Done p' host' None n' (ok k p host None n None Here)).1 lt
-faults (Err a) k p p' host host' n n' ok err lt = let same : count is_fault p' ≡ count is_fault p = ap (λ q. count is_fault q) err in absurd (omega arith)
+counted_none : (p : List Entry) (n : ℕ) → Counted p n p n
+counted_none p n = record { later = omega arith; rose = omega arith }
+
+-- a call counts the faults of what it did
+pub counted : {A E H : Type 0} (faults : H → ℕ) (r : Result A E) (h h' : H) (k : Plan) (p p' : List Entry) (told told' : Option (List Entry)) → OnOk r (FollowsHost k p told (faults h) Done p' told' (faults h')) → OnErr r (p' ≡ p) → OnErr r (h' ≡ h) → Counted p (faults h) p' (faults h')
+counted faults (Ok a) h h' k p p' told told' ok err same = leads_counted k p told None (faults h) Done p' told' None (faults h') (ok k p told None (faults h) None Here)
+counted faults (Err a) h h' k p p' told told' ok err same = rw (err, same) (counted_none p (faults h))
 
 of_living : (b : Bool) (k : Plan) → is_done (cond b k Done) ≡ false → b ≡ true
 of_living true k h = refl

@@ -29,11 +29,11 @@ abbrev pub without : ℕ → List (ℕ × Control) → List (ℕ × Control)
 without ticket [] = []
 without ticket (x ∷ xs) = if x.0 == ticket then xs else x ∷ without ticket xs
 
--- the tickets that wait at a level: asked of the job and not picked, in order
+-- the tickets that wait at a level: asked of the job while it lives, and not picked, in order
 abbrev pub waits : Id → Level → List Entry → List (ℕ × Control)
 waits id level [] = []
 waits id level (Made job ∷ p) = if same job id then [] else waits id level p
-waits id level (Asked ticket job at control ∷ p) = if same job id && rank at == rank level then waits id level p ++ (ticket, control) ∷ [] else waits id level p
+waits id level (Asked ticket job at control ∷ p) = if same job id && rank at == rank level && lives id p then waits id level p ++ (ticket, control) ∷ [] else waits id level p
 waits id level (Pick job ticket ∷ p) = if same job id then without ticket (waits id level p) else waits id level p
 waits id level (Gone job ∷ p) = if same job id then [] else waits id level p
 waits id level (_ ∷ p) = waits id level p

@@ -20,7 +20,7 @@ unreaped id (Spawn c job tag what (Ok done) ∷ p) = if same job id then Some c 
 unreaped id (Wait c (Ok status) ∷ p) = unless c (unreaped id p)
 unreaped id (_ ∷ p) = unreaped id p
 
--- each child of a job is reaped before the next spawn, save a last one
+-- each child of a job is reaped before the next spawn, save a last one, from where the job was last made
 abbrev pub AreReaped : Id → List Entry → Type 0
 AreReaped id [] = Unit {0}
 AreReaped id (Made job ∷ p) = same job id ≡ false → AreReaped id p

@@ -3,6 +3,8 @@ pub mod Progress
 pub mod History
 pub mod Table
 pub mod Case
+pub mod Prepared
+pub mod Faults
 pub mod Stands
 pub mod Laws
 pub mod Steady

@@ -64,10 +64,6 @@ abbrev pub spawns : Control → Option ℕ → Bool
 spawns Start None = true
 spawns (_) (_) = false
 
--- what is made ready for such a case, before its first call: what is spawned, twice, for the call and for its entry
-abbrev pub prepared : Command → Control → Option ℕ → Option (Spawnable × Spawnable)
-prepared command control running = if spawns control running then Some (spawnable_of command, spawnable_of command) else None
-
 -- the case of the end of a child
 abbrev pub ended : ℕ → Plan
 ended c = Waits c Done Done

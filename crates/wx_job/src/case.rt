@@ -9,7 +9,8 @@ ghost use Rattle.wx_journal.specs.declared.child.SpawnTag.{SpawnTag as the-Spawn
 ghost use Rattle.wx_journal.specs.Names.{moment};
 ghost use Rattle.wx_job.specs.declared.choice.Choice.TheVariants.{End, Next};
 ghost use Rattle.wx_job.specs.History.{finish};
-ghost use Rattle.wx_job.specs.Table.{Plan, Done, Raises, Kills, Waits, reap, fresh, row, ended, spawns, prepared, is_spawning, case};
+ghost use Rattle.wx_job.specs.Table.{Plan, Done, Raises, Kills, Waits, reap, fresh, row, ended, spawns, is_spawning, case};
+ghost use Rattle.wx_job.specs.Prepared.{prepared};
 ghost use Rattle.wx_job.specs.Case.{FollowsHost};
 ghost use Rattle.wx_job.specs.Steady.{IsSteady};
 ghost use Rattle.wx_job.specs.Stands.{Stands, child_of, running_of, choice_of, ticketed};

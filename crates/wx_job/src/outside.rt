@@ -1,5 +1,5 @@
 // The traits of the outside that jobs use: what runs their children, and what they call.
-ghost use Rattle.std.specs.Prelude.{◌≡◌, ◌∷◌, [], ◌≤◌, ◌+◌, OnOk, is_err, List, ℕ, Bool, true, false, Option};
+ghost use Rattle.std.specs.Prelude.{◌≡◌, ◌∷◌, [], ◌≤◌, ◌+◌, OnOk, is_err, List, ℕ, Bool, true, false, Option, None};
 ghost use Rattle.wx_journal.specs.declared.entry.Entry.{Entry};
 ghost use Rattle.wx_journal.specs.Names.{NamesItsOwn};
 ghost use Rattle.wx_journal.specs.Told.{tell, is_hooks, Counts};
@@ -128,14 +128,14 @@ pub trait JobHooks {
     /// Whether an entry, which is a call on these hooks, may come after these.
     ghost rule: { Plan → List Entry → Entry → Type 0 };
 
-    /// Whether the calls in this journal left just this object.
-    ghost stands: { Self → List Entry → Type 0 };
+    /// Whether the calls in this journal left just this object. One that doesn't say so stands for each.
+    ghost stands: { Self → List Entry → Type 0 } = { λ _ _. Unit {0} };
 
-    /// Whether something was refused for want of memory.
-    ghost short: { Self → Bool };
+    /// Whether something was refused for want of memory. One that doesn't say so never is short.
+    ghost short: { Self → Bool } = { λ _. false };
 
-    /// The entries that were told so far, the newest first, where it tells.
-    ghost told: { Self → Option (List Entry) };
+    /// The entries that were told so far, the newest first, where it tells. One that doesn't say so tells nothing.
+    ghost told: { Self → Option (List Entry) } = { λ _. None };
 
     /// How many entries there is room to tell.
     ghost spare: { Self → ℕ };

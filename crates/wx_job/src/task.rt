@@ -5,11 +5,11 @@ ghost use Rattle.wx_control.specs.declared.level.Level.TheVariants.{Normal};
 ghost use Rattle.wx_journal.specs.declared.entry.Entry.{Entry};
 ghost use Rattle.wx_journal.specs.declared.entry.Entry.TheVariants.{Turn as Turned, Made};
 ghost use Rattle.wx_journal.specs.declared.entry.TurnKind.TheVariants.{Ended};
-ghost use Rattle.wx_journal.specs.Names.{moment, count, NamesItsOwn};
-ghost use Rattle.wx_journal.specs.Told.{Rose};
+ghost use Rattle.wx_journal.specs.Names.{moment, NamesItsOwn};
 ghost use Rattle.wx_job.specs.History.{child as running, state, previous};
 ghost use Rattle.wx_job.specs.Table.{Plan, Done, Asks, send_plan, pick, is_spawning, Goes, answer_of, step_plan, drop_plan, end_plan};
-ghost use Rattle.wx_job.specs.Case.{Leads, FollowsHost, FollowsAlone, is_fault};
+ghost use Rattle.wx_job.specs.Case.{Leads, FollowsHost, FollowsAlone};
+ghost use Rattle.wx_job.specs.Faults.{Counted};
 ghost use Rattle.wx_job.specs.Steady.{IsSteady};
 ghost use Rattle.wx_job.specs.Laws.{LeavesOthers, IsReaping, AfterFaults};
 ghost use Rattle.wx_job.specs.Stands.{Stands, SameJob, SameTask, IsEnding, child_of, id_of, command_of, gone_of, running_of, with_end};
@@ -126,7 +126,7 @@ impl JobTask {
         ensures reaped { NamesItsOwn journal.old.past → IsReaping (id_of self.old) journal.old.past → IsReaping (id_of self.old) journal.new.past }
         ensures failed { NamesItsOwn journal.old.past → AfterFaults journal.old.past → AfterFaults journal.new.past }
         ensures hooks_stand { NamesItsOwn journal.old.past → K.stands hooks.old journal.old.past → K.stands hooks.new journal.new.past }
-        ensures faults { count is_fault journal.old.past < count is_fault journal.new.past → Rose (H.host_faults host.old) (H.host_faults host.new) }
+        ensures faults { Counted journal.old.past (H.host_faults host.old) journal.new.past (H.host_faults host.new) }
         ensures journal_room { journal.old.spare ≤ journal.new.spare + 16 }
         ensures host_room { H.spare host.old ≤ H.spare host.new + 16 }
     {
@@ -175,7 +175,7 @@ impl JobTask {
         ensures reaped { NamesItsOwn journal.old.past → IsReaping (id_of self.old) journal.old.past → IsReaping (id_of self.old) journal.new.past }
         ensures failed { NamesItsOwn journal.old.past → AfterFaults journal.old.past → AfterFaults journal.new.past }
         ensures hooks_stand { NamesItsOwn journal.old.past → K.stands hooks.old journal.old.past → K.stands hooks.new journal.new.past }
-        ensures faults { count is_fault journal.old.past < count is_fault journal.new.past → Rose (H.host_faults host.old) (H.host_faults host.new) }
+        ensures faults { Counted journal.old.past (H.host_faults host.old) journal.new.past (H.host_faults host.new) }
         ensures journal_room { journal.old.spare ≤ journal.new.spare + 16 }
         ensures host_room { H.spare host.old ≤ H.spare host.new + 16 }
     {
@@ -288,6 +288,7 @@ impl JobTask {
     /// A control waits at the level Normal.
     fn ask(&mut self, control: Control, done: Flag, journal: &mut Journal)
         requires stands { Stands self.old journal.old.past }
+        requires here { self.old.gone ≡ false }
         requires room { vec_len self.old.waiting < vec_capacity self.old.waiting }
         requires journal_room { 1 ≤ journal.old.spare }
         ensures stands { Stands self.new journal.new.past }

@@ -1,6 +1,7 @@
 -- Answers are read again from their words.
 use Rattle.std.proofs.Common.{◌≡◌, ℕ, Option, None, Some, Ok, Err, Result, List, ◌∷◌, ◌++◌, refl, inl, inr, ◌⊎◌, arith}
 use Rattle.std.specs.Prelude.{codes}
+use Rattle.std.specs.Option.{option_or}
 use Rattle.wx_words.specs.Combine.{Reader, read_as}
 use Rattle.wx_words.specs.OptionLaws.{bind_some}
 use Rattle.wx_words.specs.Texts.{text_in}
@@ -15,7 +16,7 @@ use Rattle.wx_words.specs.DoneLaws.{ok_form, ok_clean}
 use Rattle.wx_events.specs.Ends.{EndFits, end_words, read_end_parts, read_end}
 use Rattle.wx_events.specs.EndLaws.{end_form, end_clean}
 use Rattle.wx_journal.specs.declared.child.HostFault.{HostFault}
-use Rattle.wx_journal.specs.Answers.{AnswerFits, answer_words, make_fault, fault_rows, read_fault, first_of, read_answer, Done, DoneFits, done_words, read_done, Waited, WaitedFits, waited_words, read_waited}
+use Rattle.wx_journal.specs.Answers.{AnswerFits, answer_words, make_fault, fault_rows, read_fault, read_answer, Done, DoneFits, done_words, read_done, Waited, WaitedFits, waited_words, read_waited}
 
 abbrev FaultFits : HostFault → Type 0
 FaultFits fault = DoneFits (Err fault)
@@ -30,7 +31,7 @@ fault_form = record {
   takes = rows_take text_in FaultFits fault_words fault_rows (row_of (u32_form text_in) make_fault (codes "fault") FaultFits fault_words (λ code fits. fits) (λ code. refl), tt);
 }
 
-one_of : {A : Type 0} (first second : Option A) (x : A) → first_of first second ≡ Some x → (first ≡ Some x) ⊎ (second ≡ Some x)
+one_of : {A : Type 0} (first second : Option A) (x : A) → option_or first second ≡ Some x → (first ≡ Some x) ⊎ (second ≡ Some x)
 one_of None second x e = inr e
 one_of (Some y) second x e = inl e
 

@@ -1,5 +1,6 @@
 -- What a call on a child answers, as words.
-use Rattle.std.specs.Prelude.{ℕ, ◌^◌, ◌<◌, Option, None, Some, Result, Ok, Err, List, [], ◌∷◌, decimal, codes}
+use Rattle.std.specs.Prelude.{ℕ, ◌^◌, ◌<◌, Result, Ok, Err, List, [], ◌∷◌, decimal, codes}
+use Rattle.std.specs.Option.{option_or}
 use Rattle.wx_words.specs.Combine.{Reader, read_as, read_rows}
 use Rattle.wx_words.specs.Numbers.{read_u32}
 use Rattle.wx_words.specs.Done.{ok_words, read_ok}
@@ -26,14 +27,9 @@ fault_rows = (codes "fault", read_as make_fault read_u32) ∷ []
 unfoldable pub read_fault : Reader HostFault
 read_fault ws = read_rows fault_rows ws
 
--- the first of two that is there
-abbrev pub first_of : {A : Type 0} → Option A → Option A → Option A
-first_of None second = second
-first_of (Some x) second = Some x
-
 -- the value, or else a fault
 abbrev pub read_answer : {A : Type 0} → Reader A → Reader (Result A HostFault)
-read_answer read ws = first_of (read_as Ok read ws) (read_as Err read_fault ws)
+read_answer read ws = option_or (read_as Ok read ws) (read_as Err read_fault ws)
 
 -- ---- the answers of calls that give no value
 

@@ -9,16 +9,17 @@ use Rattle.wx_words.specs.Texts.{AllBytes, text_in, read_text}
 use Rattle.wx_words.specs.TextLaws.{text_form}
 use Rattle.wx_words.specs.Numbers.{read_u32}
 use Rattle.wx_words.specs.NumberLaws.{number_form, u32_form}
-use Rattle.wx_words.specs.Lists.{list_words}
+use Rattle.wx_words.specs.Lists.{ListFits, list_words}
 use Rattle.wx_words.specs.ListLaws.{list_form}
 use Rattle.wx_words.specs.Optional.{OptionalFits}
 use Rattle.wx_words.specs.OptionalLaws.{optional_form, optional_clean}
 use Rattle.wx_words.specs.SwitchLaws.{on_form, on_word_clean}
-use Rattle.wx_words.specs.Combine.{Reader, read_pair, read_as, read_nothing, read_rows}
+use Rattle.wx_words.specs.Combine.{Reader, read_pair, read_as, read_nothing, read_rows, whole}
 use Rattle.wx_words.specs.CombineLaws.{pair_form, literal_form, as_form, row_again}
 use Rattle.wx_words.specs.Forms.{IsForm}
 use Rattle.wx_words.specs.Clean.{IsClean, AllClean}
-use Rattle.wx_words.specs.CleanLaws.{clean, number_clean, text_clean, list_clean, items_clean, words_back, line_back, each_append}
+use Rattle.wx_words.specs.CleanLaws.{clean, number_clean, text_clean, list_clean, items_clean, words_back, line_back}
+use Rattle.wx_words.specs.EachLaws.{each_append}
 use Rattle.wx_events.specs.Events.{EventFits}
 use Rattle.wx_config.specs.declared.watched.Watcher.{Watcher}
 use Rattle.wx_config.specs.declared.watched.WatchedPath.{WatchedPath}
@@ -45,18 +46,18 @@ use Rattle.wx_journal.specs.Kinds.{KindFits}
 use Rattle.wx_journal.specs.KindLaws.{ranked_form, ranked_clean, kind_form, kind_clean}
 use Rattle.wx_config.specs.Watched.{WatcherFits, PathFits, path_words}
 use Rattle.wx_config.specs.WatchedLaws.{watcher_form, watcher_clean, path_form, path_clean}
-use Rattle.wx_journal.specs.Words.{limit_words, switch_words, watch_words, name_words, entry_words, ended}
+use Rattle.wx_journal.specs.Words.{limit_words, switch_words, watch_words, name_words, entry_words}
 use Rattle.wx_journal.specs.WordLaws.{offered_form, offered_word_clean, said_form, said_word_clean, tag_form, tag_word_clean}
 use Rattle.wx_journal.specs.Readers.{read_behind, make_begin, make_sent, make_turn, make_offer, make_asked, make_pick, make_spawn, make_kill, make_wait, read_all, read_batch, read_entry}
-use Rattle.wx_config.specs.Critical.{critical_words}
+use Rattle.wx_config.specs.Critical.{critical_words, CriticalFits}
 use Rattle.wx_journal.specs.Lines.{Answer, line_of, entry_line, answer_words, end_words}
 
 abbrev pub NamesFit : List ℕ → Type 0
-NamesFit names = (length names < 2 ^ 64) × AllByRecursion (λ n. n < 2 ^ 64) names
+NamesFit names = ListFits (λ n. n < 2 ^ 64) names
 
 -- the numbers and texts of an entry are those of the code
 abbrev pub EntryFits : Entry → Type 0
-EntryFits (Begin throttle size errors keyboard follow jobsignals watcher cwd paths) = (throttle < 2 ^ 64) × (size < 2 ^ 32) × (errors < 2 ^ 32) × WatcherFits watcher × AllBytes cwd × ((length paths < 2 ^ 64) × AllByRecursion PathFits paths)
+EntryFits (Begin throttle size errors keyboard follow jobsignals watcher cwd paths) = (throttle < 2 ^ 64) × (size < 2 ^ 32) × (errors < 2 ^ 32) × WatcherFits watcher × AllBytes cwd × ListFits PathFits paths
 EntryFits (Sent name event priority) = (name < 2 ^ 64) × EventFits event
 EntryFits (Turned t) = (t.at < 2 ^ 64) × KindFits t.kind
 EntryFits (TurnFault code) = code < 2 ^ 32
@@ -76,12 +77,11 @@ EntryFits (Gone job) = IdFits job
 
 -- and so are those of a journal
 abbrev pub JournalFits : List Entry → Type 0
-JournalFits journal = (length journal < 2 ^ 64) × AllByRecursion EntryFits journal
+JournalFits journal = ListFits EntryFits journal
 
 abbrev pub AnswerFits : Answer → Type 0
 AnswerFits (Ok u) = Unit {0}
-AnswerFits (Err (IoError about err)) = AllBytes about × (err < 2 ^ 32)
-AnswerFits (Err Memory) = Unit {0}
+AnswerFits (Err error) = CriticalFits error
 
 -- ---- no word has a space or a line feed
 
@@ -97,7 +97,7 @@ limits_clean throttle size errors t s e = (clean (codes "throttle") refl, (numbe
 switches_clean : (keyboard follow jobsignals : Bool) → AllClean (switch_words keyboard follow jobsignals)
 switches_clean keyboard follow jobsignals = (clean (codes "keyboard") refl, (on_word_clean keyboard, (clean (codes "follow") refl, (on_word_clean follow, (clean (codes "jobsignals") refl, (on_word_clean jobsignals, tt))))))
 
-watch_clean : (watcher : Watcher) (cwd : List ℕ) (paths : List WatchedPath) → WatcherFits watcher → (length paths < 2 ^ 64) × AllByRecursion PathFits paths → AllClean (watch_words watcher cwd paths)
+watch_clean : (watcher : Watcher) (cwd : List ℕ) (paths : List WatchedPath) → WatcherFits watcher → ListFits PathFits paths → AllClean (watch_words watcher cwd paths)
 watch_clean watcher cwd paths w p =
     (clean (codes "watcher") refl, each_append IsClean _ _ (watcher_clean watcher w) (clean (codes "cwd") refl, (text_clean cwd, (clean (codes "paths") refl, list_clean PathFits path_words path_clean paths p))))
 
@@ -138,8 +138,8 @@ behind_form {A} {fa} {wa} {ra} word form = record { again = λ x rest fits. both
     both : IsForm text_in (λ (x : A). Unit {0} × fa x) (λ x. word ∷ wa x) (read_behind word ra)
     both = as_form (pair_form (literal_form text_in word) form) (λ p. p.1) (λ x. (tt, x)) (λ x. refl) (λ p. refl)
 
-whole_again : {A : Type 0} {fa : A → Type 0} {wa : A → List (List ℕ)} {ra : Reader A} → IsForm text_in fa wa ra → (make : A → Entry) (a : A) → fa a → ended (read_as make ra (wa a)) ≡ Some (make a)
-whole_again {A} {fa} {wa} {ra} form make a fits = ap (λ (ws : List (List ℕ)). ended (read_as make ra ws)) (sym (append-nil (wa a))) ∙ ap ended (row_again form make a [] fits)
+whole_again : {A : Type 0} {fa : A → Type 0} {wa : A → List (List ℕ)} {ra : Reader A} → IsForm text_in fa wa ra → (make : A → Entry) (a : A) → fa a → whole (read_as make ra (wa a)) ≡ Some (make a)
+whole_again {A} {fa} {wa} {ra} form make a fits = ap (λ (ws : List (List ℕ)). whole (read_as make ra ws)) (sym (append-nil (wa a))) ∙ ap whole (row_again form make a [] fits)
 
 -- the words of an act are never none
 act_front : (x : Act) (most : ℕ) (rest : List (List ℕ)) → read_all read_act (suc most) (act_words x ++ rest) ≡ (read_act (act_words x ++ rest) >>= λ a. read_all read_act most a.1 >>= λ acts. Some (a.0 ∷ acts))

@@ -1,7 +1,7 @@
 -- How a whole line is read as an entry.
 use Rattle.std.specs.Prelude.{ℕ, zero, suc, Bool, Option, None, Some, List, [], ◌∷◌, ◌++◌, length, codes}
 use Rattle.wx_words.specs.Line.{◌>>=◌}
-use Rattle.wx_words.specs.Combine.{Reader, read_pair, read_as, read_literal, read_rows}
+use Rattle.wx_words.specs.Combine.{Reader, read_pair, read_as, read_literal, read_rows, whole}
 use Rattle.wx_words.specs.Numbers.{read_number, read_u32}
 use Rattle.wx_words.specs.Texts.{read_text}
 use Rattle.wx_words.specs.Lists.{read_list}
@@ -20,7 +20,7 @@ use Rattle.wx_control.specs.declared.control.Control.{Control}
 use Rattle.wx_journal.specs.Acts.{read_act}
 use Rattle.wx_journal.specs.Answers.{Done, read_done, Waited, read_waited}
 use Rattle.wx_journal.specs.Kinds.{read_ranked, read_kind}
-use Rattle.wx_journal.specs.Words.{read_offered, read_said, read_tag, ended}
+use Rattle.wx_journal.specs.Words.{read_offered, read_said, read_tag}
 use Rattle.wx_config.specs.Watched.{read_watcher, read_path}
 use Rattle.wx_journal.specs.declared.child.SpawnTag.{SpawnTag}
 use Rattle.wx_config.specs.declared.watched.Watcher.{Watcher}
@@ -146,4 +146,4 @@ job_rows = (codes "made", read_made) ∷ (codes "asked", read_asked) ∷ (codes 
 
 -- the entry whose words these are
 unfoldable pub read_entry : List (List ℕ) → Option Entry
-read_entry ws = ended (read_rows (run_rows ++ job_rows) ws)
+read_entry ws = whole (read_rows (run_rows ++ job_rows) ws)

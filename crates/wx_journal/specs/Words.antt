@@ -1,5 +1,5 @@
 -- The words of the values that stand in an entry, and of entries.
-use Rattle.std.specs.Prelude.{ℕ, Bool, true, false, Option, None, Some, List, [], ◌∷◌, ◌++◌, decimal, codes}
+use Rattle.std.specs.Prelude.{ℕ, Bool, true, false, List, [], ◌∷◌, ◌++◌, decimal, codes}
 use Rattle.std.specs.List.{flat_map}
 use Rattle.wx_words.specs.Combine.{Reader}
 use Rattle.wx_words.specs.Texts.{text_word}
@@ -111,9 +111,3 @@ is_of_job (Said word) = false
 is_of_job (Take name) = false
 is_of_job (Hand n names acts) = false
 is_of_job (_) = true
-
--- what was read, where no word is left
-abbrev pub ended : {A : Type 0} → Option (A × List (List ℕ)) → Option A
-ended None = None
-ended (Some (x, [])) = Some x
-ended (Some (x, w ∷ ws)) = None

@@ -39,12 +39,12 @@ pub enum Offered {
     Full,
 }
 
-/// What the engine says of a turn that does nothing else.
+/// What the engine says of a turn, or of an act that a handler asked for, that does nothing else.
 #[derive(Clone, Copy, Debug, PartialEq, Eq)]
 pub enum Word {
     /// There was nothing to do.
     Idle,
-    /// What the turn is about isn't there.
+    /// What the turn or the act is about isn't there.
     Ignored,
 }
 

@@ -4,6 +4,8 @@ ghost use Rattle.wx_words.specs.Line.{joined};
 ghost use Rattle.wx_journal.specs.Answers.{answer_words};
 ghost use Rattle.wx_journal.specs.Words.{entry_words, is_of_job};
 ghost use Rattle.wx_journal.specs.declared.entry.Entry.TheVariants.{Asked, Pick, Spawn};
+ghost use Rattle.wx_journal.specs.Answers.{AnswerFits};
+ghost use Rattle.wx_journal.specs.LineLaws.{EntryFits};
 
 use crate::answers::put_answer;
 use crate::child::{HostFault, SpawnTag};
@@ -22,7 +24,8 @@ fn put_asked(
     control: &Control,
     out: &mut Text,
 ) -> Result<(), Memory>
-    ensures { OnOk result (out.new ≡ out.old ++ joined (entry_words (Asked ticket job level control.now))) }
+    ensures text { OnOk result (out.new ≡ out.old ++ joined (entry_words (Asked ticket job level control.now))) }
+    ensures fits { OnOk result (EntryFits (Asked ticket job level control.now)) }
 {
     out.append(b"asked")?;
     ticket.put_after(out)?;
@@ -34,7 +37,8 @@ fn put_asked(
 /// Appends the words of a control that was picked.
 #[tactic(auto, using(wx_words::specs::LineLaws::spaces))]
 fn put_pick(job: Id, ticket: u64, out: &mut Text) -> Result<(), Memory>
-    ensures { OnOk result (out.new ≡ out.old ++ joined (entry_words (Pick job ticket))) }
+    ensures text { OnOk result (out.new ≡ out.old ++ joined (entry_words (Pick job ticket))) }
+    ensures fits { OnOk result (EntryFits (Pick job ticket)) }
 {
     out.append(b"pick")?;
     job.put_after(out)?;
@@ -51,7 +55,8 @@ fn put_spawn(
     answer: &Result<(), HostFault>,
     out: &mut Text,
 ) -> Result<(), Memory>
-    ensures { OnOk result (out.new ≡ out.old ++ joined (entry_words (Spawn child job tag what.now answer.now))) }
+    ensures text { OnOk result (out.new ≡ out.old ++ joined (entry_words (Spawn child job tag what.now answer.now))) }
+    ensures fits { OnOk result (EntryFits (Spawn child job tag what.now answer.now)) }
 {
     out.append(b"spawn")?;
     child.put_after(out)?;
@@ -69,7 +74,8 @@ fn put_answered<T: Spelled>(
     answer: &Result<T, HostFault>,
     out: &mut Text,
 ) -> Result<(), Memory>
-    ensures { OnOk result (out.new ≡ out.old ++ joined (word.now ∷ decimal child ∷ answer_words T.words answer.now)) }
+    ensures text { OnOk result (out.new ≡ out.old ++ joined (word.now ∷ decimal child ∷ answer_words T.words answer.now)) }
+    ensures fits { OnOk result (AnswerFits T.fits answer.now) }
 {
     out.append(word)?;
     child.put_after(out)?;
@@ -79,7 +85,8 @@ fn put_answered<T: Spelled>(
 /// Appends the words of an entry of a job with one space between them.
 pub fn put_job_entry(entry: &Entry, out: &mut Text) -> Result<(), Memory>
     requires { is_of_job entry.now ≡ true }
-    ensures { OnOk result (out.new ≡ out.old ++ joined (entry_words entry.now)) }
+    ensures text { OnOk result (out.new ≡ out.old ++ joined (entry_words entry.now)) }
+    ensures fits { OnOk result (EntryFits entry.now) }
 {
     match entry {
         Entry::Made(job) => put_word(b"made", job, out),

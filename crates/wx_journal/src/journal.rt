@@ -1,5 +1,5 @@
 // The journal of a run.
-ghost use Rattle.std.specs.Prelude.{◌≡◌, ℕ, ◌+◌, ◌<◌, ◌≤◌, ◌^◌, ◌==◌, if◌then◌else◌, [], ◌∷◌, length, reverse, OnOk, IfOk};
+ghost use Rattle.std.specs.Prelude.{◌≡◌, ℕ, ◌+◌, ◌<◌, ◌≤◌, ◌^◌, ◌==◌, if◌then◌else◌, [], ◌∷◌, length, reverse, OnOk, OnErr, IfOk};
 ghost use Rattle.std.specs.Slice.Iter.{iter_rest};
 ghost use Rattle.wx_journal.specs.Names.{names_ticket, names_child, names_job, ticket_count, child_count, job_count};
 
@@ -46,12 +46,13 @@ impl Journal {
         })
     }
 
-    /// Takes room for `n` entries more. It fails only for want of memory.
+    /// Takes room for `n` entries more. It fails only for want of memory, and leaves the journal as it was then.
     pub fn reserve(&mut self, n: u64) -> Result<(), Memory>
         ensures same { self.new.past ≡ self.old.past }
         ensures room { OnOk result (n ≤ self.new.spare) }
         ensures kept { self.old.spare ≤ self.new.spare }
         ensures fits { length self.new.past + self.new.spare < 2 ^ 64 }
+        ensures err { OnErr result (self.new ≡ self.old) }
     {
         self.entries.reserve(n as usize)?;
         Ok(())

@@ -2,6 +2,7 @@
 ghost use Rattle.std.specs.Prelude.{◌≡◌, ◌++◌, OnOk, IfOk};
 ghost use Rattle.wx_words.specs.Line.{spaced, Reads};
 ghost use Rattle.wx_journal.specs.Kinds.{ranked_words, kind_words, read_arrive, read_job, read_ended, read_ask_turn, read_kind};
+ghost use Rattle.wx_events.specs.Events.{EventFits};
 
 use crate::entry::TurnKind;
 use std::alloc::Global;
@@ -11,7 +12,8 @@ use wx_events::{Event, Memory, Priority, Spelled, Text, Words};
 /// Appends the words of a priority and of an event, each with a space before it.
 #[tactic(auto, using(wx_words::specs::LineLaws::spaces))]
 pub fn put_ranked(priority: Priority, event: &Event, out: &mut Text) -> Result<(), Memory>
-    ensures { OnOk result (out.new ≡ out.old ++ spaced (ranked_words (priority, event.now))) }
+    ensures text { OnOk result (out.new ≡ out.old ++ spaced (ranked_words (priority, event.now))) }
+    ensures fits { OnOk result (EventFits event.now) }
 {
     priority.put_after(out)?;
     event.put_after(out)

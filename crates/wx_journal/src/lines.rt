@@ -3,23 +3,27 @@ ghost use Rattle.std.specs.Prelude.{◌≡◌, ◌++◌, OnOk};
 ghost use Rattle.std.specs.List.{flat_map};
 ghost use Rattle.wx_words.specs.Line.{spaced, joined};
 ghost use Rattle.wx_journal.specs.Lines.{entry_line, answer_words, end_words, line_of};
+ghost use Rattle.std.specs.List.{AllByRecursion};
+ghost use Rattle.wx_journal.specs.LineLaws.{EntryFits, AnswerFits};
 
 use crate::entry::Entry;
-use crate::words::put_entry;
+use crate::words::append_entry;
 use wx_config::CriticalError;
 use wx_events::{List, Memory, Spelled, Text};
 
 /// Appends the line of an entry.
 fn put_line(entry: &Entry, out: &mut Text) -> Result<(), Memory>
-    ensures { OnOk result (out.new ≡ out.old ++ entry_line entry.now) }
+    ensures text { OnOk result (out.new ≡ out.old ++ entry_line entry.now) }
+    ensures fits { OnOk result (EntryFits entry.now) }
 {
-    put_entry(entry, out)?;
+    append_entry(entry, out)?;
     out.push(10)
 }
 
-/// Appends the line of each entry.
+/// Appends the line of each entry. A part of the lines may stand in `out` where memory runs out.
 pub fn put_lines(entries: &[Entry], out: &mut Text) -> Result<(), Memory>
-    ensures { OnOk result (out.new ≡ out.old ++ flat_map entry_line entries.now) }
+    ensures text { OnOk result (out.new ≡ out.old ++ flat_map entry_line entries.now) }
+    ensures fits { OnOk result (AllByRecursion EntryFits entries.now) }
 {
     for entry in entries {
         put_line(entry, out)?;
@@ -30,7 +34,8 @@ pub fn put_lines(entries: &[Entry], out: &mut Text) -> Result<(), Memory>
 /// Appends the words of the answer of a run, each with a space before it.
 #[tactic(auto, using(wx_words::specs::LineLaws::spaces))]
 fn put_outcome(answer: &Result<(), CriticalError>, out: &mut Text) -> Result<(), Memory>
-    ensures { OnOk result (out.new ≡ out.old ++ spaced (answer_words answer.now)) }
+    ensures text { OnOk result (out.new ≡ out.old ++ spaced (answer_words answer.now)) }
+    ensures fits { OnOk result (AnswerFits answer.now) }
 {
     match answer {
         Ok(()) => out.append(b" ok"),
@@ -48,7 +53,8 @@ fn put_end_words(
     lost: &List<u64>,
     out: &mut Text,
 ) -> Result<(), Memory>
-    ensures { OnOk result (out.new ≡ out.old ++ joined (end_words answer.now lost.now)) }
+    ensures text { OnOk result (out.new ≡ out.old ++ joined (end_words answer.now lost.now)) }
+    ensures fits { OnOk result (AnswerFits answer.now) }
 {
     out.append(b"end")?;
     put_outcome(answer, out)?;
@@ -56,13 +62,14 @@ fn put_end_words(
     lost.put_after(out)
 }
 
-/// Appends the end line.
+/// Appends the end line. A part of it may stand in `out` where memory runs out.
 pub fn put_end(
     answer: &Result<(), CriticalError>,
     lost: &List<u64>,
     out: &mut Text,
 ) -> Result<(), Memory>
-    ensures { OnOk result (out.new ≡ out.old ++ line_of (end_words answer.now lost.now)) }
+    ensures text { OnOk result (out.new ≡ out.old ++ line_of (end_words answer.now lost.now)) }
+    ensures fits { OnOk result (AnswerFits answer.now) }
 {
     put_end_words(answer, lost, out)?;
     out.push(10)

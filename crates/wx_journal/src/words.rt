@@ -1,10 +1,13 @@
 // How entries are written.
-ghost use Rattle.std.specs.Prelude.{◌≡◌, [], ◌∷◌, ◌++◌, OnOk, IfOk};
+ghost use Rattle.std.specs.Prelude.{◌≡◌, [], ◌∷◌, ◌++◌, OnOk, OnErr, IfOk};
 ghost use Rattle.std.specs.List.{flat_map};
 ghost use Rattle.wx_words.specs.Line.{spaced, joined, Reads};
-ghost use Rattle.wx_words.specs.Lists.{list_words};
+ghost use Rattle.wx_words.specs.Lists.{ListFits, list_words};
 ghost use Rattle.wx_journal.specs.Words.{limit_words, switch_words, watch_words, entry_words};
 ghost use Rattle.wx_journal.specs.declared.entry.Entry.TheVariants.{Sent, Turn as Turned, Offer, Hand};
+ghost use Rattle.wx_words.specs.Texts.{AllBytes};
+ghost use Rattle.wx_config.specs.Watched.{WatcherFits, PathFits};
+ghost use Rattle.wx_journal.specs.LineLaws.{EntryFits};
 
 use crate::entry::{Act, Entry, Offered, Turn, Word};
 use crate::job_words::put_job_entry;
@@ -153,7 +156,8 @@ fn put_watch(
     paths: &List<WatchedPath>,
     out: &mut Text,
 ) -> Result<(), Memory>
-    ensures { OnOk result (out.new ≡ out.old ++ spaced (watch_words watcher cwd.now paths.now)) }
+    ensures text { OnOk result (out.new ≡ out.old ++ spaced (watch_words watcher cwd.now paths.now)) }
+    ensures fits { OnOk result (WatcherFits watcher × AllBytes cwd.now × ListFits PathFits paths.now) }
 {
     out.append(b" watcher")?;
     watcher.put_after(out)?;
@@ -166,7 +170,8 @@ fn put_watch(
 /// Appends the words of an event that was sent.
 #[tactic(auto, using(wx_words::specs::LineLaws::spaces))]
 fn put_sent(name: u64, event: &Event, priority: Priority, out: &mut Text) -> Result<(), Memory>
-    ensures { OnOk result (out.new ≡ out.old ++ joined (entry_words (Sent name event.now priority))) }
+    ensures text { OnOk result (out.new ≡ out.old ++ joined (entry_words (Sent name event.now priority))) }
+    ensures fits { OnOk result (EntryFits (Sent name event.now priority)) }
 {
     out.append(b"sent")?;
     name.put_after(out)?;
@@ -176,7 +181,8 @@ fn put_sent(name: u64, event: &Event, priority: Priority, out: &mut Text) -> Res
 /// Appends the words of a turn.
 #[tactic(auto, using(wx_words::specs::LineLaws::spaces))]
 fn put_turn(turn: &Turn, out: &mut Text) -> Result<(), Memory>
-    ensures { OnOk result (out.new ≡ out.old ++ joined (entry_words (Turned turn.now))) }
+    ensures text { OnOk result (out.new ≡ out.old ++ joined (entry_words (Turned turn.now))) }
+    ensures fits { OnOk result (EntryFits (Turned turn.now)) }
 {
     out.append(b"turn")?;
     turn.at.put_after(out)?;
@@ -193,7 +199,8 @@ fn put_offer(
     priority: Priority,
     out: &mut Text,
 ) -> Result<(), Memory>
-    ensures { OnOk result (out.new ≡ out.old ++ joined (entry_words (Offer name item outcome event.now priority))) }
+    ensures text { OnOk result (out.new ≡ out.old ++ joined (entry_words (Offer name item outcome event.now priority))) }
+    ensures fits { OnOk result (EntryFits (Offer name item outcome event.now priority)) }
 {
     out.append(b"offer")?;
     name.put_after(out)?;
@@ -205,7 +212,8 @@ fn put_offer(
 /// Appends the words of a batch that was handed, and of the acts that were asked for.
 #[tactic(auto, using(wx_words::specs::LineLaws::spaces))]
 fn put_hand(n: u32, names: &List<u64>, acts: &List<Act>, out: &mut Text) -> Result<(), Memory>
-    ensures { OnOk result (out.new ≡ out.old ++ joined (entry_words (Hand n names.now acts.now))) }
+    ensures text { OnOk result (out.new ≡ out.old ++ joined (entry_words (Hand n names.now acts.now))) }
+    ensures fits { OnOk result (EntryFits (Hand n names.now acts.now)) }
 {
     out.append(b"hand")?;
     n.put_after(out)?;
@@ -213,10 +221,23 @@ fn put_hand(n: u32, names: &List<u64>, acts: &List<Act>, out: &mut Text) -> Resu
     put_items(acts.as_slice(), out)
 }
 
+/// Appends the words of an entry with one space between them. It fails only for want of memory, and leaves the text as
+/// it was then.
+pub fn put_entry(entry: &Entry, out: &mut Text) -> Result<(), Memory>
+    ensures ok { OnOk result (out.new ≡ out.old ++ joined (entry_words entry.now)) }
+    ensures fits { OnOk result (EntryFits entry.now) }
+    ensures err { OnErr result (out.new ≡ out.old) }
+{
+    let mut spelled = Text::new(out.allocator());
+    append_entry(entry, &mut spelled)?;
+    out.append(spelled.as_slice())
+}
+
 /// Appends the words of an entry with one space between them.
 #[tactic(auto, using(wx_words::specs::LineLaws::spaces))]
-pub fn put_entry(entry: &Entry, out: &mut Text) -> Result<(), Memory>
-    ensures { OnOk result (out.new ≡ out.old ++ joined (entry_words entry.now)) }
+pub fn append_entry(entry: &Entry, out: &mut Text) -> Result<(), Memory>
+    ensures text { OnOk result (out.new ≡ out.old ++ joined (entry_words entry.now)) }
+    ensures fits { OnOk result (EntryFits entry.now) }
 {
     match entry {
         Entry::Begin {
@@ -258,7 +279,8 @@ pub fn put_entry(entry: &Entry, out: &mut Text) -> Result<(), Memory>
 
 /// Appends a word, and the words of this value behind it.
 pub fn put_word<T: Spelled>(word: &[u8], value: &T, out: &mut Text) -> Result<(), Memory>
-    ensures { OnOk result (out.new ≡ out.old ++ joined (word.now ∷ T.words value.now)) }
+    ensures text { OnOk result (out.new ≡ out.old ++ joined (word.now ∷ T.words value.now)) }
+    ensures fits { OnOk result (T.fits value.now) }
 {
     out.append(word)?;
     value.put_after(out)

@@ -1,5 +1,5 @@
 pub mod ActLaws
 pub mod KnownLaws
 pub mod Parts
-pub mod ScanLaws
+pub mod ScanLemmas
 pub mod ReplayLaws

@@ -1,14 +1,13 @@
 -- What one line of a script says.
 use Rattle.std.specs.Prelude.{ℕ, Bool, true, false, ◌==◌, if◌then◌else◌, Option, None, Some, List, [], ◌∷◌, length, codes}
 use Rattle.wx_words.specs.Line.{words_of, ◌>>=◌}
-use Rattle.wx_words.specs.Combine.{Reader, read_pair, read_as, read_literal, read_rows}
+use Rattle.wx_words.specs.Combine.{Reader, read_pair, read_as, read_literal, read_rows, whole}
 use Rattle.wx_words.specs.Numbers.{read_number, read_u32}
 use Rattle.wx_events.specs.Events.{read_priority}
 use Rattle.wx_events.specs.declared.priority.Priority.{Priority}
 use Rattle.wx_events.specs.declared.event.Event.{Event}
 use Rattle.wx_journal.specs.Answers.{read_done, read_waited}
 use Rattle.wx_journal.specs.Kinds.{read_kind as read_any_kind}
-use Rattle.wx_journal.specs.Words.{ended}
 use Rattle.wx_journal.specs.declared.entry.TurnKind.{TurnKind}
 use Rattle.wx_journal.specs.declared.entry.TurnKind.TheVariants.{Arrive, Last}
 use Rattle.wx_run.specs.Acts.{read_acts}
@@ -65,4 +64,4 @@ read_form ws = read_rows form_rows ws
 -- an empty line and one that begins with # say nothing
 abbrev pub line_in : List ℕ → Option Line
 line_in [] = Some Nothing
-line_in (b ∷ bs) = if b == 35 then Some Nothing else ended (read_form (words_of (b ∷ bs)))
+line_in (b ∷ bs) = if b == 35 then Some Nothing else whole (read_form (words_of (b ∷ bs)))

@@ -1,18 +1,18 @@
 -- What holds of each script that is read.
-use Rattle.std.proofs.Common.{◌≡◌, ℕ, ◌+◌, ◌<◌, ◌≤◌, Bool, true, false, cond, eqb, Option, None, Some, Ok, Err, List, [], ◌∷◌, ◌++◌, length, refl, ap, subst, arith, length-append}
+use Rattle.std.proofs.Common.{◌≡◌, ℕ, ◌<◌, ◌≤◌, Bool, true, false, cond, Option, None, Some, List, [], ◌∷◌, ◌++◌, length, refl, ap, subst, arith, length-append}
 use Rattle.std.specs.Prelude.{◌==◌, ◌&&◌, nat_lt, nat_le, not, IfSome}
 use Rattle.std.specs.Str.{bytes_eq}
 use Rattle.std.specs.List.{AllByRecursion}
 use Rattle.std.proofs.lemmas.Bool.Decides.{nat_tests}
-use Rattle.wx_words.specs.Line.{parts, words_of, ◌>>=◌}
+use Rattle.std.proofs.lemmas.Option.{cond_some}
+use Rattle.wx_words.specs.Line.{words_of, ◌>>=◌}
 use Rattle.wx_words.specs.OptionLaws.{bind_some}
-use Rattle.wx_words.specs.Combine.{Reader, read_pair, read_as, row_at, read_rows}
+use Rattle.wx_words.specs.Combine.{Reader, read_pair, read_as, row_at, read_rows, whole}
 use Rattle.wx_words.specs.Numbers.{read_number, read_u32}
 use Rattle.wx_journal.specs.declared.entry.TurnKind.{TurnKind}
 use Rattle.wx_journal.specs.declared.entry.TurnKind.TheVariants.{Last}
 use Rattle.wx_journal.specs.Answers.{read_done, read_waited}
 use Rattle.wx_journal.specs.Kinds.{read_kind as read_any_kind}
-use Rattle.wx_journal.specs.Words.{ended}
 use Rattle.wx_action.specs.Told.{is_last}
 use Rattle.wx_engine.specs.declared.script.Script.{Script}
 use Rattle.wx_engine.specs.declared.script.ScriptTurn.TheVariants.{Turn, Fault}
@@ -22,7 +22,7 @@ use Rattle.wx_run.specs.declared.lines.Line.{Line}
 use Rattle.wx_run.specs.declared.lines.Line.TheVariants.{Nothing, Throttle, Size, Send, Turn as Turned, Fault as Failed, Acts, Spawn, Kill, Wait}
 use Rattle.wx_run.specs.Acts.{read_acts}
 use Rattle.wx_run.specs.Lines.{untagged, read_untagged, is_scripted, if_scripted, read_kind, make_turn, read_turn, set_rows, read_set, form_rows, read_form, line_in}
-use Rattle.wx_run.specs.Scripts.{start, accepts, step, after_line, scan, script_in}
+use Rattle.wx_run.specs.Scripts.{start, accepts, step, begun_by, IsScriptOf}
 
 -- ---- no line brings a last turn
 
@@ -130,14 +130,13 @@ pub line_comes : (line : List ℕ) (said : Line) → line_in line ≡ Some said 
 line_comes [] said e = let same : Nothing ≡ said = cc in subst LineComes same tt
 line_comes (b ∷ bs) said e = go (b == 35) e
   where
-    whole : (o : Option (Line × List (List ℕ))) → IfSome o (λ x. LineComes x.0) → ended o ≡ Some said → LineComes said
-    whole None come e = absurd cc
-    whole (Some (x, [])) come e = let same : x ≡ said = cc in subst LineComes same come
-    whole (Some (x, w ∷ ws)) come e = absurd cc
+    to_end : (o : Option (Line × List (List ℕ))) → IfSome o (λ x. LineComes x.0) → whole o ≡ Some said → LineComes said
+    to_end None come e = absurd cc
+    to_end (Some x) come e = subst LineComes (cond_some (length x.1 == 0) x.0 said e).1 come
 
-    go : (test : Bool) → cond test (Some Nothing) (ended (read_form (words_of (b ∷ bs)))) ≡ Some said → LineComes said
+    go : (test : Bool) → cond test (Some Nothing) (whole (read_form (words_of (b ∷ bs)))) ≡ Some said → LineComes said
     go true e = let same : Nothing ≡ said = cc in subst LineComes same tt
-    go false e = whole (read_form (words_of (b ∷ bs))) (form_comes (words_of (b ∷ bs))) e
+    go false e = to_end (read_form (words_of (b ∷ bs))) (form_comes (words_of (b ∷ bs))) e
 
 -- ---- each line keeps what holds
 
@@ -147,29 +146,25 @@ start_lawful = record { size = record { some = omega arith; few = omega arith };
 some_same : {A : Type 0} {x y : A} → ◌≡◌ {A = Option A} (Some x) (Some y) → x ≡ y
 some_same e = cc
 
-passed : {A : Type 0} (b : Bool) (x y : A) → cond b (Some x) None ≡ Some y → (b ≡ true) × (x ≡ y)
-passed true x y e = (refl, cc)
-passed false x y e = absurd cc
-
 accepts_lawful : (s t : Script) (said : Line) → IsScript s → LineComes said → accepts s said ≡ Some t → IsScript t
 accepts_lawful s t Nothing is come e = let same : s ≡ t = cc in subst IsScript same is
 accepts_lawful s t (Throttle n) is come e =
-    let g = passed (length s.sends == 0 && length s.turns == 0) (record s { throttle = n }) t e in
+    let g = cond_some (length s.sends == 0 && length s.turns == 0) (record s { throttle = n }) t e in
     subst IsScript g.1 (record { size = is.size; sends = is.sends; comes = is.comes; rises = is.rises })
 accepts_lawful s t (Size n) is come e =
-    let g = passed (length s.sends == 0 && length s.turns == 0 && nat_le 1 n && nat_le n 65536) (record s { size = n }) t e in
+    let g = cond_some (length s.sends == 0 && length s.turns == 0 && nat_le 1 n && nat_le n 65536) (record s { size = n }) t e in
     let test : (length s.sends == 0 && length s.turns == 0 && nat_le 1 n && nat_le n 65536) ≡ true = g.0 in
     let none : length s.sends ≡ 0 = grind (arith, nat_tests, test) in
     let some : 1 ≤ n = grind (arith, nat_tests, test) in
     let few : n ≤ 65536 = grind (arith, nat_tests, test) in
     subst IsScript g.1 (record { size = record { some = some; few = few }; sends = omega (arith, none); comes = is.comes; rises = is.rises })
 accepts_lawful s t (Send event priority) is come e =
-    let g = passed (length s.turns == 0 && nat_lt (length s.sends) s.size) (record s { sends = s.sends ++ (event, priority) ∷ [] }) t e in
+    let g = cond_some (length s.turns == 0 && nat_lt (length s.sends) s.size) (record s { sends = s.sends ++ (event, priority) ∷ [] }) t e in
     let test : (length s.turns == 0 && nat_lt (length s.sends) s.size) ≡ true = g.0 in
     let room : length s.sends < s.size = grind (arith, nat_tests, test) in
     subst IsScript g.1 (record { size = is.size; sends = omega (arith, room, length-append s.sends ((event, priority) ∷ [])); comes = is.comes; rises = is.rises })
 accepts_lawful s t (Turned turn) is come e =
-    let g = passed (nat_le s.last turn.at) (record s { turns = s.turns ++ Turn turn ∷ []; last = turn.at }) t e in
+    let g = cond_some (nat_le s.last turn.at) (record s { turns = s.turns ++ Turn turn ∷ []; last = turn.at }) t e in
     subst IsScript g.1 (record { size = is.size; sends = is.sends; comes = come_more s.turns (Turn turn) is.comes (ap not come); rises = rises_turn s.turns s.last turn is.rises g.0 })
 accepts_lawful s t (Failed code) is come e =
     let same : record s { turns = s.turns ++ Fault code ∷ [] } ≡ t = some_same e in
@@ -192,20 +187,12 @@ step_lawful s t line is e =
     let said = bind_some (line_in line) (accepts s) t e in
     accepts_lawful s t said.0 is (line_comes line said.0 said.1) said.2
 
-scan_lawful : (n : ℕ) (ps : List (List ℕ)) (s t : Script) → IsScript s → scan n ps s ≡ Ok t → IsScript t
-unfolding scan
-scan_lawful n [] s t is e = let same : s ≡ t = cc in subst IsScript same is
-scan_lawful n (line ∷ []) s t is e = last (eqb (length line) 0) e
-  where
-    last : (b : Bool) → cond b (Ok s) (Err n) ≡ Ok t → IsScript t
-    last true e = let same : s ≡ t = cc in subst IsScript same is
-    last false e = absurd cc
-scan_lawful n (line ∷ next ∷ rest) s t is e = here (step s line) refl (λ u ok h. scan_lawful (n + 1) (next ∷ rest) u t ok h) e
-  where
-    here : (o : Option Script) → step s line ≡ o → ((u : Script) → IsScript u → scan (n + 1) (next ∷ rest) u ≡ Ok t → IsScript t) → after_line n (λ u. scan (n + 1) (next ∷ rest) u) o ≡ Ok t → IsScript t
-    here None said go e = absurd cc
-    here (Some u) said go e = go u (step_lawful s u line is said) e
+begun_lawful : (lines : List (List ℕ)) (s t : Script) → IsScript s → begun_by lines s ≡ Some t → IsScript t
+begun_lawful [] s t is e = let same : s ≡ t = some_same e in subst IsScript same is
+begun_lawful (line ∷ lines) s t is e =
+    let next = bind_some (step s line) (begun_by lines) t e in
+    begun_lawful lines next.0 t (step_lawful s next.0 line is next.1) next.2
 
 -- a script that is read is one
-pub lawful : (bytes : List ℕ) (s : Script) → script_in bytes ≡ Ok s → IsScript s
-lawful bytes s e = scan_lawful 1 (parts 10 bytes) start s start_lawful e
+pub lawful : (bytes : List ℕ) (s : Script) → IsScriptOf bytes s → IsScript s
+lawful bytes s is = begun_lawful is.lines start s start_lawful is.made

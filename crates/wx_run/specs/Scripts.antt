@@ -1,6 +1,7 @@
--- A script as its lines.
-use Rattle.std.specs.Prelude.{ℕ, ◌+◌, ◌==◌, ◌&&◌, nat_lt, nat_le, if◌then◌else◌, Option, None, Some, Result, Ok, Err, List, [], ◌∷◌, ◌++◌, length}
+-- A script as its lines, and the first bad line of what is none.
+use Rattle.std.specs.Prelude.{ℕ, ◌≡◌, ◌⊎◌, ◌+◌, ◌<◌, ◌==◌, ◌&&◌, nat_lt, nat_le, if◌then◌else◌, Option, None, Some, List, [], ◌∷◌, ◌++◌, length}
 use Rattle.wx_words.specs.Line.{parts, ◌>>=◌}
+use Rattle.wx_config.specs.Defaults.{default_config}
 use Rattle.wx_engine.specs.declared.script.Script.{Script}
 use Rattle.wx_engine.specs.declared.script.ScriptTurn.TheVariants.{Turn, Fault}
 use Rattle.wx_run.specs.Lines.{line_in}
@@ -9,7 +10,7 @@ use Rattle.wx_run.specs.declared.lines.Line.TheVariants.{Nothing, Throttle, Size
 
 -- the script of no lines
 abbrev pub start : Script
-start = record { throttle = 50_000_000; size = 4096; sends = []; turns = []; actions = []; spawns = []; kills = []; waits = []; last = 0 }
+start = record { throttle = default_config.throttle; size = default_config.event_channel_size; sends = []; turns = []; actions = []; spawns = []; kills = []; waits = []; last = 0 }
 
 -- the script with what one more line says, where that can stand there
 abbrev pub accepts : Script → Line → Option Script
@@ -28,18 +29,25 @@ accepts s (Wait answer) = Some (record s { waits = s.waits ++ answer ∷ [] })
 abbrev pub step : Script → List ℕ → Option Script
 step s line = line_in line >>= accepts s
 
--- what follows a line that can stand there, and else the number of this line
-abbrev pub after_line : ℕ → (Script → Result Script ℕ) → Option Script → Result Script ℕ
-after_line n next None = Err n
-after_line n next (Some s) = next s
+-- what whole lines make of a script, one by one, where each can stand there
+abbrev pub begun_by : List (List ℕ) → Script → Option Script
+begun_by [] s = Some s
+begun_by (line ∷ lines) s = step s line >>= begun_by lines
 
--- the script with these lines from number n on, of which a line feed stands behind each but the last; or the number of
--- the first that can't stand there
-unfoldable pub scan : ℕ → List (List ℕ) → Script → Result Script ℕ
-scan n [] s = Ok s
-scan n (line ∷ []) s = if length line == 0 then Ok s else Err n
-scan n (line ∷ next ∷ rest) s = after_line n (λ t. scan (n + 1) (next ∷ rest) t) (step s line)
+-- The bytes are this script: behind each line stands a line feed, and the lines make the script.
+pub record IsScriptOf (bytes : List ℕ) (s : Script) : Type 0 where
+  pub lines : List (List ℕ)
+  pub all : parts 10 bytes ≡ lines ++ [] ∷ []
+  pub made : begun_by lines start ≡ Some s
 
--- the script that the bytes are, or the number of the first bad line
-abbrev pub script_in : List ℕ → Result Script ℕ
-script_in bytes = scan 1 (parts 10 bytes) start
+-- Line n is the first bad one: the lines before it begin a script, and it can't stand behind them,
+-- or it has no line feed.
+pub record IsFirstBad (bytes : List ℕ) (n : ℕ) : Type 0 where
+  pub before : List (List ℕ)
+  pub line : List ℕ
+  pub later : List (List ℕ)
+  pub number : n ≡ length before + 1
+  pub all : parts 10 bytes ≡ before ++ line ∷ later
+  pub script : Script
+  pub begun : begun_by before start ≡ Some script
+  pub stuck : ((0 < length later) × (step script line ≡ None)) ⊎ ((later ≡ []) × (0 < length line))

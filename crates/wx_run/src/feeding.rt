@@ -1,7 +1,7 @@
-ghost use Rattle.std.specs.Prelude.{ℕ, ◌≡◌, ◌+◌, ◌-◌, ◌<◌, ◌≤◌, length, List, OnOk, IfOk, OnErr, IsErrOf};
+ghost use Rattle.std.specs.Prelude.{ℕ, ◌≡◌, ◌+◌, ◌-◌, ◌<◌, ◌≤◌, length, List, OnOk, IfOk, OnErr, IsErrOf, is_err};
 ghost use Rattle.std.specs.Io.KnownBytes.{Consumes, Appends, IsAtEnd};
-ghost use Rattle.wx_journal.specs.Told.{Rose};
-ghost use Rattle.wx_run.specs.Causes.{HasCause, AddsFront, IsWhole, IsLonger};
+ghost use Rattle.wx_journal.specs.Told.{Rose, Counts};
+ghost use Rattle.wx_run.specs.Causes.{AddsFront, IsWhole, IsLonger};
 
 use crate::sink::{Sink, WriteFault};
 use crate::source::Source;
@@ -55,12 +55,12 @@ pub fn read_all<S: Source>(alloc: Global, source: &mut S) -> Result<Text, Unread
 
 /// Writes all the bytes to a sink, in as many writes as it takes.
 ///
-/// The fault is that of the write that failed. The bytes before it were written, and
-/// those from it on were not.
+/// The fault is that of the write that failed, which comes before all were written. The
+/// bytes before it were written, and those from it on were not.
 pub fn write_all<K: Sink>(sink: &mut K, bytes: &[u8]) -> Result<(), WriteFault>
     ensures ok { OnOk result (Appends (K.held sink.old) (K.held sink.new) bytes.now) }
     ensures err { OnErr result (AddsFront (K.held sink.old) (K.held sink.new) bytes.now) }
-    ensures cause { HasCause (K.faults sink.old) (K.faults sink.new) result }
+    ensures cause { Counts (is_err result) (K.faults sink.old) (K.faults sink.new) }
 {
     let mut done = 0;
     while done < bytes.len() {

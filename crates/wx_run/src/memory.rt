@@ -2,7 +2,8 @@ ghost use Rattle.std.specs.Prelude.{ℕ, ◌≡◌, ◌+◌, ◌-◌, ◌^◌, �
 ghost use Rattle.std.specs.List.{list_any};
 ghost use Rattle.std.specs.Io.{ReadsAtMost, WritesAtMost};
 ghost use Rattle.std.specs.Io.KnownBytes.{ReadConsumes, WriteAppends};
-ghost use Rattle.wx_run.specs.Causes.{HasCause};
+ghost use Rattle.wx_control.specs.Sent.{counted};
+ghost use Rattle.wx_journal.specs.Told.{Counts};
 
 use crate::sink::{Sink, WriteFault};
 use crate::source::{ReadFault, Source};
@@ -34,6 +35,7 @@ impl MemSource {
         ensures faults { IfOk result (λ source. source.faults ≡ 0) }
         ensures calls { IfOk result (λ source. source.calls ≡ 0) }
         ensures failing { IfOk result (λ source. source.failing.items ≡ []) }
+        ensures piece { IfOk result (λ source. source.piece ≡ usize.MAX) }
     {
         Ok(MemSource {
             bytes: Vec::from_slice(alloc, bytes)?,
@@ -88,11 +90,11 @@ impl Source for MemSource {
     fn read(&mut self, buf: &mut [u8]) -> Result<usize, ReadFault>
         ensures bound { ReadsAtMost result buf.new }
         ensures bytes { ReadConsumes (Some (drop self.old.position self.old.bytes.items)) (Some (drop self.new.position self.new.bytes.items)) result buf.new }
-        ensures cause { HasCause self.old.faults self.new.faults result }
-        ensures calls { self.new.calls ≡ min (self.old.calls + 1) (2 ^ 64 - 1) }
+        ensures cause { Counts (is_err result) self.old.faults self.new.faults }
+        ensures calls { self.new.calls ≡ counted self.old.calls }
         ensures fails { is_err result ≡ list_any (λ call. call == self.new.calls) self.old.failing.items }
         ensures code { IfErr result (λ fault. fault.0 ≡ CODE) }
-        ensures part { IfOk result (λ n. n ≤ self.old.piece) }
+        ensures part { IfOk result (λ n. n ≡ min (min (length (drop self.old.position self.old.bytes.items)) self.old.piece) (length buf.new)) }
         ensures same { OnOk result (self.new.faults ≡ self.old.faults) }
         ensures failing { self.new.failing ≡ self.old.failing }
         ensures piece { self.new.piece ≡ self.old.piece }
@@ -128,6 +130,7 @@ impl MemSink {
         ensures faults { result.faults ≡ 0 }
         ensures calls { result.calls ≡ 0 }
         ensures failing { result.failing.items ≡ [] }
+        ensures piece { result.piece ≡ usize.MAX }
     {
         MemSink {
             text: Text::new(alloc),
@@ -187,8 +190,8 @@ impl Sink for MemSink {
         ensures bound { WritesAtMost result buf.now }
         ensures some { IfOk result (λ n. 0 < length buf.now → 0 < n) }
         ensures bytes { WriteAppends (Some self.old.text) (Some self.new.text) result buf.now }
-        ensures cause { HasCause self.old.faults self.new.faults result }
-        ensures calls { self.new.calls ≡ min (self.old.calls + 1) (2 ^ 64 - 1) }
+        ensures cause { Counts (is_err result) self.old.faults self.new.faults }
+        ensures calls { self.new.calls ≡ counted self.old.calls }
         ensures fails { IsTrue (list_any (λ call. call == self.new.calls) self.old.failing.items) → IsErr result }
         ensures code { IfErr result (λ fault. fault.0 ≡ CODE) }
         ensures part { IfOk result (λ n. n ≡ min (length buf.now) self.old.piece) }

@@ -6,7 +6,6 @@ ghost use Rattle.wx_config.specs.Defaults.{default_config};
 ghost use Rattle.wx_engine.specs.Follows.{IsScript, start_of};
 ghost use Rattle.wx_run.specs.Causes.{AddsFront};
 ghost use Rattle.wx_run.specs.Replays.{replay_words, IsReplay, ReplaysRead, IsWritten, HasRead, HasWritten};
-ghost use Rattle.wx_run.specs.Scripts.{script_in};
 
 use crate::feeding::{LIMIT, Unread, read_all, write_all};
 use crate::script::read_script;
@@ -66,9 +65,8 @@ fn play(alloc: Global, script: &Script) -> Result<(Text, Status), Memory>
     if hooks.short() {
         return Err(Memory);
     }
-    let mut out = Text::new(alloc);
-    print_journal(alloc, &journal, &answer, &mut out)?;
-    Ok((out, status))
+    let text = print_journal(alloc, &journal, &answer)?;
+    Ok((text, status))
 }
 
 /// The text about a bad line.
@@ -84,7 +82,7 @@ fn about_line(alloc: Global, number: u64) -> Result<Text, Memory>
 
 /// The text and the status that are due for these bytes.
 fn reply(alloc: Global, bytes: &[u8]) -> Result<(Text, Status), Memory>
-    ensures text { IfOk result (λ r. ReplaysRead (script_in bytes.now) r.0 r.1) }
+    ensures text { IfOk result (λ r. ReplaysRead bytes.now r.0 r.1) }
     ensures status { IfOk result (λ r. IsWritten r.1) }
 {
     match read_script(alloc, bytes)? {

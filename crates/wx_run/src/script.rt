@@ -1,9 +1,9 @@
 // A script from its lines.
 ghost use Rattle.std.specs.Prelude.{◌≡◌, ◌==◌, ◌&&◌, Some, None, Ok, Err, length, IfOk, IfErr, MatchBool, MatchResult};
 ghost use Rattle.wx_engine.specs.Follows.{IsScript};
-ghost use Rattle.wx_run.specs.Bad.{IsFirstBad};
+ghost use Rattle.wx_engine.specs.declared.script.Script.{Script};
 ghost use Rattle.wx_run.specs.declared.lines.Line.TheVariants.{Size, Send, Turn as Turned};
-ghost use Rattle.wx_run.specs.Scripts.{accepts, step, start, script_in};
+ghost use Rattle.wx_run.specs.Scripts.{accepts, step, start, IsScriptOf, IsFirstBad};
 
 use crate::lines::{Line, line_in};
 use std::alloc::Global;
@@ -124,7 +124,7 @@ fn add_line(alloc: Global, script: &mut Script, line: &[u8]) -> Result<bool, Mem
 
 /// Reads the lines one by one.
 fn scan(alloc: Global, bytes: &[u8]) -> Result<Result<Script, BadLine>, Memory>
-    ensures { IfOk result (λ r. MatchResult r (λ s. script_in bytes.now ≡ Ok s) (λ bad. script_in bytes.now ≡ Err bad.0)) }
+    ensures { IfOk result (λ r. MatchResult r (λ s. IsScriptOf bytes.now s) (λ bad. IsFirstBad bytes.now bad.0)) }
 {
     let mut script = start(alloc);
     let mut rest = bytes;
@@ -146,11 +146,11 @@ fn scan(alloc: Global, bytes: &[u8]) -> Result<Result<Script, BadLine>, Memory>
 /// The script that the bytes are, or its first bad line.
 ///
 /// `Memory` comes where there was no memory for the script.
-#[tactic(auto, using(crate::specs::BadLaws::first_bad, crate::specs::ScriptLaws::lawful))]
+#[tactic(auto, using(crate::specs::ScriptLaws::lawful))]
 pub fn read_script(alloc: Global, bytes: &[u8]) -> Result<Result<Script, BadLine>, Memory>
-    ensures exact { IfOk result (λ r. MatchResult r (λ s. script_in bytes.now ≡ Ok s) (λ bad. script_in bytes.now ≡ Err bad.0)) }
-    ensures first_bad { IfOk result (λ r. IfErr r (λ bad. IsFirstBad bytes.now bad.0)) }
+    ensures exact { IfOk result (λ r. MatchResult r (λ s. IsScriptOf bytes.now s) (λ bad. IsFirstBad bytes.now bad.0)) }
     ensures lawful { IfOk result (λ r. IfOk r IsScript) }
+    ensures only { (s : Script) → IsScriptOf bytes.now s → IfOk result (λ r. r ≡ Ok s) }
 {
     scan(alloc, bytes)
 }

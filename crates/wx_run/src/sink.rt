@@ -1,7 +1,7 @@
-ghost use Rattle.std.specs.Prelude.{ℕ, ◌<◌, length, List, Option, IfOk};
+ghost use Rattle.std.specs.Prelude.{ℕ, ◌<◌, length, List, Option, IfOk, is_err};
 ghost use Rattle.std.specs.Io.{WritesAtMost};
 ghost use Rattle.std.specs.Io.KnownBytes.{WriteAppends};
-ghost use Rattle.wx_run.specs.Causes.{HasCause};
+ghost use Rattle.wx_journal.specs.Told.{Counts};
 
 /// The fault of a write: the code that the sink gives it, or 0 where it has none.
 #[derive(Clone, Copy, Debug, PartialEq, Eq)]
@@ -22,5 +22,5 @@ pub trait Sink {
         ensures bound { WritesAtMost result buf.now }
         ensures some { IfOk result (λ n. 0 < length buf.now → 0 < n) }
         ensures bytes { WriteAppends (held self.old) (held self.new) result buf.now }
-        ensures cause { HasCause (faults self.old) (faults self.new) result };
+        ensures cause { Counts (is_err result) (faults self.old) (faults self.new) };
 }

@@ -1,6 +1,5 @@
-use Rattle.std.proofs.Common.{◌≡◌, ℕ, ◌+◌, ◌-◌, ◌<◌, ◌≤◌, Bool, List, [], ◌∷◌, ◌++◌, length, take, drop, get_or, sym, ap, ◌∙◌, arith, eq-eqb, ne_eqb}
-use Rattle.std.specs.Prelude.{◌==◌, remove}
-use Rattle.std.proofs.lemmas.List.Edits.{remove-append_right}
+use Rattle.std.proofs.Common.{◌≡◌, ℕ, ◌+◌, ◌-◌, ◌<◌, ◌≤◌, Bool, List, [], ◌∷◌, length, take, drop, get_or, ap, ◌∙◌, arith, eq-eqb, ne_eqb}
+use Rattle.std.specs.Prelude.{◌==◌}
 use Rattle.std.specs.List.{slice_split, position_or_len, before_first, after_first}
 use Rattle.std.proofs.lemmas.List.Splits.{slice_split_first, slice_split_none}
 use Rattle.std.proofs.lemmas.List.{get_or_default, take_all, length-drop}
@@ -24,6 +23,3 @@ pub cut_here : (line : List ℕ) (c i : ℕ) → i < length line → NotBefore l
 cut_here line c i lt before here =
     let whole : take (length line - (i + 1)) (drop (i + 1) line) ≡ drop (i + 1) line = take_all (length line - (i + 1)) (drop (i + 1) line) (omega (arith, length-drop (i + 1) line)) in
     rw whole (cut_at line c i lt before here)
-
-pub remove_first : (old xs : List ℕ) (n : ℕ) → n ≡ length old → remove (old ++ xs) n ≡ old ++ drop 1 xs
-remove_first old xs n e = remove-append_right old xs n n (sym e) (omega arith) ∙ ap (λ (k : ℕ). old ++ remove xs k) (let z : n - n ≡ 0 = omega arith in z)

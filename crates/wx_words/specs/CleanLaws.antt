@@ -6,24 +6,20 @@ use Rattle.std.specs.Fmt.{digit_glyph}
 use Rattle.std.specs.Str.Parse.{AllDigits}
 use Rattle.std.proofs.lemmas.Fmt.{decimal_is_IsNumeral}
 use Rattle.std.proofs.lemmas.Str.Parse.{digit_from_value}
-use Rattle.std.proofs.lemmas.Bool.{ltb-true}
+use Rattle.std.proofs.lemmas.Bool.{ltb-true, and_parts}
 use Rattle.std.proofs.lemmas.Bool.Decides.{nat_tests}
 use Rattle.std.proofs.lemmas.List.{append-nil}
 use Rattle.std.proofs.lemmas.List.Elements.{All-from_recursion}
 use Rattle.std.proofs.lemmas.List.Splits.{slice_split_none, slice_split_at}
+use Rattle.wx_words.specs.EachLaws.{each_append}
 use Rattle.wx_words.specs.Clean.{IsClean, AllClean, is_clean}
 use Rattle.wx_words.specs.Line.{parts, words_of, spaced, joined}
-use Rattle.wx_words.specs.Texts.{AllBytes, text_word, escaped, escaped_byte, is_plain}
-use Rattle.wx_words.specs.Lists.{list_words}
-use Rattle.wx_words.specs.OptionLaws.{both}
-
-pub each_append : {X : Type 0} (P : X → Type 0) (xs ys : List X) → AllByRecursion P xs → AllByRecursion P ys → AllByRecursion P (xs ++ ys)
-each_append P [] ys p q = q
-each_append P (x ∷ xs) ys p q = (p.0, each_append P xs ys p.1 q)
+use Rattle.wx_words.specs.Texts.{AllBytes, text_word, text_words, escaped, escaped_byte, is_plain}
+use Rattle.wx_words.specs.Lists.{ListFits, list_words}
 
 pub clean : (w : List ℕ) → is_clean w ≡ true → IsClean w
 clean [] e = tt
-clean (b ∷ w) e = let h = both (nat_lt 32 b) (is_clean w) e in (ltb-true 32 b h.0, clean w h.1)
+clean (b ∷ w) e = let h = and_parts (nat_lt 32 b) (is_clean w) e in (ltb-true 32 b h.0, clean w h.1)
 
 digits_clean : (ds : List ℕ) → AllDigits 10 ds → IsClean ds
 digits_clean [] all = tt
@@ -56,14 +52,14 @@ pub text_clean : (t : List ℕ) → IsClean (text_word t)
 text_clean [] = clean (37 ∷ []) refl
 text_clean (b ∷ bs) = escaped_clean (b ∷ bs)
 
-pub text_words_clean : (t : List ℕ) → AllBytes t → AllClean (text_word t ∷ [])
+pub text_words_clean : (t : List ℕ) → AllBytes t → AllClean (text_words t)
 text_words_clean t all = (text_clean t, tt)
 
 pub items_clean : {X : Type 0} (fits : X → Type 0) (words : X → List (List ℕ)) → ((x : X) → fits x → AllClean (words x)) → (xs : List X) → AllByRecursion fits xs → AllClean (flat_map words xs)
 items_clean fits words each [] all = tt
 items_clean fits words each (x ∷ xs) all = each_append IsClean (words x) (flat_map words xs) (each x all.0) (items_clean fits words each xs all.1)
 
-pub list_clean : {X : Type 0} (fits : X → Type 0) (words : X → List (List ℕ)) → ((x : X) → fits x → AllClean (words x)) → (xs : List X) → (length xs < 2 ^ 64) × AllByRecursion fits xs → AllClean (list_words words xs)
+pub list_clean : {X : Type 0} (fits : X → Type 0) (words : X → List (List ℕ)) → ((x : X) → fits x → AllClean (words x)) → (xs : List X) → ListFits fits xs → AllClean (list_words words xs)
 list_clean fits words each xs all = (number_clean (length xs) all.0, items_clean fits words each xs all.1)
 
 pub keyword_clean : {X : Type 0} (word : X → List ℕ) → ((x : X) → IsClean (word x)) → (x : X) → Unit {0} → AllClean (word x ∷ [])

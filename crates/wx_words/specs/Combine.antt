@@ -1,10 +1,20 @@
 -- Forms made of forms: one behind the other, and one for each first word.
-use Rattle.std.specs.Prelude.{ℕ, nat_lt, if◌then◌else◌, Option, None, Some, List, [], ◌∷◌, ◌++◌}
+use Rattle.std.specs.Prelude.{ℕ, ◌==◌, length, nat_lt, if◌then◌else◌, Option, None, Some, option_map, List, [], ◌∷◌, ◌++◌}
 use Rattle.std.specs.Str.{bytes_eq}
 use Rattle.wx_words.specs.Line.{◌>>=◌}
 
 abbrev pub Reader : Type 0 → Type 0
 Reader X = List (List ℕ) → Option (X × List (List ℕ))
+
+-- the value that the word at the front spells
+abbrev pub read_word_by : {X : Type 0} → (List ℕ → Option X) → Reader X
+read_word_by spelled [] = None
+read_word_by spelled (w ∷ ws) = option_map (λ x. (x, ws)) (spelled w)
+
+-- what was read to the end
+abbrev pub whole : {X : Type 0} → Option (X × List (List ℕ)) → Option X
+whole None = None
+whole (Some x) = if length x.1 == 0 then Some x.0 else None
 
 -- two values, one behind the other
 abbrev pub pair_words : {A B : Type 0} → (A → List (List ℕ)) → (B → List (List ℕ)) → A × B → List (List ℕ)

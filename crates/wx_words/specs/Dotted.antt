@@ -1,7 +1,7 @@
 -- One word of parts with dots between them.
-use Rattle.std.specs.Prelude.{ℕ, ◌==◌, length, option_map, if◌then◌else◌, Option, None, Some, List, [], ◌∷◌, ◌++◌}
+use Rattle.std.specs.Prelude.{ℕ, List, [], ◌∷◌, ◌++◌}
 use Rattle.wx_words.specs.Line.{parts}
-use Rattle.wx_words.specs.Combine.{Reader}
+use Rattle.wx_words.specs.Combine.{Reader, read_word_by, whole}
 
 -- each part with a dot before it
 abbrev pub after_dots : List (List ℕ) → List ℕ
@@ -17,12 +17,6 @@ dotted (p ∷ ps) = p ++ after_dots ps
 abbrev pub parts_of : List ℕ → List (List ℕ)
 parts_of word = parts 46 word
 
--- what was read to the end
-abbrev pub whole : {X : Type 0} → Option (X × List (List ℕ)) → Option X
-whole None = None
-whole (Some x) = if length x.1 == 0 then Some x.0 else None
-
 -- a value whose parts are one word
 abbrev pub read_dotted : {X : Type 0} → Reader X → Reader X
-read_dotted read [] = None
-read_dotted read (w ∷ ws) = option_map (λ x. (x, ws)) (whole (read (parts_of w)))
+read_dotted read ws = read_word_by (λ w. whole (read (parts_of w))) ws

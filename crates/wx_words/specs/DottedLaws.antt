@@ -5,17 +5,17 @@ use Rattle.std.specs.List.{AllByRecursion, join_with_byte}
 use Rattle.std.specs.Str.Parse.{AllDigits}
 use Rattle.std.proofs.lemmas.Fmt.{decimal_is_IsNumeral}
 use Rattle.std.proofs.lemmas.Str.Parse.{digit_from_value}
-use Rattle.std.proofs.lemmas.Bool.{eqb-true}
+use Rattle.std.proofs.lemmas.Bool.{eqb-true, and_parts}
 use Rattle.std.proofs.lemmas.List.{append-nil, nil_from_length, map-id}
 use Rattle.std.proofs.lemmas.List.Elements.{All-from_recursion}
 use Rattle.std.proofs.lemmas.List.Splits.{slice_split_none, slice_split_at, join_with_byte-slice_split}
-use Rattle.wx_words.specs.Combine.{Reader}
-use Rattle.wx_words.specs.Dotted.{after_dots, dotted, parts_of, whole, read_dotted}
+use Rattle.wx_words.specs.Combine.{Reader, whole}
+use Rattle.wx_words.specs.Dotted.{after_dots, dotted, parts_of, read_dotted}
 use Rattle.wx_words.specs.Forms.{IsForm, Stood}
 use Rattle.wx_words.specs.FormLaws.{stood-one}
-use Rattle.wx_words.specs.OptionLaws.{map_some, guarded, both}
+use Rattle.wx_words.specs.OptionLaws.{map_some, guarded}
 use Rattle.wx_words.specs.Clean.{IsClean, AllClean}
-use Rattle.wx_words.specs.CleanLaws.{each_append}
+use Rattle.wx_words.specs.EachLaws.{each_append}
 
 -- no dot
 abbrev pub NoDot : List ℕ → Type 0
@@ -28,7 +28,7 @@ no_dot (b ∷ w) = not (b == 46) && no_dot w
 
 pub undotted : (w : List ℕ) → no_dot w ≡ true → NoDot w
 undotted [] e = tt
-undotted (b ∷ w) e = let h = both (not (b == 46)) (no_dot w) e in (is_false (b == 46) h.0, undotted w h.1)
+undotted (b ∷ w) e = let h = and_parts (not (b == 46)) (no_dot w) e in (is_false (b == 46) h.0, undotted w h.1)
   where
     is_false : (t : Bool) → not t ≡ true → t ≡ false
     is_false true e = absurd cc
@@ -100,7 +100,7 @@ dotted_form {V} see {X} {fits} {words} {read} form are = record { again = again;
         let w_is : w ≡ dotted (words m.0) = sym (dotted-parts w) ∙ ap dotted (front ∙ words_are) in
         subst (λ (p : X × List (List ℕ)). fits p.0 × Stood see (dotted (words p.0) ∷ []) (w ∷ ws) p.1) m.2 (t.0, stood-one see w (dotted (words m.0)) ws (ap see w_is))
 
--- ---- no word has a space or a control byte
+-- ---- no word has a byte of 32 or less
 
 after_dots_clean : (ps : List (List ℕ)) → AllClean ps → IsClean (after_dots ps)
 after_dots_clean [] all = tt

@@ -1,6 +1,7 @@
 pub mod Line
 pub mod LineLaws
 pub mod OptionLaws
+pub mod EachLaws
 pub mod Forms
 pub mod FormLaws
 pub mod Combine

@@ -24,12 +24,13 @@ abbrev pub Taken : {X : Type 0} → List (List ℕ) → List (List ℕ) → Opti
 Taken old new None read = (read ≡ None) × (new ≡ old)
 Taken old new (Some x) read = read ≡ Some (x, new)
 
-infixl 10 ◌>>=◌
-abbrev pub ◌>>=◌ : {A B : Type 0} → Option A → (A → Option B) → Option B
-None >>= f = None
-(Some x) >>= f = f x
-
 -- the same where a cursor may be lost with nothing read
 abbrev pub Reads : {X : Type 0} → List (List ℕ) → Option X → Option (X × List (List ℕ)) → Type 0
 Reads new None read = read ≡ None
 Reads new (Some x) read = read ≡ Some (x, new)
+
+-- the next step takes what this one gave, and is left out where that is nothing
+infixl 10 ◌>>=◌
+abbrev pub ◌>>=◌ : {A B : Type 0} → Option A → (A → Option B) → Option B
+None >>= f = None
+(Some x) >>= f = f x

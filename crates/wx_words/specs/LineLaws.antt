@@ -2,10 +2,9 @@
 use Rattle.std.proofs.Common.{◌≡◌, true, eq-eqb, ◌<◌, length, arith, ℕ, List, [], ◌∷◌, ◌++◌, refl, sym, ap, ◌∙◌, append_assoc}
 use Rattle.std.specs.Prelude.{◌==◌, nat_eq}
 use Rattle.std.specs.Str.{bytes_eq}
-use Rattle.std.proofs.lemmas.Bool.{eqb-true}
+use Rattle.std.proofs.lemmas.Bool.{eqb-true, and_parts}
 use Rattle.std.proofs.lemmas.List.Splits.{length-slice_split}
 use Rattle.wx_words.specs.Line.{spaced, parts}
-use Rattle.wx_words.specs.OptionLaws.{both}
 
 pub spaced-append : (vs ws : List (List ℕ)) → spaced (vs ++ ws) ≡ spaced vs ++ spaced ws
 spaced-append [] ws = refl
@@ -21,7 +20,7 @@ bytes_same [] [] e = refl
 bytes_same [] (y ∷ ys) e = absurd cc
 bytes_same (x ∷ xs) [] e = absurd cc
 bytes_same (x ∷ xs) (y ∷ ys) e =
-    let h = both (nat_eq x y) (bytes_eq xs ys) e in
+    let h = and_parts (nat_eq x y) (bytes_eq xs ys) e in
     let p : x ≡ y = eqb-true x y h.0 in
     let q : xs ≡ ys = bytes_same xs ys h.1 in cc
 

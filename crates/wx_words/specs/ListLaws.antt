@@ -1,11 +1,11 @@
 -- A list is read from its length and its items.
-use Rattle.std.proofs.Common.{◌≡◌, ℕ, zero, suc, ◌^◌, ◌<◌, Some, List, [], ◌∷◌, ◌++◌, length, refl, sym, ap, subst, ◌∙◌, append_assoc, arith}
+use Rattle.std.proofs.Common.{◌≡◌, ℕ, zero, suc, Some, List, [], ◌∷◌, ◌++◌, length, refl, sym, ap, subst, ◌∙◌, append_assoc, arith}
 use Rattle.std.specs.Prelude.{decimal}
 use Rattle.std.specs.List.{flat_map, AllByRecursion}
 use Rattle.wx_words.specs.Line.{◌>>=◌}
 use Rattle.wx_words.specs.Numbers.{read_number}
 use Rattle.wx_words.specs.NumberLaws.{number_again, number_form}
-use Rattle.wx_words.specs.Lists.{list_words, read_items, read_list}
+use Rattle.wx_words.specs.Lists.{ListFits, list_words, read_items, read_list}
 use Rattle.wx_words.specs.OptionLaws.{bind_some}
 use Rattle.wx_words.specs.Combine.{Reader}
 use Rattle.wx_words.specs.Forms.{Stood, IsForm}
@@ -35,14 +35,14 @@ items_take {V} {see} {X} {fits} {words} {read} form (suc n) ws xs rest e =
     (ap suc u.0, (t.0, u.1), stood-then see (words a.0.0) (flat_map words b.0.0) ws a.0.1 b.0.1 t.1 u.2)
 
 pub list_form : {V : Type 0} {see : List ℕ → V} {X : Type 0} {fits : X → Type 0} {words : X → Words} {read : Reader X} → IsForm see fits words read
-    → IsForm see (λ (xs : List X). (length xs < 2 ^ 64) × AllByRecursion fits xs) (list_words words) (read_list read)
+    → IsForm see (ListFits fits) (list_words words) (read_list read)
 unfolding read_list
 list_form {V} {see} {X} {fits} {words} {read} form = record { again = again; takes = takes }
   where
-    again : (xs : List X) (rest : Words) → (length xs < 2 ^ 64) × AllByRecursion fits xs → read_list read (list_words words xs ++ rest) ≡ Some (xs, rest)
+    again : (xs : List X) (rest : Words) → ListFits fits xs → read_list read (list_words words xs ++ rest) ≡ Some (xs, rest)
     again xs rest all = rw (number_again (length xs) all.0) (items_again form xs rest all.1)
 
-    takes : (ws : Words) (xs : List X) (rest : Words) → read_list read ws ≡ Some (xs, rest) → ((length xs < 2 ^ 64) × AllByRecursion fits xs) × Stood see (list_words words xs) ws rest
+    takes : (ws : Words) (xs : List X) (rest : Words) → read_list read ws ≡ Some (xs, rest) → ListFits fits xs × Stood see (list_words words xs) ws rest
     takes ws xs rest e =
         let a = bind_some (read_number ws) (λ n. read_items read n.0 n.1) (xs, rest) e in
         let t = (number_form see).takes ws a.0.0 a.0.1 a.1 in

@@ -6,13 +6,13 @@ use Rattle.std.specs.Str.Parse.{digits_value, digits_value_after, AllDigits, IsN
 use Rattle.std.proofs.lemmas.Fmt.{decimal_is_IsNumeral, decimal-digits_value, first_decimal, decimal_digit}
 use Rattle.std.proofs.lemmas.Str.{digit_value_digit}
 use Rattle.std.proofs.lemmas.Str.Parse.{IsNumeralModel, digit_from_value}
-use Rattle.std.proofs.lemmas.Bool.{ltb-true, eqb-false}
+use Rattle.std.proofs.lemmas.Bool.{ltb-true, eqb-false, and_parts}
 use Rattle.std.proofs.lemmas.Bool.Decides.{nat_tests}
 use Rattle.wx_words.specs.Combine.{read_below}
 use Rattle.wx_words.specs.Forms.{IsForm, Stood}
 use Rattle.wx_words.specs.FormLaws.{stood-one, same_read}
 use Rattle.wx_words.specs.Numbers.{with_digits, number_in, read_number, read_u32}
-use Rattle.wx_words.specs.OptionLaws.{bind_some, map_some, guarded, refused, both}
+use Rattle.wx_words.specs.OptionLaws.{bind_some, map_some, guarded, refused}
 
 digit_is : (d : ℕ) → is_ascii_digit d ≡ true → (digit_value d < 10) × (digit_value d ≡ d - 48)
 digit_is d p =
@@ -43,7 +43,7 @@ digits_take : (n : ℕ) (ds : List ℕ) (v : ℕ) → n < 2 ^ 64 → with_digits
 digits_take n [] v lt e = let same : n ≡ v = cc in (tt, same, omega arith)
 digits_take n (d ∷ ds) v lt e =
     let g = guarded (is_ascii_digit d && nat_lt (n * 10 + (d - 48)) (2 ^ 64)) (with_digits (n * 10 + (d - 48)) ds) v e in
-    let h = both (is_ascii_digit d) (nat_lt (n * 10 + (d - 48)) (2 ^ 64)) g.0 in
+    let h = and_parts (is_ascii_digit d) (nat_lt (n * 10 + (d - 48)) (2 ^ 64)) g.0 in
     let here = digit_is d h.0 in
     let rest = digits_take (n * 10 + (d - 48)) ds v (ltb-true _ _ h.1) g.1 in
     ((here.0, rest.0), rw here.1 rest.1, rest.2)

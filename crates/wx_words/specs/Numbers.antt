@@ -1,7 +1,7 @@
 -- Numbers as words.
-use Rattle.std.specs.Prelude.{ℕ, ◌+◌, ◌*◌, ◌-◌, ◌==◌, ◌^◌, nat_lt, ◌&&◌, if◌then◌else◌, Option, None, Some, option_map, List, [], ◌∷◌}
+use Rattle.std.specs.Prelude.{ℕ, ◌+◌, ◌*◌, ◌-◌, ◌==◌, ◌^◌, nat_lt, ◌&&◌, if◌then◌else◌, Option, None, Some, List, [], ◌∷◌}
 use Rattle.std.specs.Char.{is_ascii_digit}
-use Rattle.wx_words.specs.Combine.{read_below}
+use Rattle.wx_words.specs.Combine.{Reader, read_word_by, read_below}
 
 -- the number below 2 ^ 64 that digits spell behind a number
 abbrev pub with_digits : ℕ → List ℕ → Option ℕ
@@ -15,10 +15,9 @@ number_in (d ∷ []) = with_digits 0 (d ∷ [])
 number_in (d ∷ e ∷ ds) = if d == 48 then None else with_digits 0 (d ∷ e ∷ ds)
 
 -- the number at the front
-abbrev pub read_number : List (List ℕ) → Option (ℕ × List (List ℕ))
-read_number [] = None
-read_number (w ∷ ws) = option_map (λ n. (n, ws)) (number_in w)
+abbrev pub read_number : Reader ℕ
+read_number ws = read_word_by number_in ws
 
 -- the number below 2 ^ 32 at the front
-abbrev pub read_u32 : List (List ℕ) → Option (ℕ × List (List ℕ))
+abbrev pub read_u32 : Reader ℕ
 read_u32 ws = read_below (2 ^ 32) read_number ws

@@ -1,6 +1,6 @@
 -- What a step that did not fail says.
 use Rattle.std.proofs.Common.{◌≡◌, Bool, true, false, cond, Option, None, Some, refl, inl, inr, ◌⊎◌}
-use Rattle.std.specs.Prelude.{◌&&◌, option_map}
+use Rattle.std.specs.Prelude.{option_map}
 use Rattle.wx_words.specs.Line.{◌>>=◌}
 
 pub bind_some : {A B : Type 0} (o : Option A) (f : A → Option B) (y : B) → (o >>= f) ≡ Some y → (x : A) × (o ≡ Some x) × (f x ≡ Some y)
@@ -19,9 +19,9 @@ pub refused : {A : Type 0} (b : Bool) (o : Option A) (y : A) → cond b None o �
 refused true o y e = absurd cc
 refused false o y e = (refl, e)
 
-pub both : (a b : Bool) → (a && b) ≡ true → (a ≡ true) × (b ≡ true)
-both true b e = (refl, e)
-both false b e = absurd cc
+pub neither : {A : Type 0} (b : Bool) (x : A) (o : Option A) → cond b (Some x) o ≡ None → (b ≡ false) × (o ≡ None)
+neither true x o e = absurd cc
+neither false x o e = (refl, e)
 
 pub chosen : {A : Type 0} (b : Bool) (x y : Option A) (z : A) → cond b x y ≡ Some z → (x ≡ Some z) ⊎ (y ≡ Some z)
 chosen true x y z e = inl e

@@ -2,7 +2,7 @@
 use Rattle.std.specs.Prelude.{ℕ, ◌^◌, ◌<◌, if◌then◌else◌, Option, None, Some, option_map, List, [], ◌∷◌, decimal, codes}
 use Rattle.std.specs.Str.{bytes_eq}
 use Rattle.wx_words.specs.Numbers.{number_in}
-use Rattle.wx_words.specs.Combine.{Reader}
+use Rattle.wx_words.specs.Combine.{Reader, read_word_by}
 
 abbrev pub OptionalFits : Option ℕ → Type 0
 OptionalFits None = Unit {0}
@@ -21,5 +21,4 @@ optional_in w = if bytes_eq w (codes "-") then Some None else option_map (λ n. 
 
 -- what stands at the front
 abbrev pub read_optional : Reader (Option ℕ)
-read_optional [] = None
-read_optional (w ∷ ws) = option_map (λ o. (o, ws)) (optional_in w)
+read_optional ws = read_word_by optional_in ws

@@ -2,7 +2,7 @@
 use Rattle.std.specs.Prelude.{ℕ, zero, suc, ◌==◌, ◌^◌, nat_lt, Bool, ℤ, pos, negsuc, if◌then◌else◌, Option, None, Some, option_map, List, [], ◌∷◌}
 use Rattle.std.specs.Fmt.{signed_decimal}
 use Rattle.wx_words.specs.Line.{◌>>=◌}
-use Rattle.wx_words.specs.Combine.{Reader}
+use Rattle.wx_words.specs.Combine.{Reader, read_word_by}
 use Rattle.wx_words.specs.Numbers.{number_in}
 
 -- the number of this absolute value below zero
@@ -31,8 +31,7 @@ signed_within limit w = do
 
 -- the number from -limit to limit - 1 at the front
 abbrev pub read_signed : ℕ → Reader ℤ
-read_signed limit [] = None
-read_signed limit (w ∷ ws) = option_map (λ z. (z, ws)) (signed_within limit w)
+read_signed limit ws = read_word_by (signed_within limit) ws
 
 abbrev pub read_i64 : Reader ℤ
 read_i64 ws = read_signed (2 ^ 63) ws

@@ -97,7 +97,7 @@ i64_form see = signed_form see (2 ^ 63) (omega arith) within_64 fits_64
 pub i32_form : {V : Type 0} (see : List ℕ → V) → IsForm see (FitsSigned w32) signed_words read_i32
 i32_form see = signed_form see (2 ^ 31) (omega arith) within_32 fits_32
 
--- ---- no word has a space or a control byte, or a dot
+-- ---- no word has a byte of 32 or less, or a dot
 
 signed_clean : (z : ℤ) → FitsSigned w64 z → IsClean (signed_decimal z)
 signed_clean (pos n) fits = number_clean n (omega (arith, fits.sfits))

@@ -1,20 +1,17 @@
 -- A text is read from its word, and what is read was written so, up to escapes.
-use Rattle.std.proofs.Common.{◌≡◌, ℕ, ◌+◌, ◌-◌, ◌*◌, ◌/◌, ◌%◌, ◌<◌, ◌≤◌, Bool, true, false, cond, Option, None, Some, List, [], ◌∷◌, ◌++◌, length, take, drop, get_or, refl, sym, ap, subst, inl, inr, ◌∙◌, append_assoc, arith, lt-ltb}
-use Rattle.std.specs.Prelude.{◌&&◌, nat_lt, ◌==◌}
+use Rattle.std.proofs.Common.{◌≡◌, ℕ, ◌+◌, ◌-◌, ◌*◌, ◌/◌, ◌%◌, ◌<◌, ◌≤◌, Bool, true, false, cond, Option, None, Some, List, [], ◌∷◌, ◌++◌, length, take, drop, get_or, refl, sym, ap, subst, inl, inr, ◌∙◌, arith, lt-ltb}
+use Rattle.std.specs.Prelude.{nat_lt, ◌==◌}
 use Rattle.std.specs.Char.{digit_value}
 use Rattle.std.proofs.lemmas.List.{take_all}
 use Rattle.std.proofs.lemmas.Option.{cond_some}
 use Rattle.std.specs.Fmt.{digit_glyph}
 use Rattle.std.proofs.lemmas.Bool.{ltb-true}
 use Rattle.std.proofs.lemmas.Bool.Decides.{nat_tests}
-use Rattle.wx_words.specs.OptionLaws.{map_some, guarded, both, chosen}
+use Rattle.wx_words.specs.OptionLaws.{bind_some, map_some, guarded, chosen}
+use Rattle.wx_words.specs.Line.{◌>>=◌}
 use Rattle.wx_words.specs.Forms.{IsForm, Stood}
 use Rattle.wx_words.specs.FormLaws.{stood-one}
-use Rattle.wx_words.specs.Texts.{AllBytes, escaped, text_in, read_text, text_word, behind, onto, unescaped, is_plain, hex_in}
-
-pub behind_more : (front : List ℕ) (b : ℕ) (o : Option (List ℕ)) → behind (front ++ b ∷ []) o ≡ behind front (onto b o)
-behind_more front b None = refl
-behind_more front b (Some t) = ap (λ (x : List ℕ). Some x) (append_assoc front (b ∷ []) t)
+use Rattle.wx_words.specs.Texts.{AllBytes, escaped, text_in, read_text, text_word, text_words, onto, unescaped, is_plain, hex_in}
 
 -- a byte that stands for itself is no percent sign
 not_percent : (b : ℕ) → is_plain b ≡ true → (b == 37) ≡ false
@@ -35,9 +32,10 @@ escaped_first (b ∷ []) high low le e h l = absurd (omega arith)
 escaped_first (b ∷ c ∷ []) high low le e h l = absurd (omega arith)
 escaped_first (b ∷ c ∷ d ∷ rest) high low le e h l =
     let whole : take (length (b ∷ c ∷ d ∷ rest) - 3) rest ≡ rest = take_all _ _ (omega arith) in
-    let p = cond_some (nat_lt (digit_value c) 16) (digit_value c) high h in
-    let q = cond_some (nat_lt (digit_value d) 16) (digit_value d) low l in
-    rw (whole, e, p.0, q.0, p.1, q.1) refl
+    rw (whole, e, h, l) refl
+
+hex_small : (c n : ℕ) → hex_in c ≡ Some n → n < 16
+hex_small c n e = let p = cond_some (nat_lt (digit_value c) 16) (digit_value c) n e in omega (arith, ltb-true _ _ p.0, p.1)
 
 glyph_value : (d : ℕ) → d < 16 → digit_value (digit_glyph true d) ≡ d
 glyph_value d lt = grind (arith, nat_tests)
@@ -85,9 +83,9 @@ unescaped_bytes (b ∷ c ∷ []) t e =
 unescaped_bytes (b ∷ c ∷ d ∷ rest) t e =
     elim (chosen (b == 37) _ _ t e) [
       | inl p ↦
-          let g = guarded (nat_lt (digit_value c) 16 && nat_lt (digit_value d) 16) (onto (16 * digit_value c + digit_value d) (unescaped rest)) t p in
-          let h = both (nat_lt (digit_value c) 16) (nat_lt (digit_value d) 16) g.0 in
-          onto_bytes (16 * digit_value c + digit_value d) (unescaped rest) t (omega (arith, ltb-true _ _ h.0, ltb-true _ _ h.1)) (λ u k. unescaped_bytes rest u k) g.1
+          let high = bind_some (hex_in c) (λ high. hex_in d >>= λ low. onto (16 * high + low) (unescaped rest)) t p in
+          let low = bind_some (hex_in d) (λ low. onto (16 * high.0 + low) (unescaped rest)) t high.2 in
+          onto_bytes (16 * high.0 + low.0) (unescaped rest) t (omega (arith, hex_small c high.0 high.1, hex_small d low.0 low.1)) (λ u k. unescaped_bytes rest u k) low.2
       | inr p ↦
           let g = guarded (is_plain b) (onto b (unescaped (c ∷ d ∷ rest))) t p in
           onto_bytes b (unescaped (c ∷ d ∷ rest)) t (plain_small b g.0) (λ u k. unescaped_bytes (c ∷ d ∷ rest) u k) g.1
@@ -102,13 +100,13 @@ text_bytes (b ∷ []) t e =
     ]
 text_bytes (b ∷ c ∷ w) t e = unescaped_bytes (b ∷ c ∷ w) t e
 
-pub text_form : IsForm text_in AllBytes (λ t. text_word t ∷ []) read_text
+pub text_form : IsForm text_in AllBytes text_words read_text
 text_form = record {
   again = λ t rest all. rw (text_again t all) refl;
   takes = takes;
 }
   where
-    takes : (ws : List (List ℕ)) (t : List ℕ) (rest : List (List ℕ)) → read_text ws ≡ Some (t, rest) → AllBytes t × Stood text_in (text_word t ∷ []) ws rest
+    takes : (ws : List (List ℕ)) (t : List ℕ) (rest : List (List ℕ)) → read_text ws ≡ Some (t, rest) → AllBytes t × Stood text_in (text_words t) ws rest
     takes [] t rest e = absurd cc
     takes (w ∷ ws) t rest e =
         let m = map_some (λ k. (k, ws)) (text_in w) (t, rest) e in
@@ -116,4 +114,4 @@ text_form = record {
         let er : ws ≡ rest = ap (λ p. p.1) m.2 in
         let here : text_in w ≡ Some t = m.1 ∙ ap (λ (k : List ℕ). Some k) et in
         let all = text_bytes w t here in
-        (all, subst (λ (r : List (List ℕ)). Stood text_in (text_word t ∷ []) (w ∷ ws) r) er (stood-one text_in w (text_word t) ws (here ∙ sym (text_again t all))))
+        (all, subst (λ (r : List (List ℕ)). Stood text_in (text_words t) (w ∷ ws) r) er (stood-one text_in w (text_word t) ws (here ∙ sym (text_again t all))))

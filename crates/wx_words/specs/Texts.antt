@@ -1,8 +1,10 @@
 -- Texts as words.
-use Rattle.std.specs.Prelude.{ℕ, ◌+◌, ◌*◌, ◌/◌, ◌%◌, ◌==◌, nat_lt, ◌<◌, Bool, true, ◌&&◌, not, if◌then◌else◌, Option, None, Some, option_map, List, [], ◌∷◌, ◌++◌}
+use Rattle.std.specs.Prelude.{ℕ, ◌+◌, ◌*◌, ◌/◌, ◌%◌, ◌==◌, nat_lt, ◌<◌, Bool, true, ◌&&◌, not, if◌then◌else◌, Option, None, Some, List, [], ◌∷◌}
 use Rattle.std.specs.List.{flat_map, AllByRecursion}
 use Rattle.std.specs.Char.{digit_value}
 use Rattle.std.specs.Fmt.{digit_glyph}
+use Rattle.wx_words.specs.Line.{◌>>=◌}
+use Rattle.wx_words.specs.Combine.{Reader, read_word_by}
 
 -- each is a byte
 abbrev pub AllBytes : List ℕ → Type 0
@@ -24,6 +26,9 @@ abbrev pub text_word : List ℕ → List ℕ
 text_word [] = 37 ∷ []
 text_word (b ∷ bs) = escaped (b ∷ bs)
 
+abbrev pub text_words : List ℕ → List (List ℕ)
+text_words t = text_word t ∷ []
+
 -- the value of a hexadecimal digit of either case
 abbrev pub hex_in : ℕ → Option ℕ
 hex_in c = if nat_lt (digit_value c) 16 then Some (digit_value c) else None
@@ -39,7 +44,7 @@ unescaped [] = Some []
 unescaped (b ∷ []) = if is_plain b then onto b (Some []) else None
 unescaped (b ∷ c ∷ []) = if is_plain b then onto b (unescaped (c ∷ [])) else None
 unescaped (b ∷ c ∷ d ∷ rest) =
-    if b == 37 then (if nat_lt (digit_value c) 16 && nat_lt (digit_value d) 16 then onto (16 * digit_value c + digit_value d) (unescaped rest) else None)
+    if b == 37 then (hex_in c >>= λ high. hex_in d >>= λ low. onto (16 * high + low) (unescaped rest))
     else (if is_plain b then onto b (unescaped (c ∷ d ∷ rest)) else None)
 
 -- the text that a word stands for
@@ -49,11 +54,5 @@ text_in (b ∷ []) = if b == 37 then Some [] else unescaped (b ∷ [])
 text_in (b ∷ c ∷ bs) = unescaped (b ∷ c ∷ bs)
 
 -- the text at the front
-abbrev pub read_text : List (List ℕ) → Option (List ℕ × List (List ℕ))
-read_text [] = None
-read_text (w ∷ ws) = option_map (λ t. (t, ws)) (text_in w)
-
--- a text in front of a text, where there is one
-abbrev pub behind : List ℕ → Option (List ℕ) → Option (List ℕ)
-behind front None = None
-behind front (Some t) = Some (front ++ t)
+abbrev pub read_text : Reader (List ℕ)
+read_text ws = read_word_by text_in ws

@@ -6,7 +6,7 @@ ghost use Rattle.wx_words.specs.Dotted.{parts_of};
 use std::marker::Model;
 
 /// A cursor over the words of a line, or over the parts of a word, which contracts see as those that are left.
-#[derive(Drop)]
+#[derive(Drop, Debug)]
 pub struct Words<'a> {
     left: &'a [u8],
     done: bool,

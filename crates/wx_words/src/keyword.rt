@@ -19,14 +19,14 @@ pub trait Keyword: Copy + Drop + 'static {
     fn word(self) -> &'static [u8]
         ensures { result.now ≡ word self };
 
-    /// Each value once.
+    /// Each value.
     fn all() -> &'static [Self]
         ensures { result.now ≡ all };
 
     // each value is found by its word
     ghost found: { (x : Self) → with_word word all (word x) ≡ Some x };
 
-    // no word has a space or a control byte
+    // no word has a byte of 32 or less
     ghost clean: { (x : Self) → IsClean (word x) };
 }
 
@@ -42,7 +42,7 @@ pub fn with_word<K: Keyword>(word: &[u8]) -> Option<K>
     None
 }
 
-/// Appends the word of this value, with a space before it.
+/// Appends the word of this value, with a space before it. A part of that may stand in `out` where memory runs out.
 pub fn put_keyword<K: Keyword>(value: K, out: &mut Text) -> Result<(), Memory>
     ensures { OnOk result (out.new ≡ out.old ++ spaced (K.word value ∷ [])) }
 {

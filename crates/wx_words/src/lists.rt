@@ -1,10 +1,10 @@
 // Lists as words.
-ghost use Rattle.std.specs.Prelude.{◌≡◌, ℕ, ◌+◌, ◌<◌, [], ◌∷◌, ◌++◌, List, Option, Some, None, OnOk, IfOk, length, ◌^◌};
+ghost use Rattle.std.specs.Prelude.{◌≡◌, ℕ, ◌+◌, [], ◌∷◌, ◌++◌, List, Option, Some, None, OnOk, IfOk};
 ghost use Rattle.std.specs.List.{flat_map, AllByRecursion};
 ghost use Rattle.wx_words.specs.CleanLaws.{list_clean};
 ghost use Rattle.wx_words.specs.ListLaws.{list_form};
 ghost use Rattle.wx_words.specs.Line.{spaced, joined, Reads};
-ghost use Rattle.wx_words.specs.Lists.{list_words, read_items, read_list};
+ghost use Rattle.wx_words.specs.Lists.{ListFits, list_words, read_items, read_list};
 
 use crate::cursor::Words;
 use crate::list::{List, Memory};
@@ -12,9 +12,11 @@ use crate::spelled::Spelled;
 use crate::text::Text;
 use std::alloc::Global;
 
-/// Appends the words of each item, each with a space before it.
+/// Appends the words of each item, each with a space before it. A part of the words may stand in `out` where memory
+/// runs out.
 pub fn put_items<T: Spelled>(items: &[T], out: &mut Text) -> Result<(), Memory>
-    ensures { OnOk result (out.new ≡ out.old ++ spaced (flat_map T.words items.now)) }
+    ensures text { OnOk result (out.new ≡ out.old ++ spaced (flat_map T.words items.now)) }
+    ensures fits { OnOk result (AllByRecursion T.fits items.now) }
 {
     for item in items {
         item.put_after(out)?;
@@ -43,7 +45,7 @@ fn take_items<T: Spelled>(
 impl<T: Spelled> Spelled for List<T> {
     ghost words = { list_words T.words };
 
-    ghost fits = { λ xs. (length xs < 2 ^ 64) × AllByRecursion T.fits xs };
+    ghost fits = { ListFits T.fits };
 
     ghost read = { read_list T.read };
 

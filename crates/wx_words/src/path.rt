@@ -49,12 +49,11 @@ impl Copies for TextPath {
 }
 
 impl Spelled for TextPath {
-    ghost use Rattle.std.specs.Prelude.{[], ◌∷◌};
-    ghost use Rattle.wx_words.specs.Texts.{AllBytes, text_word, read_text};
+    ghost use Rattle.wx_words.specs.Texts.{AllBytes, text_words, read_text};
     ghost use Rattle.wx_words.specs.TextLaws.{text_form};
     ghost use Rattle.wx_words.specs.CleanLaws.{text_words_clean};
 
-    ghost words = { λ t. text_word t ∷ [] };
+    ghost words = { text_words };
 
     ghost fits = { AllBytes };
 

@@ -19,7 +19,7 @@ fn line_of<T: Spelled>(alloc: Global, value: &T) -> Result<Text, Memory> {
 /// The value whose words are this whole line.
 fn read_line<T: Spelled>(alloc: Global, line: &[u8]) -> Result<Option<T>, Memory> {
     let mut words = Words::new(line);
-    let found = T::take_front(alloc, &mut words)?;
+    let found = T::take(alloc, &mut words)?;
     if words.is_done() { Ok(found) } else { Ok(None) }
 }
 
@@ -254,10 +254,10 @@ fn takes_one_after_the_other(rt: HostRuntime) -> Result<(), Fail> {
     let alloc = rt.alloc();
     let mut words = Words::new(b"at 9 on 1 x");
     assert!(rt; take_literal(b"at", &mut words));
-    assert_eq!(rt; bool::take_front(alloc, &mut words)?, None);
-    assert_eq!(rt; u64::take_front(alloc, &mut words)?, Some(9));
-    assert_eq!(rt; bool::take_front(alloc, &mut words)?, Some(true));
-    let texts: List<Text> = List::take_front(alloc, &mut words)?.ok_or("texts")?;
+    assert_eq!(rt; bool::take(alloc, &mut words)?, None);
+    assert_eq!(rt; u64::take(alloc, &mut words)?, Some(9));
+    assert_eq!(rt; bool::take(alloc, &mut words)?, Some(true));
+    let texts: List<Text> = List::take(alloc, &mut words)?.ok_or("texts")?;
     assert_eq!(rt; texts.len(), 1);
     assert!(rt; words.is_done());
     Ok(())

@@ -1,4 +1,4 @@
-ghost use Rattle.std.specs.Prelude.{◌≡◌, ℕ, ◌+◌, ◌<◌, ◌≤◌, ◌^◌, [], ◌∷◌, ◌++◌, length, take, drop, remove, IfOk, OnOk, OnErr, IsTrue, ◌↔◌, decimal};
+ghost use Rattle.std.specs.Prelude.{◌≡◌, ℕ, ◌+◌, ◌<◌, ◌≤◌, ◌^◌, [], ◌∷◌, ◌++◌, length, take, drop, IfOk, OnOk, OnErr, IsTrue, ◌↔◌, decimal};
 ghost use Rattle.std.specs.Fmt.{signed_decimal};
 ghost use Rattle.std.specs.Cmp.Lexicographic.{pointwise, nat_list_eq_equiv, slice_cmp, texts_po, texts_ties, nat_list_cmp_total};
 ghost use Rattle.std.specs.Ordering.{nat_cmp};
@@ -48,6 +48,11 @@ impl Text {
         })
     }
 
+    /// Where the text takes its memory.
+    pub fn allocator(&self) -> Global {
+        *self.bytes.allocator()
+    }
+
     /// The bytes, in order.
     pub fn as_slice(&self) -> &[u8]
         ensures { result.now ≡ self.now }
@@ -80,25 +85,19 @@ impl Text {
         Ok(())
     }
 
-    /// Takes the byte at this place out.
-    pub fn remove(&mut self, index: usize)
-        requires { index < length self.old }
-        ensures { self.new ≡ remove self.old index }
-    {
-        let _ = self.bytes.remove(index);
-    }
-
-    /// Appends a number in decimal.
+    /// Appends a number in decimal. It fails only for want of memory, and leaves the text as it was then.
     pub fn append_number(&mut self, n: u64) -> Result<(), Memory>
-        ensures { OnOk result (self.new ≡ self.old ++ decimal n) }
+        ensures ok { OnOk result (self.new ≡ self.old ++ decimal n) }
+        ensures err { OnErr result (self.new ≡ self.old) }
     {
         let mut buffer = Buffer::new();
         self.append(buffer.format(n).as_bytes())
     }
 
-    /// Appends a signed number in decimal.
+    /// Appends a signed number in decimal. It fails only for want of memory, and leaves the text as it was then.
     pub fn append_signed(&mut self, n: i64) -> Result<(), Memory>
-        ensures { OnOk result (self.new ≡ self.old ++ signed_decimal n) }
+        ensures ok { OnOk result (self.new ≡ self.old ++ signed_decimal n) }
+        ensures err { OnErr result (self.new ≡ self.old) }
     {
         let mut buffer = Buffer::new();
         self.append(buffer.format(n).as_bytes())

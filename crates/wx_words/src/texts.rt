@@ -1,9 +1,9 @@
 // Texts as words.
-ghost use Rattle.std.specs.Prelude.{◌≡◌, ℕ, ◌+◌, ◌*◌, ◌<◌, ◌≤◌, ◌^◌, [], ◌∷◌, ◌++◌, List, Option, Some, None, OnOk, IfOk, IfSome, IfNone, length, true};
+ghost use Rattle.std.specs.Prelude.{◌≡◌, ℕ, ◌+◌, ◌*◌, ◌<◌, ◌≤◌, ◌^◌, ◌++◌, List, Option, Some, None, OnOk, IfOk, IfSome, IfNone, length, true};
 ghost use Rattle.wx_words.specs.Line.{spaced, joined};
 ghost use Rattle.wx_words.specs.CleanLaws.{text_words_clean};
 ghost use Rattle.wx_words.specs.TextLaws.{text_form};
-ghost use Rattle.wx_words.specs.Texts.{AllBytes, escaped_byte, escaped, text_word, hex_in, unescaped, text_in, read_text, is_plain, onto};
+ghost use Rattle.wx_words.specs.Texts.{AllBytes, escaped_byte, escaped, text_words, hex_in, unescaped, text_in, read_text, is_plain, onto};
 ghost use Rattle.std.specs.Fmt.{digit_glyph};
 
 use crate::cursor::Words;
@@ -53,7 +53,8 @@ fn put_byte(b: u8, out: &mut Text) -> Result<(), Memory>
 
 /// Appends what stands for these bytes.
 fn put_bytes(bytes: &[u8], out: &mut Text) -> Result<(), Memory>
-    ensures { OnOk result (out.new ≡ out.old ++ escaped bytes.now) }
+    ensures text { OnOk result (out.new ≡ out.old ++ escaped bytes.now) }
+    ensures fits { AllBytes bytes.now }
 {
     for b in bytes {
         put_byte(*b, out)?;
@@ -79,7 +80,7 @@ fn first_byte(word: &[u8]) -> Option<(u8, &[u8])>
 }
 
 /// The bytes that a word stands for.
-#[tactic(auto, using(crate::specs::TextLaws::behind_more))]
+#[tactic(auto, using(crate::proofs::BehindLaws::behind_more))]
 fn unescaped(alloc: Global, word: &[u8]) -> Result<Option<Text>, Memory>
     ensures { IfOk result (λ t. t ≡ unescaped word.now) }
 {
@@ -107,7 +108,7 @@ pub fn text_in(alloc: Global, word: &[u8]) -> Result<Option<Text>, Memory>
 }
 
 /// A text that is shown as the word that stands for it.
-#[derive(Clone, Copy)]
+#[derive(Clone, Copy, Debug)]
 pub struct Escaped<'a>(pub &'a Text);
 
 impl fmt::Display for Escaped<'_> {
@@ -128,7 +129,7 @@ impl fmt::Display for Escaped<'_> {
 }
 
 impl Spelled for Text {
-    ghost words = { λ t. text_word t ∷ [] };
+    ghost words = { text_words };
 
     ghost fits = { AllBytes };
 

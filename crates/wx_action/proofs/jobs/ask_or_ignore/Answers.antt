@@ -7,7 +7,7 @@ use Rattle.wx_action.specs.Perform.{OwesActs}
 use Rattle.wx_action.specs.RunLaws.{own_of_run}
 use Rattle.wx_action.specs.Stands.{is_living}
 use Rattle.wx_action.proofs.PlanLemmas.{same_done}
-use Rattle.wx_action.proofs.JobLemmas.{placed, found}
+use Rattle.wx_action.proofs.JobLemmas.{changed, placed}
 use Rattle.wx_action.proofs.PerformLemmas.{OneDone, ignored_one, asked_one}
 use Rattle.wx_action.proofs.jobs.ask_or_ignore.Goals as goal
 
@@ -34,16 +34,14 @@ returns-in_default-clause-owes g c = λ rest more owes. (none g c rest more owes
 pub returns-in_err-send-clause-ready : goal.returns-in_err-send-clause-ready
 returns-in_err-send-clause-ready g c =
     let place = placed (is_living c.args.id) c.as_slice.result.now c.args.worker.now.jobs.items c.find.result (Some c.in-Some.place) c.as_slice.ensures.value c.find.ensures c.in-Some.is in
-    let f = found g.start c.args.worker.now c.args.journal.now.past c.args.id c.in-Some.place c.index_mut.result.now c.requires.1.0.stands place c.index_mut.ensures.value in
     same_done g.start c.args.worker.now _ c.in-Some.place c.index_mut.result.now (record c.index_mut.result.now { task = c.send.new.self }) c.args.journal.now.past c.send.new.journal.past c.requires.1.0 (c.in_err-send.ensures.past ∙ c.in_ok-reserve.ensures.same) refl
-    (record { within = f.within; held = c.index_mut.ensures.value; items = refl; handle_same = refl; job_same = c.send.ensures.job; task_stands = c.send.ensures.stands })
+    (changed g.start c.args.worker.now c.args.journal.now.past _ c.args.id c.in-Some.place c.index_mut.result.now c.send.new.self c.requires.1.0.stands place c.index_mut.ensures.value c.send.ensures.job c.send.ensures.stands)
 
 done : (g : _) (c : goal.In_ok-send g) (rest : List Todo) (more : Agenda) → OwesActs g.start c.args.journal.now.past (todo.Ask c.args.id c.args.ask c.args.done ∷ rest) more → OneDone g.start (record c.args.worker.now { jobs = with_item c.args.worker.now.jobs c.in-Some.place (record c.index_mut.result.now { task = c.send.new.self }) }) rest more c.args.journal.now.past c.send.new.journal.past
 done g c rest more owes =
     let place = placed (is_living c.args.id) c.as_slice.result.now c.args.worker.now.jobs.items c.find.result (Some c.in-Some.place) c.as_slice.ensures.value c.find.ensures c.in-Some.is in
-    let f = found g.start c.args.worker.now c.args.journal.now.past c.args.id c.in-Some.place c.index_mut.result.now c.requires.1.0.stands place c.index_mut.ensures.value in
     asked_one g.start c.args.worker.now _ c.in-Some.place c.index_mut.result.now (record c.index_mut.result.now { task = c.send.new.self }) c.args.id c.args.ask c.args.done rest more c.args.journal.now.past c.send.new.journal.past owes c.requires.1.0 place refl
-    (record { within = f.within; held = c.index_mut.ensures.value; items = refl; handle_same = refl; job_same = c.send.ensures.job; task_stands = c.send.ensures.stands })
+    (changed g.start c.args.worker.now c.args.journal.now.past _ c.args.id c.in-Some.place c.index_mut.result.now c.send.new.self c.requires.1.0.stands place c.index_mut.ensures.value c.send.ensures.job c.send.ensures.stands)
     (rw c.in_ok-reserve.ensures.same at (c.send.ensures.leaves (rw c.in_ok-reserve.ensures.same (own_of_run g.start c.args.journal.now.past c.requires.1.0.run))))
     (rw c.in_ok-reserve.ensures.same at c.in_ok-send.ensures.leads)
 

@@ -1,6 +1,7 @@
 use Rattle.std.proofs.Common.{◌≡◌, ◌≤◌, ◌+◌, length, set, length-set, add-one, arith, refl, ◌∙◌}
 use Rattle.std.specs.Prelude.{None}
-use Rattle.wx_job.proofs.Sound.{faults_rose}
+use Rattle.wx_job.proofs.Sound.{leads_counted}
+use Rattle.wx_job.proofs.SteadyLemmas.{steady_then}
 use Rattle.wx_action.specs.FaultLaws.{counts_end}
 use Rattle.wx_action.proofs.EndLemmas.{ending_starts, ending_goes, ending_ends}
 use Rattle.wx_action.proofs.jobs.end_jobs.Goals as goal
@@ -29,8 +30,8 @@ loop-place-preserved g c =
       count = count ∙ i.count;
       journal_room = omega (arith, count, i.journal_room, c.end.ensures.journal_room);
       host_room = omega (arith, count, i.host_room, c.end.ensures.host_room);
-      faults = omega (arith, i.faults, (faults_rose _ _ _ _ _ _ _ _ _ _ (c.end.ensures.leads None)).0);
-      kept = record { plan_kept = c.end.ensures.kept.plan_kept ∙ i.kept.plan_kept; progress_kept = c.end.ensures.kept.progress_kept ∙ i.kept.progress_kept; place_kept = c.end.ensures.kept.place_kept ∙ i.kept.place_kept };
+      faults = omega (arith, i.faults, (leads_counted _ _ _ _ _ _ _ _ _ _ (c.end.ensures.leads None)).later);
+      kept = steady_then i.kept c.end.ensures.kept;
     }
 
 pub returns : goal.returns

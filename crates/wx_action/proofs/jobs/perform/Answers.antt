@@ -1,4 +1,5 @@
 use Rattle.std.proofs.Common.{rules, arith, ◌≡◌, length, refl, ◌∙◌}
+use Rattle.wx_job.proofs.SteadyLemmas.{steady_then}
 use Rattle.wx_action.proofs.PerformLemmas.{nothing_left}
 use Rattle.wx_action.proofs.jobs.perform.Goals as goal
 
@@ -32,7 +33,7 @@ loop-one-preserved g c =
       follows = λ world hooks p₀ world₀ hooks₀ l. e.follows world hooks p₀ world₀ hooks₀ (i.follows world hooks p₀ world₀ hooks₀ l);
       apart = λ p₀ a. e.apart p₀ (i.apart p₀ a);
       turns = λ p₀ t. e.turns p₀ (i.turns p₀ t);
-      kept = record { plan_kept = e.kept.plan_kept ∙ i.kept.plan_kept; progress_kept = e.kept.progress_kept ∙ i.kept.progress_kept; place_kept = e.kept.place_kept ∙ i.kept.place_kept };
+      kept = steady_then i.kept e.kept;
       faults = e.faults ∙ i.faults;
       told = e.told ∙ i.told;
       room = e.room;
@@ -47,7 +48,7 @@ returns-in_err-perform_one g c =
       follows = λ world hooks p₀ world₀ hooks₀ l. e.follows world hooks p₀ world₀ hooks₀ (i.follows world hooks p₀ world₀ hooks₀ l);
       apart = λ p₀ a. e.apart p₀ (i.apart p₀ a);
       turns = λ p₀ t. e.turns p₀ (i.turns p₀ t);
-      kept = record { plan_kept = e.kept.plan_kept ∙ i.kept.plan_kept; progress_kept = e.kept.progress_kept ∙ i.kept.progress_kept; place_kept = e.kept.place_kept ∙ i.kept.place_kept };
+      kept = steady_then i.kept e.kept;
       faults = e.faults ∙ i.faults;
       told = e.told ∙ i.told;
       room = e.room;

@@ -1,7 +1,6 @@
 use Rattle.std.proofs.Common.{refl}
 use Rattle.std.specs.Vec.{with_item}
 use Rattle.wx_action.specs.Due.{Open}
-use Rattle.wx_job.proofs.Sound.{faults_rose}
 use Rattle.wx_action.specs.FaultLaws.{counts_on}
 use Rattle.wx_action.specs.RunLaws.{own_of_run}
 use Rattle.wx_action.proofs.PlanLemmas.{JobDone}
@@ -31,4 +30,4 @@ pub returns-clause-done : goal.returns-clause-done
 returns-clause-done g c = (done g c).done
 
 pub returns-clause-faults : goal.returns-clause-faults
-returns-clause-faults g c = counts_on _ _ _ _ ((faults_rose _ _ _ _ _ _ _ _ _ _ c.in_ok-step.ensures.leads).0) c.step.ensures.faults
+returns-clause-faults g c = counts_on _ _ _ _ c.step.ensures.faults

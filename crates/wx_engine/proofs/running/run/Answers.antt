@@ -1,12 +1,12 @@
 use Rattle.std.proofs.Common.{[], arith, refl, ap, sym, ◌∙◌}
 use Rattle.wx_action.specs.EndLaws.{dying_keeps, dying_turns}
 use Rattle.wx_action.specs.FaultLaws.{counts_alone, counted_from}
+use Rattle.wx_action.specs.JobLaws.{same_turns}
 use Rattle.wx_action.specs.Leads.{Same, Here}
 use Rattle.wx_action.specs.RunLaws.{own_of_run, run_is_batched, run_has_batches}
 use Rattle.wx_action.specs.TurnLaws.{promised_apart, promised_then}
 use Rattle.wx_engine.specs.MainLaws.{leads_world, leads_hooks, dying_hooks, answered_ran, ran_is_batched, ran_has_batches}
 use Rattle.wx_engine.proofs.RunLemmas.{stopped, broken, wants}
-use Rattle.wx_engine.proofs.TurnLemmas.{same_turns}
 use Rattle.wx_engine.proofs.running.run.Goals as goal
 
 pub returns-in_err-about-clause-answers : goal.returns-in_err-about-clause-answers
@@ -71,6 +71,10 @@ returns-clause-turns g c =
 pub returns-clause-count : goal.returns-clause-count
 returns-clause-count g c =
     let begun = ((rw c.requires.1.1.1 at c.begin.ensures.turns) [] (same_turns [])).count in omega (arith, begun, c.serve_turns-answer.ensures.count, (dying_turns g.start _ _ c.end_jobs.ensures.dying).count)
+
+pub returns-clause-early : goal.returns-clause-early
+returns-clause-early g c =
+    let begun = ((rw c.requires.1.1.1 at c.begin.ensures.turns) [] (same_turns [])).early in omega (arith, begun, c.serve_turns-answer.ensures.early, (dying_turns g.start _ _ c.end_jobs.ensures.dying).early)
 
 pub returns-clause-promised : goal.returns-clause-promised
 returns-clause-promised g c =

@@ -1,12 +1,14 @@
-use Rattle.std.proofs.Common.{[], ap, arith, sym, ◌∙◌}
+use Rattle.std.proofs.Common.{◌≡◌, ◌+◌, ◌≤◌, [], ap, arith, sym, ◌∙◌}
 use Rattle.wx_journal.specs.declared.entry.Entry.TheVariants.{Turn as Turned, TurnFault}
 use Rattle.wx_journal.specs.Told.{tell}
-use Rattle.wx_action.specs.Faults.{CountsOn}
+use Rattle.wx_job.specs.Faults.{CountsOn}
+use Rattle.wx_action.specs.JobLaws.{same_turns}
+use Rattle.wx_action.specs.Journal.{early_count}
 use Rattle.wx_action.specs.Leads.{Follows, Promised}
 use Rattle.wx_action.specs.Told.{is_last}
 use Rattle.wx_action.specs.TurnLaws.{promised_then}
 use Rattle.wx_engine.proofs.BeginLemmas.{calm_begun}
-use Rattle.wx_engine.proofs.TurnLemmas.{Drawn, turn_drawn, fault_drawn, drawn_follows, drawn_promised, drawn_counts, turn_calm, fault_calm, served, turn_ready, fault_ready}
+use Rattle.wx_engine.proofs.TurnLemmas.{Drawn, turn_drawn, fault_drawn, drawn_follows, drawn_promised, drawn_counts, turn_calm, fault_calm, early_drawn, served, turn_ready, fault_ready}
 use Rattle.wx_engine.proofs.running.serve_turns.Goals.{After-push-in-turns, After-serve}
 use Rattle.wx_engine.proofs.running.serve_turns.Goals as goal
 
@@ -29,7 +31,14 @@ promised g c = drawn_promised g.start _ _ _ _ _ _ _ _ (drawn g c) (g.met.H.JobHo
 counts : (g : _) (c : After-push-in-turns g) → CountsOn c.args.journal.now.past (g.W.Outside.host_faults c.args.world.now) c.push-in-turns.new.self.past (g.W.Outside.host_faults c.turn.new.self)
 counts g c = drawn_counts g.start _ _ _ _ _ _ _ (drawn g c) c.turns.invariant.host_faults (omega (arith, c.in_ok-make_room.ensures.host_faults, c.in-Ok.ensures.host_faults))
 
+early : (g : _) (c : After-push-in-turns g) → early_count c.push-in-turns.new.self.past ≤ early_count c.args.journal.now.past + (g.W.Outside.progress c.args.world.now).left
+early g c =
+    rw (rw c.in_ok-make_room.ensures.same at c.push-in-turns.ensures.past) (early_drawn c.in-Ok.given.turn c.turns.journal.past _ _ _ c.in-Ok.ensures.falls (omega (arith, c.turns.invariant.early, ap (λ k. k.left) c.in_ok-make_room.ensures.kept.progress_kept)))
+
 -- ---- and served
+
+served_early : (g : _) (c : After-serve g) → early_count c.serve.new.journal.past ≡ early_count c.push-in-turns.new.self.past
+served_early g c = (c.serve.ensures.turns c.push-in-turns.new.self.past (same_turns c.push-in-turns.new.self.past)).early
 
 served_promised : (g : _) (c : After-serve g) → Promised (g.H.JobHooks.short c.turns.hooks) (g.H.JobHooks.rule (g.H.JobHooks.plan c.args.hooks.now)) (g.H.JobHooks.stands c.args.hooks.now) (g.H.JobHooks.stands c.turns.hooks) c.args.journal.now.past c.push-in-turns.new.self.past → Promised (g.H.JobHooks.short c.serve.new.hooks) (g.H.JobHooks.rule (g.H.JobHooks.plan c.args.hooks.now)) (g.H.JobHooks.stands c.args.hooks.now) (g.H.JobHooks.stands c.serve.new.hooks) c.args.journal.now.past c.serve.new.journal.past
 served_promised g c so_far =
@@ -99,6 +108,7 @@ turns-preserved g c =
       turns = λ before e.
           ap (λ k. k.turns) c.serve.ensures.kept.progress_kept ∙ c.in-Ok.ensures.turns ∙ ap (λ l. tell (Turned c.in-Ok.given.turn) l) (ap (λ k. k.turns) c.in_ok-make_room.ensures.kept.progress_kept ∙ c.turns.invariant.turns before e) ∙ sym (v.told before);
       count = omega (arith, v.count, c.turns.invariant.count, c.in-Ok.ensures.falls comes, ap (λ k. k.left) c.in_ok-make_room.ensures.kept.progress_kept, left_is);
+      early = omega (arith, v.early, c.turns.invariant.early, c.in-Ok.ensures.falls comes, ap (λ k. k.left) c.in_ok-make_room.ensures.kept.progress_kept, left_is);
       faults = omega (arith, c.turns.invariant.faults, c.in-Ok.ensures.faults.later, ap (λ k. k.turn_faults) c.in_ok-make_room.ensures.kept.progress_kept, faults_is);
       host_faults = λ p₀ n₀ before. c.serve.ensures.host_faults p₀ n₀ (counts g at.After-push-in-turns p₀ n₀ before);
       promised = served_promised g at.After-serve (promised g at.After-push-in-turns);
@@ -127,3 +137,12 @@ returns-in-End-clause-host_faults g c = λ p₀ n₀ before. c.serve.ensures.hos
 
 pub returns-in-Err-clause-host_faults : goal.returns-in-Err-clause-host_faults
 returns-in-Err-clause-host_faults g c = drawn_counts g.start _ _ _ _ _ _ _ (faulted g c) c.turns.invariant.host_faults (omega (arith, c.in_ok-make_room.ensures.host_faults, c.in-Err.ensures.host_faults))
+
+pub returns-in_err-kind-clause-early : goal.returns-in_err-kind-clause-early
+returns-in_err-kind-clause-early g c = early g (goal.at.returns-in_err-kind-clause-early g c).After-push-in-turns
+
+pub returns-in_err-serve-clause-early : goal.returns-in_err-serve-clause-early
+returns-in_err-serve-clause-early g c = let at = goal.at.returns-in_err-serve-clause-early g c in rw (served_early g at.After-serve) (early g at.After-push-in-turns)
+
+pub returns-in-End-clause-early : goal.returns-in-End-clause-early
+returns-in-End-clause-early g c = let at = goal.at.returns-in-End-clause-early g c in rw (served_early g at.After-serve) (early g at.After-push-in-turns)

@@ -1,9 +1,9 @@
 use Rattle.std.proofs.Common.{◌≡◌, ◌≤◌, ◌+◌, None, false}
 use Rattle.std.specs.Prelude.{codes}
 use Rattle.wx_journal.specs.Names.{moment}
-use Rattle.wx_action.specs.Journal.{turn_count, turn_fault}
+use Rattle.wx_action.specs.Journal.{turn_count, early_count, turn_fault}
 use Rattle.wx_action.specs.Due.{agenda, Open}
-use Rattle.wx_action.specs.Faults.{CountsOn}
+use Rattle.wx_job.specs.Faults.{CountsOn}
 use Rattle.wx_action.specs.Laws.{MomentsRise}
 use Rattle.wx_action.specs.Leads.{Follows, Promised}
 use Rattle.wx_action.specs.Stands.{Ready, HasRoom}
@@ -25,6 +25,7 @@ invariant-turns g l = record {
   follows : Follows g.start l.fn.journal.past (g.W.Outside.told l.fn.world) (g.H.JobHooks.told l.fn.hooks) l.journal.past (g.W.Outside.told l.world) (g.H.JobHooks.told l.hooks);
   turns : TellsTurns l.fn.journal.past (g.W.Outside.progress l.fn.world).turns l.journal.past (g.W.Outside.progress l.world).turns;
   count : turn_count l.journal.past + (g.W.Outside.progress l.world).left ≤ turn_count l.fn.journal.past + (g.W.Outside.progress l.fn.world).left;
+  early : early_count l.journal.past + (g.W.Outside.progress l.world).left ≤ early_count l.fn.journal.past + (g.W.Outside.progress l.fn.world).left;
   faults : (g.W.Outside.progress l.fn.world).turn_faults ≤ (g.W.Outside.progress l.world).turn_faults;
   host_faults : CountsOn l.fn.journal.past (g.W.Outside.host_faults l.fn.world) l.journal.past (g.W.Outside.host_faults l.world);
   promised : Promised (g.H.JobHooks.short l.hooks) (g.H.JobHooks.rule (g.H.JobHooks.plan l.fn.hooks)) (g.H.JobHooks.stands l.fn.hooks) (g.H.JobHooks.stands l.hooks) l.fn.journal.past l.journal.past;

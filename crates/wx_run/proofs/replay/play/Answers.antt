@@ -1,6 +1,10 @@
-use Rattle.std.proofs.Common.{rules, ◌∙◌, sym, ap, Some, List}
+use Rattle.std.proofs.Common.{rules, ◌≡◌, ◌∙◌, sym, ap, Some, List}
 use Rattle.wx_journal.specs.declared.entry.Entry.{Entry}
 use Rattle.wx_journal.specs.Told.{tells, is_turn, is_world}
+use Rattle.wx_journal.specs.Lines.{Answer}
+use Rattle.wx_journal.specs.LineLaws.{JournalFits, AnswerFits}
+use Rattle.wx_action.specs.OneSpelling.{one_spelling}
+use Rattle.wx_action.specs.Printed.{printed}
 use Rattle.wx_engine.specs.Acted.{FollowsActs, follows_acts}
 use Rattle.wx_engine.specs.FollowLaws.{follows_turns, follows_answers}
 use Rattle.wx_engine.specs.Turns.{turns_of}
@@ -22,4 +26,7 @@ returns-clause-text c =
           (record { of_spawns = c.main-answer.new.world.of_spawns; of_kills = c.main-answer.new.world.of_kills; of_waits = c.main-answer.new.world.of_waits })
           (c.main-answer.ensures.world ∙ ap (λ (before : List Entry). tells is_world j (Some before)) c.in_ok-world.ensures.told);
     } in
-    search (rules, follows)
+    let fits = c.in_ok-text.ensures.fits in
+    let only : (other : List Entry) (said : Answer) → JournalFits other → AnswerFits said → c.in_ok-text.text ≡ printed other said → (other ≡ j) × (said ≡ c.main-answer.result) =
+    λ other said f g e. one_spelling other j said c.main-answer.result f fits.0 g fits.1 (sym e ∙ c.in_ok-text.ensures.text) in
+    search (rules, follows, only)

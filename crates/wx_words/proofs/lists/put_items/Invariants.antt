@@ -1,7 +1,10 @@
 use Rattle.std.proofs.Common.{◌≡◌, ◌++◌, take}
-use Rattle.std.specs.List.{flat_map}
+use Rattle.std.specs.List.{flat_map, AllByRecursion}
 use Rattle.wx_words.specs.Line.{spaced}
 use Rattle.wx_words.proofs.lists.put_items.Given as goal
 
 abbrev pub invariant-loop-item : goal.invariant-loop-item
-invariant-loop-item g l = l.out ≡ l.fn.out ++ spaced (flat_map g.T.Spelled.words (take l.item-index l.items))
+invariant-loop-item g l = record {
+  text : l.out ≡ l.fn.out ++ spaced (flat_map g.T.Spelled.words (take l.item-index l.items));
+  fits : AllByRecursion g.T.Spelled.fits (take l.item-index l.items);
+}

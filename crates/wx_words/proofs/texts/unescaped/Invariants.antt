@@ -1,5 +1,6 @@
 use Rattle.std.proofs.Common.{◌≡◌, length}
-use Rattle.wx_words.specs.Texts.{unescaped, behind}
+use Rattle.wx_words.specs.Texts.{unescaped}
+use Rattle.wx_words.proofs.BehindLaws.{behind}
 use Rattle.wx_words.proofs.texts.unescaped.Given as goal
 
 abbrev pub invariant-loop-rest : goal.invariant-loop-rest

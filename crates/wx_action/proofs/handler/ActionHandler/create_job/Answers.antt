@@ -1,5 +1,8 @@
 use Rattle.std.proofs.Common.{length, ap, ◌∙◌, arith}
+use Rattle.wx_journal.specs.Names.{job_count}
+use Rattle.wx_action.specs.Jobs.{set}
 use Rattle.wx_action.proofs.HandlerLemmas.{kept_create}
+use Rattle.wx_action.proofs.HeldLemmas.{not_seen}
 use Rattle.wx_action.proofs.handler.ActionHandler.create_job.Goals as goal
 
 pub invariant_of-self-2 : goal.invariant_of-self-2
@@ -16,3 +19,7 @@ invariant_of-self-2 c =
     (omega (arith, ap length c.reserve_act.ensures.acts, c.reserve_act.new.acts.ok.0, c.in_ok-reserve_act.ensures.room, c.push_reserved.ensures.capacity)) c.reserve_act.ensures.second c.in_ok-reserve_act.ensures.second_room (rw c.in_ok-second.ensures at c.push_second.ensures)
     (rw (c.reserve_act.ensures.acts, c.in_ok-first.ensures) at c.push_reserved.ensures.items)
     (rw c.reserve_act.ensures.todo at c.push_reserved-2.ensures.items)
+
+pub returns-clause-new : goal.returns-clause-new
+returns-clause-new c =
+    rw (← ap (λ h. h.past) c.self.view_is) (not_seen (job_count c.self.inside.journal.now.past) c.in-Some.id (set c.self.inside.journal.now.past) c.self.invariant.shown.below (omega (arith, c.in-Some.ensures.id, c.in-Some.ensures.left, c.in-Some.ensures.counted, c.self.invariant.counted)))
