@@ -1,5 +1,5 @@
 // A script from its lines.
-ghost use Rattle.std.specs.Prelude.{◌≡◌, ◌==◌, ◌&&◌, Some, None, Ok, Err, length, IfOk, IfErr, MatchBool, MatchResult};
+ghost use Rattle.std.specs.Prelude.{◌≡◌, ◌==◌, ◌&&◌, Some, None, Ok, Err, ℕ, length, IfOk, IfErr, MatchBool, MatchResult};
 ghost use Rattle.wx_engine.specs.Follows.{IsScript};
 ghost use Rattle.wx_engine.specs.declared.script.Script.{Script};
 ghost use Rattle.wx_run.specs.declared.lines.Line.TheVariants.{Size, Send, Turn as Turned};
@@ -151,6 +151,7 @@ pub fn read_script(alloc: Global, bytes: &[u8]) -> Result<Result<Script, BadLine
     ensures exact { IfOk result (λ r. MatchResult r (λ s. IsScriptOf bytes.now s) (λ bad. IsFirstBad bytes.now bad.0)) }
     ensures lawful { IfOk result (λ r. IfOk r IsScript) }
     ensures only { (s : Script) → IsScriptOf bytes.now s → IfOk result (λ r. r ≡ Ok s) }
+    ensures only_bad { (n : ℕ) → IsFirstBad bytes.now n → IfOk result (λ r. r ≡ Err (record { 0 = n })) }
 {
     scan(alloc, bytes)
 }
