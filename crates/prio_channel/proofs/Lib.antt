@@ -1,1 +1,2 @@
 pub mod GreatestLemmas
+pub mod BagLaws

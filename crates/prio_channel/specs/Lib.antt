@@ -1,5 +1,4 @@
 pub mod SameBag
-pub mod BagLaws
 pub mod Channel
 pub mod Refused
 pub mod Greatest

@@ -9,33 +9,33 @@ use Rattle.wx_job.specs.History.{lives}
 use Rattle.wx_job.specs.Table.{Plan, Done, end_plan}
 use Rattle.wx_job.specs.Case.{Admits as Lets, Leads as LeadsOn, Here as Stays, Then as Goes_on}
 use Rattle.wx_job.specs.Laws.{LeavesOthers}
-use Rattle.wx_action.specs.declared.state.Held.{Held}
-use Rattle.wx_action.specs.declared.state.Worker.{Worker}
+use Rattle.wx_action.specs.declared.worker_state.Held.{Held}
+use Rattle.wx_action.specs.declared.worker_state.Worker.{Worker}
 use Rattle.wx_action.specs.Start.{Start}
 use Rattle.wx_action.specs.Jobs.{set, jobs}
-use Rattle.wx_action.specs.Due.{agenda, Ends, IsRun}
+use Rattle.wx_action.specs.Due.{agenda, Ends}
 use Rattle.wx_action.specs.Leads.{Follows}
 use Rattle.wx_action.specs.Answer.{Dying, Alive}
-use Rattle.wx_action.specs.RunLaws.{own_of_run}
-use Rattle.wx_action.specs.JobLaws.{none_by_end}
-use Rattle.wx_action.specs.EndLaws.{AreGone, TellsOn, end_leads, next_to_end, none_left, still_gone, dying_then, dying_run, dying_ends}
-use Rattle.wx_action.specs.Stands.{Ready, held_id}
-use Rattle.wx_action.proofs.PlanLemmas.{JobsStand, jobs_stand, Changes, jobs_change, still_led}
+use Rattle.wx_action.proofs.JobLaws.{none_by_end}
+use Rattle.wx_action.proofs.EndLaws.{AreGone, end_leads, next_to_end, none_left, still_gone, dying_then, dying_ends}
+use Rattle.wx_action.specs.Told.{TellsOn}
+use Rattle.wx_action.specs.Stands.{JobsStand, held_id}
+use Rattle.wx_action.proofs.PlanLemmas.{Changes, jobs_change, still_led}
 
 -- what the end of some jobs did
 pub record Ended (q : List Entry) (told : Option (List Entry)) (p : List Entry) (told' : Option (List Entry)) : Type 0 where
   pub dying : Dying q p
   pub world_told : TellsOn is_world q told p told'
-  pub follows : (s : Start) → IsRun s q → agenda s q ≡ Ends → (hooks : Option (List Entry)) → Follows s q told hooks p told' hooks
+  pub follows : (s : Start) → agenda s q ≡ Ends → (hooks : Option (List Entry)) → Follows s q told hooks p told' hooks
 
 pub ended_none : (q : List Entry) (told : Option (List Entry)) → Ended q told q told
-ended_none q told = record { dying = Alive; world_told = λ before is. is; follows = λ s r due hooks p₀ world₀ hooks₀ l. l }
+ended_none q told = record { dying = Alive; world_told = λ before is. is; follows = λ s due hooks p₀ world₀ hooks₀ l. l }
 
 pub ended_then : (q p r : List Entry) (told told' told'' : Option (List Entry)) → Ended q told p told' → Ended p told' r told'' → Ended q told r told''
 ended_then q p r told told' told'' a b = record {
   dying = dying_then q p r a.dying b.dying;
   world_told = λ before is. b.world_told before (a.world_told before is);
-  follows = λ s run due hooks p₀ world₀ hooks₀ l. b.follows s (dying_run s q p a.dying run due) (dying_ends s q p a.dying run due) hooks p₀ world₀ hooks₀ (a.follows s run due hooks p₀ world₀ hooks₀ l);
+  follows = λ s due hooks p₀ world₀ hooks₀ l. b.follows s (dying_ends s q p a.dying due) hooks p₀ world₀ hooks₀ (a.follows s due hooks p₀ world₀ hooks₀ l);
 }
 
 -- a job ended
@@ -61,7 +61,7 @@ one_ended id before after p told n p' told' n' true alive is gone led =
     let first = next_to_end p before id after is gone alive in
     let h = λ (hooks : Option (List Entry)). end_leads id _ p told hooks n p' told' hooks n' first (led hooks) in
     record {
-      done = record { dying = (h None).dying; world_told = (h None).world_told; follows = λ s run due hooks. (h hooks).follows s run due };
+      done = record { dying = (h None).dying; world_told = (h None).world_told; follows = λ s due hooks. (h hooks).follows s due };
       dead = (h None).dead;
     }
 one_ended id before after p told n p' told' n' false alive is gone led =
@@ -98,8 +98,8 @@ length_ids : (hs : List Held) → length (map held_id hs) ≡ length hs
 length_ids [] = refl
 length_ids (h ∷ hs) = ap suc (length_ids hs)
 
-pub ending_starts : (s : Start) (w : Worker) (q : List Entry) (told : Option (List Entry)) → Ready s w q → Ending q told w.jobs.items 0 q told
-ending_starts s w q told ready = record { done = ended_none q told; own = own_of_run s q ready.run; jobs_are = jobs_stand s w q ready; gone = tt }
+pub ending_starts : (q : List Entry) (told : Option (List Entry)) (hs : List Held) → NamesItsOwn q → JobsStand q hs → Ending q told hs 0 q told
+ending_starts q told hs own jobs = record { done = ended_none q told; own = own; jobs_are = jobs; gone = tt }
 
 pub ending_goes : (s : Start) (q : List Entry) (told : Option (List Entry)) (hs hs' : List Held) (n : ℕ) (h h' : Held) (p p' : List Entry) (told' told'' : Option (List Entry)) (m m' : ℕ) → Ending q told hs n p told'
     → Changes hs hs' n h h' p' → LeavesOthers (held_id h) p p' → ((hooks : Option (List Entry)) → LeadsOn (end_plan (held_id h) p) p told' hooks m Done p' told'' hooks m') → Ending q told hs' (suc n) p' told''

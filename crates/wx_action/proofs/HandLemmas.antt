@@ -1,37 +1,39 @@
 -- The window is handed.
-use Rattle.std.proofs.Common.{◌≡◌, ℕ, Bool, true, false, cond, List, [], ◌∷◌, ◌++◌, inl, inr, refl, ap, sym, ◌∙◌, append_assoc}
-use Rattle.std.specs.Prelude.{Option, Some, map}
+use Rattle.std.proofs.Common.{◌≡◌, ℕ, Bool, true, false, cond, List, [], ◌∷◌, ◌++◌, inl, inr, refl, ap, sym, subst, ◌∙◌, append_assoc}
+use Rattle.std.specs.Prelude.{Option, None, Some, map}
 use Rattle.std.specs.List.{AllByRecursion, filter}
 use Rattle.wx_command.specs.declared.command.Command.{Command}
 use Rattle.wx_control.specs.declared.id.Id.{Id}
 use Rattle.wx_journal.specs.declared.entry.Entry.{Entry}
 use Rattle.wx_journal.specs.declared.entry.Entry.TheVariants.{Hand}
-use Rattle.wx_journal.specs.declared.entry.Act.{Act}
+use Rattle.wx_journal.specs.Acts.{JournalAct as Act}
 use Rattle.wx_journal.specs.declared.entry.Act.TheVariants.{Create, Ask, Quit}
-use Rattle.wx_journal.specs.Names.{job_count}
-use Rattle.wx_journal.specs.Told.{tell, More}
+use Rattle.wx_journal.specs.Names.{next_job}
+use Rattle.wx_journal.specs.Told.{tell}
 use Rattle.wx_job.specs.History.{lives}
 use Rattle.wx_job.specs.Table.{Plan, Done}
 use Rattle.wx_action.specs.declared.handler.Todo.{Todo}
-use Rattle.wx_action.specs.declared.state.Held.{Held}
-use Rattle.wx_action.specs.declared.state.Worker.{Worker}
-use Rattle.wx_action.specs.declared.work.Worked.TheVariants.{On, End}
+use Rattle.wx_action.specs.declared.worker_state.Held.{Held}
+use Rattle.wx_action.specs.declared.worker_state.Worker.{Worker}
+use Rattle.wx_action.specs.declared.work_turn.Worked.TheVariants.{On, End}
 use Rattle.wx_action.specs.Start.{Start}
 use Rattle.wx_action.specs.Journal.{settings, window}
 use Rattle.wx_action.specs.Jobs.{set, command, creation, or_else, act_plan, AreLawful}
-use Rattle.wx_action.specs.Due.{agenda, Due, IsRun, Hands, Open, Ends, plans, has_quit, after_acts}
-use Rattle.wx_action.specs.Laws.{NoneUrgentWaits}
-use Rattle.wx_action.specs.Leads.{FollowsHooks, Then, Promised}
+use Rattle.wx_action.specs.Due.{agenda, Due, Hands, Open, Ends, plans, has_quit, after_acts, is_quitting, settle}
+use Rattle.wx_action.specs.Laws.{NoneUrgent, urgent_in, NoneUrgentWaits}
+use Rattle.wx_action.specs.Leads.{FollowsHooks, FollowsAlone, Then}
 use Rattle.wx_action.specs.Perform.{AreCommanded, OwesActs}
-use Rattle.wx_action.specs.Stands.{Stands, Ready, HeldStands, held_id, is_here, Works}
+use Rattle.wx_action.specs.Stands.{Stands, HeldStands, held_id, Works}
+use Rattle.wx_action.specs.HeldJobs.{is_here}
 use Rattle.wx_action.specs.Todo.{AreTodo}
 use Rattle.wx_action.specs.Turns.{StaysInTurn}
-use Rattle.wx_action.specs.RunLaws.{none_waits}
-use Rattle.wx_action.specs.JobLaws.{IsIn, command_kept, creation_is, turns_over}
+use Rattle.wx_action.specs.Orderly.{IsOrderly}
+use Rattle.wx_action.proofs.RunLaws.{orderly_more, calm_led, hand_is, window_handed}
+use Rattle.wx_action.proofs.JobLaws.{IsIn, command_kept, creation_is, turns_over}
 use Rattle.wx_action.proofs.StandsLemmas.{same_held, over_hand}
 
 -- the entry of a batch that was due
-pub hand_due : (s : Start) (p : List Entry) (n : ℕ) (names : List ℕ) (acts : List Act) → agenda s p ≡ Hands → n ≡ (settings s p).action_handler → names ≡ window p → AreLawful (job_count p) acts → Due s p (Hand n names acts)
+pub hand_due : (s : Start) (p : List Entry) (n : ℕ) (names : List ℕ) (acts : List Act) → agenda s p ≡ Hands → n ≡ (settings s p).action_handler → names ≡ window p → AreLawful (next_job p) acts → Due s p (Hand n names acts)
 hand_due s p n names acts due number is lawful = rw (due, number, is) (acts, refl, lawful)
 
 pub hand_follows : (s : Start) (p p' : List Entry) (n : ℕ) (names : List ℕ) (acts : List Act) (hooks hooks' : Option (List Entry)) → Due s p (Hand n names acts) → p' ≡ Hand n names acts ∷ p → hooks' ≡ tell (Hand n names acts) hooks → FollowsHooks s p hooks p' hooks'
@@ -57,11 +59,11 @@ all_here : (P : Held → Type 0) (hs : List Held) → AllByRecursion P hs → Al
 all_here P [] s = tt
 all_here P (h ∷ hs) s = all_cond P (is_here h) h (filter is_here hs) s.0 (all_here P hs s.1)
 
-tasks_hand : (s : Start) (p : List Entry) (n : ℕ) (names : List ℕ) (acts : List Act) (hs : List Held) → IsRun s (Hand n names acts ∷ p) → ((id : Id) → IsIn id (map held_id hs) → IsIn id (set p)) → AllByRecursion (HeldStands p) hs → AllByRecursion (HeldStands (Hand n names acts ∷ p)) hs
-tasks_hand s p n names acts [] run here stood = tt
-tasks_hand s p n names acts (h ∷ hs) run here stood = (
-  same_held p (Hand n names acts ∷ p) h (over_hand n names acts p (held_id h)) (command_kept s p n names acts (held_id h) run (here (held_id h) (inl refl))) stood.0,
-  tasks_hand s p n names acts hs run (λ id g. here id (inr g)) stood.1,
+tasks_hand : (s : Start) (p : List Entry) (n : ℕ) (names : List ℕ) (acts : List Act) (hs : List Held) → IsOrderly s p → AreLawful (next_job p) acts → ((id : Id) → IsIn id (map held_id hs) → IsIn id (set p)) → AllByRecursion (HeldStands p) hs → AllByRecursion (HeldStands (Hand n names acts ∷ p)) hs
+tasks_hand s p n names acts [] o lawful here stood = tt
+tasks_hand s p n names acts (h ∷ hs) o lawful here stood = (
+  same_held p (Hand n names acts ∷ p) h (over_hand n names acts p (held_id h)) (command_kept s p n names acts (held_id h) o lawful (here (held_id h) (inl refl))) stood.0,
+  tasks_hand s p n names acts hs o lawful (λ id g. here id (inr g)) stood.1,
 )
 
 -- ---- what the acts ask for is owed
@@ -75,37 +77,33 @@ all_commanded p n m names acts before (Ask id ask ∷ after) is l = all_commande
 all_commanded p n m names acts before (Quit ∷ after) is l = all_commanded p n m names acts (before ++ Quit ∷ []) after (is ∙ sym (append_assoc before (Quit ∷ []) after)) l
 
 pub record Handed (s : Start) (w' : Worker) (p' : List Entry) (todos : List Todo) (ends : Bool) : Type 0 where
-  pub ready : Ready s w' p'
+  pub stands : Stands s w' p'
+  pub calm : NoneUrgentWaits p'
   pub owes : OwesActs s p' todos (after_acts ends)
 
-pub handed : (s : Start) (w w' : Worker) (n : ℕ) (names : List ℕ) (acts : List Act) (todos : List Todo) (ends : Bool) (p p' : List Entry) → Ready s w p → Due s p (Hand n names acts) → AreLawful (job_count p) acts → AreTodo acts todos → ends ≡ has_quit acts
-    → w' ≡ record w { batch = w'.batch; jobs = w'.jobs } → w'.batch.names ≡ [] → w'.batch.events ≡ [] → w'.jobs.items ≡ filter is_here w.jobs.items → p' ≡ Hand n names acts ∷ p → Handed s w' p' todos ends
-handed s w w' n names acts todos ends p p' ready due lawful todo_is quits fields names_none events_none items grown =
-    let run : IsRun s (Hand n names acts ∷ p) = (due, ready.run) in
-    let tasks = tasks_hand s p n names acts w.jobs.items run (λ id g. rw ready.stands.jobs_kept at g) ready.stands.tasks_kept in
+pub handed : (s : Start) (w w' : Worker) (n : ℕ) (names : List ℕ) (acts : List Act) (todos : List Todo) (ends : Bool) (p p' : List Entry) → Stands s w p → Due s p (Hand n names acts) → AreLawful (next_job p) acts → AreTodo acts todos → ends ≡ has_quit acts
+    → w' ≡ record w { batch = w'.batch; jobs = w'.jobs } → w'.batch.names ≡ [] → w'.batch.events ≡ [] → w'.jobs ≡ filter is_here w.jobs → p' ≡ Hand n names acts ∷ p → Handed s w' p' todos ends
+handed s w w' n names acts todos ends p p' stands due lawful todo_is quits fields names_none events_none items grown =
+    let none : window (Hand n names acts ∷ p) ≡ [] = window_handed n names acts p (hand_is s p n names acts stands.orderly due).0 in
+    let tasks = tasks_hand s p n names acts w.jobs stands.orderly lawful (λ id g. rw stands.jobs_kept at g) stands.tasks_kept in
     let stood : Stands s (record w { batch = w'.batch; jobs = w'.jobs }) (Hand n names acts ∷ p) = record {
-      config_kept = ready.stands.config_kept;
-      queue_kept = ready.stands.queue_kept;
-      size_kept = ready.stands.size_kept;
-      open_kept = ready.stands.open_kept;
-      named_kept = ready.stands.named_kept;
-      names_kept = names_none;
-      events_kept = rw events_none tt;
-      first_kept = ready.stands.first_kept;
-      jobs_kept = ap (λ (hs : List Held). map held_id hs) items ∙ ids_here p w.jobs.items ready.stands.tasks_kept ∙ ap (λ (ids : List Id). filter (λ id. lives id p) ids) ready.stands.jobs_kept;
-      tasks_kept = rw items (all_here (HeldStands (Hand n names acts ∷ p)) w.jobs.items tasks);
+      orderly = orderly_more s (Hand n names acts) p due stands.orderly;
+      config_kept = stands.config_kept;
+      queue_kept = stands.queue_kept;
+      size_kept = stands.size_kept;
+      open_kept = stands.open_kept;
+      named_kept = stands.named_kept;
+      names_kept = names_none ∙ sym none;
+      events_kept = rw (none, events_none) tt;
+      first_kept = stands.first_kept;
+      jobs_kept = ap (λ (hs : List Held). map held_id hs) items ∙ ids_here p w.jobs stands.tasks_kept ∙ ap (λ (ids : List Id). filter (λ id. lives id p) ids) stands.jobs_kept;
+      tasks_kept = rw items (all_here (HeldStands (Hand n names acts ∷ p)) w.jobs tasks);
     } in
     rw grown (record {
-      ready = record { run = run; stands = rw fields stood };
-      owes = record { acts = acts; is_todo = todo_is; commanded = all_commanded p n (job_count p) names acts [] acts refl lawful; due = ap (λ (b : Bool). plans (act_plan (λ id. lives id p) acts) (cond b Ends Open)) (sym quits) };
+      stands = rw fields stood;
+      calm = subst (NoneUrgent (urgent_in (Hand n names acts ∷ p))) (sym none) tt;
+      owes = record { acts = acts; is_todo = todo_is; commanded = all_commanded p n (next_job p) names acts [] acts refl lawful; due = refl; then = ap after_acts (sym quits) };
     })
-
--- what hooks promise of one call on them
-pub promised_call : (short : Bool) (rule : List Entry → Entry → Type 0) (stood stands : List Entry → Type 0) (e : Entry) (p p' : List Entry) → p' ≡ e ∷ p → (short ≡ false → stood p → rule p e × stands (e ∷ p)) → Promised short rule stood stands p p'
-promised_call short rule stood stands e p p' grown keeps = rw grown (record {
-  rule_kept = λ s st p₀ o. More e p o (λ mine. (keeps s st).0);
-  stands_kept = λ s st. (keeps s st).1;
-})
 
 not_hands_open : Open ≡ Hands → ⊥
 not_hands_open e = cc
@@ -113,9 +111,9 @@ not_hands_open e = cc
 not_hands_ends : Ends ≡ Hands → ⊥
 not_hands_ends e = cc
 
--- no urgent event waits after a turn that was worked
-pub calm_open : (s : Start) (p : List Entry) → IsRun s p → agenda s p ≡ Open → NoneUrgentWaits p
-calm_open s p run w = none_waits s p run (λ e. not_hands_open (sym w ∙ e))
+-- an agenda that is open owes no batch
+pub not_hands : (s : Start) (p : List Entry) → agenda s p ≡ Open → agenda s p ≡ Hands → ⊥
+not_hands s p is e = not_hands_open (sym is ∙ e)
 
 -- what is worked by a batch
 pub works_by : (s : Start) (p : List Entry) (quits : Bool) → agenda s p ≡ after_acts quits → Works s (cond quits End On) p
@@ -127,10 +125,17 @@ pub turns_hand : (n : ℕ) (names : List ℕ) (acts : List Act) (p p' : List Ent
 turns_hand n names acts p p' grown = rw grown (turns_over (Hand n names acts) p refl)
 
 -- the acts of a batch owe no batch
-not_hands_acts : (k : Plan) (ends : Bool) → plans k (after_acts ends) ≡ Hands → ⊥
-not_hands_acts Done true e = not_hands_ends e
-not_hands_acts Done false e = not_hands_open e
-not_hands_acts (k) ends e = cc
+not_hands_after : (ends : Bool) → after_acts ends ≡ Hands → ⊥
+not_hands_after true e = not_hands_ends e
+not_hands_after false e = not_hands_open e
 
-pub calm_owed : (s : Start) (p : List Entry) (todos : List Todo) (ends : Bool) → IsRun s p → OwesActs s p todos (after_acts ends) → NoneUrgentWaits p
-calm_owed s p todos ends run owes = none_waits s p run (λ e. not_hands_acts (act_plan (λ id. lives id p) owes.acts) ends (sym owes.due ∙ e))
+not_hands_acts : (p : List Entry) (k : Plan) → settle p (plans k Open) ≡ Hands → ⊥
+not_hands_acts p Done e = not_hands_after (is_quitting p) e
+not_hands_acts p (k) e = cc
+
+pub owes_none : (s : Start) (p : List Entry) (todos : List Todo) (ends : Bool) → OwesActs s p todos (after_acts ends) → agenda s p ≡ Hands → ⊥
+owes_none s p todos ends owes e = not_hands_acts p (act_plan (λ id. lives id p) owes.acts) (sym owes.due ∙ e)
+
+-- where a batch was handed no urgent event waits while its acts are done
+pub calm_acts : (s : Start) (w : Worker) (p p' : List Entry) (todos left : List Todo) (ends : Bool) → Stands s w p → NoneUrgentWaits p → OwesActs s p todos (after_acts ends) → FollowsAlone s p p' → OwesActs s p' left (after_acts ends) → NoneUrgentWaits p'
+calm_acts s w p p' todos left ends stands h owed follows owes = calm_led s p None None p' None None (follows None None) stands.orderly (owes_none s p todos ends owed) h (owes_none s p' left ends owes)

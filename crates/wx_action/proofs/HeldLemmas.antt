@@ -8,14 +8,14 @@ use Rattle.wx_control.specs.declared.job.Job.{Job}
 use Rattle.wx_journal.specs.declared.entry.Entry.{Entry}
 use Rattle.wx_job.specs.History.{same, lives, child}
 use Rattle.wx_job.proofs.Owners.{self, same-is}
-use Rattle.wx_action.specs.declared.state.Held.{Held}
-use Rattle.wx_action.specs.declared.state.Worker.{Worker}
-use Rattle.wx_action.specs.HeldJobs.{IsHandle, AreBelow, AreShown, is_of, handles, runs}
+use Rattle.wx_action.specs.declared.worker_state.Held.{Held}
+use Rattle.wx_action.specs.declared.worker_state.Worker.{Worker}
+use Rattle.wx_action.specs.HeldJobs.{IsHandle, AreBelow, AreShown, is_of, is_alive, handles, runs}
 use Rattle.wx_action.specs.Jobs.{set, is_seen}
 use Rattle.wx_action.specs.Start.{Start}
-use Rattle.wx_action.specs.Stands.{HeldStands, Ready, held_id}
-use Rattle.wx_action.specs.JobLaws.{IsIn, in_set, set_rising}
-use Rattle.wx_action.specs.EndLaws.{GoneRunNone, none_runs}
+use Rattle.wx_action.specs.Stands.{HeldStands, Stands, held_id}
+use Rattle.wx_action.proofs.JobLaws.{IsIn, in_set, set_rising}
+use Rattle.wx_action.specs.Orderly.{GoneRunNone}
 
 -- ---- the handle on a job
 
@@ -79,12 +79,31 @@ unseen : (s : Start) (p : List Entry) (id : Id) → GoneRunNone p → (b : Bool)
 unseen s p id gone true alive none = let seen : true ≡ false = sym (any_in id (set p) (in_set id p alive)) ∙ none in absurd cc
 unseen s p id gone false dead none = gone id dead
 
-pub shown : (s : Start) (w : Worker) (p : List Entry) → Ready s w p → AreShown p w.jobs.items
-shown s w p ready =
-    let ids : map (λ (job : Id × Job). job.0) (handles w.jobs.items) ≡ set p = held_ids p w.jobs.items ready.stands.tasks_kept ∙ ready.stands.jobs_kept in
-    let rising = set_rising s p ready.run in
+pub shown : (s : Start) (w : Worker) (p : List Entry) → Stands s w p → AreShown p w.jobs
+shown s w p stands =
+    let ids : map (λ (job : Id × Job). job.0) (handles w.jobs) ≡ set p = held_ids p w.jobs stands.tasks_kept ∙ stands.jobs_kept in
+    let rising = set_rising s p stands.orderly in
     record {
-      seen = record { ids = ids; rising = rising.rising; handles = held_handles p w.jobs.items ready.stands.tasks_kept };
+      seen = record { ids = ids; rising = rising.rising; handles = held_handles p w.jobs stands.tasks_kept };
       below = rising.below;
-      running = λ id. held_runs p id w.jobs.items ready.stands.tasks_kept (λ none. unseen s p id (none_runs s p ready.run) (lives id p) refl (rw ids at none));
+      running = λ id. held_runs p id w.jobs stands.tasks_kept (λ none. unseen s p id stands.orderly.idle (lives id p) refl (rw ids at none));
     }
+
+-- ---- what is held, and isn't gone, lives
+
+alive_or : (p : List Entry) (id : Id) (b : Bool) (h : Held) (rest : Option Held) → is_of id h ≡ b → HeldStands p h → (b ≡ false → is_alive rest ≡ lives id p) → is_alive (cond b (Some h) rest) ≡ lives id p
+alive_or p id true h rest mine s other = s.task_stands.lives_kept ∙ ap (λ i. lives i p) (sym s.handle_is ∙ same-is h.handle.id id mine)
+alive_or p id false h rest mine s other = other refl
+
+held_alive : (p : List Entry) (id : Id) (held : List Held) → AllByRecursion (HeldStands p) held → (list_any (λ job. same job id) (map (λ (job : Id × Job). job.0) (handles held)) ≡ false → lives id p ≡ false) → is_alive (find (is_of id) held) ≡ lives id p
+held_alive p id [] s none = sym (none refl)
+held_alive p id (h ∷ held) s none = alive_or p id (is_of id h) h (find (is_of id) held) refl s.0 (λ other. held_alive p id held s.1 (λ e. none (rw (other, e) refl)))
+
+unlisted : (p : List Entry) (id : Id) (b : Bool) → lives id p ≡ b → list_any (λ job. same job id) (set p) ≡ false → lives id p ≡ false
+unlisted p id true alive none = let seen : true ≡ false = sym (any_in id (set p) (in_set id p alive)) ∙ none in absurd cc
+unlisted p id false dead none = dead
+
+pub alive_is : (s : Start) (w : Worker) (p : List Entry) (id : Id) → Stands s w p → is_alive (find (is_of id) w.jobs) ≡ lives id p
+alive_is s w p id stands =
+    let ids : map (λ (job : Id × Job). job.0) (handles w.jobs) ≡ set p = held_ids p w.jobs stands.tasks_kept ∙ stands.jobs_kept in
+    held_alive p id w.jobs stands.tasks_kept (λ none. unlisted p id (lives id p) refl (rw ids at none))

@@ -6,26 +6,27 @@ use Rattle.wx_events.specs.declared.event.Event.{Event}
 use Rattle.wx_events.specs.declared.priority.Priority.{Priority}
 use Rattle.prio_channel.specs.Channel.{Channel}
 use Rattle.prio_channel.specs.SameBag.{SameBag}
-use Rattle.prio_channel.specs.BagLaws.{same-trans, add-bag, same-length}
+use Rattle.prio_channel.proofs.BagLaws.{same-trans, add-bag, same-length}
 use Rattle.wx_control.specs.declared.id.Id.{Id}
 use Rattle.wx_journal.specs.declared.entry.Entry.{Entry}
 use Rattle.wx_journal.specs.declared.entry.Entry.TheVariants.{Sent, Offer, Turn as Turned, TurnFault, Word as Said, Hand, Made, Asked, Pick, Spawn, Wait, Dropped, Gone}
 use Rattle.wx_journal.specs.declared.entry.Named.{Named}
 use Rattle.wx_journal.specs.declared.entry.Offered.{Offered}
 use Rattle.wx_journal.specs.declared.entry.Offered.TheVariants.{Queued, Full}
-use Rattle.wx_journal.specs.declared.entry.Act.{Act}
+use Rattle.wx_journal.specs.Acts.{JournalAct as Act}
 use Rattle.wx_journal.specs.Names.{event_count}
 use Rattle.wx_job.specs.History.{child, SameHistory}
 use Rattle.wx_job.proofs.StandsLemmas.{stands_history}
-use Rattle.wx_action.specs.declared.state.Held.{Held}
-use Rattle.wx_action.specs.declared.state.Worker.{Worker}
+use Rattle.wx_action.specs.declared.worker_state.Held.{Held}
+use Rattle.wx_action.specs.declared.worker_state.Worker.{Worker}
 use Rattle.wx_action.specs.Start.{Start}
 use Rattle.wx_action.specs.Journal.{settings, bag, offered, window, first}
 use Rattle.wx_action.specs.Jobs.{set, command}
-use Rattle.wx_action.specs.Due.{Due, IsRun}
+use Rattle.wx_action.specs.Due.{Due}
 use Rattle.wx_action.specs.Handled.{AreEvents, lookup}
-use Rattle.wx_action.specs.Stands.{Stands, Ready, HeldStands, IsOffered, held_id}
-use Rattle.wx_action.specs.RunLaws.{own_of_run, window_below}
+use Rattle.wx_action.specs.Stands.{Stands, HeldStands, AreApart, IsOffered, held_id}
+use Rattle.wx_action.specs.Orderly.{IsOrderly}
+use Rattle.wx_action.proofs.RunLaws.{window_below, orderly_more}
 
 -- ---- what is held of a job
 
@@ -71,11 +72,6 @@ pub over_hand : (n : ℕ) (names : List ℕ) (acts : List Act) (p : List Entry) 
 over_hand n names acts p i = record { lives_same = refl; waits_same = λ l. refl; child_same = refl; kept_same = refl; state_same = refl; previous_same = refl }
 
 -- ---- one of several that are held
-
--- no two of these are one
-abbrev pub AreApart : List Id → Type 0
-AreApart [] = Unit {0}
-AreApart (i ∷ is) = AllByRecursion (λ j. j ≢ i) is × AreApart is
 
 pub ids_put : (hs : List Held) (n : ℕ) (h h' : Held) → n < length hs → h ≡ get_or hs n h → held_id h' ≡ held_id h → map held_id (put hs n h') ≡ map held_id hs
 ids_put [] n h h' lt is same = absurd (omega arith)
@@ -149,9 +145,10 @@ quiet_then p q r a b = record {
 }
 
 -- the worker with other jobs
-pub stands_quiet : (s : Start) (w w' : Worker) (p p' : List Entry) → Stands s w p → Quiet p p' → w' ≡ record w { jobs = w'.jobs } → map held_id w'.jobs.items ≡ set p' → AllByRecursion (HeldStands p') w'.jobs.items → Stands s w' p'
-stands_quiet s w w' p p' stands q fields ids tasks =
+pub stands_quiet : (s : Start) (w w' : Worker) (p p' : List Entry) → Stands s w p → IsOrderly s p' → Quiet p p' → w' ≡ record w { jobs = w'.jobs } → map held_id w'.jobs ≡ set p' → AllByRecursion (HeldStands p') w'.jobs → Stands s w' p'
+stands_quiet s w w' p p' stands orderly q fields ids tasks =
     let stood : Stands s (record w { jobs = w'.jobs }) p' = record {
+      orderly = orderly;
       config_kept = stands.config_kept;
       queue_kept = rw q.bag_same stands.queue_kept;
       size_kept = stands.size_kept;
@@ -166,12 +163,10 @@ stands_quiet s w w' p p' stands q fields ids tasks =
     rw fields stood
 
 -- the worker behind a word or the fault of a turn
-pub ready_over : (s : Start) (w : Worker) (e : Entry) (p : List Entry) → IsOfNone e → IsStill e → Due s p e → Ready s w p → Ready s w (e ∷ p)
-ready_over s w e p none still due ready =
-    let q = quiet_over e p still in record {
-      run = (due, ready.run);
-      stands = stands_quiet s w w p (e ∷ p) ready.stands q refl (ready.stands.jobs_kept ∙ sym q.set_same) (tasks_same p (e ∷ p) w.jobs.items (over_none e p none) ready.stands.tasks_kept);
-    }
+pub stands_behind : (s : Start) (w : Worker) (e : Entry) (p : List Entry) → IsOfNone e → IsStill e → Due s p e → Stands s w p → Stands s w (e ∷ p)
+stands_behind s w e p none still due stands =
+    let q = quiet_over e p still in
+    stands_quiet s w w p (e ∷ p) stands (orderly_more s e p due stands.orderly) q refl (stands.jobs_kept ∙ sym q.set_same) (tasks_same p (e ∷ p) w.jobs (over_none e p none) stands.tasks_kept)
 
 -- an event that is listed under a new name leaves the events of the names below
 events-rise : (m : ℕ) (v : Option (Event × Priority)) (look : ℕ → Option (Event × Priority)) (names : List ℕ) (events : List Event) → AllByRecursion (λ name. name < m) names → AreEvents look names events → AreEvents (λ name. cond (m == name) v (look name)) names events
@@ -201,49 +196,52 @@ offered_is s w p item new Full stands is =
     sym (ap (λ (t : Bool). cond t Full Queued) test)
 
 -- the worker after an offer
-pub stands_offered : (s : Start) (w : Worker) (p : List Entry) (event : Event) (priority : Priority) (new : Channel Named) (result : Offered) → IsRun s p → Stands s w p
+pub stands_offered : (s : Start) (w : Worker) (p : List Entry) (event : Event) (priority : Priority) (new : Channel Named) (result : Offered) → Stands s w p → Due s p (Offer (event_count p) None result event priority)
     → IsOffered w.queue (record { name = event_count p; event = event }, priority) new result → new.size ≡ w.queue.size → new.closed ≡ false
     → Stands s (record w { queue = new; named = w.named + 1 }) (Offer (event_count p) None result event priority ∷ p)
-stands_offered s w p event priority new Queued run stands is size closed = record {
+stands_offered s w p event priority new Queued stands due is size closed = record {
+  orderly = orderly_more s (Offer (event_count p) None Queued event priority) p due stands.orderly;
   config_kept = stands.config_kept;
   queue_kept = same-trans _ _ _ is.0 (add-bag w.queue.items (bag p) _ stands.queue_kept);
   size_kept = size ∙ stands.size_kept;
   open_kept = closed;
   named_kept = omega (arith, stands.named_kept);
   names_kept = stands.names_kept;
-  events_kept = events-rise (event_count p) (Some (event, priority)) (lookup p) (window p) w.batch.events (window_below p (own_of_run s p run)) stands.events_kept;
+  events_kept = events-rise (event_count p) (Some (event, priority)) (lookup p) (window p) w.batch.events (window_below p stands.orderly.own) stands.events_kept;
   first_kept = stands.first_kept;
   jobs_kept = stands.jobs_kept;
-  tasks_kept = tasks_same p _ w.jobs.items (over_none (Offer (event_count p) None Queued event priority) p tt) stands.tasks_kept;
+  tasks_kept = tasks_same p _ w.jobs (over_none (Offer (event_count p) None Queued event priority) p tt) stands.tasks_kept;
 }
-stands_offered s w p event priority new Full run stands is size closed = record {
+stands_offered s w p event priority new Full stands due is size closed = record {
+  orderly = orderly_more s (Offer (event_count p) None Full event priority) p due stands.orderly;
   config_kept = stands.config_kept;
   queue_kept = rw is.0 stands.queue_kept;
   size_kept = size ∙ stands.size_kept;
   open_kept = closed;
   named_kept = omega (arith, stands.named_kept);
   names_kept = stands.names_kept;
-  events_kept = events-rise (event_count p) (Some (event, priority)) (lookup p) (window p) w.batch.events (window_below p (own_of_run s p run)) stands.events_kept;
+  events_kept = events-rise (event_count p) (Some (event, priority)) (lookup p) (window p) w.batch.events (window_below p stands.orderly.own) stands.events_kept;
   first_kept = stands.first_kept;
   jobs_kept = stands.jobs_kept;
-  tasks_kept = tasks_same p _ w.jobs.items (over_none (Offer (event_count p) None Full event priority) p tt) stands.tasks_kept;
+  tasks_kept = tasks_same p _ w.jobs (over_none (Offer (event_count p) None Full event priority) p tt) stands.tasks_kept;
 }
 
 -- the worker after an event was listed as sent
-pub stands_sent : (s : Start) (w : Worker) (p : List Entry) (event : Event) (priority : Priority) (new : Channel Named) → IsRun s p → Stands s w p
+pub stands_sent : (s : Start) (w : Worker) (p : List Entry) (event : Event) (priority : Priority) (new : Channel Named) → Stands s w p → Due s p (Sent (event_count p) event priority)
     → SameBag new.items (w.queue.items ++ (record { name = event_count p; event = event }, priority) ∷ []) → new.size ≡ w.queue.size → new.closed ≡ false
     → Stands s (record w { queue = new; named = w.named + 1 }) (Sent (event_count p) event priority ∷ p)
-stands_sent s w p event priority new run stands is size closed = record {
+stands_sent s w p event priority new stands due is size closed = record {
+  orderly = orderly_more s (Sent (event_count p) event priority) p due stands.orderly;
   config_kept = stands.config_kept;
   queue_kept = same-trans _ _ _ is (add-bag w.queue.items (bag p) _ stands.queue_kept);
   size_kept = size ∙ stands.size_kept;
   open_kept = closed;
   named_kept = omega (arith, stands.named_kept);
   names_kept = stands.names_kept;
-  events_kept = events-rise (event_count p) (Some (event, priority)) (lookup p) (window p) w.batch.events (window_below p (own_of_run s p run)) stands.events_kept;
+  events_kept = events-rise (event_count p) (Some (event, priority)) (lookup p) (window p) w.batch.events (window_below p stands.orderly.own) stands.events_kept;
   first_kept = stands.first_kept;
   jobs_kept = stands.jobs_kept;
-  tasks_kept = tasks_same p _ w.jobs.items (over_none (Sent (event_count p) event priority) p tt) stands.tasks_kept;
+  tasks_kept = tasks_same p _ w.jobs (over_none (Sent (event_count p) event priority) p tt) stands.tasks_kept;
 }
 
 -- events are at most as many as entries

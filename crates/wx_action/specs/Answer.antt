@@ -20,16 +20,25 @@ pub data Dying (q : List Entry) : List Entry → Type 0 where
   Alive : Dying q q
   Dies : (e : Entry) (p : List Entry) → Dying q p → Follows p (end p) e → Dying q (e ∷ p)
 
--- a run that stopped anywhere, also at its end, and then the end of its jobs
-pub record IsBroken (s : Start) (p : List Entry) : Type 0 where
+-- a run that was cut at such a place, also at its end, and then the end of its jobs
+pub record IsBroken (place : List Entry → Type 0) (s : Start) (p : List Entry) : Type 0 where
   pub before : List Entry
   pub run : IsRun s before
+  pub cut : place before
   pub dying : Dying before p
   pub none : jobs p ≡ []
 
+-- every place
+abbrev pub AtAnyPlace : List Entry → Type 0
+AtAnyPlace p = Unit {0}
+
+-- the places at which want of memory may cut a run
+abbrev pub MemoryCuts : List Entry → Type 0
+MemoryCuts p = AtAnyPlace p
+
 -- Ok comes only of a complete run without the fault of a turn, an error about a turn only of one with this fault, and
--- want of memory of a run that was broken off.
+-- want of memory of a run that was cut where memory may be wanted.
 abbrev pub Answers : Start → List Entry → Answer → Type 0
 Answers s p (Ok u) = IsComplete s p × (turn_fault p ≡ None)
 Answers s p (Err (IoError about err)) = IsComplete s p × (about ≡ codes "turn") × (turn_fault p ≡ Some err)
-Answers s p (Err Memory) = IsBroken s p
+Answers s p (Err Memory) = IsBroken MemoryCuts s p

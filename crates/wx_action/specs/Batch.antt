@@ -1,7 +1,7 @@
 -- What contracts see of the events that wait to be handed.
 use Rattle.std.specs.Prelude.{◌≡◌, ℕ, ◌<◌, ◌≤◌, List, [], length}
 use Rattle.wx_events.specs.declared.event.Event.{Event}
-use Rattle.wx_journal.specs.declared.entry.Act.{Act}
+use Rattle.wx_journal.specs.Acts.{JournalAct as Act}
 
 -- their names and events, and for how many more there is room, capped by the room for acts
 pub record Waiting : Type 0 where

@@ -1,20 +1,21 @@
 -- The written machine: which entries may come next.
-use Rattle.std.specs.Prelude.{◌≡◌, ℕ, Bool, true, false, ◌||◌, ◌==◌, if◌then◌else◌, Option, None, Some, List, [], ◌∷◌, length}
+use Rattle.std.specs.Prelude.{◌≡◌, ℕ, Bool, true, false, T, ◌||◌, ◌==◌, if◌then◌else◌, Option, None, Some, List, [], ◌∷◌, length}
 use Rattle.std.specs.Option.{IsSomeAnd}
 use Rattle.std.specs.List.{list_any}
 use Rattle.wx_events.specs.declared.event.Event.{Event}
 use Rattle.wx_events.specs.declared.priority.Priority.{Priority}
 use Rattle.prio_channel.specs.Channel.{AllAtMost}
 use Rattle.wx_journal.specs.declared.entry.Entry.{Entry}
-use Rattle.wx_journal.specs.declared.entry.Entry.TheVariants.{Begin, Sent, Turn as Turned, TurnFault, Offer, Word as Said, Take, Hand}
-use Rattle.wx_journal.specs.declared.entry.Act.{Act}
+use Rattle.wx_journal.specs.declared.entry.Entry.TheVariants.{Begin, Sent, Turn as Turned, TurnFault, Offer, Word as Said, Take, Hand, Made, Asked, Pick, Spawn, Kill, Wait, Dropped, Raise, Gone}
+use Rattle.wx_journal.specs.Acts.{JournalAct as Act}
 use Rattle.wx_journal.specs.declared.entry.Act.TheVariants.{Create, Ask as Asks, Quit}
 use Rattle.wx_journal.specs.declared.entry.Named.{Named}
 use Rattle.wx_journal.specs.declared.entry.TurnKind.{TurnKind}
 use Rattle.wx_journal.specs.declared.entry.TurnKind.TheVariants.{Arrive, Work, Job, Ended, Ask, Last}
 use Rattle.wx_journal.specs.declared.entry.Word.{Word}
 use Rattle.wx_journal.specs.declared.entry.Word.TheVariants.{Idle, Ignored}
-use Rattle.wx_journal.specs.Names.{moment, event_count, job_count}
+use Rattle.wx_journal.specs.Told.{is_turn}
+use Rattle.wx_journal.specs.Names.{moment, event_count, next_job}
 use Rattle.wx_command.specs.declared.command.Command.{Command}
 use Rattle.wx_control.specs.declared.id.Id.{Id}
 use Rattle.wx_control.specs.declared.ask.Ask.{Ask as AnAsk}
@@ -107,16 +108,43 @@ abbrev pub after_acts : Bool → Agenda
 after_acts ends = if ends then Ends else Open
 
 abbrev pub after_hand : List Act → List Entry → Agenda
-after_hand acts p = plans (act_plan (λ id. lives id p) acts) (after_acts (has_quit acts))
+after_hand acts p = plans (act_plan (λ id. lives id p) acts) Open
+
+-- What an entry leaves owed, where this was owed before it: some bring what they owe, and the others take from it.
+abbrev pub owed : Start → Entry → List Entry → Agenda → Agenda
+owed s (Begin throttle size errors keyboard follow jobsignals watcher cwd paths) p before = sends s.events
+owed s (Sent name event priority) p before = rest (Sent name event priority) before
+owed s (Turned t) p before = turn_agenda s t.kind t.at (Turned t ∷ p)
+owed s (TurnFault code) p before = Ends
+owed s (Offer name item result event priority) p before = rest (Offer name item result event priority) before
+owed s (Said word) p before = rest (Said word) before
+owed s (Take name) p before = after_take s name p
+owed s (Hand n names acts) p before = after_hand acts p
+owed s (Made id) p before = rest (Made id) before
+owed s (Asked ticket id level control) p before = rest (Asked ticket id level control) before
+owed s (Pick id ticket) p before = rest (Pick id ticket) before
+owed s (Spawn child id tag what answer) p before = rest (Spawn child id tag what answer) before
+owed s (Kill child answer) p before = rest (Kill child answer) before
+owed s (Wait child answer) p before = rest (Wait child answer) before
+owed s (Dropped child) p before = rest (Dropped child) before
+owed s (Raise ticket) p before = rest (Raise ticket) before
+owed s (Gone id) p before = rest (Gone id) before
+
+-- the acts of this turn's batch ask for the end
+abbrev pub is_quitting : List Entry → Bool
+is_quitting [] = false
+is_quitting (Turned t ∷ p) = false
+is_quitting (Hand n names acts ∷ p) = has_quit acts
+is_quitting (_ ∷ p) = is_quitting p
+
+-- The last pass, which sees the whole journal: where nothing is owed any more the end is, if it was asked for.
+abbrev pub settle : List Entry → Agenda → Agenda
+settle p Open = after_acts (is_quitting p)
+settle p (k) = k
 
 abbrev pub agenda : Start → List Entry → Agenda
 agenda s [] = Begins
-agenda s (Begin throttle size errors keyboard follow jobsignals watcher cwd paths ∷ p) = sends s.events
-agenda s (Turned t ∷ p) = turn_agenda s t.kind t.at (Turned t ∷ p)
-agenda s (TurnFault code ∷ p) = Ends
-agenda s (Take name ∷ p) = after_take s name p
-agenda s (Hand n names acts ∷ p) = after_hand acts p
-agenda s (e ∷ p) = rest e (agenda s p)
+agenda s (e ∷ p) = settle (e ∷ p) (owed s e p (agenda s p))
 
 -- the first entry of a run
 abbrev pub begin_of : Start → Entry
@@ -124,9 +152,7 @@ begin_of s = Begin s.config.throttle s.config.event_channel_size s.config.error_
 
 -- a turn, or the fault of one
 abbrev pub IsTurn : Entry → Type 0
-IsTurn (Turned t) = Unit {0}
-IsTurn (TurnFault code) = Unit {0}
-IsTurn (_) = ⊥
+IsTurn e = T (is_turn e)
 
 -- the item of this name is there, and none has a greater priority
 abbrev pub IsGreatest : ℕ → List (Named × Priority) → Type 0
@@ -140,7 +166,7 @@ Admits s p Open e = IsTurn e
 Admits s p (Offers event priority more) e = e ≡ Offer (event_count p) None (offered s p) event priority
 Admits s p (Says word more) e = e ≡ Said word
 Admits s p Takes e = (name : ℕ) × (e ≡ Take name) × IsGreatest name (bag p)
-Admits s p Hands e = (acts : List Act) × (e ≡ Hand (settings s p).action_handler (window p) acts) × AreLawful (job_count p) acts
+Admits s p Hands e = (acts : List Act) × (e ≡ Hand (settings s p).action_handler (window p) acts) × AreLawful (next_job p) acts
 Admits s p (Plans k more) e = Follows p k e
 Admits s p Ends e = Follows p (end p) e
 

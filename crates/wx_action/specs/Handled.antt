@@ -1,15 +1,16 @@
 -- What contracts see of the handler that is lent to an action.
-use Rattle.std.specs.Prelude.{◌≡◌, ℕ, ◌+◌, Bool, Option, Some, if◌then◌else◌, List, [], ◌∷◌, ◌++◌}
+use Rattle.std.specs.Prelude.{◌≡◌, ℕ, Bool, Option, None, Some, List, [], ◌∷◌, ◌++◌}
 use Rattle.wx_events.specs.declared.event.Event.{Event}
 use Rattle.wx_events.specs.declared.priority.Priority.{Priority}
 use Rattle.wx_journal.specs.declared.entry.Entry.{Entry}
-use Rattle.wx_journal.specs.declared.entry.Act.{Act}
+use Rattle.wx_journal.specs.Acts.{JournalAct as Act}
 use Rattle.wx_journal.specs.declared.entry.Act.TheVariants.{Create, Ask as Asks, Quit}
 use Rattle.wx_control.specs.declared.id.Id.{Id}
 use Rattle.wx_control.specs.declared.ask.Ask.{Ask}
+use Rattle.wx_control.specs.Sent.{Sink}
 use Rattle.wx_action.specs.Journal.{listed}
 use Rattle.wx_action.specs.Due.{is_quit}
-use Rattle.wx_action.specs.Last.{last_is}
+use Rattle.wx_action.specs.Last.{last_is, without_last}
 
 -- the journal so far, the names and the events of the batch, the acts so far, and whether they were handed
 pub record Handled : Type 0 where
@@ -23,21 +24,23 @@ pub record Handled : Type 0 where
 abbrev pub ends_with_quit : List Act → Bool
 ends_with_quit acts = last_is is_quit acts
 
--- the acts with a quit behind them: one that stands last already is not repeated
-abbrev pub with_quit : List Act → List Act
-with_quit acts = if ends_with_quit acts then acts else acts ++ Quit ∷ []
+-- the acts with this act behind them, a quit, which takes the place of one that stands last
+abbrev pub with_this_quit : Act → List Act → List Act
+with_this_quit act acts = without_last is_quit acts ++ act ∷ []
 
--- how many jobs these acts create
-abbrev pub creations : List Act → ℕ
-creations [] = 0
-creations (Create id command ∷ acts) = creations acts + 1
-creations (_ ∷ acts) = creations acts
+abbrev pub with_quit : List Act → List Act
+with_quit acts = with_this_quit Quit acts
 
 -- what these acts ask, in order: the job, and what is asked of it
 abbrev pub asks_of : List Act → List (Id × Ask)
 asks_of [] = []
 asks_of (Asks id ask ∷ acts) = (id, ask) ∷ asks_of acts
-asks_of (_ ∷ acts) = asks_of acts
+asks_of (Create id command ∷ acts) = asks_of acts
+asks_of (Quit ∷ acts) = asks_of acts
+
+-- the handler as a sink of asks: no send is counted, and none is refused for want of room
+abbrev pub sink_of : Handled → Sink Handled
+sink_of h = record { asks = asks_of h.acts; sends = None; fulls = 0; rest = record h { acts = [] }; place = [] }
 
 -- what a journal lists under a name
 abbrev pub lookup : List Entry → ℕ → Option (Event × Priority)

@@ -1,13 +1,14 @@
 -- The jobs that an action sees.
-use Rattle.std.specs.Prelude.{◌≡◌, ℕ, ◌<◌, Bool, false, is_some, Option, None, Some, List, [], ◌∷◌, map}
+use Rattle.std.specs.Prelude.{◌≡◌, ℕ, ◌<◌, Bool, false, not, if◌then◌else◌, is_some, Option, None, Some, List, [], ◌∷◌, map}
 use Rattle.std.specs.List.{find, AllByRecursion}
 use Rattle.wx_control.specs.declared.id.Id.{Id}
 use Rattle.wx_control.specs.declared.job.Job.{Job}
 use Rattle.wx_journal.specs.declared.entry.Entry.{Entry}
-use Rattle.wx_journal.specs.Names.{job_count}
-use Rattle.wx_job.specs.History.{same, child}
-use Rattle.wx_job.specs.Stands.{running_of}
-use Rattle.wx_action.specs.declared.state.Held.{Held}
+use Rattle.wx_journal.specs.Names.{next_job}
+use Rattle.wx_job.specs.declared.task.JobTask.{JobTask}
+use Rattle.wx_job.specs.History.{same, child, is_child}
+use Rattle.wx_job.specs.Stands.{gone_of, running_of}
+use Rattle.wx_action.specs.declared.worker_state.Held.{Held}
 use Rattle.wx_action.specs.Jobs.{set, command}
 
 -- a handle on the job of this id, with what the job runs
@@ -35,9 +36,33 @@ pub record AreSeen (p : List Entry) (jobs : List (Id × Job)) : Type 0 where
 abbrev pub is_of : Id → Held → Bool
 is_of id h = same h.handle.id id
 
+-- its job isn't gone
+abbrev pub is_here : Held → Bool
+is_here h = not (gone_of h.task)
+
+-- this child runs
+abbrev pub runs_child : ℕ → Held → Bool
+runs_child c h = is_child c (running_of h.task)
+
+abbrev pub handle_id : Held → Id
+handle_id h = h.handle.id
+
+abbrev pub task_of : Held → JobTask
+task_of h = h.task
+
+-- the jobs, that of this id with this task
+abbrev pub with_task : Id → List Held → JobTask → List Held
+with_task id [] task = []
+with_task id (h ∷ held) task = if is_of id h then record h { task = task } ∷ held else h ∷ with_task id held task
+
 -- the ids with the handles, in order
 abbrev pub handles : List Held → List (Id × Job)
 handles held = map (λ h. (h.handle.id, h.handle)) held
+
+-- whether a job is held and isn't gone
+abbrev pub is_alive : Option Held → Bool
+is_alive None = false
+is_alive (Some h) = is_here h
 
 -- whether the child of a job runs
 abbrev pub runs : Option Held → Bool
@@ -48,5 +73,5 @@ runs (Some h) = is_some (running_of h.task)
 -- before.
 pub record AreShown (p : List Entry) (held : List Held) : Type 0 where
   pub seen : AreSeen p (handles held)
-  pub below : AreBelow (job_count p) (set p)
+  pub below : AreBelow (next_job p) (set p)
   pub running : (id : Id) → runs (find (is_of id) held) ≡ is_some (child id p)

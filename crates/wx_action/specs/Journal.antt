@@ -1,12 +1,13 @@
 -- What a journal says. It is a list of entries, the newest first, so each definition goes by the newest entry.
 use Rattle.std.specs.Prelude.{ℕ, ◌+◌, Bool, true, false, not, ◌&&◌, ◌==◌, nat_le, if◌then◌else◌, Option, None, Some, List, [], ◌∷◌, ◌++◌, length}
+use Rattle.std.specs.List.{filter, list_any}
 use Rattle.wx_events.specs.declared.event.Event.{Event}
 use Rattle.wx_events.specs.declared.priority.Priority.{Priority}
 use Rattle.wx_events.specs.Priority.{is_urgent}
 use Rattle.wx_journal.specs.Names.{moment, count}
-use Rattle.wx_journal.specs.Told.{is_turn, is_hooks}
+use Rattle.wx_journal.specs.Told.{is_turn}
 use Rattle.wx_journal.specs.declared.entry.Entry.{Entry}
-use Rattle.wx_journal.specs.declared.entry.Entry.TheVariants.{Sent, Turn as Turned, TurnFault, Offer, Take, Hand}
+use Rattle.wx_journal.specs.declared.entry.Entry.TheVariants.{Begin, Sent, Turn as Turned, TurnFault, Offer, Word as Said, Take, Hand, Made, Asked, Pick, Spawn, Kill, Wait, Dropped, Raise, Gone}
 use Rattle.wx_journal.specs.declared.entry.Named.{Named}
 use Rattle.wx_journal.specs.declared.entry.Offered.{Offered}
 use Rattle.wx_journal.specs.declared.entry.Offered.TheVariants.{Queued, Full}
@@ -54,11 +55,36 @@ bag (_ ∷ p) = bag p
 abbrev pub offered : Start → List Entry → Offered
 offered s p = if length (bag p) == (settings s p).event_channel_size then Full else Queued
 
--- the events that passed, in the order in which they were taken: with no tag and no filter, all that were taken
+-- The event that an entry behind these lets join the window, where it lets one: with no tag and no filter an event that is
+-- taken passes unseen.
+abbrev pub joins : List Entry → Entry → Option ℕ
+joins p (Begin throttle size errors keyboard follow jobsignals watcher cwd paths) = None
+joins p (Sent name event priority) = None
+joins p (Turned t) = None
+joins p (TurnFault code) = None
+joins p (Offer name item result event priority) = None
+joins p (Said word) = None
+joins p (Take name) = Some name
+joins p (Hand n names acts) = None
+joins p (Made id) = None
+joins p (Asked ticket id level control) = None
+joins p (Pick id ticket) = None
+joins p (Spawn child id tag what answer) = None
+joins p (Kill child answer) = None
+joins p (Wait child answer) = None
+joins p (Dropped child) = None
+joins p (Raise ticket) = None
+joins p (Gone id) = None
+
+-- names, and one behind them where there is one
+abbrev pub and_one : List ℕ → Option ℕ → List ℕ
+and_one names None = names
+and_one names (Some name) = names ++ name ∷ []
+
+-- the events that passed, in the order in which they did
 abbrev pub passed : List Entry → List ℕ
 passed [] = []
-passed (Take name ∷ p) = passed p ++ name ∷ []
-passed (_ ∷ p) = passed p
+passed (e ∷ p) = and_one (passed p) (joins p e)
 
 -- the batches, in order
 abbrev pub batches : List Entry → List (List ℕ)
@@ -66,20 +92,30 @@ batches [] = []
 batches (Hand n names acts ∷ p) = batches p ++ names ∷ []
 batches (_ ∷ p) = batches p
 
--- the window: the events that passed since the last batch
+-- names without those of a batch
+abbrev pub is_among : ℕ → List ℕ → Bool
+is_among name names = list_any (λ other. other == name) names
+
+abbrev pub unhanded : List ℕ → List ℕ → List ℕ
+unhanded batch names = filter (λ name. not (is_among name batch)) names
+
+-- the window: the events that passed, without those of the batches
 abbrev pub window : List Entry → List ℕ
 window [] = []
-window (Take name ∷ p) = window p ++ name ∷ []
-window (Hand n names acts ∷ p) = []
-window (_ ∷ p) = window p
+window (Hand n names acts ∷ p) = unhanded names (window p)
+window (e ∷ p) = and_one (window p) (joins p e)
 
--- the moment of the turn that took the window's first event
+-- the moment at which a window began: the one before, or now where an event joins an empty window
+abbrev pub begun : Option ℕ → List ℕ → ℕ → ℕ → ℕ
+begun None window now before = before
+begun (Some name) window now before = if length window == 0 then now else before
+
+-- the moment of the turn in which the window's first event joined it
 abbrev pub first : List Entry → ℕ
 first [] = 0
-first (Take name ∷ p) = if length (window p) == 0 then moment p else first p
-first (_ ∷ p) = first p
+first (e ∷ p) = begun (joins p e) (window p) (moment p) (first p)
 
--- the throttle is over: the window isn't empty, and its first event was taken at least the throttle ago
+-- the throttle is over: the window isn't empty, and its first event joined it at least the throttle ago
 abbrev pub is_over_of : ℕ → List ℕ → ℕ → ℕ → Bool
 is_over_of throttle window first at = not (length window == 0) && nat_le (first + throttle) at
 
@@ -89,18 +125,14 @@ is_over s p at = is_over_of (settings s p).throttle (window p) (first p) at
 -- a turn but a last one, or the fault of a turn
 abbrev pub is_early : Entry → Bool
 is_early (Turned t) = not (is_last t.kind)
-is_early (TurnFault code) = true
-is_early (_) = false
+is_early (e) = is_turn e
 
--- how many turns were asked for, how many of them were no last ones, and how many batches were handed
+-- how many turns were asked for, and how many of them were no last ones
 abbrev pub turn_count : List Entry → ℕ
 turn_count p = count is_turn p
 
 abbrev pub early_count : List Entry → ℕ
 early_count p = count is_early p
-
-abbrev pub hand_count : List Entry → ℕ
-hand_count p = count is_hooks p
 
 -- the code of the turn that failed
 abbrev pub turn_fault : List Entry → Option ℕ

@@ -1,11 +1,14 @@
 -- What holds of every run.
-use Rattle.std.specs.Prelude.{◌≡◌, ℕ, ◌<◌, ◌≤◌, Bool, true, false, List, [], ◌∷◌, ◌++◌, length}
+use Rattle.std.specs.Prelude.{◌≡◌, ℕ, ◌<◌, ◌≤◌, Bool, true, false, ◌||◌, List, [], ◌∷◌, ◌++◌, length}
 use Rattle.std.specs.List.{AllByRecursion, flat_map}
 use Rattle.wx_journal.specs.declared.entry.Entry.{Entry}
-use Rattle.wx_journal.specs.declared.entry.Entry.TheVariants.{Turn as Turned, Hand}
+use Rattle.wx_journal.specs.declared.entry.Entry.TheVariants.{Turn as Turned, TurnFault, Hand, Made}
+use Rattle.wx_control.specs.declared.id.Id.{Id}
 use Rattle.wx_journal.specs.Names.{moment}
+use Rattle.wx_job.specs.History.{same}
 use Rattle.wx_action.specs.Start.{Start}
 use Rattle.wx_action.specs.Journal.{is_urgent_named, passed, batches, window, is_over}
+use Rattle.wx_action.specs.Due.{Open, agenda}
 use Rattle.wx_action.specs.Last.{last_is}
 
 -- batches, one behind the other
@@ -45,6 +48,25 @@ AreBatches s (_ ∷ p) = AreBatches s p
 -- no urgent event waits in the window
 abbrev pub NoneUrgentWaits : List Entry → Type 0
 NoneUrgentWaits p = NoneUrgent (urgent_in p) (window p)
+
+-- a job of this id was made
+abbrev pub was_made : Id → List Entry → Bool
+was_made id [] = false
+was_made id (Made job ∷ p) = same job id || was_made id p
+was_made id (_ ∷ p) = was_made id p
+
+-- ids made are distinct
+abbrev pub AreMadeOnce : List Entry → Type 0
+AreMadeOnce [] = Unit {0}
+AreMadeOnce (Made id ∷ p) = (was_made id p ≡ false) × AreMadeOnce p
+AreMadeOnce (_ ∷ p) = AreMadeOnce p
+
+-- Each turn, and the fault of one, came where nothing was owed: all that was due in a turn is done before the next.
+abbrev pub AreServed : Start → List Entry → Type 0
+AreServed s [] = Unit {0}
+AreServed s (Turned t ∷ p) = (agenda s p ≡ Open) × AreServed s p
+AreServed s (TurnFault code ∷ p) = (agenda s p ≡ Open) × AreServed s p
+AreServed s (_ ∷ p) = AreServed s p
 
 -- the moments of the turns never fall
 abbrev pub MomentsRise : List Entry → Type 0

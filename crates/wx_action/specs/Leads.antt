@@ -1,8 +1,7 @@
 -- What a call did to a journal, and what it told.
-use Rattle.std.specs.Prelude.{◌≡◌, Bool, false, Option, List, ◌∷◌}
+use Rattle.std.specs.Prelude.{Option, List, ◌∷◌}
 use Rattle.wx_journal.specs.declared.entry.Entry.{Entry}
-use Rattle.wx_journal.specs.Names.{NamesItsOwn}
-use Rattle.wx_journal.specs.Told.{tell_if, is_world, is_hooks, Obeys}
+use Rattle.wx_journal.specs.Told.{tell_if, is_world, is_hooks}
 use Rattle.wx_action.specs.Start.{Start}
 use Rattle.wx_action.specs.Due.{Due}
 
@@ -10,7 +9,7 @@ use Rattle.wx_action.specs.Due.{Due}
 -- and was told by just the one that it is a call on.
 pub data Leads (s : Start) (p : List Entry) (world hooks : Option (List Entry)) : List Entry → Option (List Entry) → Option (List Entry) → Type 0 where
   Here : Leads s p world hooks p world hooks
-  Then : (e : Entry) (p' : List Entry) (world' hooks' : Option (List Entry)) → Leads s p world hooks p' world' hooks' → Due s p' e → Leads s p world hooks (e ∷ p') (tell_if (is_world e) e world') (tell_if (is_hooks e) e hooks')
+  Then : (e : Entry) (p' : List Entry) (world' hooks' : Option (List Entry)) → Leads s p world hooks p' world' hooks' → Due s p' e → Leads s p world hooks (e ∷ p') (tell_if (is_world p' e) e world') (tell_if (is_hooks e) e hooks')
 
 -- whatever led to the one leads on to the other
 abbrev pub Follows : Start → List Entry → Option (List Entry) → Option (List Entry) → List Entry → Option (List Entry) → Option (List Entry) → Type 0
@@ -22,21 +21,3 @@ FollowsHooks s p hooks p' hooks' = (world : Option (List Entry)) → Follows s p
 
 abbrev pub FollowsAlone : Start → List Entry → List Entry → Type 0
 FollowsAlone s p p' = (world hooks : Option (List Entry)) → Follows s p world hooks p' world hooks
-
--- the new journal is the old one with entries on top that are no calls on the hooks, and each of these came behind a
--- journal that names its own
-pub data Apart (old : List Entry) : List Entry → Type 0 where
-  Same : Apart old old
-  More : (e : Entry) (p : List Entry) → Apart old p → NamesItsOwn p → is_hooks e ≡ false → Apart old (e ∷ p)
-
-abbrev pub StaysApart : List Entry → List Entry → Type 0
-StaysApart p p' = (p₀ : List Entry) → Apart p₀ p → Apart p₀ p'
-
--- What hooks promise of the entries on top, where they are not short afterwards and stood for the journal before: each
--- call on them passes the rule, and they stand for the longer journal.
-abbrev pub KeepsRule : (List Entry → Entry → Type 0) → List Entry → List Entry → Type 0
-KeepsRule rule p p' = (p₀ : List Entry) → Obeys rule p₀ p → Obeys rule p₀ p'
-
-pub record Promised (short : Bool) (rule : List Entry → Entry → Type 0) (stood stands : List Entry → Type 0) (p p' : List Entry) : Type 0 where
-  pub rule_kept : short ≡ false → stood p → KeepsRule rule p p'
-  pub stands_kept : short ≡ false → stood p → stands p'

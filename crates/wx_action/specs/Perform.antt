@@ -1,27 +1,29 @@
 -- What is still to be done for the acts of a batch.
 use Rattle.std.specs.Prelude.{◌≡◌, Some, List, [], ◌∷◌}
 use Rattle.wx_journal.specs.declared.entry.Entry.{Entry}
-use Rattle.wx_journal.specs.declared.entry.Act.{Act}
-use Rattle.wx_journal.specs.declared.entry.Act.TheVariants.{Create}
+use Rattle.wx_journal.specs.Acts.{JournalAct as Act}
+use Rattle.wx_journal.specs.declared.entry.Act.TheVariants.{Create, Ask, Quit}
 use Rattle.wx_job.specs.History.{lives}
 use Rattle.wx_action.specs.declared.handler.Todo.{Todo}
 use Rattle.wx_action.specs.Start.{Start}
 use Rattle.wx_action.specs.Jobs.{command, act_plan}
-use Rattle.wx_action.specs.Due.{Agenda, agenda, plans}
+use Rattle.wx_action.specs.Due.{Agenda, Open, settle, agenda, plans}
 use Rattle.wx_action.specs.Todo.{AreTodo}
 
 -- the journal says of each job that these acts create that it runs what they say
 abbrev pub AreCommanded : List Entry → List Act → Type 0
 AreCommanded p [] = Unit {0}
 AreCommanded p (Create id what ∷ acts) = (command id p ≡ Some what) × AreCommanded p acts
-AreCommanded p (_ ∷ acts) = AreCommanded p acts
+AreCommanded p (Ask id ask ∷ acts) = AreCommanded p acts
+AreCommanded p (Quit ∷ acts) = AreCommanded p acts
 
 -- these acts are owed, and then this agenda; this is what is to be done for them
 pub record OwesActs (s : Start) (p : List Entry) (todo : List Todo) (more : Agenda) : Type 0 where
   pub acts : List Act
   pub is_todo : AreTodo acts todo
   pub commanded : AreCommanded p acts
-  pub due : agenda s p ≡ plans (act_plan (λ id. lives id p) acts) more
+  pub due : agenda s p ≡ settle p (plans (act_plan (λ id. lives id p) acts) Open)
+  pub then : settle p Open ≡ more
 
 -- the first act that is owed is this one
 abbrev pub IsFirst : Start → List Entry → Todo → Type 0

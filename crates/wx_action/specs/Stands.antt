@@ -1,5 +1,5 @@
 -- A worker stands for a journal.
-use Rattle.std.specs.Prelude.{◌≡◌, ◌<◌, ◌≤◌, slice_index_or, ℕ, ◌*◌, ◌==◌, Bool, true, false, not, ◌&&◌, Some, List, [], ◌∷◌, ◌++◌, length, map}
+use Rattle.std.specs.Prelude.{◌≡◌, ◌≢◌, ◌≤◌, ℕ, ◌*◌, ◌==◌, Bool, true, false, None, Some, is_some, List, [], ◌∷◌, ◌++◌, length, map}
 use Rattle.std.specs.List.{AllByRecursion}
 use Rattle.wx_events.specs.declared.priority.Priority.{Priority}
 use Rattle.prio_channel.specs.Channel.{Channel}
@@ -13,22 +13,25 @@ use Rattle.wx_journal.specs.declared.entry.TurnKind.{TurnKind}
 use Rattle.wx_journal.specs.declared.entry.TurnKind.TheVariants.{Work}
 use Rattle.wx_journal.specs.declared.entry.Word.TheVariants.{Idle}
 use Rattle.wx_journal.specs.Names.{event_count, moment}
+use Rattle.wx_journal.specs.Written.{Written}
 use Rattle.wx_control.specs.declared.id.Id.{Id}
-use Rattle.wx_job.specs.History.{is_child}
+use Rattle.wx_command.specs.declared.command.Command.{Command}
+use Rattle.wx_job.specs.History.{lives}
+use Rattle.wx_job.specs.Seen.{Seen}
 use Rattle.wx_job.specs.Table.{step_plan}
-use Rattle.wx_job.specs.Stands.{Stands as TaskStands, id_of, command_of, gone_of, running_of}
+use Rattle.wx_job.specs.Stands.{Stands as TaskStands, id_of, command_of}
 use Rattle.wx_action.specs.Jobs.{set, command}
-use Rattle.wx_action.specs.declared.state.Held.{Held}
-use Rattle.wx_action.specs.declared.state.Worker.{Worker}
-use Rattle.wx_action.specs.declared.work.Collected.{Collected}
-use Rattle.wx_action.specs.declared.work.Collected.TheVariants as collected
-use Rattle.wx_action.specs.declared.work.Worked.{Worked}
-use Rattle.wx_action.specs.declared.work.Worked.TheVariants as worked
+use Rattle.wx_action.specs.declared.worker_state.Held.{Held}
+use Rattle.wx_action.specs.declared.worker_state.Worker.{Worker}
+use Rattle.wx_action.specs.declared.work_turn.Collected.{Collected}
+use Rattle.wx_action.specs.declared.work_turn.Collected.TheVariants as collected
+use Rattle.wx_action.specs.declared.work_turn.Worked.{Worked}
+use Rattle.wx_action.specs.declared.work_turn.Worked.TheVariants as worked
 use Rattle.wx_action.specs.Start.{Start}
-use Rattle.wx_action.specs.Journal.{settings, bag, window, first}
-use Rattle.wx_action.specs.Due.{agenda, plans, Open, Hands, Ends, IsRun}
+use Rattle.wx_action.specs.Journal.{settings, named, bag, window, first, is_over}
+use Rattle.wx_action.specs.Due.{is_quitting, agenda, plans, Open, Hands, Ends}
 use Rattle.wx_action.specs.Handled.{AreEvents, lookup}
-use Rattle.wx_action.specs.HeldJobs.{is_of}
+use Rattle.wx_action.specs.Orderly.{IsOrderly}
 
 -- what is held of a job: its task stands for it, and runs what its creation says, and the handle names both
 pub record HeldStands (p : List Entry) (h : Held) : Type 0 where
@@ -40,20 +43,20 @@ pub record HeldStands (p : List Entry) (h : Held) : Type 0 where
 abbrev pub held_id : Held → Id
 held_id h = id_of h.task
 
--- its job isn't gone
-abbrev pub is_here : Held → Bool
-is_here h = not (gone_of h.task)
+-- no two of these are one
+abbrev pub AreApart : List Id → Type 0
+AreApart [] = Unit {0}
+AreApart (id ∷ ids) = AllByRecursion (λ job. job ≢ id) ids × AreApart ids
 
--- it is of the job of this name, which isn't gone
-abbrev pub is_living : Id → Held → Bool
-is_living id h = is_of id h && is_here h
+-- what is held is of the jobs that a handler sees, in order, and stands for the journal
+pub record JobsStand (p : List Entry) (held : List Held) : Type 0 where
+  pub ids_are : map held_id held ≡ set p
+  pub tasks_stand : AllByRecursion (HeldStands p) held
+  pub ids_apart : AreApart (map held_id held)
 
--- this child runs
-abbrev pub runs_child : ℕ → Held → Bool
-runs_child c h = is_child c (running_of h.task)
-
--- it keeps what the journal says, for this start
+-- the journal is orderly, and it keeps what this says, for this start
 pub record Stands (s : Start) (w : Worker) (p : List Entry) : Type 0 where
+  pub orderly : IsOrderly s p
   pub config_kept : w.config ≡ settings s p
   pub queue_kept : SameBag w.queue.items (bag p)
   pub size_kept : w.queue.size ≡ (settings s p).event_channel_size
@@ -62,36 +65,38 @@ pub record Stands (s : Start) (w : Worker) (p : List Entry) : Type 0 where
   pub names_kept : w.batch.names ≡ window p
   pub events_kept : AreEvents (lookup p) (window p) w.batch.events
   pub first_kept : w.first ≡ first p
-  pub jobs_kept : map held_id w.jobs.items ≡ set p
-  pub tasks_kept : AllByRecursion (HeldStands p) w.jobs.items
+  pub jobs_kept : map held_id w.jobs ≡ set p
+  pub tasks_kept : AllByRecursion (HeldStands p) w.jobs
 
 -- the end of all jobs takes this room, and it is there
 abbrev pub end_room : Worker → ℕ
-end_room w = 2 * length w.jobs.items
+end_room w = 2 * length w.jobs
 
 pub record HasRoom (w : Worker) (journal host : ℕ) : Type 0 where
   pub in_journal : end_room w ≤ journal
   pub in_host : end_room w ≤ host
 
--- the journal is a run from this start, and the worker stands for it
-pub record Ready (s : Start) (w : Worker) (p : List Entry) : Type 0 where
-  pub run : IsRun s p
-  pub stands : Stands s w p
+-- the worker stands for the journal, and the room for the end of all jobs is there
+pub record Ready {Plan : Type 0} (s : Start) (w : Worker) (j : Written) (a : Seen Plan) : Type 0 where
+  pub stands : Stands s w j.past
+  pub room : HasRoom w j.spare a.spare
 
--- the journal is a run whose last entry is a turn of this moment and kind, and the worker stands for it without that turn
+-- the journal's last entry is a turn of this moment and kind, and the worker stands for it without that turn
 pub record AtTurn (s : Start) (w : Worker) (at : ℕ) (kind : TurnKind) (p : List Entry) : Type 0 where
   pub before : List Entry
   pub last : p ≡ Turned (record { at = at; kind = kind }) ∷ before
-  pub run : IsRun s p
   pub stands : Stands s w before
 
 abbrev pub AtWork : Start → Worker → ℕ → List Entry → Type 0
 AtWork s w at p = AtTurn s w at Work p
 
--- a step of the job at this place is owed, at this moment
-pub record IsStepAt (s : Start) (w : Worker) (place at : ℕ) (p : List Entry) : Type 0 where
-  pub within : place < length w.jobs.items
-  pub due : (h : Held) → h ≡ slice_index_or w.jobs.items place h → agenda s p ≡ plans (step_plan (held_id h) (command_of h.task) p) Open
+-- a step of the job of this id is owed, at this moment, and then nothing: the job lives, and runs this
+pub record IsStepOf (s : Start) (id : Id) (at : ℕ) (p : List Entry) : Type 0 where
+  pub what : Command
+  pub alive : lives id p ≡ true
+  pub runs : command id p ≡ Some what
+  pub due : agenda s p ≡ plans (step_plan id what p) Open
+  pub going : is_quitting p ≡ false
   pub now : moment p ≡ at
 
 -- a queue took an item, or was full
@@ -99,11 +104,26 @@ abbrev pub IsOffered : Channel Named → Named × Priority → Channel Named →
 IsOffered old item new Queued = SameBag new.items (old.items ++ item ∷ []) × ((length old.items == old.size) ≡ false)
 IsOffered old item new Full = (new.items ≡ old.items) × ((length old.items == old.size) ≡ true)
 
--- What a Work turn collected: the window is due; or there was nothing to take; or an event was taken, which waits.
+-- an event was taken and passed: it was in the bag, is there no more, and stands last in the window
+pub record HasPassed (p p' : List Entry) : Type 0 where
+  pub name : ℕ
+  pub taken : p' ≡ Take name ∷ p
+  pub was : is_some (named name (bag p)) ≡ true
+  pub left : named name (bag p') ≡ None
+  pub joined : window p' ≡ window p ++ name ∷ []
+
+-- the window isn't due, and there was nothing to take
+pub record HasNone (s : Start) (p p' : List Entry) : Type 0 where
+  pub early : is_over s p (moment p) ≡ false
+  pub none : bag p ≡ []
+  pub said : p' ≡ Said Idle ∷ p
+
+-- What a Work turn collected: the window is due; or it isn't, and there was nothing to take, or an event passed, which
+-- waits.
 abbrev pub Collects : Start → List Entry → Collected → List Entry → Type 0
 Collects s p collected.Hand p' = agenda s p' ≡ Hands
-Collects s p collected.Idle p' = (p' ≡ Said Idle ∷ p) × (agenda s p' ≡ Open)
-Collects s p collected.Kept p' = ((name : ℕ) × (p' ≡ Take name ∷ p)) × (agenda s p' ≡ Open)
+Collects s p collected.Idle p' = HasNone s p p' × (agenda s p' ≡ Open)
+Collects s p collected.Kept p' = HasPassed p p' × (agenda s p' ≡ Open)
 
 -- whether the run goes on
 abbrev pub Works : Start → Worked → List Entry → Type 0

@@ -3,13 +3,13 @@ use Rattle.std.specs.Prelude.{◌≡◌, false, List, [], ◌∷◌}
 use Rattle.wx_command.specs.declared.command.Command.{Command}
 use Rattle.wx_control.specs.declared.id.Id.{Id}
 use Rattle.wx_job.specs.Stands.{Stands as TaskStands, id_of, command_of, gone_of}
-use Rattle.wx_journal.specs.declared.entry.Act.{Act}
+use Rattle.wx_journal.specs.Acts.{JournalAct as Act}
 use Rattle.wx_journal.specs.declared.entry.Act.TheVariants.{Create, Ask, Quit}
 use Rattle.wx_journal.specs.declared.entry.Entry.{Entry}
 use Rattle.wx_journal.specs.declared.entry.Entry.TheVariants.{Made}
 use Rattle.wx_action.specs.declared.handler.Todo.{Todo}
 use Rattle.wx_action.specs.declared.handler.Todo.TheVariants as todo
-use Rattle.wx_action.specs.declared.state.Held.{Held}
+use Rattle.wx_action.specs.declared.worker_state.Held.{Held}
 
 -- This was made for a job of this id that runs this command: its handle and its task are of this job, and the task stands
 -- for it behind the entry that it was made.

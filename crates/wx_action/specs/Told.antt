@@ -1,9 +1,11 @@
 -- What the world answers that is asked for a turn.
-use Rattle.std.specs.Prelude.{ℕ, Bool, true, false, Result, Ok, Err}
+use Rattle.std.specs.Prelude.{◌≡◌, ◌≤◌, ◌+◌, ℕ, Bool, true, false, is_err, Result, Ok, Err, Option, List}
 use Rattle.wx_journal.specs.declared.entry.Entry.{Entry}
 use Rattle.wx_journal.specs.declared.entry.Entry.TheVariants.{Turn as Turned, TurnFault}
 use Rattle.wx_journal.specs.declared.entry.TurnKind.{TurnKind}
-use Rattle.wx_journal.specs.declared.entry.TurnKind.TheVariants.{Last}
+use Rattle.wx_journal.specs.declared.entry.TurnKind.TheVariants.{Ended, Last}
+use Rattle.wx_journal.specs.Told.{tell, tells, Counts}
+use Rattle.wx_job.specs.Seen.{Seen}
 use Rattle.wx_action.specs.declared.outside.Turned.{Turned as Given}
 use Rattle.wx_action.specs.declared.outside.TurnFault.{TurnFault as Fault}
 
@@ -24,3 +26,25 @@ gives_last (Err fault) = false
 abbrev pub moment_after : ℕ → Result Given Fault → ℕ
 moment_after before (Ok t) = t.turn.at
 moment_after before (Err fault) = before
+
+-- A turn that was asked for was told as its entry, in room that was taken before. Where it failed the count rose, and no
+-- count of faults fell.
+pub record GivesTurn {Plan : Type 0} (result : Result Given Fault) (a b : Seen Plan) : Type 0 where
+  pub told : b.shown.told ≡ tell (turned result) a.shown.told
+  pub turns : b.progress.turns ≡ tell (turned result) a.progress.turns
+  pub moment : b.progress.moment ≡ moment_after a.progress.moment result
+  pub faults : Counts (is_err result) a.progress.turn_faults b.progress.turn_faults
+  pub maker_faults : a.progress.maker_faults ≤ b.progress.maker_faults
+  pub host_faults : a.shown.faults ≤ b.shown.faults
+  pub room : a.spare ≤ b.spare + 1
+  pub plan_kept : b.plan ≡ a.plan
+  pub place_kept : b.place ≡ a.place
+
+-- where something outside told its entries of the one journal, it then tells its entries of the other
+abbrev pub TellsOn : (List Entry → Entry → Bool) → List Entry → Option (List Entry) → List Entry → Option (List Entry) → Type 0
+TellsOn mine p told p' told' = (before : Option (List Entry)) → told ≡ tells mine p before → told' ≡ tells mine p' before
+
+-- a turn of this kind tells no end of a child
+abbrev pub TellsNoEnd : TurnKind → Type 0
+TellsNoEnd (Ended c) = ⊥
+TellsNoEnd (_) = Unit {0}

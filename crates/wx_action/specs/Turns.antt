@@ -2,7 +2,7 @@
 use Rattle.std.specs.Prelude.{◌≡◌, Option, List}
 use Rattle.wx_journal.specs.declared.entry.Entry.{Entry}
 use Rattle.wx_journal.specs.Names.{moment}
-use Rattle.wx_journal.specs.Told.{tells, is_turn}
+use Rattle.wx_journal.specs.Told.{tells, anywhere, is_turn}
 use Rattle.wx_action.specs.Journal.{turn_count, early_count, turn_fault}
 use Rattle.wx_action.specs.Laws.{MomentsRise}
 
@@ -13,7 +13,7 @@ pub record SameTurns (p p' : List Entry) : Type 0 where
   pub fault : turn_fault p' ≡ turn_fault p
   pub now : moment p' ≡ moment p
   pub rise : MomentsRise p → MomentsRise p'
-  pub told : (before : Option (List Entry)) → tells is_turn p' before ≡ tells is_turn p before
+  pub told : (before : Option (List Entry)) → tells (anywhere is_turn) p' before ≡ tells (anywhere is_turn) p before
 
 -- whatever had the turns of the one has those of the other
 abbrev pub StaysInTurn : List Entry → List Entry → Type 0

@@ -1,23 +1,24 @@
 // The handler that is lent to an action: it shows the batch and the jobs, and collects acts.
 ghost use Rattle.std.specs.Prelude.{◌≡◌, ◌∷◌, ◌++◌, [], ◌<◌, ◌≤◌, ◌+◌, ◌-◌, ◌^◌, true, false, is_none, is_some, length, vec_len, vec_capacity, Err, IfSome, IfOk, IfErr, OnOk, OnErr};
-ghost use Rattle.wx_control.specs.Sent.{asked, refused_full};
+ghost use Rattle.wx_control.specs.Sent.{sent as after_send};
 ghost use Rattle.wx_control.specs.declared.sink.Refused.TheVariants.{Memory as WantOfMemory};
-ghost use Rattle.wx_journal.specs.Names.{job_count};
+ghost use Rattle.wx_journal.specs.Names.{next_job};
 ghost use Rattle.wx_job.specs.History.{child};
 ghost use Rattle.wx_journal.specs.declared.entry.Act.TheVariants.{Create, Ask as Asks};
 ghost use Rattle.wx_journal.specs.declared.entry.Entry.TheVariants.{Hand};
 ghost use Rattle.wx_action.specs.declared.handler.CreateRefused.TheVariants.{IdsSpent};
 ghost use Rattle.wx_action.specs.Due.{is_quit};
-ghost use Rattle.wx_action.specs.Handled.{ends_with_quit, with_quit, creations, asks_of, AreEvents, lookup, Handled};
+ghost use Rattle.wx_action.specs.Handled.{ends_with_quit, with_this_quit, with_quit, sink_of, AreEvents, lookup, Handled};
 ghost use Rattle.wx_action.specs.HeldJobs.{IsHandle, AreSeen, AreShown};
-ghost use Rattle.wx_action.specs.Jobs.{is_seen, AreLawful};
-ghost use Rattle.wx_action.specs.KeptHandler.{HasSecondRoom, StaysTwice, AddsTwice};
-ghost use Rattle.wx_action.specs.Todo.{AreTodo};
+ghost use Rattle.wx_action.specs.Jobs.{is_seen, AreLawful, next_created};
+ghost use Rattle.wx_action.specs.Last.{without_last};
+ghost use Rattle.wx_action.specs.KeptHandler.{HasSecondRoom, HasQuitRoom, StaysTwice, AddsTwice, QuitsTwice, quit_room};
+ghost use Rattle.wx_action.specs.Todo.{AreTodo, IsNew};
 
 use crate::batch::Batch;
-use crate::held::{Jobs, find_held};
 use crate::ids::IdCount;
-use crate::state::Held;
+use crate::job_list::{JobList, Jobs};
+use crate::worker_state::Held;
 use std::alloc::Global;
 use std::marker::Model;
 use wx_command::Command;
@@ -67,7 +68,7 @@ struct Second {
 #[derive(Drop, Debug)]
 pub struct ActionHandler<'a> {
     journal: &'a Journal,
-    held: &'a [Held],
+    held: &'a JobList,
     names: Vec<u64>,
     events: List<Event>,
     ids: IdCount,
@@ -148,12 +149,72 @@ fn reserve_act(
     reserve_second(second)
 }
 
+/// Lets go of a quit that stands last among these acts, and keeps the room for it.
+#[tactic(auto, using(crate::proofs::QuitLemmas::left_as_is))]
+fn leave_last_quit(acts: &mut Vec<Act>)
+    ensures acts { acts.new.items ≡ without_last is_quit acts.old.items }
+    ensures capacity { vec_capacity acts.new ≡ vec_capacity acts.old }
+{
+    if ends_with_quit(acts.as_slice()) {
+        acts.pop();
+    }
+}
+
+/// Adds a quit in the place of one that stands last, or else behind the acts, in room that was taken.
+#[tactic(auto, using(crate::proofs::QuitLemmas::room_for_quit))]
+fn put_quit(acts: &mut Vec<Act>, quit: Act)
+    requires { vec_len acts.old + quit_room acts.old.items ≤ vec_capacity acts.old }
+    ensures acts { acts.new.items ≡ with_this_quit quit acts.old.items }
+    ensures capacity { vec_capacity acts.new ≡ vec_capacity acts.old }
+    ensures room { vec_len acts.new ≤ vec_capacity acts.new }
+{
+    leave_last_quit(acts);
+    acts.push_reserved(quit);
+}
+
+/// The same among those that stand a second time, where they do.
+fn put_second_quit(second: &mut Option<Second>, quit: Act)
+    requires { HasQuitRoom second.old }
+    ensures { QuitsTwice quit second.old second.new }
+{
+    if let Some(second) = second {
+        put_quit(&mut second.acts, quit);
+    }
+}
+
+/// A job that an act creates: the act, twice, a handle for the caller, and what is to be held.
+#[derive(Drop)]
+struct NewJob {
+    act: Act,
+    twice: Act,
+    job: Job,
+    held: Held,
+}
+
+/// A new job of this id that runs this command. It fails only for want of memory.
+fn new_job(alloc: Global, id: Id, command: Command) -> Result<NewJob, Memory>
+    ensures acts { IfOk result (λ new. (new.act ≡ Create id command) × (new.twice ≡ Create id command)) }
+    ensures job { IfOk result (λ new. (new.job.id ≡ id) × (new.job.command ≡ command)) }
+    ensures held { IfOk result (λ new. IsNew new.held id command) }
+{
+    let act = Act::Create(id, command.copy(alloc)?);
+    let twice = Act::Create(id, command.copy(alloc)?);
+    let (job, task) = start_job(alloc, id, command)?;
+    let handle = job.copy(alloc)?;
+    Ok(NewJob {
+        act,
+        twice,
+        job,
+        held: Held { handle, task },
+    })
+}
+
 impl<'a> ActionHandler<'a> {
     /// A handler that shows this batch, which isn't empty, and these jobs, and holds no act. It takes no memory.
     pub(crate) fn new(
         alloc: Global,
         journal: &'a Journal,
-        held: &'a [Held],
+        held: &'a JobList,
         batch: Batch,
     ) -> ActionHandler<'a>
         requires some { 0 < length batch.names }
@@ -173,7 +234,7 @@ impl<'a> ActionHandler<'a> {
             held,
             names,
             events: List::from_vec(events),
-            ids: IdCount::new(journal.jobs()),
+            ids: IdCount::new(journal.next_job()),
             acts,
             second: Some(Second {
                 names: second_names,
@@ -197,7 +258,7 @@ impl<'a> ActionHandler<'a> {
         ensures there { IfOk result (λ found. is_some found ≡ is_seen id self.now.past) }
         ensures handle { IfOk result (λ found. IfSome found (λ job. IsHandle self.now.past id job)) }
     {
-        match find_held(self.held, id) {
+        match self.held.get(id) {
             Some(held) => Ok(Some(held.handle.copy(alloc)?)),
             None => Ok(None),
         }
@@ -207,14 +268,14 @@ impl<'a> ActionHandler<'a> {
     pub fn list_jobs(&self) -> Jobs<'_>
         ensures { AreSeen self.now.past result }
     {
-        Jobs::new(self.held)
+        self.held.iter()
     }
 
     /// Whether the child of the job of this id runs, by the journal so far. None does where there is no such job.
     pub fn job_running(&self, id: Id) -> bool
         ensures { result ≡ is_some (child id self.now.past) }
     {
-        match find_held(self.held, id) {
+        match self.held.get(id) {
             Some(held) => held.task.running_child().is_some(),
             None => false,
         }
@@ -228,41 +289,35 @@ impl<'a> ActionHandler<'a> {
         alloc: Global,
         command: Command,
     ) -> Result<(Id, Job), CreateRefused>
-        ensures id { IfOk result (λ made. made.0.0 ≡ job_count self.old.past + creations self.old.acts) }
+        ensures id { IfOk result (λ made. made.0.0 ≡ next_created (next_job self.old.past) self.old.acts) }
         ensures new { IfOk result (λ made. is_seen made.0 self.old.past ≡ false) }
         ensures handle { IfOk result (λ made. made.1.id ≡ made.0) }
         ensures command { IfOk result (λ made. made.1.command ≡ command) }
         ensures created { IfOk result (λ made. self.new ≡ record self.old { acts = self.old.acts ++ Create made.0 command ∷ [] }) }
         ensures refused { OnErr result (self.new ≡ self.old) }
-        ensures spent { IfErr result (λ refusal. refusal ≡ IdsSpent → 2 ^ 32 - 1 ≤ job_count self.old.past + creations self.old.acts) }
-        ensures exactly { 2 ^ 32 - 1 ≤ job_count self.old.past + creations self.old.acts → result ≡ Err IdsSpent }
+        ensures spent { IfErr result (λ refusal. refusal ≡ IdsSpent → 2 ^ 32 - 1 ≤ next_created (next_job self.old.past) self.old.acts) }
+        ensures exactly { 2 ^ 32 - 1 ≤ next_created (next_job self.old.past) self.old.acts → result ≡ Err IdsSpent }
     {
         let mut ids = self.ids;
         let Some(id) = ids.next() else {
             return Err(CreateRefused::IdsSpent);
         };
-        let first = command.copy(alloc)?;
-        let second = command.copy(alloc)?;
-        let (job, task) = start_job(alloc, id, command)?;
-        let handle = job.copy(alloc)?;
         reserve_act(&mut self.acts, &mut self.second, &mut self.todo)?;
+        let new = new_job(alloc, id, command)?;
         self.ids = ids;
-        self.acts.push_reserved(Act::Create(id, first));
-        push_second(&mut self.second, Act::Create(id, second));
-        self.todo.push_reserved(Todo::Create(Held { handle, task }));
-        Ok((id, job))
+        self.acts.push_reserved(new.act);
+        push_second(&mut self.second, new.twice);
+        self.todo.push_reserved(Todo::Create(new.held));
+        Ok((id, new.job))
     }
 
-    /// Asks for the end of the run. Of several such acts the last stands; one that directly follows another is not
-    /// listed again. It takes no memory.
+    /// Asks for the end of the run. Of several such acts the last stands; one that directly follows another takes its
+    /// place in the list. It takes no memory.
     pub fn quit(&mut self)
         ensures { self.new ≡ record self.old { acts = with_quit self.old.acts } }
     {
-        if ends_with_quit(self.acts.as_slice()) {
-            return;
-        }
-        self.acts.push_reserved(Act::Quit);
-        push_second(&mut self.second, Act::Quit);
+        put_quit(&mut self.acts, Act::Quit);
+        put_second_quit(&mut self.second, Act::Quit);
     }
 
     /// Moves out the entry of this call: the number of the handler, the names of the events, and all acts so far.
@@ -271,7 +326,7 @@ impl<'a> ActionHandler<'a> {
         requires { self.old.handed ≡ false }
         ensures entry { result ≡ Hand n self.old.names self.old.acts }
         ensures handed { self.new ≡ record self.old { handed = true } }
-        ensures lawful { AreLawful (job_count self.old.past) self.old.acts }
+        ensures lawful { AreLawful (next_job self.old.past) self.old.acts }
     {
         match self.second.take() {
             Some(second) => Entry::Hand {
@@ -287,7 +342,7 @@ impl<'a> ActionHandler<'a> {
     pub(crate) fn into_parts(self) -> (List<u64>, List<Act>, Vec<Todo>)
         ensures names { result.0 ≡ self.entry.names }
         ensures acts { result.1 ≡ self.entry.acts }
-        ensures lawful { AreLawful (job_count self.entry.past) result.1 }
+        ensures lawful { AreLawful (next_job self.entry.past) result.1 }
         ensures todo { AreTodo result.1 result.2.items }
     {
         (
@@ -299,20 +354,14 @@ impl<'a> ActionHandler<'a> {
 }
 
 impl<'a> Controls for ActionHandler<'a> {
-    ghost asks = { λ h. asks_of h.acts };
-
-    ghost fulls = { λ _. 0 };
-
     ghost Rest = { Handled };
 
-    ghost rest = { λ h. record h { acts = [] } };
+    ghost sink = { sink_of };
 
     /// Asks this of the job by an act, and answers the ticket of it. It fails only for want of memory, and leaves the
     /// handler as it was then.
     fn send(&mut self, alloc: Global, job: &Job, ask: Ask) -> Result<Ticket, Refused>
-        ensures asks { asks_of self.new.acts ≡ asked result job.now.id ask (asks_of self.old.acts) }
-        ensures fulls { 0 ≡ refused_full result 0 }
-        ensures rest { record self.new { acts = [] } ≡ record self.old { acts = [] } }
+        ensures sink { sink_of self.new ≡ after_send result job.now.id ask (sink_of self.old) }
         ensures sent { OnOk result (self.new ≡ record self.old { acts = self.old.acts ++ Asks job.now.id ask ∷ [] }) }
         ensures gone { IfOk result (λ ticket. ticket.gone ≡ job.now.gone) }
         ensures refused { OnErr result (self.new ≡ self.old) }

@@ -3,17 +3,17 @@ ghost use Rattle.std.specs.Prelude.{◌≡◌, ◌+◌, ◌-◌, ◌^◌, ◌<�
 
 use wx_control::Id;
 
-/// How many ids of jobs were given. There are 2^32 - 1, so it goes no further.
+/// The id of the next new job, which is above each that was given. There are 2^32 - 1 ids, so it goes no further.
 #[derive(Clone, Copy, Debug, PartialEq, Eq)]
 pub struct IdCount(u32);
 
 impl IdCount {
-    /// The count where this many ids were given, and 2^32 - 1 where more were.
-    pub fn new(made: u64) -> IdCount
-        ensures { result.0 ≡ min made (2 ^ 32 - 1) }
+    /// This id, and 2^32 - 1 where it is greater.
+    pub fn new(next: u64) -> IdCount
+        ensures { result.0 ≡ min next (2 ^ 32 - 1) }
     {
-        if made < u32::MAX as u64 {
-            IdCount(made as u32)
+        if next < u32::MAX as u64 {
+            IdCount(next as u32)
         } else {
             IdCount(u32::MAX)
         }

@@ -1,25 +1,27 @@
 //! What an engine does in a turn, written into a journal.
 #![tactic(auto)]
 
+mod acts_done;
 mod batch;
 mod handler;
-mod held;
 mod ids;
-mod jobs;
+mod job_list;
+mod job_turns;
 mod outside;
 mod printing;
-mod state;
 #[cfg(test)]
 mod tests;
-mod work;
+mod work_turn;
+mod worker_state;
 
 pub use batch::Batch;
 pub use handler::{ActionHandler, CreateRefused};
-pub use held::Jobs;
 pub use ids::IdCount;
-pub use jobs::{ask_turn, end_jobs, ended_turn, job_turn, keep_end};
+pub use job_list::{JobList, Jobs};
+pub use job_turns::{ask_turn, end_jobs, ended_turn, job_turn, keep_end};
 pub use outside::{Hooks, TurnFault, Turned, World};
 pub use printing::{lost, one_spelling, print_journal};
-pub use state::{Held, Worker};
-pub use work::{Collected, Worked, throttle_collect, worker};
+pub use work_turn::{Collected, Worked, throttle_collect, worker};
+pub use worker_state::{Held, Worker};
 pub use wx_job::{Host, JobHooks, Outside};
+pub use wx_journal::{Turn, TurnKind};

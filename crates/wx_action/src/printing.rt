@@ -1,9 +1,8 @@
 // A journal as text.
-ghost use Rattle.std.specs.Prelude.{◌≡◌, ◌∷◌, ◌++◌, List as Listed, OnOk, IfOk};
-ghost use Rattle.wx_action.specs.Journal.{window};
+ghost use Rattle.std.specs.Prelude.{◌≡◌, ◌∷◌, ◌++◌, not, List as Listed, OnOk, IfOk};
+ghost use Rattle.wx_action.specs.Journal.{is_among, unhanded, window};
 ghost use Rattle.wx_action.specs.Printed.{printed};
-ghost use Rattle.wx_journal.specs.Lines.{Answer};
-ghost use Rattle.wx_journal.specs.LineLaws.{JournalFits, AnswerFits};
+ghost use Rattle.wx_journal.specs.Lines.{Answer, JournalFits, AnswerFits};
 ghost use Rattle.wx_journal.specs.declared.entry.Entry.{Entry as AnEntry};
 
 use std::alloc::Global;
@@ -11,29 +10,41 @@ use wx_config::CriticalError;
 use wx_events::{List, Memory, Text};
 use wx_journal::{Entry, Journal, put_end, put_lines};
 
-/// Adds an event that was taken, and drops those that were handed.
-fn follow(entry: &Entry, names: &mut List<u64>) -> Result<(), Memory>
-    ensures { OnOk result ((p : Listed AnEntry) → names.old ≡ window p → names.new ≡ window (entry.now ∷ p)) }
+/// Whether this name is none of a batch.
+fn is_left(name: u64, batch: &[u64]) -> bool
+    ensures { result ≡ not (is_among name batch.now) }
 {
-    match entry {
-        Entry::Take(name) => names.push(*name),
-        Entry::Hand { .. } => {
-            names.clear();
-            Ok(())
-        }
-        _ => Ok(()),
-    }
+    !batch.contains(&name)
 }
 
-/// The names of the events that were taken since the last batch, in order. It fails only for want of memory.
+/// The names of a batch leave.
+fn leave_handed(names: &mut Vec<u64>, batch: &[u64])
+    ensures { names.new.items ≡ unhanded batch.now names.old.items }
+{
+    names.retain(|name| is_left(*name, batch));
+}
+
+/// Adds an event that joins the window, and drops those that are handed.
+fn follow(entry: &Entry, names: &mut Vec<u64>) -> Result<(), Memory>
+    ensures { OnOk result ((p : Listed AnEntry) → names.old.items ≡ window p → names.new.items ≡ window (entry.now ∷ p)) }
+{
+    match entry {
+        Entry::Take(name) => names.push(*name)?,
+        Entry::Hand { names: batch, .. } => leave_handed(names, batch.as_slice()),
+        _ => {}
+    }
+    Ok(())
+}
+
+/// The names of the events that passed and were not handed, in order. It fails only for want of memory.
 pub fn lost(alloc: Global, journal: &Journal) -> Result<List<u64>, Memory>
     ensures { IfOk result (λ names. names ≡ window journal.now.past) }
 {
-    let mut names = List::new(alloc);
+    let mut names = Vec::new(alloc);
     for entry in journal.as_slice() {
         follow(entry, &mut names)?;
     }
-    Ok(names)
+    Ok(List::from_vec(names))
 }
 
 /// The text of a journal, an entry a line and the oldest first, and of the end line with the answer of the run. Both are

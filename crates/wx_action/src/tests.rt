@@ -6,6 +6,7 @@ ghost use Rattle.wx_action.specs.HeldJobs.{AreShown};
 use crate::batch::Batch;
 use crate::handler::ActionHandler;
 use crate::ids::IdCount;
+use crate::job_list::JobList;
 use crate::printing::{lost, print_journal};
 use std::alloc::Global;
 use std::process::Abort;
@@ -78,7 +79,8 @@ fn ids_are_given_once(rt: HostRuntime) -> Result<(), Fail> {
 fn a_handler_lists_acts(rt: HostRuntime) -> Result<(), Fail> {
     let alloc = rt.alloc();
     let (journal, batch) = batch_of_one(alloc)?;
-    let mut handler = ActionHandler::new(alloc, &journal, &[], batch);
+    let jobs = JobList::new(alloc);
+    let mut handler = ActionHandler::new(alloc, &journal, &jobs, batch);
     assert_eq!(rt; handler.events().len(), 1);
     let (first, a) = handler.create_job(alloc, command(alloc, b"a")?)?;
     let (second, b) = handler.create_job(alloc, command(alloc, b"b")?)?;
@@ -102,7 +104,8 @@ fn a_handler_lists_acts(rt: HostRuntime) -> Result<(), Fail> {
 fn a_handler_shows_no_job_that_it_created(rt: HostRuntime) -> Result<(), Fail> {
     let alloc = rt.alloc();
     let (journal, batch) = batch_of_one(alloc)?;
-    let mut handler = ActionHandler::new(alloc, &journal, &[], batch);
+    let jobs = JobList::new(alloc);
+    let mut handler = ActionHandler::new(alloc, &journal, &jobs, batch);
     let (id, _job) = handler.create_job(alloc, command(alloc, b"a")?)?;
     assert_eq!(rt; id, Id(0));
     assert!(rt; handler.get_job(alloc, Id(0))?.is_none());

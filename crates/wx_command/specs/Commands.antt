@@ -1,40 +1,53 @@
--- Commands as words.
+-- Commands, and what they spawn, as words.
+use Rattle.std.proofs.Common.{refl}
 use Rattle.std.specs.Prelude.{ℕ, List, [], ◌∷◌, codes}
-use Rattle.wx_words.specs.Combine.{Reader, pair_words, read_pair, read_as, read_rows}
-use Rattle.wx_words.specs.Texts.{AllBytes, text_words, read_text}
-use Rattle.wx_command.specs.Options.{options_words, read_options}
-use Rattle.wx_command.specs.Filled.{FilledFits, filled_words, read_filled}
+use Rattle.wx_words.specs.Spellings.{Spelling}
+use Rattle.wx_words.specs.Choices.{Row, row, Behind, fields}
+use Rattle.wx_words.specs.ChoiceLaws.{Makes, MadeAgain, SpeltSo, choice}
+use Rattle.wx_words.specs.Parts.{line, both, renamed, list_of, text}
+use Rattle.wx_command.specs.Argvs.{argv}
+use Rattle.wx_command.specs.OptionsLaws.{options}
+use Rattle.wx_command.specs.declared.argv.Argv.{Argv}
 use Rattle.wx_command.specs.declared.command.SpawnOptions.{SpawnOptions}
 use Rattle.wx_command.specs.declared.program.Program.{Program}
 use Rattle.wx_command.specs.declared.program.Program.TheVariants.{Exec}
 use Rattle.wx_command.specs.declared.command.Command.{Command}
+use Rattle.wx_command.specs.declared.spawnable.Spawnable.{Spawnable}
 
--- the programs whose texts are those of the code
-abbrev pub ProgramFits : Program → Type 0
-ProgramFits (Exec prog args) = FilledFits AllBytes (prog, args)
+abbrev pub make_exec : SpawnOptions × Argv → Command
+make_exec p = record { program = Exec p.1.prog p.1.args; options = p.0 }
 
-abbrev pub CommandFits : Command → Type 0
-CommandFits c = ProgramFits c.program
+-- each first word of a command, and what stands behind it
+abbrev pub command_rows : List (Row line Command)
+command_rows = row (codes "exec") (both options argv) make_exec ∷ []
 
--- the options, then the program and its arguments
-abbrev pub exec_words : SpawnOptions × (List ℕ × List (List ℕ)) → List (List ℕ)
-exec_words p = pair_words options_words (filled_words text_words) p
+abbrev pub program_word : Program → List ℕ
+program_word (Exec prog args) = codes "exec"
 
-abbrev pub with_options : SpawnOptions → Program → List (List ℕ)
-with_options options (Exec prog args) = codes "exec" ∷ exec_words (options, (prog, args))
+abbrev pub program_behind : SpawnOptions → Program → Behind line
+program_behind o (Exec prog args) = fields (both options argv) (o, record { prog = prog; args = args })
 
-abbrev pub command_words : Command → List (List ℕ)
-command_words c = with_options c.options c.program
+abbrev pub command_word : Command → List ℕ
+command_word c = program_word c.program
 
-abbrev pub make_exec : SpawnOptions × (List ℕ × List (List ℕ)) → Command
-make_exec p = record { program = Exec p.1.0 p.1.1; options = p.0 }
+abbrev pub command_behind : Command → Behind line
+command_behind c = program_behind c.options c.program
 
-abbrev pub read_exec : Reader (SpawnOptions × (List ℕ × List (List ℕ)))
-read_exec ws = read_pair read_options (read_filled read_text) ws
+pub command_made : (o : SpawnOptions) (program : Program) → Makes command_rows (program_word program) (program_behind o program) (record { program = program; options = o })
+command_made o (Exec prog args) = (_, refl, refl)
 
--- each first word of a command, and how the rest is read
-abbrev pub command_rows : List (List ℕ × Reader Command)
-command_rows = (codes "exec", read_as make_exec read_exec) ∷ []
+pub command_again : MadeAgain command_rows command_word command_behind
+command_again c = command_made c.options c.program
 
-unfoldable pub read_command : Reader Command
-read_command ws = read_rows command_rows ws
+pub command_so : SpeltSo command_rows command_word command_behind
+command_so = search
+
+unfoldable pub command : Spelling line Command
+command = choice command_rows command_word command_behind command_again command_so refl
+
+-- the options, then the list of texts
+abbrev pub make_spawnable : SpawnOptions × List (List ℕ) → Spawnable
+make_spawnable p = record { words = p.1; options = p.0 }
+
+unfoldable pub spawnable : Spelling line Spawnable
+spawnable = renamed (both options (list_of text)) make_spawnable (λ s. (s.options, s.words)) (λ s. refl) (λ p. refl)

@@ -1,8 +1,5 @@
 pub mod Options
 pub mod OptionsLaws
-pub mod Filled
-pub mod FilledLaws
+pub mod Argvs
 pub mod Commands
-pub mod CommandLaws
 pub mod Spawnables
-pub mod SpawnableLaws

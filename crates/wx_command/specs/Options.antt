@@ -12,9 +12,6 @@ flag_byte letter on = if on then letter else 45
 abbrev pub options_word : SpawnOptions → List ℕ
 options_word o = flag_byte 103 o.grouped ∷ flag_byte 115 o.session ∷ flag_byte 114 o.reset_sigmask ∷ flag_byte 102 o.grant_foreground ∷ []
 
-abbrev pub options_words : SpawnOptions → List (List ℕ)
-options_words o = options_word o ∷ []
-
 abbrev pub flag_in : ℕ → ℕ → Option Bool
 flag_in letter byte = if byte == letter then Some true else (if byte == 45 then Some false else None)
 

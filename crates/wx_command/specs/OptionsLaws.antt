@@ -6,8 +6,10 @@ use Rattle.wx_words.specs.OptionLaws.{map_some, bind_some, chosen_by, guarded}
 use Rattle.wx_words.specs.Texts.{text_in}
 use Rattle.wx_words.specs.Forms.{Stood, IsForm}
 use Rattle.wx_words.specs.FormLaws.{stood-one, same_read}
-use Rattle.wx_words.specs.Clean.{IsClean, AllClean}
-use Rattle.wx_command.specs.Options.{flag_byte, flag_in, options_word, options_words, options_in, read_options}
+use Rattle.wx_words.specs.Clean.{IsClean}
+use Rattle.wx_words.specs.Spellings.{Spelling}
+use Rattle.wx_words.specs.Parts.{line}
+use Rattle.wx_command.specs.Options.{flag_byte, flag_in, options_word, options_in, read_options}
 use Rattle.wx_command.specs.declared.command.SpawnOptions.{SpawnOptions}
 
 options_again : (g s r f : Bool) → options_in (options_word (record { grouped = g; session = s; reset_sigmask = r; grant_foreground = f })) ≡ Some (record { grouped = g; session = s; reset_sigmask = r; grant_foreground = f })
@@ -56,14 +58,14 @@ options_takes (g ∷ s ∷ r ∷ f ∷ []) o e =
     built g s r f (record { grouped = a.0; session = b.0; reset_sigmask = c.0; grant_foreground = d.0 }) (flag_takes 103 g a.0 a.1) (flag_takes 115 s b.0 b.1) (flag_takes 114 r c.0 c.1) (flag_takes 102 f d.0 d.1) ∙ ap options_word same
 options_takes (g ∷ s ∷ r ∷ f ∷ x ∷ w) o e = absurd cc
 
-pub options_form : IsForm text_in (λ (o : SpawnOptions). Unit {0}) options_words read_options
+pub options_form : IsForm text_in (λ (o : SpawnOptions). Unit {0}) (λ o. options_word o ∷ []) read_options
 options_form = record { again = λ o rest fits. rw (options_again o.grouped o.session o.reset_sigmask o.grant_foreground) refl; takes = takes }
   where
-    takes : (ws : List (List ℕ)) (o : SpawnOptions) (rest : List (List ℕ)) → read_options ws ≡ Some (o, rest) → Unit {0} × Stood text_in (options_words o) ws rest
+    takes : (ws : List (List ℕ)) (o : SpawnOptions) (rest : List (List ℕ)) → read_options ws ≡ Some (o, rest) → Unit {0} × Stood text_in (options_word o ∷ []) ws rest
     takes [] o rest e = absurd cc
     takes (w ∷ ws) o rest e =
         let m = map_some (λ p. (p, ws)) (options_in w) (o, rest) e in
-        same_read (λ (p : SpawnOptions) (r : List (List ℕ)). Unit {0} × Stood text_in (options_words p) (w ∷ ws) r) m.0 o ws rest (ap (λ (p : SpawnOptions × List (List ℕ)). Some p) m.2)
+        same_read (λ (p : SpawnOptions) (r : List (List ℕ)). Unit {0} × Stood text_in (options_word p ∷ []) (w ∷ ws) r) m.0 o ws rest (ap (λ (p : SpawnOptions × List (List ℕ)). Some p) m.2)
         (tt, stood-one text_in w (options_word m.0) ws (ap text_in (options_takes w m.0 m.1)))
 
 flag_clean : (letter : ℕ) (b : Bool) → 32 < letter → 32 < flag_byte letter b
@@ -73,5 +75,5 @@ flag_clean letter false lt = omega arith
 pub options_word_clean : (o : SpawnOptions) → IsClean (options_word o)
 options_word_clean o = (flag_clean 103 o.grouped (omega arith), (flag_clean 115 o.session (omega arith), (flag_clean 114 o.reset_sigmask (omega arith), (flag_clean 102 o.grant_foreground (omega arith), tt))))
 
-pub options_clean : (o : SpawnOptions) → Unit {0} → AllClean (options_words o)
-options_clean o fits = (options_word_clean o, tt)
+unfoldable pub options : Spelling line SpawnOptions
+options = record { fits = λ o. Unit {0}; words = λ o. options_word o ∷ []; read = read_options; form = options_form; clean = λ o fits. (options_word_clean o, tt) }

@@ -1,6 +1,7 @@
 //! Commands: what they spawn, and the words in which they are written.
 #![tactic(auto)]
 
+mod argv;
 mod command;
 mod options;
 mod program;

@@ -41,19 +41,11 @@ fn options_in(word: &[u8]) -> Option<SpawnOptions>
     }
 }
 
+#[tactic(auto, unfolding(crate::specs::OptionsLaws::options, wx_words::specs::Line::behind))]
 impl Spelled for SpawnOptions {
-    ghost use Rattle.wx_command.specs.Options.{options_words, read_options};
-    ghost use Rattle.wx_command.specs.OptionsLaws.{options_form, options_clean};
+    ghost use Rattle.wx_command.specs.OptionsLaws.{options};
 
-    ghost words = { options_words };
-
-    ghost fits = { λ o. Unit {0} };
-
-    ghost read = { read_options };
-
-    ghost form = { options_form };
-
-    ghost clean = { options_clean };
+    ghost spelling = { options };
 
     fn put_after(&self, out: &mut Text) -> Result<(), Memory> {
         out.append(b" ")?;

@@ -6,6 +6,7 @@ use crate::command::{Command, SpawnOptions};
 use crate::program::Program;
 use std::alloc::Global;
 use wx_events::{Copies, List, Memory, Spelled, Text, Words};
+use wx_words::Fields;
 
 /// What is spawned: the program and then its arguments, and how.
 #[derive(Drop, Debug, PartialEq, Eq)]
@@ -53,32 +54,18 @@ impl Copies for Spawnable {
     }
 }
 
+#[tactic(auto, unfolding(crate::specs::Commands::spawnable, wx_words::specs::Parts::both))]
 impl Spelled for Spawnable {
-    ghost use Rattle.wx_command.specs.Spawnables.{SpawnableFits, spawnable_words, read_spawnable};
-    ghost use Rattle.wx_command.specs.SpawnableLaws.{spawnable_form, spawnable_clean};
+    ghost use Rattle.wx_command.specs.Commands.{spawnable};
 
-    ghost words = { spawnable_words };
+    ghost spelling = { spawnable };
 
-    ghost fits = { SpawnableFits };
-
-    ghost read = { read_spawnable };
-
-    ghost form = { spawnable_form };
-
-    ghost clean = { spawnable_clean };
-
-    #[tactic(auto, using(wx_words::specs::LineLaws::spaces))]
     fn put_after(&self, out: &mut Text) -> Result<(), Memory> {
-        self.options.put_after(out)?;
-        self.words.put_after(out)
+        (&self.options, &self.words).put_fields(out)
     }
 
     fn read(alloc: Global, line: &mut Words) -> Result<Option<Spawnable>, Memory> {
-        let Some(options) = SpawnOptions::read(alloc, line)? else {
-            return Ok(None);
-        };
-        let found: Option<List<Text>> = List::read(alloc, line)?;
-        let Some(words) = found else {
+        let Some((options, words)) = Spelled::read(alloc, line)? else {
             return Ok(None);
         };
         Ok(Some(Spawnable { words, options }))

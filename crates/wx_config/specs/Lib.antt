@@ -1,4 +1,3 @@
 pub mod Critical
 pub mod Defaults
 pub mod Watched
-pub mod WatchedLaws

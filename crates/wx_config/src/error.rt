@@ -1,10 +1,11 @@
 // Why a run ends before its last turn.
-ghost use Rattle.std.specs.Prelude.{◌≡◌, ◌++◌, OnOk};
-ghost use Rattle.wx_words.specs.Line.{spaced};
-ghost use Rattle.wx_config.specs.Critical.{critical_words, CriticalFits};
+ghost use Rattle.std.specs.Prelude.{◌≡◌, OnOk};
+ghost use Rattle.wx_words.specs.Line.{behind};
+ghost use Rattle.wx_config.specs.Critical.{critical};
 
 use thiserror::Error;
-use wx_events::{Escaped, Memory, Spelled, Text};
+use wx_events::{Escaped, Memory, Text};
+use wx_words::{put_row, put_word};
 
 /// An error that ends a run. It is shown by its words.
 #[derive(Drop, Debug, Error)]
@@ -20,18 +21,14 @@ pub enum CriticalError {
 impl CriticalError {
     /// Appends the words of an error that ended a run, each with a space before it. A part of the words may stand in
     /// `out` where memory runs out.
-    #[tactic(auto, using(wx_words::specs::LineLaws::spaces))]
+    #[tactic(auto, unfolding(crate::specs::Critical::critical, wx_words::specs::Parts::both))]
     pub fn put_after(&self, out: &mut Text) -> Result<(), Memory>
-        ensures text { OnOk result (out.new ≡ out.old ++ spaced (critical_words self.now)) }
-        ensures fits { OnOk result (CriticalFits self.now) }
+        ensures text { OnOk result (out.new ≡ behind out.old (critical.words self.now)) }
+        ensures fits { OnOk result (critical.fits self.now) }
     {
         match self {
-            CriticalError::IoError { about, err } => {
-                out.append(b" io")?;
-                about.put_after(out)?;
-                err.put_after(out)
-            }
-            CriticalError::Memory => out.append(b" memory"),
+            CriticalError::IoError { about, err } => put_row(b"io", &(about, err), out),
+            CriticalError::Memory => put_word(b"memory", out),
         }
     }
 }

@@ -1,10 +1,9 @@
 // What is watched, and how.
-ghost use Rattle.std.specs.Prelude.{◌≡◌, true, false, IfOk};
-ghost use Rattle.wx_words.specs.Line.{Reads};
-ghost use Rattle.wx_config.specs.Watched.{read_watcher, read_path};
+ghost use Rattle.std.specs.Prelude.{◌≡◌, true, false};
 
 use std::alloc::Global;
 use wx_events::{Copies, Memory, Spelled, Text, TextPath, Words};
+use wx_words::{put_row, put_word, read_rows};
 
 /// How files are watched.
 #[derive(Clone, Copy, Debug, Default, PartialEq, Eq)]
@@ -84,81 +83,42 @@ impl Copies for WatchedPath {
     }
 }
 
+#[tactic(auto, using(wx_words::specs::LineLaws::behinds), unfolding(crate::specs::Watched::watcher))]
 impl Spelled for Watcher {
-    ghost use Rattle.wx_config.specs.Watched.{WatcherFits, watcher_words};
-    ghost use Rattle.wx_config.specs.WatchedLaws.{watcher_form, watcher_clean};
+    ghost use Rattle.wx_config.specs.Watched.{watcher};
 
-    ghost words = { watcher_words };
+    ghost spelling = { watcher };
 
-    ghost fits = { WatcherFits };
-
-    ghost read = { read_watcher };
-
-    ghost form = { watcher_form };
-
-    ghost clean = { watcher_clean };
-
-    #[tactic(auto, using(wx_words::specs::LineLaws::spaces))]
     fn put_after(&self, out: &mut Text) -> Result<(), Memory> {
         match self {
-            Watcher::Native => out.append(b" native"),
-            Watcher::Poll(interval) => {
-                out.append(b" poll")?;
-                interval.put_after(out)
-            }
+            Watcher::Native => put_word(b"native", out),
+            Watcher::Poll(interval) => put_row(b"poll", &interval, out),
         }
     }
 
-    #[tactic(auto, unfolding(crate::specs::Watched::read_watcher))]
     fn read(alloc: Global, line: &mut Words) -> Result<Option<Watcher>, Memory> {
-        let Some(word) = line.next() else {
-            return Ok(None);
-        };
-        if word == b"native".as_slice() {
-            return Ok(Some(Watcher::Native));
-        }
-        if word != b"poll".as_slice() {
-            return Ok(None);
-        }
-        match u64::read(alloc, line)? {
-            Some(interval) => Ok(Some(Watcher::Poll(interval))),
-            None => Ok(None),
-        }
+        read_rows!(alloc, line;
+            b"native" => Watcher::Native,
+            b"poll" (interval) => Watcher::Poll(interval),
+        )
     }
 }
 
+#[tactic(auto, using(wx_words::specs::LineLaws::behinds), unfolding(crate::specs::Watched::watched))]
 impl Spelled for WatchedPath {
-    ghost use Rattle.wx_config.specs.Watched.{PathFits, path_words};
-    ghost use Rattle.wx_config.specs.WatchedLaws.{path_form, path_clean};
+    ghost use Rattle.wx_config.specs.Watched.{watched};
 
-    ghost words = { path_words };
+    ghost spelling = { watched };
 
-    ghost fits = { PathFits };
-
-    ghost read = { read_path };
-
-    ghost form = { path_form };
-
-    ghost clean = { path_clean };
-
-    #[tactic(auto, using(wx_words::specs::LineLaws::spaces))]
     fn put_after(&self, out: &mut Text) -> Result<(), Memory> {
-        out.append(if self.recursive { b" r" } else { b" n" })?;
-        self.path.put_after(out)
+        let word = if self.recursive { b"r" } else { b"n" };
+        put_row(word, &&self.path, out)
     }
 
-    #[tactic(auto, unfolding(crate::specs::Watched::read_path))]
     fn read(alloc: Global, line: &mut Words) -> Result<Option<WatchedPath>, Memory> {
-        let Some(word) = line.next() else {
-            return Ok(None);
-        };
-        let recursive = word == b"r".as_slice();
-        if !recursive && word != b"n".as_slice() {
-            return Ok(None);
-        }
-        match TextPath::read(alloc, line)? {
-            Some(path) => Ok(Some(WatchedPath { path, recursive })),
-            None => Ok(None),
-        }
+        read_rows!(alloc, line;
+            b"r" (path) => WatchedPath::recursive(path),
+            b"n" (path) => WatchedPath::non_recursive(path),
+        )
     }
 }

@@ -1,26 +1,25 @@
 -- The table of asks, and their words.
-use Rattle.std.specs.Prelude.{ℕ, None, List}
-use Rattle.wx_words.specs.Combine.{Reader, read_as}
+use Rattle.std.proofs.Common.{◌≡◌, refl}
+use Rattle.std.specs.Prelude.{None}
+use Rattle.wx_words.specs.Spellings.{Spelling}
+use Rattle.wx_words.specs.Parts.{line, renamed}
 use Rattle.wx_control.specs.declared.control.Control.{Control}
 use Rattle.wx_control.specs.declared.level.Level.TheVariants.{Normal}
 use Rattle.wx_control.specs.declared.ask.Ask.{Ask}
 use Rattle.wx_control.specs.declared.ask.Ask.TheVariants.{One}
 use Rattle.wx_control.specs.declared.ask.Sends.{Sends}
-use Rattle.wx_control.specs.Controls.{ControlFits, control_words, read_control}
+use Rattle.wx_control.specs.Controls.{control}
 
 -- the controls of each ask, and their level
 abbrev pub sends_of : Ask → Sends
-sends_of (One control) = record { first = control; second = None; level = Normal }
-
-abbrev pub AskFits : Ask → Type 0
-AskFits (One control) = ControlFits control
+sends_of (One c) = record { first = c; second = None; level = Normal }
 
 -- one control is spelled as that control
-abbrev pub ask_words : Ask → List (List ℕ)
-ask_words (One control) = control_words control
+abbrev pub control_of : Ask → Control
+control_of (One c) = c
 
-abbrev pub make_ask : Control → Ask
-make_ask control = One control
+pub same_ask : (x : Ask) → One (control_of x) ≡ x
+same_ask (One c) = refl
 
-abbrev pub read_ask : Reader Ask
-read_ask ws = read_as make_ask read_control ws
+unfoldable pub ask : Spelling line Ask
+ask = renamed control One control_of same_ask (λ control. refl)

@@ -1,21 +1,30 @@
 -- Controls as words.
+use Rattle.std.proofs.Common.{refl}
 use Rattle.std.specs.Prelude.{ℕ, List, [], ◌∷◌, codes}
-use Rattle.wx_words.specs.Combine.{Reader, read_as, read_nothing, read_rows}
+use Rattle.wx_words.specs.Spellings.{Spelling}
+use Rattle.wx_words.specs.Choices.{Row, row, Behind, fields}
+use Rattle.wx_words.specs.ChoiceLaws.{MadeAgain, SpeltSo, choice}
+use Rattle.wx_words.specs.Parts.{line, nothing}
 use Rattle.wx_control.specs.declared.control.Control.{Control}
 use Rattle.wx_control.specs.declared.control.Control.TheVariants.{Start, Stop}
 
--- the controls whose numbers are those of the code
-abbrev pub ControlFits : Control → Type 0
-ControlFits Start = Unit {0}
-ControlFits Stop = Unit {0}
+-- each first word of a control, and what stands behind it
+abbrev pub control_rows : List (Row line Control)
+control_rows = row (codes "start") nothing (λ u. Start) ∷ row (codes "stop") nothing (λ u. Stop) ∷ []
 
-abbrev pub control_words : Control → List (List ℕ)
-control_words Start = codes "start" ∷ []
-control_words Stop = codes "stop" ∷ []
+abbrev pub control_word : Control → List ℕ
+control_word Start = codes "start"
+control_word Stop = codes "stop"
 
--- each first word of a control, and how the rest is read
-abbrev pub control_rows : List (List ℕ × Reader Control)
-control_rows = (codes "start", read_as (λ u. Start) read_nothing) ∷ (codes "stop", read_as (λ u. Stop) read_nothing) ∷ []
+abbrev pub control_behind : Control → Behind line
+control_behind _ = fields nothing tt
 
-unfoldable pub read_control : Reader Control
-read_control ws = read_rows control_rows ws
+pub control_again : MadeAgain control_rows control_word control_behind
+control_again Start = (_, refl, refl)
+control_again x = (_, refl, refl)
+
+pub control_so : SpeltSo control_rows control_word control_behind
+control_so = search
+
+unfoldable pub control : Spelling line Control
+control = choice control_rows control_word control_behind control_again control_so refl

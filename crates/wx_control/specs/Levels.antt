@@ -1,7 +1,8 @@
 -- Levels, their order and their words.
+use Rattle.std.proofs.Common.{refl}
 use Rattle.std.specs.Prelude.{ℕ, ◌≤◌, List, [], ◌∷◌, codes}
-use Rattle.wx_words.specs.Combine.{Reader}
-use Rattle.wx_words.specs.Keywords.{read_keyword}
+use Rattle.wx_words.specs.Spellings.{Spelling}
+use Rattle.wx_words.specs.Parts.{line, HasWords, keyword}
 use Rattle.wx_control.specs.declared.level.Level.{Level}
 use Rattle.wx_control.specs.declared.level.Level.TheVariants.{Normal, High, Urgent}
 
@@ -22,8 +23,9 @@ level_word Urgent = codes "urgent"
 abbrev pub levels : List Level
 levels = Normal ∷ High ∷ Urgent ∷ []
 
-abbrev pub level_words : Level → List (List ℕ)
-level_words x = level_word x ∷ []
+pub level_found : HasWords level_word levels
+level_found Normal = refl
+level_found x = refl
 
-abbrev pub read_level : Reader Level
-read_level ws = read_keyword level_word levels ws
+unfoldable pub level : Spelling line Level
+level = keyword level_word levels level_found refl

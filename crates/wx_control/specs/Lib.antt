@@ -1,9 +1,6 @@
 pub mod Ids
-pub mod IdLaws
 pub mod Levels
-pub mod LevelLaws
 pub mod Controls
-pub mod ControlLaws
 pub mod Asks
-pub mod AskLaws
 pub mod Sent
+pub mod Waits

@@ -25,3 +25,16 @@ refused_full (Err Memory) before = before
 abbrev pub made_one : Option ℕ → Option ℕ
 made_one None = None
 made_one (Some before) = Some (counted before)
+
+-- What contracts see of a sink: what was asked so far, in order; how many sends were made, where it counts them; how often
+-- one was refused for want of room; what no send changes; and where the object lies that is lent to it.
+pub record Sink (Rest : Type 0) : Type 0 where
+  pub asks : List (Id × Ask)
+  pub sends : Option ℕ
+  pub fulls : ℕ
+  pub rest : Rest
+  pub place : List ℕ
+
+-- a sink after one send that was answered so
+abbrev pub sent : {Rest : Type 0} → Result Ticket Refused → Id → Ask → Sink Rest → Sink Rest
+sent result id ask before = record { asks = asked result id ask before.asks; sends = made_one before.sends; fulls = refused_full result before.fulls; rest = before.rest; place = before.place }

@@ -43,19 +43,11 @@ impl Copies for Ask {
     }
 }
 
+#[tactic(auto, unfolding(crate::specs::Asks::ask))]
 impl Spelled for Ask {
-    ghost use Rattle.wx_control.specs.Asks.{AskFits, ask_words, read_ask};
-    ghost use Rattle.wx_control.specs.AskLaws.{ask_form, ask_clean};
+    ghost use Rattle.wx_control.specs.Asks.{ask};
 
-    ghost words = { ask_words };
-
-    ghost fits = { AskFits };
-
-    ghost read = { read_ask };
-
-    ghost form = { ask_form };
-
-    ghost clean = { ask_clean };
+    ghost spelling = { ask };
 
     fn put_after(&self, out: &mut Text) -> Result<(), Memory> {
         match self {
@@ -64,9 +56,6 @@ impl Spelled for Ask {
     }
 
     fn read(alloc: Global, line: &mut Words) -> Result<Option<Ask>, Memory> {
-        match Control::read(alloc, line)? {
-            Some(control) => Ok(Some(Ask::One(control))),
-            None => Ok(None),
-        }
+        Ok(Control::read(alloc, line)?.map(Ask::One))
     }
 }

@@ -1,10 +1,9 @@
 // What one message asks of a job.
-ghost use Rattle.std.specs.Prelude.{◌≡◌, IfOk};
-ghost use Rattle.wx_words.specs.Line.{Reads};
-ghost use Rattle.wx_control.specs.Controls.{read_control};
+ghost use Rattle.std.specs.Prelude.{◌≡◌};
 
 use std::alloc::Global;
 use wx_events::{Copies, Memory, Spelled, Text, Words};
+use wx_words::{put_word, read_rows};
 
 /// What is asked of a job by one message.
 #[derive(Clone, Copy, Debug, PartialEq, Eq)]
@@ -21,38 +20,23 @@ impl Copies for Control {
     }
 }
 
+#[tactic(auto, unfolding(crate::specs::Controls::control))]
 impl Spelled for Control {
-    ghost use Rattle.wx_control.specs.Controls.{ControlFits, control_words};
-    ghost use Rattle.wx_control.specs.ControlLaws.{control_form, control_clean};
+    ghost use Rattle.wx_control.specs.Controls.{control};
 
-    ghost words = { control_words };
-
-    ghost fits = { ControlFits };
-
-    ghost read = { read_control };
-
-    ghost form = { control_form };
-
-    ghost clean = { control_clean };
+    ghost spelling = { control };
 
     fn put_after(&self, out: &mut Text) -> Result<(), Memory> {
         match self {
-            Control::Start => out.append(b" start"),
-            Control::Stop => out.append(b" stop"),
+            Control::Start => put_word(b"start", out),
+            Control::Stop => put_word(b"stop", out),
         }
     }
 
-    #[tactic(auto, unfolding(crate::specs::Controls::read_control))]
     fn read(_alloc: Global, line: &mut Words) -> Result<Option<Control>, Memory> {
-        let Some(word) = line.next() else {
-            return Ok(None);
-        };
-        if word == b"start".as_slice() {
-            Ok(Some(Control::Start))
-        } else if word == b"stop".as_slice() {
-            Ok(Some(Control::Stop))
-        } else {
-            Ok(None)
-        }
+        read_rows!(_alloc, line;
+            b"start" => Control::Start,
+            b"stop" => Control::Stop,
+        )
     }
 }

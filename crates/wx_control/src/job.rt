@@ -2,7 +2,7 @@
 ghost use Rattle.std.specs.Prelude.{◌≡◌};
 ghost use Rattle.wx_control.specs.declared.control.Control.TheVariants.{Start, Stop};
 ghost use Rattle.wx_control.specs.declared.ask.Ask.TheVariants.{One};
-ghost use Rattle.wx_control.specs.Sent.{asked, made_one, refused_full};
+ghost use Rattle.wx_control.specs.Sent.{sent};
 
 use crate::ask::Ask;
 use crate::control::Control;
@@ -58,33 +58,21 @@ impl Job {
         c: &mut C,
         control: Control,
     ) -> Result<Ticket, Refused>
-        ensures asks { C.asks c.new ≡ asked result self.now.id (One control) (C.asks c.old) }
-        ensures sends { C.sends c.new ≡ made_one (C.sends c.old) }
-        ensures fulls { C.fulls c.new ≡ refused_full result (C.fulls c.old) }
-        ensures rest { C.rest c.new ≡ C.rest c.old }
-        ensures place { C.place c.new ≡ C.place c.old }
+        ensures { C.sink c.new ≡ sent result self.now.id (One control) (C.sink c.old) }
     {
         c.send(alloc, self, Ask::One(control))
     }
 
     /// Asks for a start, as `control` does.
     pub fn start<C: Controls>(&self, alloc: Global, c: &mut C) -> Result<Ticket, Refused>
-        ensures asks { C.asks c.new ≡ asked result self.now.id (One Start) (C.asks c.old) }
-        ensures sends { C.sends c.new ≡ made_one (C.sends c.old) }
-        ensures fulls { C.fulls c.new ≡ refused_full result (C.fulls c.old) }
-        ensures rest { C.rest c.new ≡ C.rest c.old }
-        ensures place { C.place c.new ≡ C.place c.old }
+        ensures { C.sink c.new ≡ sent result self.now.id (One Start) (C.sink c.old) }
     {
         self.control(alloc, c, Control::Start)
     }
 
     /// Asks for a stop, as `control` does.
     pub fn stop<C: Controls>(&self, alloc: Global, c: &mut C) -> Result<Ticket, Refused>
-        ensures asks { C.asks c.new ≡ asked result self.now.id (One Stop) (C.asks c.old) }
-        ensures sends { C.sends c.new ≡ made_one (C.sends c.old) }
-        ensures fulls { C.fulls c.new ≡ refused_full result (C.fulls c.old) }
-        ensures rest { C.rest c.new ≡ C.rest c.old }
-        ensures place { C.place c.new ≡ C.place c.old }
+        ensures { C.sink c.new ≡ sent result self.now.id (One Stop) (C.sink c.old) }
     {
         self.control(alloc, c, Control::Stop)
     }

@@ -3,7 +3,8 @@ ghost use Rattle.std.specs.Prelude.{◌≡◌};
 ghost use Rattle.wx_control.specs.Levels.{rank};
 
 use std::alloc::Global;
-use wx_events::{Keyword, Memory, Spelled, Text, Words, put_keyword, read_keyword};
+use wx_events::{Memory, Spelled, Text, Words};
+use wx_words::{put_word, read_rows};
 
 /// How pressing a control is, rising in this order.
 #[derive(Clone, Copy, Debug, PartialEq, Eq, PartialOrd, Ord)]
@@ -26,52 +27,25 @@ impl Level {
     }
 }
 
-const LEVELS: [Level; 3] = [Level::Normal, Level::High, Level::Urgent];
+#[tactic(auto, unfolding(crate::specs::Levels::level))]
+impl Spelled for Level {
+    ghost use Rattle.wx_control.specs.Levels.{level};
 
-impl Keyword for Level {
-    ghost use Rattle.wx_control.specs.Levels.{level_word, levels};
-    ghost use Rattle.wx_control.specs.LevelLaws.{level_found, level_word_clean};
+    ghost spelling = { level };
 
-    ghost word = { level_word };
-
-    ghost all = { levels };
-
-    ghost found = { level_found };
-
-    ghost clean = { level_word_clean };
-
-    fn word(self) -> &'static [u8] {
+    fn put_after(&self, out: &mut Text) -> Result<(), Memory> {
         match self {
-            Level::Normal => b"normal",
-            Level::High => b"high",
-            Level::Urgent => b"urgent",
+            Level::Normal => put_word(b"normal", out),
+            Level::High => put_word(b"high", out),
+            Level::Urgent => put_word(b"urgent", out),
         }
     }
 
-    fn all() -> &'static [Level] {
-        &LEVELS
-    }
-}
-
-impl Spelled for Level {
-    ghost use Rattle.wx_control.specs.Levels.{level_words, read_level};
-    ghost use Rattle.wx_control.specs.LevelLaws.{level_form, level_clean};
-
-    ghost words = { level_words };
-
-    ghost fits = { λ x. Unit {0} };
-
-    ghost read = { read_level };
-
-    ghost form = { level_form };
-
-    ghost clean = { level_clean };
-
-    fn put_after(&self, out: &mut Text) -> Result<(), Memory> {
-        put_keyword(*self, out)
-    }
-
-    fn read(_alloc: Global, line: &mut Words) -> Result<Option<Level>, Memory> {
-        Ok(read_keyword(line))
+    fn read(alloc: Global, line: &mut Words) -> Result<Option<Level>, Memory> {
+        read_rows!(alloc, line;
+            b"normal" => Level::Normal,
+            b"high" => Level::High,
+            b"urgent" => Level::Urgent,
+        )
     }
 }

@@ -11,6 +11,7 @@ mod level;
 mod sink;
 #[cfg(test)]
 mod tests;
+mod three_lists;
 
 pub use ask::{Ask, Sends};
 pub use control::Control;
@@ -22,3 +23,4 @@ pub use laws::{
 };
 pub use level::Level;
 pub use sink::{Controls, Refused};
+pub use three_lists::{Picked, ThreeLists};

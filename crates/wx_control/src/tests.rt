@@ -1,5 +1,5 @@
 // Words, asks and sends: the expected values are worked out by hand.
-ghost use Rattle.std.specs.Prelude.{Some};
+ghost use Rattle.std.specs.Prelude.{Some, []};
 
 use crate::ask::{Ask, Sends};
 use crate::control::Control;
@@ -9,6 +9,7 @@ use crate::job::Job;
 use crate::laws::{are_equal_ids, are_equal_levels, compare_ids, compare_levels};
 use crate::level::Level;
 use crate::sink::{Controls, Refused};
+use crate::three_lists::ThreeLists;
 use std::alloc::Global;
 use std::cmp::Ordering;
 use std::test::Fail;
@@ -25,15 +26,9 @@ struct Kept {
 }
 
 impl Controls for Kept {
-    ghost asks = { λ k. k.asks };
-
-    ghost sends = { λ k. Some k.sends };
-
-    ghost fulls = { λ k. k.fulls };
-
     ghost Rest = { Unit {0} };
 
-    ghost rest = { λ _. tt };
+    ghost sink = { λ k. record { asks = k.asks; sends = Some k.sends; fulls = k.fulls; rest = tt; place = [] } };
 
     fn send(&mut self, alloc: Global, job: &Job, ask: Ask) -> Result<Ticket, Refused> {
         self.sends = self.sends.saturating_add(1);
@@ -293,5 +288,64 @@ fn levels_and_names_in_order(rt: HostRuntime) -> Result<(), Fail> {
     assert_eq!(rt; compare_ids(Id(2), Id(10)), Ordering::Less);
     assert!(rt; are_equal_ids(Id(2), Id(2)));
     assert!(rt; !are_equal_ids(Id(2), Id(3)));
+    Ok(())
+}
+
+/// Controls that are put, each with its ticket and level.
+const PUTS: [(u64, Control, Level); 7] = [
+    (0, Control::Start, Level::Normal),
+    (1, Control::Stop, Level::Urgent),
+    (2, Control::Start, Level::High),
+    (3, Control::Stop, Level::Normal),
+    (4, Control::Start, Level::Urgent),
+    (5, Control::Stop, Level::High),
+    (6, Control::Start, Level::Normal),
+];
+
+/// Whether a grace runs, and what is picked then.
+const PICKS: [(bool, Option<(u64, Control, Level)>); 10] = [
+    (false, Some((1, Control::Stop, Level::Urgent))),
+    (true, Some((4, Control::Start, Level::Urgent))),
+    (true, Some((2, Control::Start, Level::High))),
+    (false, Some((5, Control::Stop, Level::High))),
+    (true, None),
+    (false, Some((0, Control::Start, Level::Normal))),
+    (false, Some((3, Control::Stop, Level::Normal))),
+    (true, None),
+    (false, Some((6, Control::Start, Level::Normal))),
+    (false, None),
+];
+
+#[test]
+fn the_most_pressing_is_picked_first(rt: HostRuntime) -> Result<(), Fail> {
+    let alloc = rt.alloc();
+    let mut lists = ThreeLists::new(alloc)?;
+    for (ticket, control, level) in PUTS {
+        lists.put(ticket, Flag::new(alloc, false)?, control, level)?;
+    }
+    for (grace, expected) in PICKS {
+        let first = lists.first(grace);
+        let picked = lists.pick(grace);
+        let picked = picked.map(|x| (x.ticket, x.control, x.level));
+        assert_eq!(rt; picked, expected);
+        assert_eq!(rt; first, expected.map(|x| (x.0, x.1)));
+    }
+    Ok(())
+}
+
+#[test]
+fn what_is_put_behind_a_pick_waits_behind(rt: HostRuntime) -> Result<(), Fail> {
+    let alloc = rt.alloc();
+    let mut lists = ThreeLists::new(alloc)?;
+    lists.reserve(2)?;
+    lists.put_reserved(7, Flag::new(alloc, false)?, Control::Start, Level::Normal);
+    lists.put_reserved(8, Flag::new(alloc, false)?, Control::Stop, Level::Normal);
+    assert_eq!(rt; lists.pick(false).map(|x| x.ticket), Some(7));
+    lists.put(9, Flag::new(alloc, false)?, Control::Start, Level::Normal)?;
+    assert_eq!(rt; lists.pick(false).map(|x| x.ticket), Some(8));
+    assert_eq!(rt; lists.first(false), Some((9, Control::Start)));
+    lists.clear();
+    assert_eq!(rt; lists.first(false), None);
+    assert!(rt; lists.pick(false).is_none());
     Ok(())
 }

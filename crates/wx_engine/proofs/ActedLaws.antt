@@ -8,12 +8,14 @@ use Rattle.wx_command.specs.declared.command.Command.{Command}
 use Rattle.wx_control.specs.declared.ask.Ask.{Ask as AnAsk}
 use Rattle.wx_control.specs.declared.id.Id.{Id}
 use Rattle.wx_control.specs.declared.job.Job.{Job}
-use Rattle.wx_journal.specs.declared.entry.Act.{Act}
+use Rattle.wx_journal.specs.Acts.{JournalAct as Act}
 use Rattle.wx_journal.specs.declared.entry.Act.TheVariants.{Create, Ask as Asks, Quit}
 use Rattle.wx_journal.specs.declared.entry.Entry.{Entry}
 use Rattle.wx_journal.specs.Names.{creates}
 use Rattle.wx_job.specs.History.{same}
-use Rattle.wx_action.specs.Handled.{ends_with_quit, with_quit}
+use Rattle.wx_action.specs.Due.{is_quit}
+use Rattle.wx_action.specs.Handled.{with_quit}
+use Rattle.wx_action.specs.Last.{without_last}
 use Rattle.wx_action.specs.Jobs.{is_seen}
 use Rattle.wx_engine.specs.Acted.{is_made, AreMade, is_there, with_ask}
 
@@ -50,12 +52,21 @@ any_more id (other ∷ made) job = ap (λ b. is_made id other || b) (any_more id
 pub made_ask : (made : List Job) (acts : List Act) (job : Id) (ask : AnAsk) → AreMade made acts → AreMade made (acts ++ Asks job ask ∷ [])
 made_ask made acts job ask is = λ id. is id ∙ sym (creates_ask id acts job ask)
 
-made_quit_by : (b : Bool) (made : List Job) (acts : List Act) → AreMade made acts → AreMade made (cond b acts (acts ++ Quit ∷ []))
-made_quit_by true made acts is = is
-made_quit_by false made acts is = λ id. is id ∙ sym (creates_quit id acts)
+creates_one : (id : Id) (b : Bool) (act : Act) → is_quit act ≡ b → creates id (cond b [] (act ∷ [])) ≡ creates id (act ∷ [])
+creates_one id true (Create job command) is = absurd cc
+creates_one id true (Asks job ask) is = absurd cc
+creates_one id true Quit is = refl
+creates_one id false act is = refl
+
+creates_left : (id : Id) (acts : List Act) → creates id (without_last is_quit acts) ≡ creates id acts
+creates_left id [] = refl
+creates_left id (act ∷ []) = creates_one id (is_quit act) act refl
+creates_left id (Create other command ∷ next ∷ acts) = ap (λ b. other.0 == id.0 || b) (creates_left id (next ∷ acts))
+creates_left id (Asks job ask ∷ next ∷ acts) = creates_left id (next ∷ acts)
+creates_left id (Quit ∷ next ∷ acts) = creates_left id (next ∷ acts)
 
 pub made_quit : (made : List Job) (acts : List Act) → AreMade made acts → AreMade made (with_quit acts)
-made_quit made acts is = made_quit_by (ends_with_quit acts) made acts is
+made_quit made acts is = λ id. is id ∙ sym (creates_quit id (without_last is_quit acts) ∙ creates_left id acts)
 
 pub made_create : (made : List Job) (acts : List Act) (job : Job) (id : Id) (command : Command) → job.id ≡ id → AreMade made acts → AreMade (made ++ job ∷ []) (acts ++ Create id command ∷ [])
 made_create made acts job id command its is = λ other.

@@ -1,40 +1,43 @@
 -- The beginning of a run.
 use Rattle.std.proofs.Common.{◌≡◌, ℕ, suc, ◌+◌, ◌*◌, ◌<◌, List, [], ◌∷◌, length, drop, get_or, drop-cons, add-one, arith, refl, ap, sym, ◌∙◌}
-use Rattle.std.specs.Prelude.{map}
+use Rattle.std.specs.Prelude.{None, map}
 use Rattle.std.specs.List.{filter}
 use Rattle.wx_events.specs.declared.event.Event.{Event}
 use Rattle.wx_events.specs.declared.priority.Priority.{Priority}
 use Rattle.wx_journal.specs.declared.entry.Entry.{Entry}
 use Rattle.wx_job.specs.History.{lives}
-use Rattle.wx_action.specs.declared.state.Held.{Held}
-use Rattle.wx_action.specs.declared.state.Worker.{Worker}
+use Rattle.wx_action.specs.declared.worker_state.Held.{Held}
+use Rattle.wx_action.specs.declared.worker_state.Worker.{Worker}
 use Rattle.wx_action.specs.Start.{Start}
 use Rattle.wx_action.specs.Journal.{bag}
+use Rattle.wx_action.proofs.SettleLaws.{settle_calm}
 use Rattle.wx_action.specs.Due.{Sends, Hands, agenda, sends, begin_of, IsRun}
 use Rattle.wx_action.specs.Laws.{NoneUrgentWaits}
-use Rattle.wx_action.specs.Leads.{StaysApart, FollowsAlone, Then, More}
+use Rattle.wx_job.specs.Kept.{StaysQuiet, More}
+use Rattle.wx_action.specs.Leads.{FollowsAlone, Then}
+use Rattle.wx_action.specs.Serves.{Adds}
 use Rattle.wx_action.specs.Turns.{StaysInTurn}
 use Rattle.wx_action.specs.Jobs.{set, jobs}
-use Rattle.wx_action.specs.Stands.{Stands, Ready, held_id, end_room}
-use Rattle.wx_action.specs.RunLaws.{none_waits}
-use Rattle.wx_action.specs.JobLaws.{turns_over}
+use Rattle.wx_action.specs.Stands.{Stands, held_id, end_room}
+use Rattle.wx_action.proofs.RunLaws.{none_waits, run_led}
+use Rattle.wx_action.proofs.JobLaws.{turns_over}
 
 -- what is known once the beginning is listed
 pub record Begun (s : Start) (w : Worker) (p p' : List Entry) : Type 0 where
-  pub ready : Ready s w p'
+  pub stands : Stands s w p'
   pub due : agenda s p' ≡ sends s.events
   pub count : length (bag p') ≡ 0
   pub follows : FollowsAlone s p p'
-  pub apart : StaysApart p p'
+  pub quiet : StaysQuiet p p'
   pub turns : StaysInTurn p p'
 
 pub begun : (s : Start) (w : Worker) (e : Entry) (p p' : List Entry) → p ≡ [] → e ≡ begin_of s → p' ≡ e ∷ p → Stands s w (begin_of s ∷ []) → Begun s w p p'
 begun s w e p p' empty is grown stands = rw (grown, is, empty) (record {
-  ready = record { run = (refl, tt); stands = stands };
-  due = refl;
+  stands = stands;
+  due = settle_calm (begin_of s ∷ []) (sends s.events) refl;
   count = refl;
   follows = λ world hooks p₀ world₀ hooks₀ l. Then (begin_of s) [] world hooks l refl;
-  apart = λ p₀ a. More (begin_of s) [] a tt refl;
+  quiet = λ p₀ a. More (begin_of s) [] a refl;
   turns = turns_over _ _ refl;
 })
 
@@ -42,9 +45,12 @@ sends_no_batch : (xs : List (Event × Priority)) → sends xs ≡ Hands → ⊥
 sends_no_batch [] e = cc
 sends_no_batch (x ∷ xs) e = cc
 
--- no urgent event waits at the beginning
-pub calm_begun : (s : Start) (p : List Entry) (xs : List (Event × Priority)) → IsRun s p → agenda s p ≡ sends xs → NoneUrgentWaits p
-calm_begun s p xs run due = none_waits s p run (λ e. sends_no_batch xs (sym due ∙ e))
+-- what is listed at the beginning is a run, in which no urgent event waits
+pub begun_run : (s : Start) (p p' : List Entry) → p ≡ [] → Adds s p p' → IsRun s p'
+begun_run s p p' empty adds = run_led s p None None p' None None (adds.follows None None) (rw empty tt)
+
+pub calm_begun : (s : Start) (p p' : List Entry) (xs : List (Event × Priority)) → p ≡ [] → Adds s p p' → agenda s p' ≡ sends xs → NoneUrgentWaits p'
+calm_begun s p p' xs empty adds due = none_waits s p' (begun_run s p p' empty adds) (λ e. sends_no_batch xs (sym due ∙ e))
 
 -- the next event that was sent
 pub next_sent : (s : Start) (p : List Entry) (xs : List (Event × Priority)) (i : ℕ) (x : Event × Priority) → i < length xs → x ≡ get_or xs i x → agenda s p ≡ sends (drop i xs) → agenda s p ≡ Sends x.0 x.1 (drop (i + 1) xs)
@@ -57,4 +63,4 @@ none_by p [] none is = ap (filter (λ id. lives id p)) (sym is)
 none_by p (h ∷ hs) none is = absurd (omega (arith, none))
 
 pub none_yet : (s : Start) (w : Worker) (p : List Entry) → Stands s w p → end_room w ≡ 0 → jobs p ≡ []
-none_yet s w p stands none = none_by p w.jobs.items none stands.jobs_kept
+none_yet s w p stands none = none_by p w.jobs none stands.jobs_kept

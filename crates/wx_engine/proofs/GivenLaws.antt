@@ -1,12 +1,15 @@
 -- One turn more is given.
-use Rattle.std.proofs.Common.{◌≡◌, ℕ, zero, suc, None, Some, List, [], ◌∷◌, length, drop, slice_get, refl, sym, ap}
+use Rattle.std.proofs.Common.{◌≡◌, ℕ, zero, suc, ◌+◌, ◌<◌, ◌≤◌, min, true, Option, None, Some, inl, inr, ◌⊎◌, List, [], ◌∷◌, length, drop, get_or, slice_get, refl, sym, ap, ◌∙◌, arith}
+use Rattle.std.proofs.lemmas.Bool.{cases_lt}
+use Rattle.std.proofs.lemmas.List.{get_or_past}
 use Rattle.wx_journal.specs.declared.entry.Entry.{Entry}
-use Rattle.wx_journal.specs.declared.entry.Entry.TheVariants.{Turn as Turned}
+use Rattle.wx_journal.specs.declared.entry.Entry.TheVariants.{Turn as Turned, TurnFault, Spawn, Kill, Wait}
 use Rattle.wx_journal.specs.declared.entry.TurnKind.TheVariants.{Last}
 use Rattle.wx_engine.specs.declared.script.ScriptTurn.{ScriptTurn}
 use Rattle.wx_engine.specs.declared.script.ScriptTurn.TheVariants.{Turn, Fault}
-use Rattle.wx_engine.specs.Answered.{spawn_answers, kill_answers, wait_answers}
-use Rattle.wx_engine.specs.Turns.{entry_of, entry_or_last, Given, given, newest, turns_of, FollowsGiven}
+use Rattle.wx_journal.specs.Told.{is_turn}
+use Rattle.wx_engine.specs.Answered.{Calls, answers_of, Answered, answered_by, spawns, kills, waits}
+use Rattle.wx_engine.specs.Turns.{entry_of, entry_or_last, given, newest, turns_of, FollowsGiven}
 
 -- the next of the turns that are left, and those after it
 next_turn : (turns : List ScriptTurn) (k : ℕ) (x : ScriptTurn) (rest : List ScriptTurn) → x ∷ rest ≡ drop k turns → slice_get turns k ≡ Some x
@@ -42,24 +45,51 @@ pub rest_more : (turns : List ScriptTurn) (told : List Entry) (x : ScriptTurn) (
 rest_more turns told x rest left = rw (← turns_more x told) (rest_after turns (length (turns_of told)) x rest left)
 
 -- one more entry is given
-more : (plan : Given) (past : List Entry) (e : Entry) → e ≡ given plan (length past) → past ≡ newest (given plan) (length past) → e ∷ past ≡ newest (given plan) (suc (length past))
-more plan past e is so_far = λ i. is i ∷ so_far i
+more : (turns : List ScriptTurn) (last : ℕ) (past : List Entry) (e : Entry) → e ≡ given turns last (length past) → past ≡ newest (given turns last) (length past) → e ∷ past ≡ newest (given turns last) (suc (length past))
+more turns last past e is so_far = λ i. is i ∷ so_far i
 
-pub follows_more : (plan : Given) (told : List Entry) (x : ScriptTurn) (rest : List ScriptTurn) → x ∷ rest ≡ drop (length (turns_of told)) plan.turns → FollowsGiven plan told → FollowsGiven plan (entry_of x ∷ told)
-follows_more plan told x rest left so_far = rw (← turns_more x told) (more plan (turns_of told) (entry_of x) (ap (entry_or_last plan.last) (sym (next_turn plan.turns (length (turns_of told)) x rest left))) so_far)
+pub follows_more : (turns : List ScriptTurn) (last : ℕ) (told : List Entry) (x : ScriptTurn) (rest : List ScriptTurn) → x ∷ rest ≡ drop (length (turns_of told)) turns → FollowsGiven turns last told → FollowsGiven turns last (entry_of x ∷ told)
+follows_more turns last told x rest left so_far = rw (← turns_more x told) (more turns last (turns_of told) (entry_of x) (ap (entry_or_last last) (sym (next_turn turns (length (turns_of told)) x rest left))) so_far)
 
-pub follows_last : (plan : Given) (told : List Entry) → [] ≡ drop (length (turns_of told)) plan.turns → FollowsGiven plan told → FollowsGiven plan (Turned (record { at = plan.last; kind = Last }) ∷ told)
-follows_last plan told left so_far = more plan (turns_of told) (Turned (record { at = plan.last; kind = Last })) (ap (entry_or_last plan.last) (sym (no_turn plan.turns (length (turns_of told)) left))) so_far
+pub follows_last : (turns : List ScriptTurn) (last : ℕ) (told : List Entry) → [] ≡ drop (length (turns_of told)) turns → FollowsGiven turns last told → FollowsGiven turns last (Turned (record { at = last; kind = Last }) ∷ told)
+follows_last turns last told left so_far = more turns last (turns_of told) (Turned (record { at = last; kind = Last })) (ap (entry_or_last last) (sym (no_turn turns (length (turns_of told)) left))) so_far
 
--- and is no answer
-pub spawns_over : (x : ScriptTurn) (told : List Entry) → spawn_answers told ≡ spawn_answers (entry_of x ∷ told)
-spawns_over (Turn t) told = refl
-spawns_over (Fault code) told = refl
+-- ---- an answer more, and a turn more
 
-pub kills_over : (x : ScriptTurn) (told : List Entry) → kill_answers told ≡ kill_answers (entry_of x ∷ told)
-kills_over (Turn t) told = refl
-kills_over (Fault code) told = refl
+-- the line of the next call
+pub next_line : {Line : Type 0} (lines : List Line) (k : ℕ) (usual : Line) → get_or lines (min k (length lines)) usual ≡ get_or lines k usual
+next_line lines k usual = go (cases_lt k (length lines))
+  where
+    go : (k < length lines) ⊎ (length lines ≤ k) → get_or lines (min k (length lines)) usual ≡ get_or lines k usual
+    go (inl within) = let same : min k (length lines) ≡ k = omega (arith, within) in ap (λ (i : ℕ). get_or lines i usual) same
+    go (inr past) = let all : min k (length lines) ≡ length lines = omega (arith, past) in ap (λ (i : ℕ). get_or lines i usual) all ∙ get_or_past lines (length lines) usual (omega arith) ∙ sym (get_or_past lines k usual past)
 
-pub waits_over : (x : ScriptTurn) (told : List Entry) → wait_answers told ≡ wait_answers (entry_of x ∷ told)
-waits_over (Turn t) told = refl
-waits_over (Fault code) told = refl
+-- a call more of this kind is answered by the next line
+pub answered_more : {Answer : Type 0} (pick : Entry → Option Answer) (usual : Answer) (lines : List Answer) (used used' : ℕ) (p : List Entry) (e : Entry) (answer : Answer)
+    → pick e ≡ Some answer → answer ≡ get_or lines used usual → used' ≡ min (used + 1) (length lines) → Answered (answered_by pick usual) lines used p → Answered (answered_by pick usual) lines used' (e ∷ p)
+answered_more pick usual lines used used' p e answer picked is next h = record {
+  answers = rw picked (λ i. (is ∙ ap (λ (k : ℕ). get_or lines k usual) h.uses ∙ next_line lines (length (answers_of (answered_by pick usual) p)) usual) i ∷ h.answers i);
+  uses = rw picked (omega (arith, next, h.uses));
+}
+
+-- and an entry that is no such call uses none
+pub answered_over : {Line Answer : Type 0} (calls : Calls Line Answer) (lines : List Line) (used : ℕ) (p : List Entry) (e : Entry) → calls.pick e ≡ None → Answered calls lines used p → Answered calls lines used (e ∷ p)
+answered_over calls lines used p e other h = record { answers = rw other h.answers; uses = rw other h.uses }
+
+-- a turn is none
+pub turn_over : {Line Answer : Type 0} (calls : Calls Line Answer) (lines : List Line) (used : ℕ) (p : List Entry) (x : ScriptTurn)
+    → ((e : Entry) → is_turn e ≡ true → calls.pick e ≡ None) → Answered calls lines used p → Answered calls lines used (entry_of x ∷ p)
+turn_over calls lines used p (Turn t) none h = answered_over calls lines used p (Turned t) (none (Turned t) refl) h
+turn_over calls lines used p (Fault code) none h = answered_over calls lines used p (TurnFault code) (none (TurnFault code) refl) h
+
+pub no_spawn : (e : Entry) → is_turn e ≡ true → spawns.pick e ≡ None
+no_spawn (Spawn child job tag what answer) turn = absurd cc
+no_spawn (_) turn = refl
+
+pub no_kill : (e : Entry) → is_turn e ≡ true → kills.pick e ≡ None
+no_kill (Kill child answer) turn = absurd cc
+no_kill (_) turn = refl
+
+pub no_wait : (e : Entry) → is_turn e ≡ true → waits.pick e ≡ None
+no_wait (Wait child answer) turn = absurd cc
+no_wait (_) turn = refl

@@ -3,3 +3,4 @@ mod BeginLemmas
 mod GivenLaws
 mod RunLemmas
 mod TurnLemmas
+pub mod MainLaws

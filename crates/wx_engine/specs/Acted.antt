@@ -1,26 +1,25 @@
 -- The acts of a script, and the rule of hooks that follow it.
-use Rattle.std.specs.Prelude.{◌≡◌, ℕ, ◌+◌, ◌-◌, ◌^◌, min, Bool, false, nat_lt, ◌||◌, if◌then◌else◌, Option, None, Some, List, [], ◌∷◌, ◌++◌, length, slice_get, refl}
+use Rattle.std.specs.Prelude.{◌≡◌, ℕ, ◌+◌, ◌-◌, ◌^◌, Bool, nat_lt, ◌||◌, if◌then◌else◌, Option, None, Some, List, [], ◌∷◌, ◌++◌}
 use Rattle.std.specs.List.{list_any}
 use Rattle.wx_command.specs.declared.command.Command.{Command}
 use Rattle.wx_control.specs.declared.ask.Ask.{Ask as AnAsk}
 use Rattle.wx_control.specs.declared.id.Id.{Id}
 use Rattle.wx_control.specs.declared.job.Job.{Job}
-use Rattle.wx_journal.specs.declared.entry.Act.{Act}
-use Rattle.wx_journal.specs.declared.entry.Act.TheVariants.{Create, Ask as Asks}
+use Rattle.wx_journal.specs.Acts.{JournalAct as Act}
+use Rattle.wx_journal.specs.declared.entry.Act.TheVariants.{Create, Ask as Asks, Quit}
 use Rattle.wx_journal.specs.declared.entry.Entry.{Entry}
 use Rattle.wx_journal.specs.declared.entry.Entry.TheVariants.{Hand}
-use Rattle.wx_journal.specs.Names.{creates, job_count}
-use Rattle.wx_journal.specs.Told.{is_hooks, Obeys, Same, More}
+use Rattle.wx_journal.specs.Names.{creates, next_job}
 use Rattle.wx_job.specs.History.{same}
-use Rattle.wx_action.specs.Handled.{with_quit, creations}
-use Rattle.wx_action.specs.Jobs.{is_seen}
-use Rattle.wx_action.specs.Journal.{hand_count}
-use Rattle.wx_engine.specs.declared.script.ScriptAct.{ScriptAct}
-use Rattle.wx_engine.specs.declared.script.ScriptAct.TheVariants as script
+use Rattle.wx_action.specs.Handled.{with_quit}
+use Rattle.wx_action.specs.Jobs.{is_seen, next_created}
+use Rattle.wx_engine.specs.Answered.{Calls}
+use Rattle.wx_engine.specs.Wishes.{ScriptAct}
+use Rattle.wx_engine.specs.declared.script.Wanted.TheVariants.{New}
 
 -- the number of the next job, after a journal and the acts of this call so far
 abbrev pub next_id : List Entry → List Act → ℕ
-next_id p done = job_count p + creations done
+next_id p done = next_created (next_job p) done
 
 -- a job is created where an id is left
 abbrev pub with_create : List Entry → List Act → Command → List Act
@@ -36,21 +35,21 @@ with_ask p done id ask = if is_there p done id then done ++ Asks id ask ∷ [] e
 
 -- what a handler with these acts has after one act of a script, and after these, one by one
 abbrev pub with_act : List Entry → List Act → ScriptAct → List Act
-with_act p done (script.Create command) = with_create p done command
-with_act p done (script.Ask id ask) = with_ask p done id ask
-with_act p done script.Quit = with_quit done
+with_act p done (Create New command) = with_create p done command
+with_act p done (Asks id ask) = with_ask p done id ask
+with_act p done Quit = with_quit done
 
 abbrev pub performed : List Entry → List Act → List ScriptAct → List Act
 performed p done [] = done
 performed p done (act ∷ acts) = performed p (with_act p done act) acts
 
-abbrev pub acts_of : List Entry → Option (List ScriptAct) → List Act
-acts_of p None = []
-acts_of p (Some acts) = performed p [] acts
+-- the calls of the action handler: each asks for the acts of its line, one by one, and those for which none is left for none
+abbrev pub hand_acts : Entry → Option (List Act)
+hand_acts (Hand n names acts) = Some acts
+hand_acts (_) = None
 
--- what the call at this index asks for after a journal: nothing where the script has no such call
-abbrev pub acted : List (List ScriptAct) → ℕ → List Entry → List Act
-acted plan k p = acts_of p (slice_get plan k)
+abbrev pub hands : Calls (List ScriptAct) (List Act)
+hands = record { pick = hand_acts; usual = []; says = λ p acts. performed p [] acts }
 
 -- a handle is on the job of this id
 abbrev pub is_made : Id → Job → Bool
@@ -59,29 +58,3 @@ is_made id job = same job.id id
 -- these are handles on the jobs that these acts created
 abbrev pub AreMade : List Job → List Act → Type 0
 AreMade made acts = (id : Id) → list_any (is_made id) made ≡ creates id acts
-
--- each call asks for just that
-abbrev pub acts_rule : List (List ScriptAct) → List Entry → Entry → Type 0
-acts_rule plan p (Hand n names acts) = acts ≡ acted plan (hand_count p) p
-acts_rule plan p (_) = Unit {0}
-
--- the index of the next acts after these entries
-abbrev pub StandsFor : List (List ScriptAct) → ℕ → List Entry → Type 0
-StandsFor plan next p = next ≡ min (hand_count p) (length plan)
-
--- an entry that is no call on the hooks keeps it
-pub keeps_stand : (plan : List (List ScriptAct)) (next : ℕ) (p : List Entry) (e : Entry) → is_hooks e ≡ false → StandsFor plan next p → StandsFor plan next (e ∷ p)
-keeps_stand plan next p (Hand n names acts) other stands = absurd cc
-keeps_stand plan next p (_) other stands = stands
-
--- each call on the hooks among these entries asks for just what the script says
-abbrev pub FollowsActs : List (List ScriptAct) → List Entry → Type 0
-FollowsActs plan [] = Unit {0}
-FollowsActs plan (Hand n names acts ∷ p) = (acts ≡ acted plan (hand_count p) p) × FollowsActs plan p
-FollowsActs plan (_ ∷ p) = FollowsActs plan p
-
--- a journal whose calls pass the rule
-pub follows_acts : (plan : List (List ScriptAct)) (p : List Entry) → Obeys (acts_rule plan) [] p → FollowsActs plan p
-follows_acts plan _ Same = tt
-follows_acts plan _ (More (Hand n names acts) p before rule) = (rule refl, follows_acts plan p before)
-follows_acts plan _ (More (_) p before rule) = follows_acts plan p before

@@ -1,70 +1,136 @@
 -- What a run with the world and the hooks of a script comes to.
-use Rattle.std.proofs.Common.{◌≡◌, ℕ, Bool, true, false, cond, if◌then◌else◌, None, Some, List, [], ◌∷◌, ◌++◌, length, nat_le, ◌&&◌, refl, ap, subst, ◌∙◌}
+use Rattle.std.proofs.Common.{◌≡◌, ℕ, Bool, true, false, cond, if◌then◌else◌, is_some, Option, None, Some, IfSome, Ok, get_or, List, [], ◌∷◌, ◌++◌, length, nat_le, ◌&&◌, refl, ap, sym, subst, ◌∙◌}
 use Rattle.std.proofs.lemmas.List.{append-nil}
-use Rattle.std.specs.List.{filter, list_all}
+use Rattle.std.specs.List.{list_all}
 use Rattle.wx_events.specs.declared.process.ProcessEnd.TheVariants.{Success}
 use Rattle.wx_journal.specs.declared.entry.Entry.{Entry}
-use Rattle.wx_journal.specs.declared.entry.Entry.TheVariants.{Spawn, Kill, Wait}
+use Rattle.wx_journal.specs.declared.entry.Entry.TheVariants.{Hand, Spawn, Kill, Wait}
 use Rattle.wx_journal.specs.declared.entry.Turn.{Turn as Timed}
-use Rattle.wx_journal.specs.Told.{tell_if, tells, is_world, is_turn}
+use Rattle.wx_journal.specs.Told.{tell_if, tells, anywhere, is_world, is_hooks, is_turn, Obeys, Same, More}
 use Rattle.wx_engine.specs.declared.script.Script.{Script}
 use Rattle.wx_engine.specs.declared.script.ScriptTurn.{ScriptTurn}
 use Rattle.wx_engine.specs.declared.script.ScriptTurn.TheVariants.{Turn, Fault}
-use Rattle.wx_engine.specs.Answered.{spawn_answers, kill_answers, wait_answers, AreAnswered, FollowsAnswers}
+use Rattle.wx_engine.specs.Answered.{Calls, with_answer, answers_of, due_answer, due_answers, IsAnswered, AreAnswered, AreUsed, AreAmong, answered_by, spawn_answer, spawns, kill_answer, kills, wait_answer, waits, FollowsAnswers}
+use Rattle.wx_engine.specs.Acted.{hands}
 use Rattle.wx_engine.specs.Turns.{comes, risen, Rises, Given, given, newest, turns_of, FollowsGiven}
 use Rattle.wx_engine.specs.Follows.{given_of, FollowsTurns}
 
+-- the calls among these entries
+abbrev among : (List Entry → Entry → Bool) → List Entry → List Entry
+among mine [] = []
+among mine (e ∷ p) = if mine p e then e ∷ among mine p else among mine p
+
 -- what is told is the old list with the calls in front
-pub tells_filter : (mine : Entry → Bool) (p before : List Entry) → tells mine p (Some before) ≡ Some (filter mine p ++ before)
-tells_filter mine [] before = refl
-tells_filter mine (e ∷ p) before =
-    elim (mine e) as (λ b. tell_if b e (tells mine p (Some before)) ≡ Some (cond b (e ∷ filter mine p) (filter mine p) ++ before)) [
-      | true ↦ rw (tells_filter mine p before) refl
-      | false ↦ tells_filter mine p before
+pub tells_among : (mine : List Entry → Entry → Bool) (p before : List Entry) → tells mine p (Some before) ≡ Some (among mine p ++ before)
+tells_among mine [] before = refl
+tells_among mine (e ∷ p) before =
+    elim (mine p e) as (λ b. tell_if b e (tells mine p (Some before)) ≡ Some (cond b (e ∷ among mine p) (among mine p) ++ before)) [
+      | true ↦ rw (tells_among mine p before) refl
+      | false ↦ tells_among mine p before
     ]
+
+-- the turns among them are those of the journal
+among_turns : (p : List Entry) → among (anywhere is_turn) p ≡ turns_of p
+among_turns [] = refl
+among_turns (e ∷ p) = rw (among_turns p) refl
 
 -- a world that gives the script's turns, told the first ones, and told those of this run
 pub follows_turns : (s : Script) (plan : Given) (told p : List Entry)
-    → plan ≡ given_of s → FollowsGiven plan told → Some (turns_of told) ≡ tells is_turn p (Some []) → FollowsTurns s p
+    → plan ≡ given_of s → FollowsGiven plan.turns plan.last told → Some (turns_of told) ≡ tells (anywhere is_turn) p (Some []) → FollowsTurns s p
 follows_turns s plan told p is follows tells_run =
-    subst (λ (turns : List Entry). turns ≡ newest (given (given_of s)) (length turns)) same (follows ∙ ap (λ (g : Given). newest (given g) (length (turns_of told))) is)
+    subst (λ (turns : List Entry). turns ≡ newest (given s.turns s.last) (length turns)) same (follows ∙ ap (λ (g : Given). newest (given g.turns g.last) (length (turns_of told))) is)
   where
     whole : Some (turns_of told) ≡ Some (turns_of p)
-    whole = tells_run ∙ tells_filter is_turn p [] ∙ ap Some (append-nil (turns_of p))
+    whole = tells_run ∙ tells_among (anywhere is_turn) p [] ∙ ap Some (append-nil (among (anywhere is_turn) p) ∙ among_turns p)
 
     same : turns_of told ≡ turns_of p
     same = cc whole
 
--- the answers in what the world is told are those of the run
-spawns_told : (p : List Entry) → spawn_answers (filter is_world p) ≡ spawn_answers p
-spawns_told [] = refl
-spawns_told (Spawn child job tag what answer ∷ p) = ap (λ answers. answer ∷ answers) (spawns_told p)
-spawns_told (_ ∷ p) = spawns_told p
+-- ---- what is told of the calls of one kind
 
-kills_told : (p : List Entry) → kill_answers (filter is_world p) ≡ kill_answers p
-kills_told [] = refl
-kills_told (Kill child answer ∷ p) = ap (λ answers. answer ∷ answers) (kills_told p)
-kills_told (_ ∷ p) = kills_told p
+-- the answers that are told are those of the journal
+told_answers : {Line Answer : Type 0} (calls : Calls Line Answer) (mine : List Entry → Entry → Bool) → AreAmong calls mine → (p : List Entry) → answers_of calls (among mine p) ≡ answers_of calls p
+told_answers calls mine all [] = refl
+told_answers calls mine all (e ∷ p) = go (mine p e) refl (told_answers calls mine all p)
+  where
+    go : (b : Bool) → mine p e ≡ b → answers_of calls (among mine p) ≡ answers_of calls p → answers_of calls (cond b (e ∷ among mine p) (among mine p)) ≡ answers_of calls (e ∷ p)
+    go true is same = ap (with_answer (calls.pick e)) same
+    go false is same = rw (all p e is) same
 
-waits_told : (p : List Entry) → wait_answers (filter is_world p) ≡ wait_answers p
-waits_told [] = refl
-waits_told (Wait child answer ∷ p) = ap (λ answers. answer ∷ answers) (waits_told p)
-waits_told (_ ∷ p) = waits_told p
+-- and so are those that were due
+told_due : {Answer : Type 0} (pick : Entry → Option Answer) (usual : Answer) (mine : List Entry → Entry → Bool) → AreAmong (answered_by pick usual) mine
+    → (lines : List Answer) (p : List Entry) → due_answers (answered_by pick usual) lines (among mine p) ≡ due_answers (answered_by pick usual) lines p
+told_due pick usual mine all lines [] = refl
+told_due {Answer} pick usual mine all lines (e ∷ p) = go (mine p e) refl (told_answers (answered_by pick usual) mine all p) (told_due pick usual mine all lines p)
+  where
+    calls : Calls Answer Answer
+    calls = answered_by pick usual
 
-answers_in : (plan : Given) (p : List Entry) → FollowsAnswers plan (filter is_world p) → FollowsAnswers plan p
+    more : List Answer → List Answer → List Answer
+    more answers due = cond (is_some (pick e)) (get_or lines (length answers) usual ∷ due) due
+
+    go : (b : Bool) → mine p e ≡ b → answers_of calls (among mine p) ≡ answers_of calls p → due_answers calls lines (among mine p) ≡ due_answers calls lines p
+        → due_answers calls lines (cond b (e ∷ among mine p) (among mine p)) ≡ due_answers calls lines (e ∷ p)
+    go true is answers due = ap (λ (a : List Answer). more a (due_answers calls lines (among mine p))) answers ∙ ap (more (answers_of calls p)) due
+    go false is answers due = rw (all p e is) due
+
+told_answered : {Answer : Type 0} (pick : Entry → Option Answer) (usual : Answer) (mine : List Entry → Entry → Bool) → AreAmong (answered_by pick usual) mine
+    → (lines : List Answer) (p : List Entry) → AreAnswered (answered_by pick usual) lines (among mine p) → AreAnswered (answered_by pick usual) lines p
+told_answered pick usual mine all lines p so_far = sym (told_answers (answered_by pick usual) mine all p) ∙ so_far ∙ told_due pick usual mine all lines p
+
+-- what is no such entry uses no line
+pub uses_over : {Line Answer : Type 0} (calls : Calls Line Answer) (mine : List Entry → Entry → Bool) → AreAmong calls mine → (lines : List Line) (used : ℕ) (p : List Entry) (e : Entry) → mine p e ≡ false → AreUsed calls lines used p → AreUsed calls lines used (e ∷ p)
+uses_over calls mine all lines used p e other uses = rw (all p e other) uses
+
+-- where each call on the hooks passes a rule by which calls of this kind are answered what is due, all are
+pub obeys_answered : {Line Answer : Type 0} (calls : Calls Line Answer) → AreAmong calls (anywhere is_hooks) → (lines : List Line) (rule : List Entry → Entry → Type 0)
+    → ((p : List Entry) (e : Entry) → rule p e → IsAnswered calls lines p e) → (p : List Entry) → Obeys rule [] p → AreAnswered calls lines p
+obeys_answered calls all lines rule due _ Same = refl
+obeys_answered {Line} {Answer} calls all lines rule due _ (More e p before passes) = go (calls.pick e) (now (is_hooks e) refl) (obeys_answered calls all lines rule due p before)
+  where
+    now : (b : Bool) → is_hooks e ≡ b → IsAnswered calls lines p e
+    now true is = due p e (passes is)
+    now false is = rw (all p e is) tt
+
+    go : (o : Option Answer) → IfSome o (λ answer. answer ≡ due_answer calls lines p) → AreAnswered calls lines p
+        → with_answer o (answers_of calls p) ≡ cond (is_some o) (due_answer calls lines p ∷ due_answers calls lines p) (due_answers calls lines p)
+    go None is so_far = so_far
+    go (Some answer) is so_far = λ i. is i ∷ so_far i
+
+-- ---- each kind
+
+spawns_among : AreAmong spawns is_world
+spawns_among p (Spawn child job tag what answer) other = absurd cc
+spawns_among p (_) other = refl
+
+kills_among : AreAmong kills is_world
+kills_among p (Kill child answer) other = absurd cc
+kills_among p (_) other = refl
+
+waits_among : AreAmong waits is_world
+waits_among p (Wait child answer) other = absurd cc
+waits_among p (_) other = refl
+
+pub hands_among : AreAmong hands (anywhere is_hooks)
+hands_among p (Hand n names acts) other = absurd cc
+hands_among p (_) other = refl
+
+answers_in : (plan : Given) (p : List Entry) → FollowsAnswers plan (among is_world p) → FollowsAnswers plan p
 answers_in plan p h = record {
-  of_spawns = subst (AreAnswered tt plan.spawns) (spawns_told p) h.of_spawns;
-  of_kills = subst (AreAnswered tt plan.kills) (kills_told p) h.of_kills;
-  of_waits = subst (AreAnswered Success plan.waits) (waits_told p) h.of_waits;
+  of_spawns = told_answered spawn_answer (Ok tt) is_world spawns_among plan.spawns p h.of_spawns;
+  of_kills = told_answered kill_answer (Ok tt) is_world kills_among plan.kills p h.of_kills;
+  of_waits = told_answered wait_answer (Ok Success) is_world waits_among plan.waits p h.of_waits;
 }
 
 -- a world that answers what the script says, told the calls of this run
 pub follows_answers : (s : Script) (plan : Given) (told p : List Entry)
     → plan ≡ given_of s → FollowsAnswers plan told → Some told ≡ tells is_world p (Some []) → FollowsAnswers (given_of s) p
 follows_answers s plan told p is follows tells_run =
-    let whole : Some told ≡ Some (filter is_world p) = tells_run ∙ tells_filter is_world p [] ∙ ap Some (append-nil (filter is_world p)) in
-    let same : told ≡ filter is_world p = cc in
-    answers_in (given_of s) p (subst (λ (g : Given). FollowsAnswers g (filter is_world p)) is (subst (FollowsAnswers plan) same follows))
+    let whole : Some told ≡ Some (among is_world p) = tells_run ∙ tells_among is_world p [] ∙ ap Some (append-nil (among is_world p)) in
+    let same : told ≡ among is_world p = cc in
+    answers_in (given_of s) p (subst (λ (g : Given). FollowsAnswers g (among is_world p)) is (subst (FollowsAnswers plan) same follows))
+
+-- ---- one turn more of a script
 
 -- the last moment after one turn more
 pub risen_more : (before last : ℕ) (turns : List ScriptTurn) (x : ScriptTurn) → risen before turns ≡ Some last → risen before (turns ++ x ∷ []) ≡ risen last (x ∷ [])

@@ -1,3 +1,4 @@
+pub mod Wishes
 pub mod Turns
 pub mod Acted
 pub mod Answered
@@ -5,5 +6,4 @@ pub mod Follows
 pub mod FollowLaws
 pub mod Sent
 pub mod Run
-pub mod MainLaws
 pub mod Completes

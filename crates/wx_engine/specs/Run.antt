@@ -1,30 +1,86 @@
 -- What a run of the engine told of its turns, why it ended early, and what its journal is.
-use Rattle.std.specs.Prelude.{◌≡◌, ◌⊎◌, ℕ, None, Some, Option, Ok, Err, List, codes}
+use Rattle.std.specs.Prelude.{◌≡◌, ◌≤◌, ◌+◌, ◌⊎◌, ℕ, None, Some, Option, Ok, Err, List, [], codes}
 use Rattle.wx_journal.specs.declared.entry.Entry.{Entry}
-use Rattle.wx_journal.specs.Told.{tells, is_turn, Rose}
+use Rattle.wx_journal.specs.Names.{moment}
+use Rattle.wx_journal.specs.Told.{tells, anywhere, is_turn, is_world, is_hooks, Rose}
+use Rattle.wx_journal.specs.Written.{Written}
+use Rattle.wx_job.specs.Seen.{Seen}
+use Rattle.wx_job.specs.Faults.{Counted, CountsOn}
 use Rattle.wx_config.specs.declared.error.CriticalError.{CriticalError}
 use Rattle.wx_config.specs.declared.error.CriticalError.TheVariants.{IoError, Memory}
 use Rattle.wx_action.specs.Start.{Start}
-use Rattle.wx_action.specs.Journal.{turn_fault}
-use Rattle.wx_action.specs.Due.{agenda, Ends}
-use Rattle.wx_action.specs.Answer.{IsComplete, IsBroken}
+use Rattle.wx_action.specs.declared.worker_state.Worker.{Worker}
+use Rattle.wx_action.specs.Journal.{turn_count, early_count, turn_fault}
+use Rattle.wx_action.specs.Due.{agenda, Open, Ends}
+use Rattle.wx_action.specs.Laws.{IsBatched, AreBatches, NoneUrgentWaits, MomentsRise}
+use Rattle.wx_action.specs.Leads.{Follows}
+use Rattle.wx_action.specs.Stands.{Stands, HasRoom}
+use Rattle.wx_action.specs.Answer.{IsComplete, IsBroken, AtAnyPlace, MemoryCuts}
 use Rattle.wx_journal.specs.Lines.{Answer}
 
 -- where the world told the turns of the one journal it then tells those of the other
 abbrev pub TellsTurns : List Entry → Option (List Entry) → List Entry → Option (List Entry) → Type 0
-TellsTurns p told p' told' = (before : Option (List Entry)) → told ≡ tells is_turn p before → told' ≡ tells is_turn p' before
+TellsTurns p told p' told' = (before : Option (List Entry)) → told ≡ tells (anywhere is_turn) p before → told' ≡ tells (anywhere is_turn) p' before
 
 -- an error about a turn comes only where the count of turn faults rose
 abbrev pub HasCause : CriticalError → ℕ → ℕ → Type 0
 HasCause (IoError about err) old new = Rose old new
 HasCause Memory old new = Unit {0}
 
--- Turns are served until the end is owed, with the fault of a turn where that is the error, or until memory is wanted.
+-- Turns are served until the end is owed, with the fault of a turn where that is the error, or until memory is wanted
+-- where it may be.
 abbrev pub Stops : Start → List Entry → Answer → Type 0
 Stops s p (Ok u) = (agenda s p ≡ Ends) × (turn_fault p ≡ None)
 Stops s p (Err (IoError about err)) = (agenda s p ≡ Ends) × (about ≡ codes "turn") × (turn_fault p ≡ Some err)
-Stops s p (Err Memory) = Unit {0}
+Stops s p (Err Memory) = MemoryCuts p
 
--- a run whose end is done, or one that was broken off, with its end behind it
+-- a run whose end is done, or one that was cut, with its end behind it
 abbrev pub Ran : Start → List Entry → Type 0
-Ran s p = IsComplete s p ⊎ IsBroken s p
+Ran s p = IsComplete s p ⊎ IsBroken AtAnyPlace s p
+
+-- ---- turns, one after another
+
+-- A worker rests: it stands for the journal, the room for the end of all jobs is there, no urgent event waits, and moments
+-- never fell.
+pub record Rests {Plan : Type 0} (s : Start) (w : Worker) (j : Written) (a : Seen Plan) : Type 0 where
+  pub stands : Stands s w j.past
+  pub room : HasRoom w j.spare a.spare
+  pub calm : NoneUrgentWaits j.past
+  pub rise : MomentsRise j.past
+
+-- it rests where a turn may come: nothing is due, and no turn failed
+pub record IsBetween {Plan : Type 0} (s : Start) (w : Worker) (j : Written) (a : Seen Plan) : Type 0 where
+  pub rests : Rests s w j a
+  pub open_is : agenda s j.past ≡ Open
+  pub fault : turn_fault j.past ≡ None
+  pub now : moment j.past ≤ a.progress.moment
+
+-- Turns were asked for and served: each entry was due, and told by just the one that it is a call on; each fault of a child
+-- raised the count. At most one turn more came than were left, and it is a last one.
+pub record ServesTurns {Plan : Type 0} (s : Start) (p : List Entry) (a : Seen Plan) (hooks : Option (List Entry)) (p' : List Entry) (b : Seen Plan) (hooks' : Option (List Entry)) : Type 0 where
+  pub follows : Follows s p a.shown.told hooks p' b.shown.told hooks'
+  pub turns : TellsTurns p a.progress.turns p' b.progress.turns
+  pub counts : CountsOn p a.shown.faults p' b.shown.faults
+  pub count : turn_count p' ≤ turn_count p + a.progress.left + 1
+  pub early : early_count p' ≤ early_count p + a.progress.left
+  pub plan_kept : b.plan ≡ a.plan
+  pub place_kept : b.place ≡ a.place
+
+-- ---- a whole run
+
+-- The journal lists what was told, and each fault of a child raised the count. At most one turn more came than were left, and
+-- it is a last one.
+pub record Lists {Plan : Type 0} (p : List Entry) (a : Seen Plan) (hooks : Option (List Entry)) (b : Seen Plan) (hooks' : Option (List Entry)) : Type 0 where
+  pub world_told : b.shown.told ≡ tells is_world p a.shown.told
+  pub hooks_told : hooks' ≡ tells (anywhere is_hooks) p hooks
+  pub turns_told : b.progress.turns ≡ tells (anywhere is_turn) p a.progress.turns
+  pub count : turn_count p ≤ a.progress.left + 1
+  pub early : early_count p ≤ a.progress.left
+  pub host_faults : Counted [] a.shown.faults p b.shown.faults
+
+-- the laws of runs
+pub record HasLaws (s : Start) (p : List Entry) : Type 0 where
+  pub batched : IsBatched p
+  pub batches : AreBatches s p
+  pub calm : NoneUrgentWaits p
+  pub rise : MomentsRise p

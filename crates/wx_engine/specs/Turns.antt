@@ -44,8 +44,8 @@ entry_or_last last None = Turned (record { at = last; kind = Last })
 entry_or_last last (Some turn) = entry_of turn
 
 -- the entry of the turn at this index
-abbrev pub given : Given → ℕ → Entry
-given plan k = entry_or_last plan.last (slice_get plan.turns k)
+abbrev pub given : List ScriptTurn → ℕ → ℕ → Entry
+given turns last k = entry_or_last last (slice_get turns k)
 
 -- the items at the first n indexes, the newest first
 abbrev pub newest : {A : Type 0} → (ℕ → A) → ℕ → List A
@@ -57,5 +57,5 @@ abbrev pub turns_of : List Entry → List Entry
 turns_of p = filter is_turn p
 
 -- they are the first ones that are given
-abbrev pub FollowsGiven : Given → List Entry → Type 0
-FollowsGiven plan p = turns_of p ≡ newest (given plan) (length (turns_of p))
+abbrev pub FollowsGiven : List ScriptTurn → ℕ → List Entry → Type 0
+FollowsGiven turns last p = turns_of p ≡ newest (given turns last) (length (turns_of p))

@@ -13,7 +13,7 @@ mod supply;
 mod tests;
 mod watchexec;
 
-pub use script::{Script, ScriptAct, ScriptTurn};
+pub use script::{Script, ScriptTurn, Wanted};
 pub use script_hooks::ScriptHooks;
 pub use script_world::ScriptWorld;
 pub use watchexec::{SendRefused, Watchexec};

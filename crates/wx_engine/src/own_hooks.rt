@@ -1,5 +1,5 @@
 // Hooks as a user writes them, and a run with them: its text is worked out by hand.
-ghost use Rattle.std.specs.Prelude.{◌≡◌, ◌^◌, IfOk};
+ghost use Rattle.std.specs.Prelude.{◌≡◌, ◌^◌, [], false, None, IfOk};
 ghost use Rattle.wx_engine.specs.Follows.{IsScript};
 
 use crate::tests::{arrive, empty, engine_with, job, program, turn, work};
@@ -19,11 +19,9 @@ struct Restarts {
 impl JobHooks for Restarts {
     ghost Plan = { Unit {0} };
 
-    ghost plan = { λ _. tt };
+    ghost seen = { λ _. record { plan = tt; told = None; spare = 2 ^ 64; short = false; place = [] } };
 
     ghost rule = { λ _ _ _. Unit {0} };
-
-    ghost spare = { λ _. 2 ^ 64 };
 
     fn reserve(&mut self, _n: u64) -> Result<(), Memory> {
         Ok(())

@@ -1,46 +1,56 @@
-// What a script says of the calls on children of one kind.
-ghost use Rattle.std.specs.Prelude.{◌≡◌, ◌+◌, ◌≤◌, IfOk, length, min, slice_get};
-ghost use Rattle.wx_engine.specs.Answered.{or_usual};
+// What a script says of the calls of one kind.
+ghost use Rattle.std.specs.Prelude.{◌≡◌, ◌+◌, ◌≤◌, length, min, get_or};
 
-use std::alloc::Global;
-use wx_events::{List, Memory};
-use wx_journal::HostFault;
+use wx_events::List;
 
-/// The answers that are written down, and how many of them were given.
+/// The lines that are written down for these calls, and how many of them were used.
 #[derive(Drop, Debug)]
 pub(crate) struct Replies<T> {
-    pub(crate) lines: List<Result<T, HostFault>>,
-    pub(crate) given: usize,
-    ghost in_range: { given ≤ length lines },
+    pub(crate) lines: List<T>,
+    pub(crate) used: usize,
+    ghost in_range: { used ≤ length lines },
 }
 
-impl<T: Copy> Replies<T> {
-    /// These answers, before the first call. It fails only for want of memory.
-    pub(crate) fn new(
-        alloc: Global,
-        lines: &List<Result<T, HostFault>>,
-    ) -> Result<Replies<T>, Memory>
-        ensures lines { IfOk result (λ replies. replies.lines ≡ lines.now) }
-        ensures given { IfOk result (λ replies. replies.given ≡ 0) }
+impl<T> Replies<T> {
+    /// These lines, before the first call.
+    pub(crate) fn new(lines: List<T>) -> Replies<T>
+        ensures lines { result.lines ≡ lines }
+        ensures used { result.used ≡ 0 }
     {
-        Ok(Replies {
-            lines: List::from_vec(Vec::from_slice(alloc, lines.as_slice())?),
-            given: 0,
-        })
+        Replies { lines, used: 0 }
     }
 
-    /// The answer to the next call: what is written, and Ok with this where nothing is.
-    pub(crate) fn next(&mut self, usual: T) -> Result<T, HostFault>
-        ensures answer { result ≡ or_usual usual (slice_get self.old.lines self.old.given) }
-        ensures lines { self.new.lines ≡ self.old.lines }
-        ensures given { self.new.given ≡ min (self.old.given + 1) (length self.old.lines) }
+    /// The line of the next call, and the usual one where none is left.
+    pub(crate) fn line<'a>(&'a self, usual: &'a T) -> &'a T
+        ensures { result.now ≡ get_or self.now.lines self.now.used usual.now }
     {
-        if self.given < self.lines.len() {
-            let answer = self.lines.as_slice()[self.given];
-            self.given += 1;
-            answer
+        if self.used < self.lines.len() {
+            &self.lines.as_slice()[self.used]
         } else {
-            Ok(usual)
+            usual
         }
+    }
+
+    /// The next call was made: its line is used.
+    pub(crate) fn pass(&mut self)
+        ensures lines { self.new.lines ≡ self.old.lines }
+        ensures used { self.new.used ≡ min (self.old.used + 1) (length self.old.lines) }
+    {
+        if self.used < self.lines.len() {
+            self.used += 1;
+        }
+    }
+
+    /// The line of the next call, which is made now, and the usual one where none is left.
+    pub(crate) fn next(&mut self, usual: T) -> T
+    where
+        T: Copy,
+        ensures answer { result ≡ get_or self.old.lines self.old.used usual }
+        ensures lines { self.new.lines ≡ self.old.lines }
+        ensures used { self.new.used ≡ min (self.old.used + 1) (length self.old.lines) }
+    {
+        let answer = *self.line(&usual);
+        self.pass();
+        answer
     }
 }

@@ -2,22 +2,22 @@
 ghost use Rattle.std.specs.Prelude.{◌≡◌, ◌∷◌, ◌++◌, [], ◌+◌, ◌<◌, ◌≤◌, false, length, List, ℕ, Option, None, OnOk, OnErr, IfOk, IfErr, codes};
 ghost use Rattle.wx_journal.specs.declared.entry.Entry.{Entry as AnEntry};
 ghost use Rattle.wx_journal.specs.Names.{moment};
-ghost use Rattle.wx_journal.specs.Told.{is_world, is_hooks, is_turn, tells, Obeys, Rose};
-ghost use Rattle.wx_job.specs.Steady.{IsSteady};
+ghost use Rattle.wx_journal.specs.Told.{is_world, is_hooks, is_turn, anywhere, tells, Obeys, Rose};
+ghost use Rattle.wx_job.specs.Steady.{OnlyRoom};
 ghost use Rattle.wx_config.specs.declared.error.CriticalError.TheVariants.{Memory as WantOfMemory};
+ghost use Rattle.wx_job.specs.Kept.{KeepsOn, Promised};
+ghost use Rattle.wx_action.specs.Serves.{Adds, Continues};
 ghost use Rattle.wx_action.specs.Start.{Start, IsStart};
 ghost use Rattle.wx_action.specs.Journal.{turn_count, early_count, turn_fault};
 ghost use Rattle.wx_action.specs.Jobs.{jobs};
-ghost use Rattle.wx_action.specs.Due.{agenda, begin_of, Open, IsRun};
-ghost use Rattle.wx_action.specs.Told.{is_last};
+ghost use Rattle.wx_action.specs.Due.{agenda, begin_of, Open};
+ghost use Rattle.wx_action.specs.Told.{is_last, TellsNoEnd};
 ghost use Rattle.wx_action.specs.Laws.{IsBatched, AreBatches, NoneUrgentWaits, MomentsRise};
 ghost use Rattle.wx_action.specs.Answer.{Answers};
 ghost use Rattle.wx_job.specs.Faults.{Counted, CountsOn};
-ghost use Rattle.wx_action.specs.Leads.{StaysApart, FollowsAlone, Follows, Promised};
-ghost use Rattle.wx_action.specs.Turns.{StaysInTurn};
-ghost use Rattle.wx_action.specs.TurnLaws.{TellsNoEnd};
-ghost use Rattle.wx_action.specs.Stands.{Ready, AtTurn, HasRoom, Works, end_room};
-ghost use Rattle.wx_engine.specs.Run.{TellsTurns, HasCause, Stops};
+ghost use Rattle.wx_action.specs.Leads.{Follows};
+ghost use Rattle.wx_action.specs.Stands.{Stands, AtTurn, HasRoom, Works, end_room};
+ghost use Rattle.wx_engine.specs.Run.{HasCause, Stops, Rests, IsBetween, ServesTurns, Lists, HasLaws};
 
 use crate::watchexec::Watchexec;
 use std::alloc::Global;
@@ -54,15 +54,12 @@ pub(crate) fn begin(
     ghost start: { Start }
     requires engine { engine ≡ start }
     requires empty { journal.old.past ≡ [] }
-    ensures ready { IfOk result (λ worker. Ready start worker journal.new.past) }
+    ensures stands { IfOk result (λ worker. Stands start worker journal.new.past) }
     ensures open { OnOk result (agenda start journal.new.past ≡ Open) }
-    ensures run { IsRun start journal.new.past }
     ensures none { jobs journal.new.past ≡ [] }
     ensures room { IfOk result (λ worker. end_room worker ≡ 0) }
     ensures calm { NoneUrgentWaits journal.new.past }
-    ensures follows { FollowsAlone start journal.old.past journal.new.past }
-    ensures apart { StaysApart journal.old.past journal.new.past }
-    ensures turns { StaysInTurn journal.old.past journal.new.past }
+    ensures adds { Adds start journal.old.past journal.new.past }
 {
     let Watchexec {
         config,
@@ -93,21 +90,13 @@ fn serve<W: World, H: Hooks>(
 ) -> Result<Worked, CriticalError>
     ghost start: { Start }
     requires turn { AtTurn start state.old at kind journal.old.past }
-    requires room { HasRoom state.old journal.old.spare (W.spare world.old) }
-    ensures ready { Ready start state.new journal.new.past }
-    ensures room { HasRoom state.new journal.new.spare (W.spare world.new) }
-    ensures follows { Follows start journal.old.past (W.told world.old) (H.told hooks.old) journal.new.past (W.told world.new) (H.told hooks.new) }
+    requires room { HasRoom state.old journal.old.spare (W.seen world.old).spare }
+    ensures continues { Continues H.seen H.rule H.stands start journal.old.past (W.seen world.old) hooks.old state.new journal.new.past (W.seen world.new) hooks.new }
+    ensures room { HasRoom state.new journal.new.spare (W.seen world.new).spare }
     ensures works { IfOk result (λ worked. Works start worked journal.new.past) }
     ensures last { IfOk result (λ worked. worked ≡ Worked.On → is_last kind ≡ false) }
     ensures error { IfErr result (λ error. error ≡ WantOfMemory) }
-    ensures calm { NoneUrgentWaits journal.new.past }
-    ensures turns { StaysInTurn journal.old.past journal.new.past }
-    ensures plan { H.plan hooks.new ≡ H.plan hooks.old }
-    ensures short { H.short hooks.new ≡ false → H.short hooks.old ≡ false }
-    ensures promised { Promised (H.short hooks.new) (H.rule (H.plan hooks.old)) (H.stands hooks.old) (H.stands hooks.new) journal.old.past journal.new.past }
-    ensures place { H.place hooks.new ≡ H.place hooks.old }
-    ensures kept { IsSteady W.Plan (W.plan world.old) (W.plan world.new) (W.progress world.old) (W.progress world.new) (W.place world.old) (W.place world.new) }
-    ensures host_faults { CountsOn journal.old.past (W.host_faults world.old) journal.new.past (W.host_faults world.new) }
+    ensures calm { NoneUrgentWaits journal.old.past → NoneUrgentWaits journal.new.past }
 {
     match kind {
         TurnKind::Arrive(event, priority) => {
@@ -134,14 +123,12 @@ fn serve<W: World, H: Hooks>(
 /// Takes room for a turn in the journal and in the world, besides what the end of all jobs takes. It fails only for want
 /// of memory.
 fn make_room<W: World>(state: &Worker, world: &mut W, journal: &mut Journal) -> Result<(), Memory>
-    requires room { HasRoom state.now journal.old.spare (W.spare world.old) }
+    requires room { HasRoom state.now journal.old.spare (W.seen world.old).spare }
     ensures same { journal.new.past ≡ journal.old.past }
-    ensures told { W.told world.new ≡ W.told world.old }
-    ensures kept { IsSteady W.Plan (W.plan world.old) (W.plan world.new) (W.progress world.old) (W.progress world.new) (W.place world.old) (W.place world.new) }
-    ensures host_faults { W.host_faults world.new ≡ W.host_faults world.old }
-    ensures room { HasRoom state.now journal.new.spare (W.spare world.new) }
+    ensures rest { OnlyRoom (W.seen world.old) (W.seen world.new) }
+    ensures room { HasRoom state.now journal.new.spare (W.seen world.new).spare }
     ensures journal_room { OnOk result (1 + end_room state.now ≤ journal.new.spare) }
-    ensures world_room { OnOk result (1 + end_room state.now ≤ W.spare world.new) }
+    ensures world_room { OnOk result (1 + end_room state.now ≤ (W.seen world.new).spare) }
 {
     state.reserve(1, journal)?;
     state.reserve_host(1, world)
@@ -173,30 +160,13 @@ fn serve_turns<W: World, H: Hooks>(
     journal: &mut Journal,
 ) -> Result<(), CriticalError>
     ghost start: { Start }
-    requires ready { Ready start state.old journal.old.past }
-    requires room { HasRoom state.old journal.old.spare (W.spare world.old) }
-    requires open { agenda start journal.old.past ≡ Open }
-    requires fault { turn_fault journal.old.past ≡ None }
-    requires now { moment journal.old.past ≤ (W.progress world.old).moment }
-    requires rise { MomentsRise journal.old.past }
+    requires between { IsBetween start state.old journal.old (W.seen world.old) }
     requires about { about ≡ codes "turn" }
-    ensures ready { Ready start state.new journal.new.past }
-    ensures room { HasRoom state.new journal.new.spare (W.spare world.new) }
+    ensures rests { Rests start state.new journal.new (W.seen world.new) }
     ensures stops { Stops start journal.new.past result }
-    ensures follows { Follows start journal.old.past (W.told world.old) (H.told hooks.old) journal.new.past (W.told world.new) (H.told hooks.new) }
-    ensures calm { NoneUrgentWaits journal.new.past }
-    ensures rise { MomentsRise journal.new.past }
-    ensures turns { TellsTurns journal.old.past (W.progress world.old).turns journal.new.past (W.progress world.new).turns }
-    ensures count { turn_count journal.new.past ≤ turn_count journal.old.past + (W.progress world.old).left + 1 }
-    ensures early { early_count journal.new.past ≤ early_count journal.old.past + (W.progress world.old).left }
-    ensures cause { IfErr result (λ error. HasCause error (W.progress world.old).turn_faults (W.progress world.new).turn_faults) }
-    ensures promised { Promised (H.short hooks.new) (H.rule (H.plan hooks.old)) (H.stands hooks.old) (H.stands hooks.new) journal.old.past journal.new.past }
-    ensures short { H.short hooks.new ≡ false → H.short hooks.old ≡ false }
-    ensures plan { H.plan hooks.new ≡ H.plan hooks.old }
-    ensures place { H.place hooks.new ≡ H.place hooks.old }
-    ensures world_plan { W.plan world.new ≡ W.plan world.old }
-    ensures world_place { W.place world.new ≡ W.place world.old }
-    ensures host_faults { CountsOn journal.old.past (W.host_faults world.old) journal.new.past (W.host_faults world.new) }
+    ensures serves { ServesTurns start journal.old.past (W.seen world.old) (H.seen hooks.old).told journal.new.past (W.seen world.new) (H.seen hooks.new).told }
+    ensures keeps { KeepsOn H.seen H.rule H.stands hooks.old journal.old.past hooks.new journal.new.past }
+    ensures cause { IfErr result (λ error. HasCause error (W.seen world.old).progress.turn_faults (W.seen world.new).progress.turn_faults) }
 {
     'turns: loop {
         make_room(state, world, journal)?;
@@ -232,23 +202,12 @@ pub(crate) fn run<W: World, H: Hooks>(
     requires engine { engine ≡ start }
     requires empty { journal.old.past ≡ [] }
     ensures answers { Answers start journal.new.past result }
-    ensures world { W.told world.new ≡ tells is_world journal.new.past (W.told world.old) }
-    ensures hooks { H.told hooks.new ≡ tells is_hooks journal.new.past (H.told hooks.old) }
-    ensures batched { IsBatched journal.new.past }
-    ensures batches { AreBatches start journal.new.past }
-    ensures calm { NoneUrgentWaits journal.new.past }
-    ensures rise { MomentsRise journal.new.past }
-    ensures turns { (W.progress world.new).turns ≡ tells is_turn journal.new.past (W.progress world.old).turns }
-    ensures count { turn_count journal.new.past ≤ (W.progress world.old).left + 1 }
-    ensures early { early_count journal.new.past ≤ (W.progress world.old).left }
-    ensures cause { IfErr result (λ error. HasCause error (W.progress world.old).turn_faults (W.progress world.new).turn_faults) }
-    ensures promised { Promised (H.short hooks.new) (H.rule (H.plan hooks.old)) (H.stands hooks.old) (H.stands hooks.new) [] journal.new.past }
-    ensures short { H.short hooks.new ≡ false → H.short hooks.old ≡ false }
-    ensures plan { H.plan hooks.new ≡ H.plan hooks.old }
-    ensures place { H.place hooks.new ≡ H.place hooks.old }
-    ensures world_plan { W.plan world.new ≡ W.plan world.old }
-    ensures world_place { W.place world.new ≡ W.place world.old }
-    ensures host_faults { Counted [] (W.host_faults world.old) journal.new.past (W.host_faults world.new) }
+    ensures cause { IfErr result (λ error. HasCause error (W.seen world.old).progress.turn_faults (W.seen world.new).progress.turn_faults) }
+    ensures lists { Lists journal.new.past (W.seen world.old) (H.seen hooks.old).told (W.seen world.new) (H.seen hooks.new).told }
+    ensures laws { HasLaws start journal.new.past }
+    ensures promised { Promised H.seen H.rule H.stands hooks.old [] hooks.new journal.new.past }
+    ensures world_plan { (W.seen world.new).plan ≡ (W.seen world.old).plan }
+    ensures world_place { (W.seen world.new).place ≡ (W.seen world.old).place }
 {
     let about = Text::from_slice(alloc, b"turn")?;
     let mut state = begin(alloc, engine, journal)?;

@@ -1,9 +1,7 @@
 // What is written down for a run.
 use std::alloc::Global;
-use wx_command::Command;
-use wx_control::{Ask, Id};
-use wx_events::{Copies, Event, List, Memory, Priority, ProcessEnd};
-use wx_journal::{HostFault, Turn};
+use wx_events::{Copies, Event, List, Memory, Priority, ProcessEnd, Spelled, Text, Words};
+use wx_journal::{Act, HostFault, Turn};
 
 /// What the world is to do when it is asked for a turn.
 #[derive(Drop, Debug)]
@@ -23,24 +21,25 @@ impl Copies for ScriptTurn {
     }
 }
 
-/// What the action handler of a script asks for.
-#[derive(Drop, Debug)]
-pub enum ScriptAct {
-    /// A job is to be made, which runs this command. It gets its name in the run.
-    Create(Command),
-    /// This is to be asked of the job of this name.
-    Ask(Id, Ask),
-    /// The run is to end at once.
-    Quit,
+/// Which job is created by an act of a script.
+#[derive(Clone, Copy, Debug)]
+pub enum Wanted {
+    /// A new one. It gets its name in the run.
+    New,
 }
 
-impl Copies for ScriptAct {
-    fn copy(&self, alloc: Global) -> Result<ScriptAct, Memory> {
-        match self {
-            ScriptAct::Create(command) => Ok(ScriptAct::Create(command.copy(alloc)?)),
-            ScriptAct::Ask(id, ask) => Ok(ScriptAct::Ask(*id, ask.copy(alloc)?)),
-            ScriptAct::Quit => Ok(ScriptAct::Quit),
-        }
+#[tactic(auto, using(wx_words::specs::LineLaws::behinds))]
+impl Spelled for Wanted {
+    ghost use Rattle.wx_engine.specs.Wishes.{wanted};
+
+    ghost spelling = { wanted };
+
+    fn put_after(&self, _out: &mut Text) -> Result<(), Memory> {
+        Ok(())
+    }
+
+    fn read(_alloc: Global, _line: &mut Words) -> Result<Option<Wanted>, Memory> {
+        Ok(Some(Wanted::New))
     }
 }
 
@@ -56,7 +55,7 @@ pub struct Script {
     /// The turns, in order. Those after them are last turns.
     pub turns: List<ScriptTurn>,
     /// What the action handler asks for: the acts of its first call, of its second, and so on.
-    pub actions: List<List<ScriptAct>>,
+    pub actions: List<List<Act<Wanted>>>,
     /// What the host answers to the spawns of children, in order.
     pub spawns: List<Result<(), HostFault>>,
     /// What it answers to their kills, in order.

@@ -1,42 +1,43 @@
 // Hooks in memory, which follow a script.
-ghost use Rattle.std.specs.Prelude.{◌≡◌, ◌++◌, ◌∷◌, [], ◌≤◌, false, Some, List, IfOk, OnOk, length, option_map};
+ghost use Rattle.std.specs.Prelude.{◌≡◌, ◌++◌, ◌∷◌, [], false, Some, List, IfOk, OnOk, option_map};
 ghost use Rattle.std.specs.List.{find};
 ghost use Rattle.wx_journal.specs.declared.entry.Act.TheVariants.{Ask as Asks};
-ghost use Rattle.wx_engine.specs.declared.script.ScriptAct.{ScriptAct as AnAct};
-ghost use Rattle.wx_engine.specs.Acted.{is_made, AreMade, performed, with_create, with_ask, with_act, acts_rule, StandsFor, keeps_stand};
+ghost use Rattle.wx_engine.specs.Wishes.{ScriptAct as AnAct};
+ghost use Rattle.wx_journal.specs.Told.{anywhere, is_hooks};
+ghost use Rattle.wx_engine.specs.Answered.{IsAnswered, AreUsed};
+ghost use Rattle.wx_engine.specs.Acted.{is_made, AreMade, performed, with_create, with_ask, with_act, hands};
+ghost use Rattle.wx_engine.specs.FollowLaws.{uses_over, hands_among};
 
-use crate::script::{Script, ScriptAct};
+use crate::replies::Replies;
+use crate::script::{Script, Wanted};
 use std::alloc::Global;
 use wx_action::{ActionHandler, CreateRefused, Hooks, JobHooks};
 use wx_command::Command;
 use wx_control::{Ask, Controls, Id, Job};
 use wx_events::{Copies, List, Memory};
-use wx_journal::{Entry, Journal};
+use wx_journal::{Act, Entry, Journal};
 
 /// Hooks that ask in each call of the action handler for the next acts of a script, and for nothing after them. Where
 /// memory is wanted for an act they are short, quit, and leave out the acts behind it. They tell their entries.
 #[derive(Drop, Debug)]
 pub struct ScriptHooks {
     alloc: Global,
-    actions: List<List<ScriptAct>>,
-    next: usize,
+    actions: Replies<List<Act<Wanted>>>,
     told: Journal,
     is_short: bool,
-    ghost in_range: { next ≤ length actions },
 }
 
 impl ScriptHooks {
     /// Hooks that follow this script, before the first call. It fails only for want of memory.
     pub fn new(alloc: Global, script: &Script) -> Result<ScriptHooks, Memory>
-        ensures plan { IfOk result (λ hooks. hooks.actions ≡ script.now.actions) }
-        ensures stands { IfOk result (λ hooks. StandsFor hooks.actions hooks.next []) }
+        ensures plan { IfOk result (λ hooks. hooks.actions.lines ≡ script.now.actions) }
+        ensures stands { IfOk result (λ hooks. AreUsed hands hooks.actions.lines hooks.actions.used []) }
         ensures told { IfOk result (λ hooks. hooks.told.past ≡ []) }
         ensures short { IfOk result (λ hooks. hooks.is_short ≡ false) }
     {
         Ok(ScriptHooks {
             alloc,
-            actions: script.actions.copy(alloc)?,
-            next: 0,
+            actions: Replies::new(script.actions.copy(alloc)?),
             told: Journal::new(alloc)?,
             is_short: false,
         })
@@ -53,42 +54,39 @@ impl ScriptHooks {
 impl JobHooks for ScriptHooks {
     ghost Plan = { List (List AnAct) };
 
-    ghost plan = { λ s. s.actions };
+    ghost seen = { λ s. record { plan = s.actions.lines; told = Some s.told.past; spare = s.told.spare; short = s.is_short; place = [] } };
 
-    ghost rule = { acts_rule };
+    ghost rule = { λ lines p e. IsAnswered hands lines p e };
 
-    ghost stands = { λ s p. StandsFor s.actions s.next p };
-
-    ghost short = { λ s. s.is_short };
-
-    ghost told = { λ s. Some s.told.past };
-
-    ghost spare = { λ s. s.told.spare };
+    ghost stands = { λ s p. AreUsed hands s.actions.lines s.actions.used p };
 
     fn reserve(&mut self, n: u64) -> Result<(), Memory> {
         self.told.reserve(n)
     }
 
-    ghost stands_other = { λ s p e _ other. keeps_stand s.actions s.next p e other };
+    ghost stands_other = { λ s p e _ other. uses_over hands (anywhere is_hooks) hands_among s.actions.lines s.actions.used p e other };
 }
 
 impl Hooks for ScriptHooks {
     fn action(&mut self, n: u32, handler: &mut ActionHandler<'_>) {
-        if self.next < self.actions.len() {
-            let acts = self.actions.as_slice()[self.next].as_slice();
-            if perform(self.alloc, acts, handler).is_err() {
-                self.is_short = true;
-                handler.quit();
-            }
-            self.next += 1;
+        let none = List::new(self.alloc);
+        let acts = self.actions.line(&none).as_slice();
+        if perform(self.alloc, acts, handler).is_err() {
+            self.is_short = true;
+            handler.quit();
         }
+        self.actions.pass();
         let entry = handler.hand(n);
         self.told.push(entry);
     }
 }
 
 /// Asks for these acts, one by one. It fails only for want of memory.
-fn perform(alloc: Global, acts: &[ScriptAct], handler: &mut ActionHandler<'_>) -> Result<(), Memory>
+fn perform(
+    alloc: Global,
+    acts: &[Act<Wanted>],
+    handler: &mut ActionHandler<'_>,
+) -> Result<(), Memory>
     requires fresh { handler.old.acts ≡ [] }
     ensures done { OnOk result (handler.new ≡ record handler.old { acts = performed handler.old.past [] acts.now }) }
     ensures same { handler.new ≡ record handler.old { acts = handler.new.acts } }
@@ -103,7 +101,7 @@ fn perform(alloc: Global, acts: &[ScriptAct], handler: &mut ActionHandler<'_>) -
 /// Asks for an act, with the handles on the jobs that were created so far. It fails only for want of memory.
 fn perform_one(
     alloc: Global,
-    act: &ScriptAct,
+    act: &Act<Wanted>,
     made: &mut Vec<Job>,
     handler: &mut ActionHandler<'_>,
 ) -> Result<(), Memory>
@@ -113,9 +111,9 @@ fn perform_one(
     ensures made { OnOk result (AreMade made.new.items handler.new.acts) }
 {
     match act {
-        ScriptAct::Create(command) => create(alloc, command, made, handler),
-        ScriptAct::Ask(id, ask) => ask_or_not(alloc, *id, ask, made.as_slice(), handler),
-        ScriptAct::Quit => {
+        Act::Create(Wanted::New, command) => create(alloc, command, made, handler),
+        Act::Ask(id, ask) => ask_or_not(alloc, *id, ask, made.as_slice(), handler),
+        Act::Quit => {
             handler.quit();
             Ok(())
         }

@@ -1,10 +1,9 @@
 // A world in memory, which follows a script.
 ghost use Rattle.std.specs.Prelude.{◌≡◌, [], true, Some, IfOk, length, drop};
 ghost use Rattle.std.specs.List.{list_all};
-ghost use Rattle.wx_events.specs.declared.process.ProcessEnd.TheVariants.{Success};
 ghost use Rattle.wx_journal.specs.declared.entry.TurnKind.TheVariants.{Last};
 ghost use Rattle.wx_journal.specs.Told.{Counts};
-ghost use Rattle.wx_engine.specs.Answered.{spawn_answers, kill_answers, wait_answers, AreAnswered, IsGiven};
+ghost use Rattle.wx_engine.specs.Answered.{Answered, spawns as of_spawns, kills as of_kills, waits as of_waits};
 ghost use Rattle.wx_engine.specs.Follows.{given_of};
 ghost use Rattle.wx_engine.specs.Turns.{comes, risen, Rises, entry_of, Given, turns_of, FollowsGiven};
 
@@ -25,24 +24,21 @@ use wx_journal::{Entry, HostFault, Journal, SpawnTag, Turn, TurnKind};
 pub struct ScriptWorld {
     turns: List<ScriptTurn>,
     last: u64,
-    spawns: Replies<()>,
-    kills: Replies<()>,
-    waits: Replies<ProcessEnd>,
+    spawns: Replies<Result<(), HostFault>>,
+    kills: Replies<Result<(), HostFault>>,
+    waits: Replies<Result<ProcessEnd, HostFault>>,
     left: Supply,
     told: Journal,
     moment: u64,
     faults: u64,
     host_faults: u64,
-    pub ghost follows: { FollowsGiven (record { turns = turns; last = last; spawns = spawns.lines; kills = kills.lines; waits = waits.lines }) told.past },
-    pub ghost of_spawns: { AreAnswered tt spawns.lines (spawn_answers told.past) },
-    pub ghost of_kills: { AreAnswered tt kills.lines (kill_answers told.past) },
-    pub ghost of_waits: { AreAnswered Success waits.lines (wait_answers told.past) },
+    pub ghost follows: { FollowsGiven turns last told.past },
+    pub ghost spawned: { Answered of_spawns spawns.lines spawns.used told.past },
+    pub ghost killed: { Answered of_kills kills.lines kills.used told.past },
+    pub ghost waited: { Answered of_waits waits.lines waits.used told.past },
     ghost rest: { left ≡ drop (length (turns_of told.past)) turns },
     ghost come: { list_all comes left ≡ true },
     ghost rises: { risen moment left ≡ Some last },
-    ghost spawned: { IsGiven spawns.given spawns.lines (spawn_answers told.past) },
-    ghost killed: { IsGiven kills.given kills.lines (kill_answers told.past) },
-    ghost waited: { IsGiven waits.given waits.lines (wait_answers told.past) },
 }
 
 impl ScriptWorld {
@@ -59,9 +55,9 @@ impl ScriptWorld {
         Ok(ScriptWorld {
             turns: script.turns.copy(alloc)?,
             last: script.last,
-            spawns: Replies::new(alloc, &script.spawns)?,
-            kills: Replies::new(alloc, &script.kills)?,
-            waits: Replies::new(alloc, &script.waits)?,
+            spawns: Replies::new(copied(alloc, &script.spawns)?),
+            kills: Replies::new(copied(alloc, &script.kills)?),
+            waits: Replies::new(copied(alloc, &script.waits)?),
             left: Supply::new(alloc, &script.turns)?,
             told: Journal::new(alloc)?,
             moment: 0,
@@ -74,15 +70,14 @@ impl ScriptWorld {
 impl Outside for ScriptWorld {
     ghost Plan = { Given };
 
-    ghost plan = { λ s. record { turns = s.turns; last = s.last; spawns = s.spawns.lines; kills = s.kills.lines; waits = s.waits.lines } };
+    ghost seen = { λ s. record { plan = record { turns = s.turns; last = s.last; spawns = s.spawns.lines; kills = s.kills.lines; waits = s.waits.lines }; shown = record { told = Some s.told.past; faults = s.host_faults }; spare = s.told.spare; progress = record { turns = Some (turns_of s.told.past); left = length s.left; moment = s.moment; turn_faults = s.faults; maker_faults = 0 }; place = [] } };
+}
 
-    ghost told = { λ s. Some s.told.past };
-
-    ghost spare = { λ s. s.told.spare };
-
-    ghost progress = { λ s. record { turns = Some (turns_of s.told.past); left = length s.left; moment = s.moment; turn_faults = s.faults; maker_faults = 0 } };
-
-    ghost host_faults = { λ s. s.host_faults };
+/// These lines once more. It fails only for want of memory.
+fn copied<T: Copy>(alloc: Global, lines: &List<T>) -> Result<List<T>, Memory>
+    ensures { IfOk result (λ copied. copied ≡ lines.now) }
+{
+    Ok(List::from_vec(Vec::from_slice(alloc, lines.as_slice())?))
 }
 
 /// A count of faults, after a call that failed or went well. It ends at the greatest number.
@@ -108,7 +103,7 @@ impl Host for ScriptWorld {
         what: Spawnable,
         tag: SpawnTag,
     ) -> Result<(), HostFault> {
-        let answer = self.spawns.next(());
+        let answer = self.spawns.next(Ok(()));
         self.host_faults = counted(self.host_faults, answer.is_err());
         self.told.push(Entry::Spawn {
             child,
@@ -121,14 +116,14 @@ impl Host for ScriptWorld {
     }
 
     fn kill(&mut self, child: u64) -> Result<(), HostFault> {
-        let answer = self.kills.next(());
+        let answer = self.kills.next(Ok(()));
         self.host_faults = counted(self.host_faults, answer.is_err());
         self.told.push(Entry::Kill { child, answer });
         answer
     }
 
     fn wait(&mut self, child: u64) -> Result<ProcessEnd, HostFault> {
-        let answer = self.waits.next(ProcessEnd::Success);
+        let answer = self.waits.next(Ok(ProcessEnd::Success));
         self.host_faults = counted(self.host_faults, answer.is_err());
         self.told.push(Entry::Wait { child, answer });
         answer

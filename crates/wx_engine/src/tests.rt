@@ -6,7 +6,7 @@ ghost use Rattle.wx_journal.specs.declared.entry.TurnKind.TheVariants.{Arrive, W
 ghost use Rattle.wx_engine.specs.declared.script.ScriptTurn.TheVariants.{Turn as Comes};
 ghost use Rattle.wx_engine.specs.Follows.{IsScript};
 
-use crate::{Script, ScriptAct, ScriptHooks, ScriptTurn, ScriptWorld, SendRefused, Watchexec};
+use crate::{Script, ScriptHooks, ScriptTurn, ScriptWorld, SendRefused, Wanted, Watchexec};
 use std::alloc::Global;
 use std::process::Abort;
 use std::test::Fail;
@@ -15,7 +15,7 @@ use wx_command::{Command, Program, SpawnOptions, Spawnable};
 use wx_config::Config;
 use wx_control::{Ask, Control, Flag, Id};
 use wx_events::{Copies, Event, List, Memory, Priority, ProcessEnd, Tag, Text, TextPath, cut};
-use wx_journal::{Entry, Journal, SpawnTag, Turn, TurnKind, Word};
+use wx_journal::{Act, Entry, Journal, SpawnTag, Turn, TurnKind, Word};
 
 /// Two turns with a fault between them, and one call that quits.
 fn script(alloc: Global) -> Result<Script, Memory>
@@ -37,7 +37,7 @@ fn script(alloc: Global) -> Result<Script, Memory>
         kind: TurnKind::Work,
     }))?;
     let mut acts = List::new(alloc);
-    acts.push(ScriptAct::Quit)?;
+    acts.push(Act::Quit)?;
     let mut actions = List::new(alloc);
     actions.push(acts)?;
     Ok(Script {
@@ -167,7 +167,7 @@ fn quits(alloc: Global) -> Result<Script, Memory>
     script.turns.push(work(0))?;
     script.turns.push(work(0))?;
     let mut acts = List::new(alloc);
-    acts.push(ScriptAct::Quit)?;
+    acts.push(Act::Quit)?;
     script.actions.push(acts)?;
     Ok(script)
 }
@@ -226,12 +226,12 @@ pub(crate) fn program(alloc: Global) -> Result<Command, Memory> {
 }
 
 /// A job is created, and asked to start. Something is asked of jobs that are not there, before and after.
-fn created(alloc: Global) -> Result<List<ScriptAct>, Memory> {
+fn created(alloc: Global) -> Result<List<Act<Wanted>>, Memory> {
     let mut acts = List::new(alloc);
-    acts.push(ScriptAct::Ask(Id(0), Ask::One(Control::Stop)))?;
-    acts.push(ScriptAct::Create(program(alloc)?))?;
-    acts.push(ScriptAct::Ask(Id(0), Ask::One(Control::Start)))?;
-    acts.push(ScriptAct::Ask(Id(1), Ask::One(Control::Start)))?;
+    acts.push(Act::Ask(Id(0), Ask::One(Control::Stop)))?;
+    acts.push(Act::Create(Wanted::New, program(alloc)?))?;
+    acts.push(Act::Ask(Id(0), Ask::One(Control::Start)))?;
+    acts.push(Act::Ask(Id(1), Ask::One(Control::Start)))?;
     Ok(acts)
 }
 

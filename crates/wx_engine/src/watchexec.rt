@@ -3,13 +3,13 @@ ghost use Rattle.std.specs.Prelude.{◌≡◌, ◌∷◌, ◌++◌, [], ◌+◌,
 ghost use Rattle.wx_events.specs.declared.event.Event.{Event as AnEvent};
 ghost use Rattle.wx_events.specs.declared.priority.Priority.{Priority as APriority};
 ghost use Rattle.wx_control.specs.declared.id.Id.{Id as AnId};
-ghost use Rattle.wx_journal.specs.Told.{is_world, is_hooks, is_turn, tells, Obeys, Rose};
+ghost use Rattle.wx_journal.specs.Told.{is_world, is_hooks, is_turn, anywhere, tells, Obeys, Rose};
 ghost use Rattle.wx_job.specs.History.{child};
 ghost use Rattle.wx_job.specs.Laws.{IsReaping, AfterFaults};
 ghost use Rattle.wx_config.specs.Defaults.{default_config};
 ghost use Rattle.wx_action.specs.Start.{Start, IsSize, IsStart, is_absolute};
 ghost use Rattle.wx_action.specs.Journal.{turn_count, early_count};
-ghost use Rattle.wx_action.specs.Laws.{IsBatched, AreBatches, NoneUrgentWaits, MomentsRise};
+ghost use Rattle.wx_action.specs.Laws.{IsBatched, AreBatches, NoneUrgentWaits, MomentsRise, AreMadeOnce, AreServed};
 ghost use Rattle.wx_action.specs.Answer.{Answers};
 ghost use Rattle.wx_job.specs.Faults.{Counted};
 ghost use Rattle.wx_engine.specs.Sent.{Refuses};
@@ -114,20 +114,20 @@ impl Watchexec {
         // The journal is a run that this answer may have, with its end done, and each error has its cause.
         ensures ran { Ran self journal.new.past }
         ensures answer { Answers self journal.new.past result }
-        ensures cause { IfErr result (λ error. HasCause error (W.progress world.old).turn_faults (W.progress world.new).turn_faults) }
-        ensures completes { (Rose (W.progress world.old).turn_faults (W.progress world.new).turn_faults → ⊥) → IsOkOrMemory result }
+        ensures cause { IfErr result (λ error. HasCause error (W.seen world.old).progress.turn_faults (W.seen world.new).progress.turn_faults) }
+        ensures completes { (Rose (W.seen world.old).progress.turn_faults (W.seen world.new).progress.turn_faults → ⊥) → IsOkOrMemory result }
 
         // It lists what was told: the turns, and the calls on world and hooks. At most one turn more came than were left, and
         // it is a last one.
-        ensures world { W.told world.new ≡ tells is_world journal.new.past (W.told world.old) }
-        ensures hooks { H.told hooks.new ≡ tells is_hooks journal.new.past (H.told hooks.old) }
-        ensures turns { (W.progress world.new).turns ≡ tells is_turn journal.new.past (W.progress world.old).turns }
-        ensures count { turn_count journal.new.past ≤ (W.progress world.old).left + 1 }
-        ensures one_more { early_count journal.new.past ≤ (W.progress world.old).left }
+        ensures world { (W.seen world.new).shown.told ≡ tells is_world journal.new.past (W.seen world.old).shown.told }
+        ensures hooks { (H.seen hooks.new).told ≡ tells (anywhere is_hooks) journal.new.past (H.seen hooks.old).told }
+        ensures turns { (W.seen world.new).progress.turns ≡ tells (anywhere is_turn) journal.new.past (W.seen world.old).progress.turns }
+        ensures count { turn_count journal.new.past ≤ (W.seen world.old).progress.left + 1 }
+        ensures one_more { early_count journal.new.past ≤ (W.seen world.old).progress.left }
 
         // The count of failed calls on children rose with each. A job whose spawn failed is pending, and a child that
         // could not be killed or waited for runs.
-        ensures host_faults { Counted [] (W.host_faults world.old) journal.new.past (W.host_faults world.new) }
+        ensures host_faults { Counted [] (W.seen world.old).shown.faults journal.new.past (W.seen world.new).shown.faults }
         ensures after_faults { AfterFaults journal.new.past }
 
         // Each child of a job is reaped, and none runs.
@@ -139,17 +139,19 @@ impl Watchexec {
         ensures batches { AreBatches self journal.new.past }
         ensures never_lost { NoneUrgentWaits journal.new.past }
         ensures moments { MomentsRise journal.new.past }
+        ensures ids { AreMadeOnce journal.new.past }
+        ensures served { AreServed self journal.new.past }
 
         // Where the hooks stood for the empty journal and are not short, each call passes their rule.
-        ensures rule { H.short hooks.new ≡ false → H.stands hooks.old [] → Obeys (H.rule (H.plan hooks.old)) [] journal.new.past }
-        ensures stands { H.short hooks.new ≡ false → H.stands hooks.old [] → H.stands hooks.new journal.new.past }
-        ensures short { H.short hooks.new ≡ false → H.short hooks.old ≡ false }
+        ensures rule { (H.seen hooks.new).short ≡ false → H.stands hooks.old [] → Obeys (H.rule (H.seen hooks.old).plan) [] journal.new.past }
+        ensures stands { (H.seen hooks.new).short ≡ false → H.stands hooks.old [] → H.stands hooks.new journal.new.past }
+        ensures short { (H.seen hooks.new).short ≡ false → (H.seen hooks.old).short ≡ false }
 
         // What no call changes.
-        ensures world_plan { W.plan world.new ≡ W.plan world.old }
-        ensures world_place { W.place world.new ≡ W.place world.old }
-        ensures hooks_plan { H.plan hooks.new ≡ H.plan hooks.old }
-        ensures hooks_place { H.place hooks.new ≡ H.place hooks.old }
+        ensures world_plan { (W.seen world.new).plan ≡ (W.seen world.old).plan }
+        ensures world_place { (W.seen world.new).place ≡ (W.seen world.old).place }
+        ensures hooks_plan { (H.seen hooks.new).plan ≡ (H.seen hooks.old).plan }
+        ensures hooks_place { (H.seen hooks.new).place ≡ (H.seen hooks.old).place }
     {
         run(alloc, self, world, hooks, journal)
     }

@@ -1,8 +1,10 @@
--- Priorities and events as words.
+-- Priorities, tags and events as words.
+use Rattle.std.proofs.Common.{◌≡◌, Some, refl}
 use Rattle.std.specs.Prelude.{ℕ, List, [], ◌∷◌, codes}
-use Rattle.wx_words.specs.Combine.{Reader, read_as, read_nothing, read_rows}
-use Rattle.wx_words.specs.Keywords.{read_keyword}
-use Rattle.wx_words.specs.Lists.{ListFits, list_words, read_list}
+use Rattle.wx_words.specs.Spellings.{Spelling}
+use Rattle.wx_words.specs.Choices.{Row, row, Behind, fields}
+use Rattle.wx_words.specs.ChoiceLaws.{MadeAgain, SpeltSo, choice}
+use Rattle.wx_words.specs.Parts.{line, nothing, HasWords, keyword, renamed, list_of}
 use Rattle.wx_events.specs.declared.priority.Priority.{Priority}
 use Rattle.wx_events.specs.declared.priority.Priority.TheVariants.{Low, Normal, High, Urgent}
 use Rattle.wx_events.specs.declared.event.Tag.{Tag}
@@ -18,35 +20,35 @@ priority_word Urgent = codes "urgent"
 abbrev pub priorities : List Priority
 priorities = Low ∷ Normal ∷ High ∷ Urgent ∷ []
 
-abbrev pub priority_words : Priority → List (List ℕ)
-priority_words x = priority_word x ∷ []
+pub priority_found : HasWords priority_word priorities
+priority_found Low = refl
+priority_found x = refl
 
-abbrev pub read_priority : Reader Priority
-read_priority ws = read_keyword priority_word priorities ws
+unfoldable pub priority : Spelling line Priority
+priority = keyword priority_word priorities priority_found refl
 
--- the tags whose texts and numbers are those of the code
-abbrev pub TagFits : Tag → Type 0
-TagFits Unknown = Unit {0}
+-- each first word of a tag, and what stands behind it
+abbrev pub tag_rows : List (Row line Tag)
+tag_rows = row (codes "unknown") nothing (λ u. Unknown) ∷ []
 
-abbrev pub tag_words : Tag → List (List ℕ)
-tag_words Unknown = codes "unknown" ∷ []
+abbrev pub tag_word : Tag → List ℕ
+tag_word Unknown = codes "unknown"
 
--- each first word of a tag, and how the rest is read
-abbrev pub tag_rows : List (List ℕ × Reader Tag)
-tag_rows = (codes "unknown", read_as (λ u. Unknown) read_nothing) ∷ []
+abbrev pub tag_behind : Tag → Behind line
+tag_behind _ = fields nothing tt
 
-unfoldable pub read_tag : Reader Tag
-read_tag ws = read_rows tag_rows ws
+pub tag_again : MadeAgain tag_rows tag_word tag_behind
+tag_again Unknown = (_, refl, refl)
+
+pub tag_so : SpeltSo tag_rows tag_word tag_behind
+tag_so = search
+
+unfoldable pub tag : Spelling line Tag
+tag = choice tag_rows tag_word tag_behind tag_again tag_so refl
 
 -- an event is its list of tags
-abbrev pub EventFits : Event → Type 0
-EventFits e = ListFits TagFits e.tags
-
-abbrev pub event_words : Event → List (List ℕ)
-event_words e = list_words tag_words e.tags
-
 abbrev pub make_event : List Tag → Event
 make_event tags = record { tags = tags }
 
-abbrev pub read_event : Reader Event
-read_event ws = read_as make_event (read_list read_tag) ws
+unfoldable pub event : Spelling line Event
+event = renamed (list_of tag) make_event (λ e. e.tags) (λ e. refl) (λ tags. refl)

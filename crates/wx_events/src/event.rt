@@ -1,10 +1,8 @@
 // Events.
-ghost use Rattle.std.specs.Prelude.{◌≡◌, ◌==◌, length, IfOk};
-ghost use Rattle.wx_words.specs.Line.{Reads};
-ghost use Rattle.wx_events.specs.Events.{read_tag};
+ghost use Rattle.std.specs.Prelude.{◌≡◌, ◌==◌, length};
 
 use std::alloc::Global;
-use wx_words::{Copies, List, Memory, Spelled, Text, Words};
+use wx_words::{Copies, List, Memory, Spelled, Text, Words, put_word, read_rows};
 
 /// What an event says of itself.
 #[derive(Clone, Copy, Debug, PartialEq, Eq)]
@@ -42,61 +40,36 @@ impl Copies for Event {
     }
 }
 
+#[tactic(auto, using(wx_words::specs::LineLaws::behinds), unfolding(crate::specs::Events::tag))]
 impl Spelled for Tag {
-    ghost use Rattle.wx_events.specs.Events.{TagFits, tag_words, read_tag};
-    ghost use Rattle.wx_events.specs.EventLaws.{tag_form, tag_clean};
+    ghost use Rattle.wx_events.specs.Events.{tag};
 
-    ghost words = { tag_words };
-
-    ghost fits = { TagFits };
-
-    ghost read = { read_tag };
-
-    ghost form = { tag_form };
-
-    ghost clean = { tag_clean };
+    ghost spelling = { tag };
 
     fn put_after(&self, out: &mut Text) -> Result<(), Memory> {
         match self {
-            Tag::Unknown => out.append(b" unknown"),
+            Tag::Unknown => put_word(b"unknown", out),
         }
     }
 
-    #[tactic(auto, unfolding(crate::specs::Events::read_tag))]
     fn read(_alloc: Global, line: &mut Words) -> Result<Option<Tag>, Memory> {
-        let Some(word) = line.next() else {
-            return Ok(None);
-        };
-        if word == b"unknown".as_slice() {
-            Ok(Some(Tag::Unknown))
-        } else {
-            Ok(None)
-        }
+        read_rows!(_alloc, line;
+            b"unknown" => Tag::Unknown,
+        )
     }
 }
 
+#[tactic(auto, unfolding(crate::specs::Events::event))]
 impl Spelled for Event {
-    ghost use Rattle.wx_events.specs.Events.{EventFits, event_words, read_event};
-    ghost use Rattle.wx_events.specs.EventLaws.{event_form, event_clean};
+    ghost use Rattle.wx_events.specs.Events.{event};
 
-    ghost words = { event_words };
-
-    ghost fits = { EventFits };
-
-    ghost read = { read_event };
-
-    ghost form = { event_form };
-
-    ghost clean = { event_clean };
+    ghost spelling = { event };
 
     fn put_after(&self, out: &mut Text) -> Result<(), Memory> {
         self.tags.put_after(out)
     }
 
     fn read(alloc: Global, line: &mut Words) -> Result<Option<Event>, Memory> {
-        match List::read(alloc, line)? {
-            Some(tags) => Ok(Some(Event { tags })),
-            None => Ok(None),
-        }
+        Ok(List::read(alloc, line)?.map(|tags| Event { tags }))
     }
 }

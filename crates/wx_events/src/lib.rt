@@ -11,6 +11,6 @@ pub use event::{Event, Tag};
 pub use priority::Priority;
 pub use process::{ProcessEnd, Signal};
 pub use wx_words::{
-    Copies, Dotted, Escaped, Keyword, List, Memory, Spelled, Text, TextPath, Words, cut, number_of,
-    put_items, put_keyword, read_dotted, read_keyword, take_literal, text_in, with_word,
+    Copies, Dotted, Escaped, List, Memory, Spelled, Text, TextPath, Words, cut, number_of,
+    put_items, read_dotted, take_literal, text_in,
 };

@@ -3,7 +3,7 @@ ghost use Rattle.std.specs.Prelude.{◌≡◌};
 ghost use Rattle.wx_events.specs.Priority.{rank, is_urgent};
 
 use std::alloc::Global;
-use wx_words::{Keyword, Memory, Spelled, Text, Words, put_keyword, read_keyword};
+use wx_words::{Memory, Spelled, Text, Words, put_word, read_rows};
 
 /// How pressing an event is, rising in this order.
 #[derive(Clone, Copy, Debug, Default, PartialEq, Eq, PartialOrd, Ord, Hash)]
@@ -36,58 +36,27 @@ impl Priority {
     }
 }
 
-const PRIORITIES: [Priority; 4] = [
-    Priority::Low,
-    Priority::Normal,
-    Priority::High,
-    Priority::Urgent,
-];
+#[tactic(auto, unfolding(crate::specs::Events::priority))]
+impl Spelled for Priority {
+    ghost use Rattle.wx_events.specs.Events.{priority};
 
-impl Keyword for Priority {
-    ghost use Rattle.wx_events.specs.Events.{priority_word, priorities};
-    ghost use Rattle.wx_events.specs.EventLaws.{priority_found, priority_word_clean};
+    ghost spelling = { priority };
 
-    ghost word = { priority_word };
-
-    ghost all = { priorities };
-
-    ghost found = { priority_found };
-
-    ghost clean = { priority_word_clean };
-
-    fn word(self) -> &'static [u8] {
+    fn put_after(&self, out: &mut Text) -> Result<(), Memory> {
         match self {
-            Priority::Low => b"low",
-            Priority::Normal => b"normal",
-            Priority::High => b"high",
-            Priority::Urgent => b"urgent",
+            Priority::Low => put_word(b"low", out),
+            Priority::Normal => put_word(b"normal", out),
+            Priority::High => put_word(b"high", out),
+            Priority::Urgent => put_word(b"urgent", out),
         }
     }
 
-    fn all() -> &'static [Priority] {
-        &PRIORITIES
-    }
-}
-
-impl Spelled for Priority {
-    ghost use Rattle.wx_events.specs.Events.{priority_words, read_priority};
-    ghost use Rattle.wx_events.specs.EventLaws.{priority_form, priority_clean};
-
-    ghost words = { priority_words };
-
-    ghost fits = { λ x. Unit {0} };
-
-    ghost read = { read_priority };
-
-    ghost form = { priority_form };
-
-    ghost clean = { priority_clean };
-
-    fn put_after(&self, out: &mut Text) -> Result<(), Memory> {
-        put_keyword(*self, out)
-    }
-
-    fn read(_alloc: Global, line: &mut Words) -> Result<Option<Priority>, Memory> {
-        Ok(read_keyword(line))
+    fn read(alloc: Global, line: &mut Words) -> Result<Option<Priority>, Memory> {
+        read_rows!(alloc, line;
+            b"low" => Priority::Low,
+            b"normal" => Priority::Normal,
+            b"high" => Priority::High,
+            b"urgent" => Priority::Urgent,
+        )
     }
 }

@@ -1,11 +1,11 @@
 // Signals, and the ends of processes.
 ghost use Rattle.std.specs.Prelude.{◌≡◌, ◌++◌, OnOk};
 ghost use Rattle.wx_words.specs.Dotted.{dotted};
-ghost use Rattle.wx_events.specs.Ends.{SignalFits, signal_parts, read_signal_parts, read_end_parts};
+ghost use Rattle.wx_events.specs.Ends.{signal_parts, end_parts};
 
 use std::alloc::Global;
 use std::num::{NonZeroI32, NonZeroI64};
-use wx_words::{Copies, Dotted, Memory, Spelled, Text, Words, read_dotted};
+use wx_words::{Copies, Dotted, Memory, Spelled, Text, Words, read_dotted, read_rows};
 
 /// A signal to a process.
 #[derive(Clone, Copy, Debug, PartialEq, Eq)]
@@ -53,8 +53,8 @@ impl Copies for ProcessEnd {
 
 /// Appends the parts of a signal with a dot between them.
 fn put_signal(signal: Signal, out: &mut Text) -> Result<(), Memory>
-    ensures text { OnOk result (out.new ≡ out.old ++ dotted (signal_parts signal)) }
-    ensures fits { OnOk result (SignalFits signal) }
+    ensures text { OnOk result (out.new ≡ out.old ++ dotted (signal_parts.words signal)) }
+    ensures fits { OnOk result (signal_parts.fits signal) }
 {
     match signal {
         Signal::Hangup => out.append(b"hangup"),
@@ -74,55 +74,29 @@ fn put_signal(signal: Signal, out: &mut Text) -> Result<(), Memory>
 }
 
 impl Dotted for Signal {
-    ghost read_parts = { read_signal_parts };
+    ghost read_parts = { signal_parts.read };
 
-    #[tactic(auto, unfolding(crate::specs::Ends::read_signal_parts))]
     fn read_parts(alloc: Global, parts: &mut Words) -> Result<Option<Signal>, Memory> {
-        let Some(part) = parts.next() else {
-            return Ok(None);
-        };
-        if part == b"hangup".as_slice() {
-            Ok(Some(Signal::Hangup))
-        } else if part == b"forcestop".as_slice() {
-            Ok(Some(Signal::ForceStop))
-        } else if part == b"interrupt".as_slice() {
-            Ok(Some(Signal::Interrupt))
-        } else if part == b"quit".as_slice() {
-            Ok(Some(Signal::Quit))
-        } else if part == b"terminate".as_slice() {
-            Ok(Some(Signal::Terminate))
-        } else if part == b"user1".as_slice() {
-            Ok(Some(Signal::User1))
-        } else if part == b"user2".as_slice() {
-            Ok(Some(Signal::User2))
-        } else if part == b"continue".as_slice() {
-            Ok(Some(Signal::Continue))
-        } else if part == b"suspend".as_slice() {
-            Ok(Some(Signal::TerminalSuspend))
-        } else if part == b"custom".as_slice() {
-            let Some(n) = i32::read(alloc, parts)? else {
-                return Ok(None);
-            };
-            Ok(Some(Signal::Custom(n)))
-        } else {
-            Ok(None)
-        }
+        read_rows!(alloc, parts;
+            b"hangup" => Signal::Hangup,
+            b"forcestop" => Signal::ForceStop,
+            b"interrupt" => Signal::Interrupt,
+            b"quit" => Signal::Quit,
+            b"terminate" => Signal::Terminate,
+            b"user1" => Signal::User1,
+            b"user2" => Signal::User2,
+            b"continue" => Signal::Continue,
+            b"suspend" => Signal::TerminalSuspend,
+            b"custom" (n) => Signal::Custom(n),
+        )
     }
 }
 
+#[tactic(auto, unfolding(crate::specs::Ends::signal, wx_words::specs::Line::behind))]
 impl Spelled for Signal {
-    ghost use Rattle.wx_events.specs.Ends.{signal_words, read_signal};
-    ghost use Rattle.wx_events.specs.EndLaws.{signal_form, signal_clean};
+    ghost use Rattle.wx_events.specs.Ends.{signal};
 
-    ghost words = { signal_words };
-
-    ghost fits = { SignalFits };
-
-    ghost read = { read_signal };
-
-    ghost form = { signal_form };
-
-    ghost clean = { signal_clean };
+    ghost spelling = { signal };
 
     fn put_after(&self, out: &mut Text) -> Result<(), Memory> {
         out.push(32)?;
@@ -135,56 +109,25 @@ impl Spelled for Signal {
 }
 
 impl Dotted for ProcessEnd {
-    ghost read_parts = { read_end_parts };
+    ghost read_parts = { end_parts.read };
 
-    #[tactic(auto, unfolding(crate::specs::Ends::read_end_parts))]
     fn read_parts(alloc: Global, parts: &mut Words) -> Result<Option<ProcessEnd>, Memory> {
-        let Some(part) = parts.next() else {
-            return Ok(None);
-        };
-        if part == b"success".as_slice() {
-            Ok(Some(ProcessEnd::Success))
-        } else if part == b"error".as_slice() {
-            let Some(n) = NonZeroI64::read(alloc, parts)? else {
-                return Ok(None);
-            };
-            Ok(Some(ProcessEnd::ExitError(n)))
-        } else if part == b"signal".as_slice() {
-            let Some(signal) = Signal::read_parts(alloc, parts)? else {
-                return Ok(None);
-            };
-            Ok(Some(ProcessEnd::ExitSignal(signal)))
-        } else if part == b"stop".as_slice() {
-            let Some(n) = NonZeroI32::read(alloc, parts)? else {
-                return Ok(None);
-            };
-            Ok(Some(ProcessEnd::ExitStop(n)))
-        } else if part == b"exception".as_slice() {
-            let Some(n) = NonZeroI32::read(alloc, parts)? else {
-                return Ok(None);
-            };
-            Ok(Some(ProcessEnd::Exception(n)))
-        } else if part == b"continued".as_slice() {
-            Ok(Some(ProcessEnd::Continued))
-        } else {
-            Ok(None)
-        }
+        read_rows!(alloc, parts;
+            b"success" => ProcessEnd::Success,
+            b"error" (n) => ProcessEnd::ExitError(n),
+            b"signal" (signal = Signal::read_parts) => ProcessEnd::ExitSignal(signal),
+            b"stop" (n) => ProcessEnd::ExitStop(n),
+            b"exception" (n) => ProcessEnd::Exception(n),
+            b"continued" => ProcessEnd::Continued,
+        )
     }
 }
 
+#[tactic(auto, unfolding(crate::specs::Ends::end, wx_words::specs::Line::behind))]
 impl Spelled for ProcessEnd {
-    ghost use Rattle.wx_events.specs.Ends.{EndFits, end_words, read_end};
-    ghost use Rattle.wx_events.specs.EndLaws.{end_form, end_clean};
+    ghost use Rattle.wx_events.specs.Ends.{end};
 
-    ghost words = { end_words };
-
-    ghost fits = { EndFits };
-
-    ghost read = { read_end };
-
-    ghost form = { end_form };
-
-    ghost clean = { end_clean };
+    ghost spelling = { end };
 
     fn put_after(&self, out: &mut Text) -> Result<(), Memory> {
         match self {

@@ -1,5 +1,5 @@
 -- An entry of one job leaves what is asked of every other.
-use Rattle.std.proofs.Common.{◌≡◌, ◌≢◌, ℕ, false, List, ◌∷◌, Option, Some, None, Result, Ok, Err, refl, ap, sym, ◌∙◌, ne_eqb}
+use Rattle.std.proofs.Common.{◌≡◌, ◌≢◌, ℕ, Bool, true, false, List, ◌∷◌, Option, Some, None, Ok, Err, refl, ap, sym, ◌∙◌, ne_eqb}
 use Rattle.std.specs.Prelude.{◌==◌}
 use Rattle.wx_events.specs.declared.process.ProcessEnd.{ProcessEnd}
 use Rattle.wx_command.specs.declared.spawnable.Spawnable.{Spawnable}
@@ -9,13 +9,13 @@ use Rattle.wx_control.specs.declared.level.Level.{Level}
 use Rattle.wx_journal.specs.declared.child.SpawnTag.{SpawnTag}
 use Rattle.wx_journal.specs.declared.child.HostFault.{HostFault}
 use Rattle.wx_journal.specs.declared.entry.Entry.{Entry}
-use Rattle.wx_journal.specs.declared.entry.Entry.TheVariants.{Turn as Turned, Word as Said, Asked, Pick, Spawn, Kill, Wait, Dropped, Raise, Gone}
+use Rattle.wx_journal.specs.declared.entry.Entry.TheVariants.{Turn as Turned, Made, Asked, Pick, Spawn, Wait, Dropped, Gone}
 use Rattle.wx_journal.specs.declared.entry.TurnKind.TheVariants as turn
-use Rattle.wx_journal.specs.declared.entry.Word.{Word}
-use Rattle.wx_journal.specs.Names.{NamesItsOwn, moment}
+use Rattle.wx_journal.specs.Names.{moment}
 use Rattle.wx_job.specs.declared.state.CommandState.{CommandState}
 use Rattle.wx_job.specs.declared.state.CommandState.TheVariants.{Pending, Running, Finished}
 use Rattle.wx_job.specs.History.{child, unless, is_child, state, finish, SameHistory}
+use Rattle.wx_job.specs.Laws.{NamesChildren}
 use Rattle.wx_job.specs.Stands.{child_of}
 use Rattle.wx_job.proofs.Owners.{other-is, child_owner, state_owner}
 
@@ -49,14 +49,27 @@ pub frame_gone : (i id : Id) (p : List Entry) → i ≢ id → SameHistory i p (
 frame_gone i id p ne = record { lives_same = rw (other-is i id ne) refl; waits_same = λ l. rw (other-is i id ne) refl; child_same = refl; kept_same = rw (other-is i id ne) refl; state_same = refl; previous_same = refl }
 
 -- entries that name nothing of a job
-pub frame_raise : (i : Id) (t : ℕ) (p : List Entry) → SameHistory i p (Raise t ∷ p)
-frame_raise i t p = record { lives_same = refl; waits_same = λ l. refl; child_same = refl; kept_same = refl; state_same = refl; previous_same = refl }
+abbrev pub is_silent : Entry → Bool
+is_silent (Turned t) = false
+is_silent (Made job) = false
+is_silent (Asked ticket job level control) = false
+is_silent (Pick job ticket) = false
+is_silent (Spawn c job tag what answer) = false
+is_silent (Wait c answer) = false
+is_silent (Dropped c) = false
+is_silent (Gone job) = false
+is_silent (_) = true
 
-pub frame_word : (i : Id) (w : Word) (p : List Entry) → SameHistory i p (Said w ∷ p)
-frame_word i w p = record { lives_same = refl; waits_same = λ l. refl; child_same = refl; kept_same = refl; state_same = refl; previous_same = refl }
-
-pub frame_kill : (i : Id) (c : ℕ) (a : Result (Unit {0}) HostFault) (p : List Entry) → SameHistory i p (Kill c a ∷ p)
-frame_kill i c a p = record { lives_same = refl; waits_same = λ l. refl; child_same = refl; kept_same = refl; state_same = refl; previous_same = refl }
+pub frame_silent : (i : Id) (e : Entry) (p : List Entry) → is_silent e ≡ true → SameHistory i p (e ∷ p)
+frame_silent i (Turned t) p s = absurd cc
+frame_silent i (Made job) p s = absurd cc
+frame_silent i (Asked ticket job level control) p s = absurd cc
+frame_silent i (Pick job ticket) p s = absurd cc
+frame_silent i (Spawn c job tag what answer) p s = absurd cc
+frame_silent i (Wait c answer) p s = absurd cc
+frame_silent i (Dropped c) p s = absurd cc
+frame_silent i (Gone job) p s = absurd cc
+frame_silent i (_) p s = record { lives_same = refl; waits_same = λ l. refl; child_same = refl; kept_same = refl; state_same = refl; previous_same = refl }
 
 pub frame_turn : (i : Id) (at : ℕ) (id : Id) (p : List Entry) → SameHistory i p (Turned (record { at = at; kind = turn.Job id }) ∷ p)
 frame_turn i at id p = record { lives_same = refl; waits_same = λ l. refl; child_same = refl; kept_same = refl; state_same = refl; previous_same = refl }
@@ -75,7 +88,7 @@ finish_other (Finished before started finished) d status at never = refl
 pub apart : (i id : Id) (d : ℕ) (o : Option Id) → i ≢ id → o ≡ Some id → o ≡ Some i → ⊥
 apart i id d o ne its mine = let one : Some id ≡ Some i = sym its ∙ mine in ne (cc)
 
-pub frame_wait_ok : (i id : Id) (d : ℕ) (status : ProcessEnd) (p : List Entry) → i ≢ id → NamesItsOwn p → child id p ≡ Some d → SameHistory i p (Wait d (Ok status) ∷ p)
+pub frame_wait_ok : (i id : Id) (d : ℕ) (status : ProcessEnd) (p : List Entry) → i ≢ id → NamesChildren p → child id p ≡ Some d → SameHistory i p (Wait d (Ok status) ∷ p)
 frame_wait_ok i id d status p ne own runs =
     let its = child_owner id d p own runs in
     let never = not_child (child i p) d (λ e. apart i id d _ ne its (child_owner i d p own e)) in
@@ -88,13 +101,13 @@ frame_wait_ok i id d status p ne own runs =
       previous_same = refl;
     }
 
-pub frame_wait_err : (i id : Id) (d : ℕ) (fault : HostFault) (p : List Entry) → i ≢ id → NamesItsOwn p → child id p ≡ Some d → SameHistory i p (Wait d (Err fault) ∷ p)
+pub frame_wait_err : (i id : Id) (d : ℕ) (fault : HostFault) (p : List Entry) → i ≢ id → NamesChildren p → child id p ≡ Some d → SameHistory i p (Wait d (Err fault) ∷ p)
 frame_wait_err i id d fault p ne own runs =
     let its = child_owner id d p own runs in
     let never = not_child (child i p) d (λ e. apart i id d _ ne its (child_owner i d p own e)) in
     record { lives_same = refl; waits_same = λ l. refl; child_same = refl; kept_same = rw never.0 refl; state_same = refl; previous_same = refl }
 
-pub frame_drop : (i id : Id) (d : ℕ) (p : List Entry) → i ≢ id → NamesItsOwn p → child id p ≡ Some d → SameHistory i p (Dropped d ∷ p)
+pub frame_drop : (i id : Id) (d : ℕ) (p : List Entry) → i ≢ id → NamesChildren p → child id p ≡ Some d → SameHistory i p (Dropped d ∷ p)
 frame_drop i id d p ne own runs =
     let its = child_owner id d p own runs in
     let never = not_child (child i p) d (λ e. apart i id d _ ne its (child_owner i d p own e)) in

@@ -4,7 +4,10 @@ pub mod SteadyLemmas
 pub mod Sets
 pub mod Owners
 pub mod Frame
+pub mod Always
+pub mod KeptLemmas
 pub mod Sound
+pub mod Forms
 pub mod StepLaws
 pub mod LifeLaws
 pub mod Turns

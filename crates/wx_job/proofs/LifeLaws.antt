@@ -1,68 +1,57 @@
 -- In the life of a job each child is reaped before the next spawn.
-use Rattle.std.proofs.Common.{◌≡◌, ℕ, true, false, List, ◌∷◌, Option, Some, Ok, Err, refl, sym, ◌∙◌}
+use Rattle.std.proofs.Common.{◌≡◌, ℕ, true, false, List, [], ◌∷◌, Option, Some, Ok, Err, refl, sym, ◌∙◌}
 use Rattle.wx_command.specs.declared.command.Command.{Command}
 use Rattle.wx_control.specs.declared.id.Id.{Id}
 use Rattle.wx_control.specs.Asks.{sends_of}
 use Rattle.wx_journal.specs.declared.entry.Entry.{Entry}
-use Rattle.wx_journal.specs.declared.entry.Entry.TheVariants.{Begin, Sent, Turn as Turned, TurnFault, Offer, Word as Said, Take, Hand, Made, Asked, Pick, Spawn, Kill, Wait, Dropped, Raise, Gone}
-use Rattle.wx_journal.specs.Names.{NamesItsOwn}
+use Rattle.wx_journal.specs.declared.entry.Entry.TheVariants.{Made, Spawn, Wait, Dropped, Gone}
 use Rattle.wx_job.specs.History.{child, unless, owner}
 use Rattle.wx_job.specs.Table.{step_plan, send_plan, end_plan}
-use Rattle.wx_job.specs.Laws.{unreaped, IsReaping, is_owner, is_about, Lived, Begins, Others, Asks, Steps, Ends}
+use Rattle.wx_job.specs.Laws.{unreaped, IsReaping, NamesChildren, is_owner, is_about, Lived, Begins, Others, Asks, Steps, Ends}
 use Rattle.wx_job.proofs.Owners.{self, child_owner, unreaped_owner}
 use Rattle.wx_job.proofs.Frame.{not_child}
 use Rattle.wx_job.proofs.Sound.{sound_step, sound_send, sound_end}
-use Rattle.wx_job.proofs.StepLaws.{left_done, step_living, send_living, end_living}
+use Rattle.wx_job.proofs.StepLaws.{Left, left_done}
 
 -- a child of another is none of this job
 not_owned : (id : Id) (o : Option Id) → is_owner id o ≡ false → o ≡ Some id → ⊥
 not_owned id o other is = let mine : is_owner id o ≡ true = rw is (self id) in (let both : true ≡ false = sym mine ∙ other in cc)
 
-same_unreaped : (id : Id) (c : ℕ) (p : List Entry) → NamesItsOwn p → is_owner id (owner c p) ≡ false → unless c (unreaped id p) ≡ unreaped id p
+same_unreaped : (id : Id) (c : ℕ) (p : List Entry) → NamesChildren p → is_owner id (owner c p) ≡ false → unless c (unreaped id p) ≡ unreaped id p
 same_unreaped id c p own other = (not_child (unreaped id p) c (λ e. not_owned id (owner c p) other (unreaped_owner id c p own e))).1
 
-same_child : (id : Id) (c : ℕ) (p : List Entry) → NamesItsOwn p → is_owner id (owner c p) ≡ false → unless c (child id p) ≡ child id p
+same_child : (id : Id) (c : ℕ) (p : List Entry) → NamesChildren p → is_owner id (owner c p) ≡ false → unless c (child id p) ≡ child id p
 same_child id c p own other = (not_child (child id p) c (λ e. not_owned id (owner c p) other (child_owner id c p own e))).1
 
-other_reaping : (id : Id) (e : Entry) (p : List Entry) → NamesItsOwn (e ∷ p) → is_about id p e ≡ false → IsReaping id p → IsReaping id (e ∷ p)
-other_reaping id (Begin t s z k f j w d paths) p own other r = record { each = r.each; last = r.last; none = r.none }
-other_reaping id (Sent name event priority) p own other r = record { each = r.each; last = r.last; none = r.none }
-other_reaping id (Turned t) p own other r = record { each = r.each; last = r.last; none = r.none }
-other_reaping id (TurnFault code) p own other r = record { each = r.each; last = r.last; none = r.none }
-other_reaping id (Offer name item result event priority) p own other r = record { each = r.each; last = r.last; none = r.none }
-other_reaping id (Said word) p own other r = record { each = r.each; last = r.last; none = r.none }
-other_reaping id (Take name) p own other r = record { each = r.each; last = r.last; none = r.none }
-other_reaping id (Hand n names acts) p own other r = record { each = r.each; last = r.last; none = r.none }
+other_reaping : (id : Id) (e : Entry) (p : List Entry) → NamesChildren (e ∷ p) → is_about id p e ≡ false → IsReaping id p → IsReaping id (e ∷ p)
 other_reaping id (Made job) p own other r = record { each = λ e. r.each; last = λ alive. rw other (r.last (rw other at alive)); none = λ dead. rw other (r.none (rw other at dead)) }
-other_reaping id (Asked ticket job level control) p own other r = record { each = r.each; last = r.last; none = r.none }
-other_reaping id (Pick job ticket) p own other r = record { each = r.each; last = r.last; none = r.none }
 other_reaping id (Spawn c job tag what (Ok done)) p own other r = record { each = (λ e. (let both : true ≡ false = sym e ∙ other in absurd cc), r.each); last = λ alive. rw other (r.last alive); none = λ dead. rw other (r.none dead) }
 other_reaping id (Spawn c job tag what (Err fault)) p own other r = record { each = (λ e. (let both : true ≡ false = sym e ∙ other in absurd cc), r.each); last = r.last; none = r.none }
-other_reaping id (Kill c answer) p own other r = record { each = r.each; last = r.last; none = r.none }
-other_reaping id (Wait c (Ok status)) p own other r = record { each = r.each; last = λ alive. same_unreaped id c p own.1 other ∙ r.last alive ∙ sym (same_child id c p own.1 other); none = λ dead. same_child id c p own.1 other ∙ r.none dead }
-other_reaping id (Wait c (Err fault)) p own other r = record { each = r.each; last = r.last; none = r.none }
-other_reaping id (Dropped c) p own other r = record { each = r.each; last = λ alive. r.last alive ∙ sym (same_child id c p own.1 other); none = λ dead. same_child id c p own.1 other ∙ r.none dead }
-other_reaping id (Raise ticket) p own other r = record { each = r.each; last = r.last; none = r.none }
+other_reaping id (Wait c (Ok status)) p own other r = record { each = r.each; last = λ alive. same_unreaped id c p own other ∙ r.last alive ∙ sym (same_child id c p own other); none = λ dead. same_child id c p own other ∙ r.none dead }
+other_reaping id (Dropped c) p own other r = record { each = r.each; last = λ alive. r.last alive ∙ sym (same_child id c p own other); none = λ dead. same_child id c p own other ∙ r.none dead }
 other_reaping id (Gone job) p own other r = record { each = r.each; last = λ alive. r.last (rw other at alive); none = λ dead. r.none (rw other at dead) }
+other_reaping id (_) p own other r = record { each = r.each; last = r.last; none = r.none }
 
 record IsGood (id : Id) (p : List Entry) : Type 0 where
-  own : NamesItsOwn p
+  children : NamesChildren p
   reaping : IsReaping id p
+
+-- what a call leaves of it
+good_left : (id : Id) (p p' : List Entry) → Left (λ q. Unit {0}) id p p' → IsGood id p → IsGood id p'
+good_left id p p' left h = record { children = left.children h.children; reaping = left.leaves.reaped h.reaping }
 
 life : (id : Id) (command : Command) (p : List Entry) → Lived id command p → IsGood id p
 life id command p l = elim l as (λ p _. IsGood id p) [
-  | Begins p own ↦ record { own = own; reaping = record { each = λ e. (let both : true ≡ false = sym (self id) ∙ e in absurd cc); last = λ alive. rw (self id) refl; none = λ dead. rw (self id) refl } }
-  | Others e p (l → h) own other ↦ record { own = own; reaping = other_reaping id e p own other h.reaping }
-  | Asks ask p p' host hooks host' hooks' n n' (l → h) way ↦
-      let left = left_done (λ q. Unit {0}) (λ q e o i x. tt) id (send_plan id (sends_of ask) p) p host hooks n p' host' hooks' n' way h.own (sound_send id ask p) (send_living id (sends_of ask) p) in
-      record { own = left.leaves.own; reaping = left.reaped h.reaping }
-  | Steps p p' host hooks host' hooks' n n' (l → h) way ↦
-      let left = left_done (λ q. Unit {0}) (λ q e o i x. tt) id (step_plan id command p) p host hooks n p' host' hooks' n' way h.own (sound_step id command p h.own) (step_living id command p) in
-      record { own = left.leaves.own; reaping = left.reaped h.reaping }
-  | Ends p p' host hooks host' hooks' n n' (l → h) way ↦
-      let left = left_done (λ q. Unit {0}) (λ q e o i x. tt) id (end_plan id p) p host hooks n p' host' hooks' n' way h.own (sound_end id p) (end_living id p) in
-      record { own = left.leaves.own; reaping = left.reaped h.reaping }
+  | Begins p named ↦ record { children = named; reaping = record { each = λ e. (let both : true ≡ false = sym (self id) ∙ e in absurd cc); last = λ alive. rw (self id) refl; none = λ dead. rw (self id) refl } }
+  | Others e p (l → h) named other ↦ record { children = named; reaping = other_reaping id e p named other h.reaping }
+  | Asks ask p p' host hooks host' hooks' n n' (l → h) way ↦ good_left id p p' (left_done (λ q. Unit {0}) (λ q e o i x. tt) id (send_plan id (sends_of ask) p) p host hooks n p' host' hooks' n' way (sound_send id ask p)) h
+  | Steps p p' host hooks host' hooks' n n' (l → h) way ↦ good_left id p p' (left_done (λ q. Unit {0}) (λ q e o i x. tt) id (step_plan id command p) p host hooks n p' host' hooks' n' way (sound_step id command p)) h
+  | Ends p p' host hooks host' hooks' n n' (l → h) way ↦ good_left id p p' (left_done (λ q. Unit {0}) (λ q e o i x. tt) id (end_plan id p) p host hooks n p' host' hooks' n' way (sound_end id p)) h
 ]
 
 pub children_are_reaped : (id : Id) (command : Command) (p : List Entry) → Lived id command p → IsReaping id p
 children_are_reaped id command p l = (life id command p l).reaping
+
+-- the life of a job alone, whose journal has no other entries: it begins there, and every whole step goes on with it
+pub lived_alone : (id : Id) (command : Command) → Lived id command (Made id ∷ [])
+lived_alone id command = Begins [] tt

@@ -11,13 +11,13 @@ use Rattle.wx_control.specs.declared.control.Control.{Control}
 use Rattle.wx_control.specs.declared.level.Level.{Level}
 use Rattle.wx_control.specs.Levels.{rank}
 use Rattle.wx_journal.specs.declared.entry.Entry.{Entry}
-use Rattle.wx_journal.specs.declared.entry.Entry.TheVariants.{Begin, Sent, Turn as Turned, TurnFault, Offer, Word as Said, Take, Hand, Made, Asked, Pick, Spawn, Kill, Wait, Dropped, Raise, Gone}
+use Rattle.wx_journal.specs.declared.entry.Entry.TheVariants.{Made, Asked, Pick, Spawn, Wait, Dropped, Gone}
 use Rattle.wx_journal.specs.Names.{NamesItsOwn, ticket_count, child_count, moment}
 use Rattle.wx_job.specs.declared.state.CommandState.{CommandState}
 use Rattle.wx_job.specs.declared.state.CommandState.TheVariants.{Pending, Running, Finished}
 use Rattle.wx_job.specs.History.{same, lives, without, waits, child, unless, state, finish, owner}
 use Rattle.wx_job.specs.Stands.{child_of}
-use Rattle.wx_job.specs.Laws.{unreaped}
+use Rattle.wx_job.specs.Laws.{unreaped, NamesChildren}
 
 pub self : (id : Id) → same id id ≡ true
 self id = eq-eqb id.0 id.0 refl
@@ -35,32 +35,23 @@ either P false x y h g = g
 
 -- ---- the owner of a child has a name below the count
 
+-- a journal that names its own names its children
+pub children_named : (p : List Entry) → NamesItsOwn p → NamesChildren p
+children_named [] own = tt
+children_named (Spawn c job tag what answer ∷ p) own = (own.0, children_named p own.1)
+children_named (_ ∷ p) own = children_named p own.1
+
 new_below : (c d : ℕ) (job id : Id) (n : ℕ) (o : Option Id) (b : Bool) → (d == c) ≡ b → d ≡ n → (o ≡ Some id → c < n) → cond b (Some job) o ≡ Some id → c < n + 1
 new_below c d job id n o true is name below e = let found : d ≡ c = eqb-true _ _ is in omega arith
 new_below c d job id n o false is name below e = let lt : c < n = below e in omega arith
 
-pub owner_below : (c : ℕ) (id : Id) (p : List Entry) → NamesItsOwn p → owner c p ≡ Some id → c < child_count p
+pub owner_below : (c : ℕ) (id : Id) (p : List Entry) → NamesChildren p → owner c p ≡ Some id → c < child_count p
 owner_below c id [] own e = cc
-owner_below c id (Begin t s z k f j w d paths ∷ p) own e = owner_below c id p own e
-owner_below c id (Sent name event priority ∷ p) own e = owner_below c id p own.1 e
-owner_below c id (Turned t ∷ p) own e = owner_below c id p own e
-owner_below c id (TurnFault code ∷ p) own e = owner_below c id p own e
-owner_below c id (Offer name item result event priority ∷ p) own e = owner_below c id p own.2 e
-owner_below c id (Said word ∷ p) own e = owner_below c id p own e
-owner_below c id (Take name ∷ p) own e = owner_below c id p own.1 e
-owner_below c id (Hand n names acts ∷ p) own e = owner_below c id p own.1 e
-owner_below c id (Made job ∷ p) own e = owner_below c id p own.1 e
-owner_below c id (Asked ticket job level control ∷ p) own e = owner_below c id p own.1 e
-owner_below c id (Pick job ticket ∷ p) own e = owner_below c id p own.1 e
-owner_below c id (Kill d answer ∷ p) own e = owner_below c id p own.1 e
-owner_below c id (Wait d answer ∷ p) own e = owner_below c id p own.1 e
-owner_below c id (Dropped d ∷ p) own e = owner_below c id p own.1 e
-owner_below c id (Raise ticket ∷ p) own e = owner_below c id p own.1 e
-owner_below c id (Gone job ∷ p) own e = owner_below c id p own e
 owner_below c id (Spawn d job tag what answer ∷ p) own e = new_below c d job id (child_count p) (owner c p) (d == c) refl own.0 (λ h. owner_below c id p own.1 h) e
+owner_below c id (_ ∷ p) own e = owner_below c id p own e
 
 -- a new child takes none from its owner
-owner_kept : (c d : ℕ) (id job : Id) (p : List Entry) → NamesItsOwn p → d ≡ child_count p → owner c p ≡ Some id → cond (d == c) (Some job) (owner c p) ≡ Some id
+owner_kept : (c d : ℕ) (id job : Id) (p : List Entry) → NamesChildren p → d ≡ child_count p → owner c p ≡ Some id → cond (d == c) (Some job) (owner c p) ≡ Some id
 owner_kept c d id job p own name e = let below : c < child_count p = owner_below c id p own e in rw (ne_eqb d c (λ is. omega arith)) e
 
 owner_new : (c : ℕ) (job id : Id) (rest : Option Id) → same job id ≡ true → cond (c == c) (Some job) rest ≡ Some id
@@ -78,55 +69,28 @@ unless_some c (Some x) d e = by_test (x == c) e
 
 -- what is looked back for in a history and names a child
 abbrev Spawned : (Id → List Entry → Option ℕ) → Type 0
-Spawned look = (id : Id) (c : ℕ) (p : List Entry) → NamesItsOwn p → look id p ≡ Some c → owner c p ≡ Some id
+Spawned look = (id : Id) (c : ℕ) (p : List Entry) → NamesChildren p → look id p ≡ Some c → owner c p ≡ Some id
 
-spawned_ok : (c d : ℕ) (id job : Id) (p : List Entry) (o : Option ℕ) (b : Bool) → same job id ≡ b → NamesItsOwn p → d ≡ child_count p → (o ≡ Some c → owner c p ≡ Some id) → cond b (Some d) o ≡ Some c → cond (d == c) (Some job) (owner c p) ≡ Some id
+spawned_ok : (c d : ℕ) (id job : Id) (p : List Entry) (o : Option ℕ) (b : Bool) → same job id ≡ b → NamesChildren p → d ≡ child_count p → (o ≡ Some c → owner c p ≡ Some id) → cond b (Some d) o ≡ Some c → cond (d == c) (Some job) (owner c p) ≡ Some id
 spawned_ok c d id job p o true is own name look e = let found : d ≡ c = cc in rw found (owner_new c job id (owner c p) is)
 spawned_ok c d id job p o false is own name look e = owner_kept c d id job p own name (look e)
 
 pub child_owner : Spawned child
 child_owner id c [] own e = cc
-child_owner id c (Begin t s z k f j w d paths ∷ p) own e = child_owner id c p own e
-child_owner id c (Sent name event priority ∷ p) own e = child_owner id c p own.1 e
-child_owner id c (Turned t ∷ p) own e = child_owner id c p own e
-child_owner id c (TurnFault code ∷ p) own e = child_owner id c p own e
-child_owner id c (Offer name item result event priority ∷ p) own e = child_owner id c p own.2 e
-child_owner id c (Said word ∷ p) own e = child_owner id c p own e
-child_owner id c (Take name ∷ p) own e = child_owner id c p own.1 e
-child_owner id c (Hand n names acts ∷ p) own e = child_owner id c p own.1 e
-child_owner id c (Made job ∷ p) own e = child_owner id c p own.1 (refused (same job id) (child id p) c e).1
-child_owner id c (Asked ticket job level control ∷ p) own e = child_owner id c p own.1 e
-child_owner id c (Pick job ticket ∷ p) own e = child_owner id c p own.1 e
-child_owner id c (Kill d answer ∷ p) own e = child_owner id c p own.1 e
-child_owner id c (Wait d (Ok status) ∷ p) own e = child_owner id c p own.1 (unless_some d (child id p) c e)
-child_owner id c (Wait d (Err fault) ∷ p) own e = child_owner id c p own.1 e
-child_owner id c (Dropped d ∷ p) own e = child_owner id c p own.1 (unless_some d (child id p) c e)
-child_owner id c (Raise ticket ∷ p) own e = child_owner id c p own.1 e
-child_owner id c (Gone job ∷ p) own e = child_owner id c p own e
+child_owner id c (Made job ∷ p) own e = child_owner id c p own (refused (same job id) (child id p) c e).1
+child_owner id c (Wait d (Ok status) ∷ p) own e = child_owner id c p own (unless_some d (child id p) c e)
+child_owner id c (Dropped d ∷ p) own e = child_owner id c p own (unless_some d (child id p) c e)
 child_owner id c (Spawn d job tag what (Ok done) ∷ p) own e = spawned_ok c d id job p (child id p) (same job id) refl own.1 own.0 (λ h. child_owner id c p own.1 h) e
 child_owner id c (Spawn d job tag what (Err fault) ∷ p) own e = owner_kept c d id job p own.1 own.0 (child_owner id c p own.1 e)
+child_owner id c (_ ∷ p) own e = child_owner id c p own e
 
 pub unreaped_owner : Spawned unreaped
 unreaped_owner id c [] own e = cc
-unreaped_owner id c (Begin t s z k f j w d paths ∷ p) own e = unreaped_owner id c p own e
-unreaped_owner id c (Sent name event priority ∷ p) own e = unreaped_owner id c p own.1 e
-unreaped_owner id c (Turned t ∷ p) own e = unreaped_owner id c p own e
-unreaped_owner id c (TurnFault code ∷ p) own e = unreaped_owner id c p own e
-unreaped_owner id c (Offer name item result event priority ∷ p) own e = unreaped_owner id c p own.2 e
-unreaped_owner id c (Said word ∷ p) own e = unreaped_owner id c p own e
-unreaped_owner id c (Take name ∷ p) own e = unreaped_owner id c p own.1 e
-unreaped_owner id c (Hand n names acts ∷ p) own e = unreaped_owner id c p own.1 e
-unreaped_owner id c (Made job ∷ p) own e = unreaped_owner id c p own.1 (refused (same job id) (unreaped id p) c e).1
-unreaped_owner id c (Asked ticket job level control ∷ p) own e = unreaped_owner id c p own.1 e
-unreaped_owner id c (Pick job ticket ∷ p) own e = unreaped_owner id c p own.1 e
-unreaped_owner id c (Kill d answer ∷ p) own e = unreaped_owner id c p own.1 e
-unreaped_owner id c (Wait d (Ok status) ∷ p) own e = unreaped_owner id c p own.1 (unless_some d (unreaped id p) c e)
-unreaped_owner id c (Wait d (Err fault) ∷ p) own e = unreaped_owner id c p own.1 e
-unreaped_owner id c (Dropped d ∷ p) own e = unreaped_owner id c p own.1 e
-unreaped_owner id c (Raise ticket ∷ p) own e = unreaped_owner id c p own.1 e
-unreaped_owner id c (Gone job ∷ p) own e = unreaped_owner id c p own e
+unreaped_owner id c (Made job ∷ p) own e = unreaped_owner id c p own (refused (same job id) (unreaped id p) c e).1
+unreaped_owner id c (Wait d (Ok status) ∷ p) own e = unreaped_owner id c p own (unless_some d (unreaped id p) c e)
 unreaped_owner id c (Spawn d job tag what (Ok done) ∷ p) own e = spawned_ok c d id job p (unreaped id p) (same job id) refl own.1 own.0 (λ h. unreaped_owner id c p own.1 h) e
 unreaped_owner id c (Spawn d job tag what (Err fault) ∷ p) own e = owner_kept c d id job p own.1 own.0 (unreaped_owner id c p own.1 e)
+unreaped_owner id c (_ ∷ p) own e = unreaped_owner id c p own e
 
 -- the child in the state
 pending_of : (b : Bool) (s : CommandState) (c : ℕ) → child_of (cond b Pending s) ≡ Some c → child_of s ≡ Some c
@@ -142,31 +106,17 @@ finish_some d status at (Running x started) c e = by_test (x == d) e
     by_test false h = h
 finish_some d status at (Finished before started finished) c e = cc
 
-running_ok : (c d : ℕ) (id job : Id) (at : ℕ) (p : List Entry) (s : CommandState) (b : Bool) → same job id ≡ b → NamesItsOwn p → d ≡ child_count p → (child_of s ≡ Some c → owner c p ≡ Some id) → child_of (cond b (Running d at) s) ≡ Some c → cond (d == c) (Some job) (owner c p) ≡ Some id
+running_ok : (c d : ℕ) (id job : Id) (at : ℕ) (p : List Entry) (s : CommandState) (b : Bool) → same job id ≡ b → NamesChildren p → d ≡ child_count p → (child_of s ≡ Some c → owner c p ≡ Some id) → child_of (cond b (Running d at) s) ≡ Some c → cond (d == c) (Some job) (owner c p) ≡ Some id
 running_ok c d id job at p s true is own name look e = let found : d ≡ c = cc in rw found (owner_new c job id (owner c p) is)
 running_ok c d id job at p s false is own name look e = owner_kept c d id job p own name (look e)
 
 pub state_owner : Spawned (λ id p. child_of (state id p))
 state_owner id c [] own e = cc
-state_owner id c (Begin t s z k f j w d paths ∷ p) own e = state_owner id c p own e
-state_owner id c (Sent name event priority ∷ p) own e = state_owner id c p own.1 e
-state_owner id c (Turned t ∷ p) own e = state_owner id c p own e
-state_owner id c (TurnFault code ∷ p) own e = state_owner id c p own e
-state_owner id c (Offer name item result event priority ∷ p) own e = state_owner id c p own.2 e
-state_owner id c (Said word ∷ p) own e = state_owner id c p own e
-state_owner id c (Take name ∷ p) own e = state_owner id c p own.1 e
-state_owner id c (Hand n names acts ∷ p) own e = state_owner id c p own.1 e
-state_owner id c (Made job ∷ p) own e = state_owner id c p own.1 (pending_of (same job id) (state id p) c e)
-state_owner id c (Asked ticket job level control ∷ p) own e = state_owner id c p own.1 e
-state_owner id c (Pick job ticket ∷ p) own e = state_owner id c p own.1 e
-state_owner id c (Kill d answer ∷ p) own e = state_owner id c p own.1 e
-state_owner id c (Wait d (Ok status) ∷ p) own e = state_owner id c p own.1 (finish_some d status (moment p) (state id p) c e)
-state_owner id c (Wait d (Err fault) ∷ p) own e = state_owner id c p own.1 e
-state_owner id c (Dropped d ∷ p) own e = state_owner id c p own.1 e
-state_owner id c (Raise ticket ∷ p) own e = state_owner id c p own.1 e
-state_owner id c (Gone job ∷ p) own e = state_owner id c p own e
+state_owner id c (Made job ∷ p) own e = state_owner id c p own (pending_of (same job id) (state id p) c e)
+state_owner id c (Wait d (Ok status) ∷ p) own e = state_owner id c p own (finish_some d status (moment p) (state id p) c e)
 state_owner id c (Spawn d job tag what (Ok done) ∷ p) own e = running_ok c d id job (moment p) p (state id p) (same job id) refl own.1 own.0 (λ h. state_owner id c p own.1 h) e
 state_owner id c (Spawn d job tag what (Err fault) ∷ p) own e = owner_kept c d id job p own.1 own.0 (state_owner id c p own.1 (pending_of (same job id) (state id p) c e))
+state_owner id c (_ ∷ p) own e = state_owner id c p own e
 
 -- ---- the tickets that wait were asked
 
@@ -185,22 +135,10 @@ AreAsked n xs = AllByRecursion (λ x. x.0 < n) xs
 
 pub waits_asked : (id : Id) (level : Level) (p : List Entry) → NamesItsOwn p → AreAsked (ticket_count p) (waits id level p)
 waits_asked id level [] own = tt
-waits_asked id level (Begin t s z k f j w d paths ∷ p) own = waits_asked id level p own
-waits_asked id level (Sent name event priority ∷ p) own = waits_asked id level p own.1
-waits_asked id level (Turned t ∷ p) own = waits_asked id level p own
-waits_asked id level (TurnFault code ∷ p) own = waits_asked id level p own
-waits_asked id level (Offer name item result event priority ∷ p) own = waits_asked id level p own.2
-waits_asked id level (Said word ∷ p) own = waits_asked id level p own
-waits_asked id level (Take name ∷ p) own = waits_asked id level p own.1
-waits_asked id level (Hand n names acts ∷ p) own = waits_asked id level p own.1
 waits_asked id level (Made job ∷ p) own = either (AreAsked (ticket_count p)) (same job id) [] (waits id level p) tt (waits_asked id level p own.1)
 waits_asked id level (Asked ticket job at control ∷ p) own =
     let here = below_rise (ticket_count p) (waits id level p) (waits_asked id level p own.1) in
     either (AreAsked (ticket_count p + 1)) (same job id && rank at == rank level && lives id p) (waits id level p ++ (ticket, control) ∷ []) (waits id level p) (below_append (ticket_count p + 1) (waits id level p) (ticket, control) here (let name : ticket ≡ ticket_count p = own.0 in omega arith)) here
 waits_asked id level (Pick job ticket ∷ p) own = let here = waits_asked id level p own.1 in either (AreAsked (ticket_count p)) (same job id) (without ticket (waits id level p)) (waits id level p) (below_without (ticket_count p) ticket (waits id level p) here) here
-waits_asked id level (Spawn d job tag what answer ∷ p) own = waits_asked id level p own.1
-waits_asked id level (Kill d answer ∷ p) own = waits_asked id level p own.1
-waits_asked id level (Wait d answer ∷ p) own = waits_asked id level p own.1
-waits_asked id level (Dropped d ∷ p) own = waits_asked id level p own.1
-waits_asked id level (Raise ticket ∷ p) own = waits_asked id level p own.1
-waits_asked id level (Gone job ∷ p) own = either (AreAsked (ticket_count p)) (same job id) [] (waits id level p) tt (waits_asked id level p own)
+waits_asked id level (Gone job ∷ p) own = either (AreAsked (ticket_count p)) (same job id) [] (waits id level p) tt (waits_asked id level p own.1)
+waits_asked id level (_ ∷ p) own = waits_asked id level p own.1

@@ -1,7 +1,10 @@
 -- What the plan of a job names is the job's, and what following it leaves.
-use Rattle.std.proofs.Common.{◌≡◌, ◌≢◌, ℕ, ◌+◌, ◌≤◌, ◌<◌, Bool, true, false, cond, List, [], ◌∷◌, Option, Some, None, Ok, Err, refl, arith, ap, sym, subst, ◌∙◌, eq-eqb}
-use Rattle.std.specs.Prelude.{not, ◌&&◌, ◌-◌, ◌^◌, min}
+use Rattle.std.proofs.Common.{◌≡◌, ◌≢◌, ℕ, ◌+◌, ◌≤◌, ◌<◌, Bool, true, false, cond, List, [], ◌∷◌, Option, Some, None, Result, Ok, Err, refl, arith, ap, sym, subst, ◌∙◌, eq-eqb}
+use Rattle.std.specs.Prelude.{not, ◌&&◌, ◌-◌, ◌^◌, min, is_err}
+use Rattle.std.specs.Bool.{MatchBool}
+use Rattle.wx_events.specs.declared.process.ProcessEnd.{ProcessEnd}
 use Rattle.wx_command.specs.declared.command.Command.{Command}
+use Rattle.wx_command.specs.Spawnables.{spawnable_of}
 use Rattle.wx_control.specs.declared.id.Id.{Id}
 use Rattle.wx_control.specs.declared.control.Control.{Control}
 use Rattle.wx_control.specs.declared.control.Control.TheVariants.{Start, Stop}
@@ -9,280 +12,243 @@ use Rattle.wx_control.specs.declared.level.Level.TheVariants.{Normal, High, Urge
 use Rattle.wx_control.specs.declared.ask.Ask.{Ask}
 use Rattle.wx_control.specs.declared.ask.Ask.TheVariants.{One}
 use Rattle.wx_control.specs.Asks.{sends_of}
+use Rattle.wx_journal.specs.declared.child.HostFault.{HostFault}
+use Rattle.wx_journal.specs.declared.child.SpawnTag.TheVariants.{Default}
 use Rattle.wx_journal.specs.declared.entry.Entry.{Entry}
-use Rattle.wx_journal.specs.declared.entry.Entry.TheVariants.{Word as Said, Asked, Pick, Spawn, Kill, Wait, Dropped, Raise, Gone}
-use Rattle.wx_journal.specs.Names.{NamesItsOwn, ticket_count, child_count}
+use Rattle.wx_journal.specs.declared.entry.Entry.TheVariants.{Turn as Turned, Word as Said, Hand, Made, Asked, Pick, Spawn, Kill, Wait, Dropped, Raise, Gone}
+use Rattle.wx_journal.specs.Names.{Names, NamesItsOwn, ticket_count, child_count}
 use Rattle.wx_journal.specs.Told.{is_hooks, Counts}
 use Rattle.wx_job.specs.declared.choice.Choice.{Choice}
 use Rattle.wx_job.specs.declared.choice.Choice.TheVariants.{End, Next, Nothing}
 use Rattle.wx_job.specs.History.{same, lives, waits, child, kept, unless, SameHistory}
-use Rattle.wx_job.specs.Table.{Plan, Done, Picks, Spawns, Kills, Waits, Drops, Raises, Goes, Makes, Asks, Says, row, first, choose, choose_control, pick, case, step_plan, ask_plan, send_plan, end_plan, drop_plan}
-use Rattle.wx_job.specs.Case.{Admits, is_fault, next, Leads, Here, Then}
+use Rattle.wx_job.specs.Table.{Call, Adds, Waits, Plan, Done, GivenUp, Owes, adds, raises, reap, fresh, row, first, choose, choose_control, pick, case, step_plan, ask_plan, send_plan, end_plan, drop_plan}
+use Rattle.wx_job.specs.Case.{Answer, entry, Admits, is_fault, next, Leads, Here, Then}
 use Rattle.wx_job.specs.Faults.{fault_count, Counted}
-use Rattle.wx_job.specs.Laws.{unreaped, AreReaped, AfterFaults}
-use Rattle.wx_job.proofs.Owners.{self, owner_below, child_owner, waits_asked, AreAsked}
-use Rattle.wx_job.proofs.Frame.{same_history, history_then, frame_pick, frame_asked, frame_spawn_ok, frame_spawn_err, frame_gone, frame_raise, frame_word, frame_kill, frame_wait_ok, frame_wait_err, frame_drop}
+use Rattle.wx_job.specs.Laws.{unreaped, AreReaped, AfterFaults, NamesChildren}
+use Rattle.wx_job.proofs.Owners.{self, children_named, owner_below, child_owner, waits_asked, AreAsked}
+use Rattle.wx_job.proofs.Frame.{same_history, history_then, frame_pick, frame_asked, frame_spawn_ok, frame_spawn_err, frame_gone, frame_silent, frame_wait_ok, frame_wait_err, frame_drop}
+use Rattle.wx_job.proofs.KeptLemmas.{KeepsOther}
+use Rattle.wx_job.proofs.Always.{Always, both, always_now, always_next, always_if}
 
--- The plan names this job, its running child and tickets that were asked, and spawns only where no child runs. What comes
--- after a child is let go is that the job is gone, and after that nothing.
-abbrev pub Sound : Id → Option ℕ → ℕ → Plan → Type 0
-Sound id c n Done = Unit {0}
-Sound id c n (Picks job t k) = (job ≡ id) × (t < n) × Sound id c n k
-Sound id c n (Spawns job tag what k f) = (job ≡ id) × (c ≡ None) × ((d : ℕ) → Sound id (Some d) n k) × Sound id c n f
-Sound id c n (Kills d k f) = (c ≡ Some d) × Sound id c n k × Sound id c n f
-Sound id c n (Waits d k f) = (c ≡ Some d) × Sound id None n k × Sound id c n f
-Sound id c n (Drops d k) = (c ≡ Some d) × (k ≡ Goes id Done)
-Sound id c n (Raises t k) = (t < n) × Sound id c n k
-Sound id c n (Goes job k) = (job ≡ id) × (c ≡ None) × (k ≡ Done)
-Sound id c n (Makes job k) = ⊥
-Sound id c n (Asks job level control k) = (job ≡ id) × Sound id c (n + 1) k
-Sound id c n (Says word k) = Sound id c n k
+-- What a plan of a job brings: it names this job, its running child and what has the next name, spawns only where no child
+-- runs, and says that the job is gone only then.
+abbrev pub Fits : Id → List Entry → Entry → Type 0
+Fits id p (Pick job t) = job ≡ id
+Fits id p (Spawn c job tag what answer) = (job ≡ id) × (child id p ≡ None) × (c ≡ child_count p)
+Fits id p (Kill c answer) = child id p ≡ Some c
+Fits id p (Wait c answer) = child id p ≡ Some c
+Fits id p (Dropped c) = child id p ≡ Some c
+Fits id p (Raise t) = Unit {0}
+Fits id p (Gone job) = (job ≡ id) × (child id p ≡ None)
+Fits id p (Asked t job level control) = (job ≡ id) × (t ≡ ticket_count p)
+Fits id p (Said word) = Unit {0}
+Fits id p (_) = ⊥
+
+-- that the job is gone comes next
+abbrev pub Goes : Id → Plan → Type 0
+Goes id Done = ⊥
+Goes id GivenUp = ⊥
+Goes id (Owes call k f) = call ≡ Adds (Gone id)
+
+-- where a child is let go the job is gone next
+abbrev pub Closes : Id → Entry → Plan → Type 0
+Closes id (Dropped c) k = Goes id k
+Closes id (_) k = Unit {0}
+
+-- What is known of each entry that a plan of a job brings, with what is owed behind it. The job lives while it owes
+-- anything: what ends it comes last.
+pub record IsSound (id : Id) (p : List Entry) (e : Entry) (k : Plan) : Type 0 where
+  pub alive : lives id p ≡ true
+  pub fits : Fits id p e
+  pub names : NamesItsOwn p → Names p e
+  pub closes : Closes id e k
+
+abbrev pub Sound : Id → List Entry → Plan → Type 0
+Sound id p k = Always (IsSound id) p k
+
+pub child_below : (id : Id) (d : ℕ) (p : List Entry) → NamesItsOwn p → child id p ≡ Some d → d < child_count p
+child_below id d p own runs = let named = children_named p own in owner_below d id p named (child_owner id d p named runs)
+
+-- the child that runs is the one that is let go, or waited for
+pub gone_child : (d : ℕ) (o : Option ℕ) → o ≡ Some d → unless d o ≡ None
+gone_child d o is = rw (is, eq-eqb d d refl) refl
+
+-- ---- what the rows of the table are built of
+
+-- a ticket that was asked, where the journal names its own
+abbrev pub IsAsked : ℕ → List Entry → Type 0
+IsAsked t p = NamesItsOwn p → t < ticket_count p
+
+pub sound_raise : (id : Id) (t : ℕ) (k : Plan) (p : List Entry) → lives id p ≡ true → IsAsked t p → Sound id (Raise t ∷ p) k → Sound id p (adds (Raise t) k)
+sound_raise id t k p alive asked rest = λ a. (record { alive = alive; fits = tt; names = asked; closes = tt }, rest)
+
+pub sound_raises : (id : Id) (t : ℕ) (p : List Entry) → lives id p ≡ true → IsAsked t p → Sound id p (raises t)
+sound_raises id t p alive asked = sound_raise id t Done p alive asked tt
+
+pub sound_fresh : (id : Id) (command : Command) (t : ℕ) (p : List Entry) → child id p ≡ None → lives id p ≡ true → IsAsked t p → Sound id p (fresh id command (raises t))
+sound_fresh id command t p none alive asked = λ a.
+    let after = sound_raises id t (Spawn (child_count p) id Default (spawnable_of command) a ∷ p) alive (λ own. asked own.1) in
+    (record { alive = alive; fits = (refl, none, refl); names = λ own. refl; closes = tt }, both _ after after)
+
+sound_waited : (id : Id) (d : ℕ) (t : ℕ) (k : Plan) (p : List Entry) (a : Result ProcessEnd HostFault) → child id p ≡ Some d → lives id p ≡ true → IsAsked t p → ((q : List Entry) → child id q ≡ None → lives id q ≡ true → IsAsked t q → Sound id q k) → MatchBool (is_err a) (Sound id (Wait d a ∷ p) (raises t)) (Sound id (Wait d a ∷ p) k)
+sound_waited id d t k p (Ok status) is alive asked rest = rest (Wait d (Ok status) ∷ p) (gone_child d (child id p) is) alive (λ own. asked own.1)
+sound_waited id d t k p (Err fault) is alive asked rest = sound_raises id t (Wait d (Err fault) ∷ p) alive (λ own. asked own.1)
+
+-- the child that runs is reaped, and then none does
+pub sound_reap : (id : Id) (d : ℕ) (t : ℕ) (k : Plan) (p : List Entry) → child id p ≡ Some d → lives id p ≡ true → IsAsked t p → ((q : List Entry) → child id q ≡ None → lives id q ≡ true → IsAsked t q → Sound id q k) → Sound id p (reap d t k)
+sound_reap id d t k p is alive asked rest = λ a.
+    let killed : List Entry = Kill d a ∷ p in
+    let last = sound_raises id t killed alive (λ own. asked own.1) in
+    let waits : Sound id killed (Owes (Waits d) k (raises t)) = λ b. (record { alive = alive; fits = is; names = λ own. child_below id d killed own is; closes = tt }, sound_waited id d t k killed b is alive (λ own. asked own.1) rest) in
+    (record { alive = alive; fits = is; names = λ own. child_below id d p own is; closes = tt }, both _ last waits)
+
+-- the child that runs is let go, where one does, and the job is gone
+pub sound_drop : (id : Id) (c : Option ℕ) (p : List Entry) → child id p ≡ c → lives id p ≡ true → Sound id p (drop_plan c (adds (Gone id) Done))
+sound_drop id None p is alive = λ a. (record { alive = alive; fits = (refl, is); names = λ own. tt; closes = tt }, tt)
+sound_drop id (Some d) p is alive = λ a. (record { alive = alive; fits = is; names = λ own. child_below id d p own is; closes = refl }, λ b. (record { alive = alive; fits = (refl, gone_child d (child id p) is); names = λ own. tt; closes = tt }, tt))
 
 -- ---- the plans of the table are sound
 
-sound_row : (id : Id) (command : Command) (t : ℕ) (control : Control) (c : Option ℕ) (n : ℕ) → t < n → Sound id c n (row id command t control c)
-sound_row id command t Start None n lt = (refl, refl, λ d. (lt, tt), (lt, tt))
-sound_row id command t Start (Some d) n lt = (lt, tt)
-sound_row id command t Stop None n lt = (lt, tt)
-sound_row id command t Stop (Some d) n lt = (refl, (refl, (lt, tt), (lt, tt)), (lt, tt))
+sound_row : (id : Id) (command : Command) (t : ℕ) (control : Control) (c : Option ℕ) (p : List Entry) → child id p ≡ c → lives id p ≡ true → IsAsked t p → Sound id p (row id command t control c)
+sound_row id command t Start None p is alive asked = sound_fresh id command t p is alive asked
+sound_row id command t Stop (Some d) p is alive asked = sound_reap id d t (raises t) p is alive asked (λ q none alive asked. sound_raises id t q alive asked)
+sound_row id command t (_) (_) p is alive asked = sound_raises id t p alive asked
 
 -- what is picked names the running child, or a ticket that was asked
-abbrev IsNamed : Option ℕ → ℕ → Choice → Type 0
-IsNamed c n (End d) = c ≡ Some d
-IsNamed c n (Next t control) = t < n
-IsNamed c n Nothing = Unit {0}
+abbrev IsNamed : Option ℕ → List Entry → Choice → Type 0
+IsNamed c p (End d) = c ≡ Some d
+IsNamed c p (Next t control) = IsAsked t p
+IsNamed c p Nothing = Unit {0}
 
-named_control : (c : Option ℕ) (n : ℕ) (urgent high normal : List (ℕ × Control)) → AreAsked n urgent → AreAsked n high → AreAsked n normal → IsNamed c n (choose_control (first urgent high normal))
-named_control c n (x ∷ urgent) high normal u h l = u.0
-named_control c n [] (x ∷ high) normal u h l = h.0
-named_control c n [] [] (x ∷ normal) u h l = l.0
-named_control c n [] [] [] u h l = tt
+named_control : (c : Option ℕ) (p : List Entry) (urgent high normal : List (ℕ × Control)) → (NamesItsOwn p → AreAsked (ticket_count p) urgent) → (NamesItsOwn p → AreAsked (ticket_count p) high) → (NamesItsOwn p → AreAsked (ticket_count p) normal) → IsNamed c p (choose_control (first urgent high normal))
+named_control c p (x ∷ urgent) high normal u h l = λ own. (u own).0
+named_control c p [] (x ∷ high) normal u h l = λ own. (h own).0
+named_control c p [] [] (x ∷ normal) u h l = λ own. (l own).0
+named_control c p [] [] [] u h l = tt
 
-named_choice : (c : Option ℕ) (n : ℕ) (end : Bool) (x : Option (ℕ × Control)) → ((d : Option ℕ) → IsNamed d n (choose_control x)) → IsNamed c n (choose c end x)
-named_choice None n end x h = h None
-named_choice (Some d) n true x h = refl
-named_choice (Some d) n false x h = h (Some d)
+named_choice : (c : Option ℕ) (p : List Entry) (end : Bool) (x : Option (ℕ × Control)) → ((d : Option ℕ) → IsNamed d p (choose_control x)) → IsNamed c p (choose c end x)
+named_choice None p end x h = h None
+named_choice (Some d) p true x h = refl
+named_choice (Some d) p false x h = h (Some d)
 
-sound_case : (id : Id) (command : Command) (c : Option ℕ) (n : ℕ) (choice : Choice) → IsNamed c n choice → Sound id c n (case id command c choice)
-sound_case id command c n (End d) is = (is, tt, tt)
-sound_case id command c n (Next t control) lt = (refl, lt, sound_row id command t control c n lt)
-sound_case id command c n Nothing is = tt
+sound_case : (id : Id) (command : Command) (choice : Choice) (p : List Entry) → IsNamed (child id p) p choice → lives id p ≡ true → Sound id p (case id command (child id p) choice)
+sound_case id command (End d) p is alive = λ a. (record { alive = alive; fits = is; names = λ own. child_below id d p own is; closes = tt }, both _ tt tt)
+sound_case id command (Next t control) p asked alive = λ a. (record { alive = alive; fits = refl; names = asked; closes = tt }, sound_row id command t control (child id p) (Pick id t ∷ p) refl alive (λ own. asked own.1))
+sound_case id command Nothing p is alive = λ a. (record { alive = alive; fits = tt; names = λ own. tt; closes = tt }, tt)
 
-sound_if : (id : Id) (c : Option ℕ) (n : ℕ) (b : Bool) (k : Plan) → Sound id c n k → Sound id c n (cond b k Done)
-sound_if id c n true k s = s
-sound_if id c n false k s = tt
+pub sound_step : (id : Id) (command : Command) (p : List Entry) → Sound id p (step_plan id command p)
+sound_step id command p =
+    always_if (IsSound id) p (lives id p) (case id command (child id p) (pick id p))
+    (sound_case id command (pick id p) p
+    (named_choice (child id p) p (kept id p) _ (λ d. named_control d p (waits id Urgent p) (waits id High p) (waits id Normal p) (waits_asked id Urgent p) (waits_asked id High p) (waits_asked id Normal p))))
 
-pub sound_step : (id : Id) (command : Command) (p : List Entry) → NamesItsOwn p → Sound id (child id p) (ticket_count p) (step_plan id command p)
-sound_step id command p own =
-    let n = ticket_count p in
-    sound_if id (child id p) n (lives id p) (case id command (child id p) (pick id p))
-    (sound_case id command (child id p) n (pick id p)
-    (named_choice (child id p) n (kept id p) _ (λ d. named_control d n (waits id Urgent p) (waits id High p) (waits id Normal p) (waits_asked id Urgent p own) (waits_asked id High p own) (waits_asked id Normal p own))))
+pub sound_ask : (id : Id) (ask : Ask) (p : List Entry) → lives id p ≡ true → Sound id p (ask_plan id (sends_of ask) Done)
+sound_ask id (One control) p alive = λ a. (record { alive = alive; fits = (refl, refl); names = λ own. refl; closes = tt }, tt)
 
-pub sound_ask : (id : Id) (ask : Ask) (c : Option ℕ) (n : ℕ) → Sound id c n (ask_plan id (sends_of ask) Done)
-sound_ask id (One control) c n = (refl, tt)
+pub sound_send : (id : Id) (ask : Ask) (p : List Entry) → Sound id p (send_plan id (sends_of ask) p)
+sound_send id ask p = always_if (IsSound id) p (lives id p) (ask_plan id (sends_of ask) Done) (sound_ask id ask p)
 
-pub sound_send : (id : Id) (ask : Ask) (p : List Entry) → Sound id (child id p) (ticket_count p) (send_plan id (sends_of ask) p)
-sound_send id ask p = sound_if id (child id p) (ticket_count p) (lives id p) (ask_plan id (sends_of ask) Done) (sound_ask id ask (child id p) (ticket_count p))
-
-sound_drop : (id : Id) (n : ℕ) (c : Option ℕ) → Sound id c n (drop_plan c (Goes id Done))
-sound_drop id n None = (refl, refl, refl)
-sound_drop id n (Some d) = (refl, refl)
-
-pub sound_end : (id : Id) (p : List Entry) → Sound id (child id p) (ticket_count p) (end_plan id p)
-sound_end id p = sound_if id (child id p) (ticket_count p) (lives id p) (drop_plan (child id p) (Goes id Done)) (sound_drop id (ticket_count p) (child id p))
+pub sound_end : (id : Id) (p : List Entry) → Sound id p (end_plan id p)
+sound_end id p = always_if (IsSound id) p (lives id p) (drop_plan (child id p) (adds (Gone id) Done)) (sound_drop id (child id p) p refl)
 
 -- ---- one entry
 
--- nothing is owed, or that the job is gone
-abbrev pub is_done : Plan → Bool
-is_done Done = true
-is_done (_) = false
+-- it says nothing of any other job
+frame : (i id : Id) (e : Entry) (p : List Entry) → i ≢ id → NamesChildren p → Fits id p e → SameHistory i p (e ∷ p)
+frame i id (Pick job t) p ne named s = rw s (frame_pick i id t p ne)
+frame i id (Asked t job level control) p ne named s = rw s.0 (frame_asked i id t level control p ne)
+frame i id (Spawn c job tag what (Ok a)) p ne named s = rw s.0 (frame_spawn_ok i id c tag what a p ne)
+frame i id (Spawn c job tag what (Err a)) p ne named s = rw s.0 (frame_spawn_err i id c tag what a p ne)
+frame i id (Wait c (Ok status)) p ne named s = frame_wait_ok i id c status p ne named s
+frame i id (Wait c (Err a)) p ne named s = frame_wait_err i id c a p ne named s
+frame i id (Dropped c) p ne named s = frame_drop i id c p ne named s
+frame i id (Gone job) p ne named s = rw s.0 (frame_gone i id p ne)
+frame i id (Turned t) p ne named s = absurd s
+frame i id (Made job) p ne named s = absurd s
+frame i id (e) p ne named s = frame_silent i e p refl
 
-abbrev pub is_going : Plan → Bool
-is_going (Goes id k) = true
-is_going (_) = false
+-- a child that it spawns has the next name
+children_fit : (id : Id) (e : Entry) (p : List Entry) → Fits id p e → NamesChildren p → NamesChildren (e ∷ p)
+children_fit id (Spawn c job tag what answer) p s h = (s.2, h)
+children_fit id (_) p s h = h
 
--- Each child was reaped before the next spawn, the last one is the one that runs, the job lives while it owes anything, and
--- no child runs where it is gone.
+-- it is no call on the hooks
+no_hooks : (id : Id) (e : Entry) (p : List Entry) → Fits id p e → is_hooks e ≡ false
+no_hooks id (Hand n names acts) p s = absurd s
+no_hooks id (_) p s = refl
+
+-- it leaves after a fault what must be left
+fault_left : (id : Id) (e : Entry) (p : List Entry) → Fits id p e → AfterFaults p → AfterFaults (e ∷ p)
+fault_left id (Spawn c job tag what (Err a)) p s h = (rw (self job) refl, h)
+fault_left id (Kill c (Err a)) p s h = ((id, s), h)
+fault_left id (Wait c (Err a)) p s h = ((id, s), h)
+fault_left id (_) p s h = h
+
+-- where the job is gone next, nothing else comes
+gone_by : (p : List Entry) (call : Call) (a : Answer call) (e : Entry) → call ≡ Adds e → entry p call a ≡ e
+gone_by p (Adds x) a e is = cc
+gone_by p (_) a e is = absurd cc
+
+pub goes_gone : (id : Id) (p : List Entry) (k : Plan) (e : Entry) → Admits p k e → Goes id k → e ≡ Gone id
+goes_gone id p Done e d g = absurd g
+goes_gone id p GivenUp e d g = absurd g
+goes_gone id p (Owes call k f) e d g = d.1 ∙ gone_by p call d.0 (Gone id) g
+
+-- Each child was reaped before the next spawn, the last one is the one that runs, but for where the job is gone next, and no
+-- child runs where it is gone.
 pub record Reaping (id : Id) (k : Plan) (p : List Entry) : Type 0 where
   pub each : AreReaped id p
-  pub last : lives id p ≡ true → is_going k ≡ false → unreaped id p ≡ child id p
-  pub alive : is_done k ≡ false → lives id p ≡ true
+  pub last : lives id p ≡ true → (Goes id k → ⊥) → unreaped id p ≡ child id p
   pub none : lives id p ≡ false → child id p ≡ None
 
 -- a job that lives isn't gone
 lives_on : {b : Bool} {A : Type 0} → b ≡ true → b ≡ false → A
 lives_on alive dead = let both : true ≡ false = sym alive ∙ dead in absurd cc
 
-pub record Entered (id : Id) (p : List Entry) (k : Plan) (e : Entry) : Type 0 where
-  pub own : NamesItsOwn (e ∷ p)
-  pub others : (i : Id) → i ≢ id → SameHistory i p (e ∷ p)
-  pub sound : Sound id (child id (e ∷ p)) (ticket_count (e ∷ p)) (next k e)
-  pub calm : is_hooks e ≡ false
-  pub reaps : Reaping id k p → Reaping id (next k e) (e ∷ p)
-  pub failing : AfterFaults p → AfterFaults (e ∷ p)
+-- the last one, before another entry than that the job is gone
+last_before : (id : Id) (k : Plan) (e : Entry) (p : List Entry) → Admits p k e → (e ≡ Gone id → ⊥) → Reaping id k p → lives id p ≡ true → unreaped id p ≡ child id p
+last_before id k e p d other r alive = r.last alive (λ g. other (goes_gone id p k e d g))
 
-child_below : (id : Id) (d : ℕ) (p : List Entry) → NamesItsOwn p → child id p ≡ Some d → d < child_count p
-child_below id d p own runs = owner_below d id p own (child_owner id d p own runs)
-
--- the child that runs is the one that is let go, or waited for
-gone_child : (d : ℕ) (o : Option ℕ) → o ≡ Some d → unless d o ≡ None
-gone_child d o is = rw (is, eq-eqb d d refl) refl
-
-one_pick : (id : Id) (p : List Entry) (t : ℕ) (k : Plan) → NamesItsOwn p → Sound id (child id p) (ticket_count p) (Picks id t k) → Entered id p (Picks id t k) (Pick id t)
-one_pick id p t k own s = record {
-  own = (s.1, own);
-  others = λ i ne. frame_pick i id t p ne;
-  sound = s.2;
-  calm = refl;
-  reaps = λ r. record { each = r.each; last = λ l g. r.last l refl; alive = λ d. r.alive refl; none = λ dead. lives_on (r.alive refl) dead };
-  failing = λ h. h;
-}
-
-one_raise : (id : Id) (p : List Entry) (t : ℕ) (k : Plan) → NamesItsOwn p → Sound id (child id p) (ticket_count p) (Raises t k) → Entered id p (Raises t k) (Raise t)
-one_raise id p t k own s = record {
-  own = (s.0, own);
-  others = λ i ne. frame_raise i t p;
-  sound = s.1;
-  calm = refl;
-  reaps = λ r. record { each = r.each; last = λ l g. r.last l refl; alive = λ d. r.alive refl; none = λ dead. lives_on (r.alive refl) dead };
-  failing = λ h. h;
-}
-
-one_word : (id : Id) (p : List Entry) (w : _) (k : Plan) → NamesItsOwn p → Sound id (child id p) (ticket_count p) (Says w k) → Entered id p (Says w k) (Said w)
-one_word id p w k own s = record {
-  own = own;
-  others = λ i ne. frame_word i w p;
-  sound = s;
-  calm = refl;
-  reaps = λ r. record { each = r.each; last = λ l g. r.last l refl; alive = λ d. r.alive refl; none = λ dead. lives_on (r.alive refl) dead };
-  failing = λ h. h;
-}
-
-one_asked : (id : Id) (p : List Entry) (level : _) (control : Control) (k : Plan) → NamesItsOwn p → Sound id (child id p) (ticket_count p) (Asks id level control k) → Entered id p (Asks id level control k) (Asked (ticket_count p) id level control)
-one_asked id p level control k own s = record {
-  own = (refl, own);
-  others = λ i ne. frame_asked i id (ticket_count p) level control p ne;
-  sound = s.1;
-  calm = refl;
-  reaps = λ r. record { each = r.each; last = λ l g. r.last l refl; alive = λ d. r.alive refl; none = λ dead. lives_on (r.alive refl) dead };
-  failing = λ h. h;
-}
-
-one_kill : (id : Id) (p : List Entry) (d : ℕ) (answer : _) (k f : Plan) → NamesItsOwn p → Sound id (child id p) (ticket_count p) (Kills d k f) → Entered id p (Kills d k f) (Kill d answer)
-one_kill id p d (Ok a) k f own s = record {
-  own = (child_below id d p own s.0, own);
-  others = λ i ne. frame_kill i d (Ok a) p;
-  sound = s.1;
-  calm = refl;
-  reaps = λ r. record { each = r.each; last = λ l g. r.last l refl; alive = λ e. r.alive refl; none = λ dead. lives_on (r.alive refl) dead };
-  failing = λ h. h;
-}
-one_kill id p d (Err a) k f own s = record {
-  own = (child_below id d p own s.0, own);
-  others = λ i ne. frame_kill i d (Err a) p;
-  sound = s.2;
-  calm = refl;
-  reaps = λ r. record { each = r.each; last = λ l g. r.last l refl; alive = λ e. r.alive refl; none = λ dead. lives_on (r.alive refl) dead };
-  failing = λ h. ((id, s.0), h);
-}
-
-one_wait : (id : Id) (p : List Entry) (d : ℕ) (answer : _) (k f : Plan) → NamesItsOwn p → Sound id (child id p) (ticket_count p) (Waits d k f) → Entered id p (Waits d k f) (Wait d answer)
-one_wait id p d (Ok status) k f own s = record {
-  own = (child_below id d p own s.0, own);
-  others = λ i ne. frame_wait_ok i id d status p ne own s.0;
-  sound = rw (gone_child d (child id p) s.0) s.1;
-  calm = refl;
-  reaps = λ r. record { each = r.each; last = λ l g. ap (unless d) (r.last l refl); alive = λ e. r.alive refl; none = λ dead. lives_on (r.alive refl) dead };
-  failing = λ h. h;
-}
-one_wait id p d (Err a) k f own s = record {
-  own = (child_below id d p own s.0, own);
-  others = λ i ne. frame_wait_err i id d a p ne own s.0;
-  sound = s.2;
-  calm = refl;
-  reaps = λ r. record { each = r.each; last = λ l g. r.last l refl; alive = λ e. r.alive refl; none = λ dead. lives_on (r.alive refl) dead };
-  failing = λ h. ((id, s.0), h);
-}
-
-one_spawn : (id : Id) (p : List Entry) (tag : _) (what : _) (answer : _) (k f : Plan) → NamesItsOwn p → Sound id (child id p) (ticket_count p) (Spawns id tag what k f) → Entered id p (Spawns id tag what k f) (Spawn (child_count p) id tag what answer)
-one_spawn id p tag what (Ok a) k f own s = record {
-  own = (refl, own);
-  others = λ i ne. frame_spawn_ok i id (child_count p) tag what a p ne;
-  sound = rw (self id) (s.2 (child_count p));
-  calm = refl;
-  reaps = λ r. record { each = (λ e. r.last (r.alive refl) refl ∙ s.1, r.each); last = λ l g. rw (self id) refl; alive = λ e. r.alive refl; none = λ dead. lives_on (r.alive refl) dead };
-  failing = λ h. h;
-}
-one_spawn id p tag what (Err a) k f own s = record {
-  own = (refl, own);
-  others = λ i ne. frame_spawn_err i id (child_count p) tag what a p ne;
-  sound = s.3;
-  calm = refl;
-  reaps = λ r. record { each = (λ e. r.last (r.alive refl) refl ∙ s.1, r.each); last = λ l g. r.last l refl; alive = λ e. r.alive refl; none = λ dead. lives_on (r.alive refl) dead };
-  failing = λ h. (rw (self id) refl, h);
-}
-
-one_drop : (id : Id) (p : List Entry) (d : ℕ) → NamesItsOwn p → child id p ≡ Some d → Entered id p (Drops d (Goes id Done)) (Dropped d)
-one_drop id p d own runs = record {
-  own = (child_below id d p own runs, own);
-  others = λ i ne. frame_drop i id d p ne own runs;
-  sound = (refl, gone_child d (child id p) runs, refl);
-  calm = refl;
-  reaps = λ r. record { each = r.each; last = λ l g. absurd cc; alive = λ e. r.alive refl; none = λ dead. lives_on (r.alive refl) dead };
-  failing = λ h. h;
-}
-
-one_gone : (id : Id) (p : List Entry) → NamesItsOwn p → child id p ≡ None → Entered id p (Goes id Done) (Gone id)
-one_gone id p own idle = record {
-  own = own;
-  others = λ i ne. frame_gone i id p ne;
-  sound = tt;
-  calm = refl;
-  reaps = λ r. record { each = r.each; last = λ l g. (let dead : (not (same id id) && lives id p) ≡ false = rw (self id) refl in absurd cc); alive = λ e. absurd cc; none = λ dead. idle };
-  failing = λ h. h;
-}
-
-one : (id : Id) (p : List Entry) (k : Plan) (e : Entry) → Admits p k e → NamesItsOwn p → Sound id (child id p) (ticket_count p) k → Entered id p k e
-one id p Done e d own s = absurd d
-one id p (Picks job t k) e d own s = rw d (subst (λ (j : Id). Entered id p (Picks j t k) (Pick j t)) (sym s.0) (one_pick id p t k own (refl, s.1, s.2)))
-one id p (Spawns job tag what k f) e d own s = rw d.1 (subst (λ (j : Id). Entered id p (Spawns j tag what k f) (Spawn (child_count p) j tag what d.0)) (sym s.0) (one_spawn id p tag what d.0 k f own (refl, s.1, s.2, s.3)))
-one id p (Kills c k f) e d own s = rw d.1 (one_kill id p c d.0 k f own s)
-one id p (Waits c k f) e d own s = rw d.1 (one_wait id p c d.0 k f own s)
-one id p (Drops c k) e d own s = rw (d, s.1) (one_drop id p c own s.0)
-one id p (Raises t k) e d own s = rw d (one_raise id p t k own s)
-one id p (Goes job k) e d own s = rw (d, s.2) (subst (λ (j : Id). Entered id p (Goes j Done) (Gone j)) (sym s.0) (one_gone id p own s.1))
-one id p (Makes job k) e d own s = absurd s
-one id p (Asks job level control k) e d own s = rw d (subst (λ (j : Id). Entered id p (Asks j level control k) (Asked (ticket_count p) j level control)) (sym s.0) (one_asked id p level control k own (refl, s.1)))
-one id p (Says w k) e d own s = rw d (one_word id p w k own s)
+reaps_on : (id : Id) (k : Plan) (e : Entry) (k' : Plan) (p : List Entry) → Admits p k e → IsSound id p e k' → Reaping id k p → Reaping id k' (e ∷ p)
+reaps_on id k (Made job) k' p d s r = absurd s.fits
+reaps_on id k (Spawn c job tag what (Ok a)) k' p d s r =
+    let before = last_before id k (Spawn c job tag what (Ok a)) p d (λ is. cc) r s.alive in
+    let here : same job id ≡ true = rw s.fits.0 (self id) in
+    record { each = (λ e. before ∙ s.fits.1, r.each); last = λ l g. rw here refl; none = λ dead. lives_on s.alive dead }
+reaps_on id k (Spawn c job tag what (Err a)) k' p d s r =
+    let before = last_before id k (Spawn c job tag what (Err a)) p d (λ is. cc) r s.alive in
+    record { each = (λ e. before ∙ s.fits.1, r.each); last = λ l g. before; none = r.none }
+reaps_on id k (Wait c (Ok status)) k' p d s r = record { each = r.each; last = λ l g. ap (unless c) (last_before id k (Wait c (Ok status)) p d (λ is. cc) r l); none = λ dead. lives_on s.alive dead }
+reaps_on id k (Dropped c) k' p d s r = record { each = r.each; last = λ l g. absurd (g s.closes); none = λ dead. lives_on s.alive dead }
+reaps_on id k (Gone job) k' p d s r = record { each = r.each; last = λ l g. (let dead : (not (same job id) && lives id p) ≡ false = rw (s.fits.0, self id) refl in lives_on l dead); none = λ dead. s.fits.1 }
+reaps_on id k (e) k' p d s r = record { each = r.each; last = λ l g. last_before id k e p d (λ is. cc) r l; none = r.none }
 
 -- ---- a whole way
 
--- what is no call on the hooks leaves what these stand for
-abbrev pub KeepsOther : (List Entry → Type 0) → Type 0
-KeepsOther stands = (q : List Entry) (e : Entry) → NamesItsOwn q → is_hooks e ≡ false → stands q → stands (e ∷ q)
-
--- what is known of a journal to which the plan of a job led, and of hooks that stood for the one before
+-- What is known of a journal to which the plan of a job led, and of hooks that stood for the one before. Only what is said of
+-- other jobs and of hooks asks for the journal's names.
 pub record Followed (stands : List Entry → Type 0) (id : Id) (k : Plan) (p : List Entry) (k' : Plan) (p' : List Entry) : Type 0 where
-  pub own : NamesItsOwn p'
-  pub others : (i : Id) → i ≢ id → SameHistory i p p'
-  pub sound : Sound id (child id p') (ticket_count p') k'
+  pub sound : Sound id p' k'
+  pub children : NamesChildren p → NamesChildren p'
   pub reaps : Reaping id k p → Reaping id k' p'
   pub failing : AfterFaults p → AfterFaults p'
-  pub calm : stands p → stands p'
+  pub own : NamesItsOwn p → NamesItsOwn p'
+  pub others : NamesChildren p → (i : Id) → i ≢ id → SameHistory i p p'
+  pub calm : NamesItsOwn p → stands p → stands p'
 
-pub follow : (stands : List Entry → Type 0) → KeepsOther stands → (id : Id) (k : Plan) (p : List Entry) (host hooks : Option (List Entry)) (n : ℕ) (k' : Plan) (p' : List Entry) (host' hooks' : Option (List Entry)) (n' : ℕ) → Leads k p host hooks n k' p' host' hooks' n' → NamesItsOwn p → Sound id (child id p) (ticket_count p) k → Followed stands id k p k' p'
-follow stands keep id k p host hooks n k' p' host' hooks' n' l own s = elim l as (λ k' p' host' hooks' n' _. Followed stands id k p k' p') [
-  | Here ↦ record { own = own; others = λ i ne. same_history i p; sound = s; reaps = λ r. r; failing = λ r. r; calm = λ h. h }
+pub follow : (stands : List Entry → Type 0) → KeepsOther stands → (id : Id) (k : Plan) (p : List Entry) (host hooks : Option (List Entry)) (n : ℕ) (k' : Plan) (p' : List Entry) (host' hooks' : Option (List Entry)) (n' : ℕ) → Leads k p host hooks n k' p' host' hooks' n' → Sound id p k → Followed stands id k p k' p'
+follow stands keep id k p host hooks n k' p' host' hooks' n' l s = elim l as (λ k' p' host' hooks' n' _. Followed stands id k p k' p') [
+  | Here ↦ record { sound = s; children = λ h. h; reaps = λ r. r; failing = λ r. r; own = λ h. h; others = λ named i ne. same_history i p; calm = λ own h. h }
   | Then e k₁ p₁ host₁ hooks₁ n₁ n₂ (l → h) d counts ↦
-      let o = one id p₁ k₁ e d h.own h.sound in record {
-        own = o.own;
-        others = λ i ne. history_then i p p₁ (e ∷ p₁) (h.others i ne) (o.others i ne);
-        sound = o.sound;
-        reaps = λ r. o.reaps (h.reaps r);
-        failing = λ r. o.failing (h.failing r);
-        calm = λ g. keep p₁ e h.own o.calm (h.calm g);
+      let o = always_now (IsSound id) p₁ k₁ e d h.sound in
+      let calm = no_hooks id e p₁ o.fits in record {
+        sound = always_next (IsSound id) p₁ k₁ e d h.sound;
+        children = λ named. children_fit id e p₁ o.fits (h.children named);
+        reaps = λ r. reaps_on id k₁ e (next k₁ e) p₁ d o (h.reaps r);
+        failing = λ r. fault_left id e p₁ o.fits (h.failing r);
+        own = λ own. (o.names (h.own own), h.own own);
+        others = λ named i ne. history_then i p p₁ (e ∷ p₁) (h.others named i ne) (frame i id e p₁ ne (h.children named) o.fits);
+        calm = λ own g. keep p₁ e (h.own own) calm (h.calm own g);
       }
 ]
 

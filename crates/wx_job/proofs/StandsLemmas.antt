@@ -1,5 +1,5 @@
 -- A task stands for the journal with one entry more.
-use Rattle.std.proofs.Common.{◌≡◌, ℕ, true, false, List, [], ◌∷◌, ◌++◌, Option, Some, None, Result, Ok, Err, refl, ap, sym, ◌∙◌, eq-eqb}
+use Rattle.std.proofs.Common.{◌≡◌, ℕ, true, false, List, [], ◌∷◌, ◌++◌, Option, Some, None, Ok, Err, refl, ap, sym, ◌∙◌, eq-eqb}
 use Rattle.std.specs.Prelude.{◌==◌, map}
 use Rattle.wx_events.specs.declared.process.ProcessEnd.{ProcessEnd}
 use Rattle.wx_command.specs.declared.spawnable.Spawnable.{Spawnable}
@@ -7,18 +7,17 @@ use Rattle.wx_control.specs.declared.level.Level.TheVariants.{Normal, High, Urge
 use Rattle.wx_journal.specs.declared.child.SpawnTag.{SpawnTag}
 use Rattle.wx_journal.specs.declared.child.HostFault.{HostFault}
 use Rattle.wx_journal.specs.declared.entry.Entry.{Entry}
-use Rattle.wx_journal.specs.declared.entry.Entry.TheVariants.{Word as Said, Asked, Spawn, Kill, Wait, Raise}
-use Rattle.wx_journal.specs.declared.entry.Word.{Word}
+use Rattle.wx_journal.specs.declared.entry.Entry.TheVariants.{Asked, Spawn, Wait, Gone}
 use Rattle.wx_journal.specs.Names.{moment}
 use Rattle.wx_job.specs.declared.state.CommandState.{CommandState}
 use Rattle.wx_job.specs.declared.state.CommandState.TheVariants.{Pending, Running, Finished}
 use Rattle.wx_job.specs.declared.task.Waiting.{Waiting}
 use Rattle.wx_job.specs.declared.task.JobTask.{JobTask}
 use Rattle.wx_job.specs.History.{lives, child, finish, SameHistory}
-use Rattle.wx_job.specs.Table.{Done, Goes, drop_plan, end_plan}
+use Rattle.wx_job.specs.Table.{Done, adds, drop_plan, end_plan}
 use Rattle.wx_job.specs.Stands.{Stands, child_of, id_of, ticketed}
 use Rattle.wx_job.proofs.Owners.{self}
-use Rattle.wx_job.proofs.Frame.{frame_raise, frame_kill, frame_word}
+use Rattle.wx_job.proofs.Frame.{is_silent, frame_silent}
 
 -- what leaves the history of its job leaves a task
 pub stands_history : (k : JobTask) (p p' : List Entry) → SameHistory (id_of k) p p' → Stands k p → Stands k p'
@@ -34,14 +33,8 @@ stands_history k p p' h s = record {
 }
 
 -- entries that say nothing of a job
-pub stands-raise : (k : JobTask) (p : List Entry) (t : ℕ) → Stands k p → Stands k (Raise t ∷ p)
-stands-raise k p t s = stands_history k p _ (frame_raise (id_of k) t p) s
-
-pub stands-kill : (k : JobTask) (p : List Entry) (c : ℕ) (a : Result (Unit {0}) HostFault) → Stands k p → Stands k (Kill c a ∷ p)
-stands-kill k p c a s = stands_history k p _ (frame_kill (id_of k) c a p) s
-
-pub stands-word : (k : JobTask) (p : List Entry) (w : Word) → Stands k p → Stands k (Said w ∷ p)
-stands-word k p w s = stands_history k p _ (frame_word (id_of k) w p) s
+pub stands-silent : (k : JobTask) (p : List Entry) (e : Entry) → is_silent e ≡ true → Stands k p → Stands k (e ∷ p)
+stands-silent k p e silent s = stands_history k p _ (frame_silent (id_of k) e p silent) s
 
 -- the child that runs, by the journal
 child-is : (k : JobTask) (p : List Entry) (c : ℕ) → Stands k p → k.gone ≡ false → child_of k.state ≡ Some c → child k.id p ≡ Some c
@@ -127,7 +120,7 @@ stands-asked k k' p w s here items fields =
     rw fields stood
 
 -- what the end of a job owes, by what the task keeps
-pub end-is : (k : JobTask) (p : List Entry) (c : Option ℕ) → Stands k p → k.gone ≡ false → c ≡ child_of k.state → end_plan k.id p ≡ drop_plan c (Goes k.id Done)
+pub end-is : (k : JobTask) (p : List Entry) (c : Option ℕ) → Stands k p → k.gone ≡ false → c ≡ child_of k.state → end_plan k.id p ≡ drop_plan c (adds (Gone k.id) Done)
 end-is k p c s here is = let alive : lives k.id p ≡ true = sym s.lives_kept ∙ rw here refl in let runs : child k.id p ≡ child_of k.state = sym s.child_kept ∙ rw here refl in rw (alive, runs, is) refl
 
-pub ruleset stands = (stands-asked, stands-raise, stands-kill, stands-word, stands-wait-ok, stands-wait-err, stands-spawn-ok, stands-spawn-err)
+pub ruleset stands = (stands-asked, stands-silent, stands-wait-ok, stands-wait-err, stands-spawn-ok, stands-spawn-err)

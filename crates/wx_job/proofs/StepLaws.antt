@@ -1,78 +1,83 @@
 -- What a call that followed a plan, or did nothing, leaves.
-use Rattle.std.proofs.Common.{◌≡◌, ℕ, Bool, true, false, cond, List, Option, None, Result, Ok, Err, refl, arith, sym, subst}
+use Rattle.std.proofs.Common.{◌≡◌, ℕ, List, [], Option, Some, None, Result, Ok, Err, refl, arith, ap, sym, subst}
 use Rattle.std.specs.Prelude.{OnOk, OnErr}
 use Rattle.wx_command.specs.declared.command.Command.{Command}
 use Rattle.wx_control.specs.declared.id.Id.{Id}
 use Rattle.wx_control.specs.declared.ask.Ask.{Ask}
-use Rattle.wx_control.specs.declared.ask.Sends.{Sends}
 use Rattle.wx_control.specs.Asks.{sends_of}
 use Rattle.wx_journal.specs.declared.entry.Entry.{Entry}
-use Rattle.wx_journal.specs.Names.{NamesItsOwn, ticket_count}
-use Rattle.wx_job.specs.History.{lives, child}
+use Rattle.wx_journal.specs.Names.{NamesItsOwn}
+use Rattle.wx_job.specs.Seen.{Seen}
 use Rattle.wx_job.specs.Table.{Plan, Done, step_plan, end_plan, send_plan}
 use Rattle.wx_job.specs.Case.{Leads, Here, FollowsHost, FollowsAlone}
 use Rattle.wx_job.specs.Faults.{Counted}
-use Rattle.wx_job.specs.Laws.{LeavesOthers, IsReaping, AfterFaults}
+use Rattle.wx_journal.specs.Written.{Written}
+use Rattle.wx_job.specs.declared.task.JobTask.{JobTask}
+use Rattle.wx_job.specs.Stands.{Undone}
+use Rattle.wx_job.specs.Laws.{LeavesLaws, NamesChildren}
+use Rattle.wx_job.proofs.Owners.{children_named}
 use Rattle.wx_job.proofs.Frame.{same_history}
-use Rattle.wx_job.proofs.Sound.{Sound, is_done, KeepsOther, follow, leads_counted, sound_step, sound_end, sound_send}
+use Rattle.wx_job.specs.Kept.{Quiet, Same}
+use Rattle.wx_job.proofs.CaseLemmas.{ran-none}
+use Rattle.wx_job.proofs.KeptLemmas.{KeepsOther, quiet_led}
+use Rattle.wx_job.proofs.Sound.{Sound, follow, leads_counted, sound_step, sound_end, sound_send}
 
 pub record Left (stands : List Entry → Type 0) (id : Id) (p p' : List Entry) : Type 0 where
-  pub leaves : LeavesOthers id p p'
-  pub reaped : IsReaping id p → IsReaping id p'
-  pub failed : AfterFaults p → AfterFaults p'
-  pub calm : stands p → stands p'
+  pub leaves : LeavesLaws id p p'
+  pub children : NamesChildren p → NamesChildren p'
+  pub calm : NamesItsOwn p → stands p → stands p'
 
--- a plan that owes something is that of a job that lives
-abbrev pub IsOfLiving : Id → Plan → List Entry → Type 0
-IsOfLiving id k p = is_done k ≡ false → lives id p ≡ true
-
-pub left_done : (stands : List Entry → Type 0) → KeepsOther stands → (id : Id) (k : Plan) (p : List Entry) (host hooks : Option (List Entry)) (n : ℕ) (p' : List Entry) (host' hooks' : Option (List Entry)) (n' : ℕ) → Leads k p host hooks n Done p' host' hooks' n' → NamesItsOwn p → Sound id (child id p) (ticket_count p) k → IsOfLiving id k p → Left stands id p p'
-left_done stands keep id k p host hooks n p' host' hooks' n' l own s living =
-    let f = follow stands keep id k p host hooks n Done p' host' hooks' n' l own s in record {
-      leaves = record { own = f.own; others = f.others };
-      reaped = λ r. let after = f.reaps (record { each = r.each; last = λ alive going. r.last alive; alive = living; none = r.none }) in record { each = after.each; last = λ alive. after.last alive refl; none = after.none };
-      failed = f.failing;
+pub left_done : (stands : List Entry → Type 0) → KeepsOther stands → (id : Id) (k : Plan) (p : List Entry) (host hooks : Option (List Entry)) (n : ℕ) (p' : List Entry) (host' hooks' : Option (List Entry)) (n' : ℕ) → Leads k p host hooks n Done p' host' hooks' n' → Sound id p k → Left stands id p p'
+left_done stands keep id k p host hooks n p' host' hooks' n' l s =
+    let f = follow stands keep id k p host hooks n Done p' host' hooks' n' l s in record {
+      leaves = record {
+        others = λ own. record { own = f.own own; others = f.others (children_named p own) };
+        reaped = λ r. let after = f.reaps (record { each = r.each; last = λ alive goes. r.last alive; none = r.none }) in record { each = after.each; last = λ alive. after.last alive (λ goes. goes); none = after.none };
+        failed = f.failing;
+      };
+      children = f.children;
       calm = f.calm;
     }
 
-left_same : (stands : List Entry → Type 0) (id : Id) (p : List Entry) → NamesItsOwn p → Left stands id p p
-left_same stands id p own = record { leaves = record { own = own; others = λ i ne. same_history i p }; reaped = λ r. r; failed = λ r. r; calm = λ h. h }
+left_same : (stands : List Entry → Type 0) (id : Id) (p : List Entry) → Left stands id p p
+left_same stands id p = record { leaves = record { others = λ own. record { own = own; others = λ i ne. same_history i p }; reaped = λ r. r; failed = λ r. r }; children = λ h. h; calm = λ own h. h }
 
-pub left : {A E : Type 0} (stands : List Entry → Type 0) → KeepsOther stands → (r : Result A E) (id : Id) (k : Plan) (p p' : List Entry) (host host' : Option (List Entry)) (n n' : ℕ) → OnOk r (FollowsHost k p host n Done p' host' n') → OnErr r (p' ≡ p) → NamesItsOwn p → Sound id (child id p) (ticket_count p) k → IsOfLiving id k p → Left stands id p p'
-left stands keep (Ok a) id k p p' host host' n n' ok err own s living = left_done stands keep id k p host None n p' host' None n' (ok k p host None n None Here) own s living
-left stands keep (Err a) id k p p' host host' n n' ok err own s living = rw err (left_same stands id p own)
+pub left : {A E Fixed : Type 0} (stands : List Entry → Type 0) → KeepsOther stands → (r : Result A E) (id : Id) (k : Plan) (p p' : List Entry) (a b : Seen Fixed) → OnOk r (FollowsHost k p a Done p' b) → OnErr r (p' ≡ p) → Sound id p k → Left stands id p p'
+left stands keep (Ok r) id k p p' a b ok err s = left_done stands keep id k p _ None _ p' _ None _ (ok k p a None None (ran-none k p a None)).led s
+left stands keep (Err r) id k p p' a b ok err s = rw err (left_same stands id p)
+
+-- what was not done leaves the journal and the host
+pub undone_past : {A E H : Type 0} (r : Result A E) (k k' : JobTask) (j j' : Written) (h h' : H) → OnErr r (Undone k j h k' j' h') → OnErr r (j'.past ≡ j.past)
+undone_past (Ok a) k k' j j' h h' u = tt
+undone_past (Err e) k k' j j' h h' u = ap (λ (w : Written). w.past) u.journal
+
+pub undone_host : {A E H : Type 0} (r : Result A E) (k k' : JobTask) (j j' : Written) (h h' : H) → OnErr r (Undone k j h k' j' h') → OnErr r (h' ≡ h)
+undone_host (Ok a) k k' j j' h h' u = tt
+undone_host (Err e) k k' j j' h h' u = u.host
 
 counted_none : (p : List Entry) (n : ℕ) → Counted p n p n
 counted_none p n = record { later = omega arith; rose = omega arith }
 
 -- a call counts the faults of what it did
-pub counted : {A E H : Type 0} (faults : H → ℕ) (r : Result A E) (h h' : H) (k : Plan) (p p' : List Entry) (told told' : Option (List Entry)) → OnOk r (FollowsHost k p told (faults h) Done p' told' (faults h')) → OnErr r (p' ≡ p) → OnErr r (h' ≡ h) → Counted p (faults h) p' (faults h')
-counted faults (Ok a) h h' k p p' told told' ok err same = leads_counted k p told None (faults h) Done p' told' None (faults h') (ok k p told None (faults h) None Here)
-counted faults (Err a) h h' k p p' told told' ok err same = rw (err, same) (counted_none p (faults h))
-
-of_living : (b : Bool) (k : Plan) → is_done (cond b k Done) ≡ false → b ≡ true
-of_living true k h = refl
-of_living false k h = cc
-
-pub step_living : (id : Id) (command : Command) (p : List Entry) → IsOfLiving id (step_plan id command p) p
-step_living id command p h = of_living (lives id p) _ h
+pub counted : {A E H Fixed : Type 0} (seen : H → Seen Fixed) (r : Result A E) (h h' : H) (k : Plan) (p p' : List Entry) → OnOk r (FollowsHost k p (seen h) Done p' (seen h')) → OnErr r (p' ≡ p) → OnErr r (h' ≡ h) → Counted p (seen h).shown.faults p' (seen h').shown.faults
+counted seen (Ok a) h h' k p p' ok err same = leads_counted k p _ None _ Done p' _ None _ (ok k p (seen h) None None (ran-none k p (seen h) None)).led
+counted seen (Err a) h h' k p p' ok err same = rw (err, same) (counted_none p (seen h).shown.faults)
 
 -- a step, whatever it answers
-pub step_left : {A E : Type 0} (stands : List Entry → Type 0) → KeepsOther stands → (r : Result A E) (id : Id) (command : Command) (p p' : List Entry) (host host' : Option (List Entry)) (n n' : ℕ) → OnOk r (FollowsHost (step_plan id command p) p host n Done p' host' n') → OnErr r (p' ≡ p) → NamesItsOwn p → Left stands id p p'
-step_left stands keep r id command p p' host host' n n' ok err own = left stands keep r id (step_plan id command p) p p' host host' n n' ok err own (sound_step id command p own) (step_living id command p)
-
-pub end_living : (id : Id) (p : List Entry) → IsOfLiving id (end_plan id p) p
-end_living id p h = of_living (lives id p) _ h
+pub step_left : {A E Fixed : Type 0} (stands : List Entry → Type 0) → KeepsOther stands → (r : Result A E) (id : Id) (command : Command) (p p' : List Entry) (a b : Seen Fixed) → OnOk r (FollowsHost (step_plan id command p) p a Done p' b) → OnErr r (p' ≡ p) → Left stands id p p'
+step_left stands keep r id command p p' a b ok err = left stands keep r id (step_plan id command p) p p' a b ok err (sound_step id command p)
 
 -- the end of a job
-pub end_left : (stands : List Entry → Type 0) → KeepsOther stands → (id : Id) (p : List Entry) (host : Option (List Entry)) (n : ℕ) (k : Plan) (p' : List Entry) (host' : Option (List Entry)) (n' : ℕ) → end_plan id p ≡ k → FollowsHost k p host n Done p' host' n' → NamesItsOwn p → Left stands id p p'
-end_left stands keep id p host n k p' host' n' is led own =
-    left_done stands keep id (end_plan id p) p host None n p' host' None n' (subst (λ (j : Plan). Leads j p host None n Done p' host' None n') (sym is) (led k p host None n None Here)) own (sound_end id p) (end_living id p)
-
-pub send_living : (id : Id) (sends : Sends) (p : List Entry) → IsOfLiving id (send_plan id sends p) p
-send_living id sends p h = of_living (lives id p) _ h
+pub end_left : {Fixed : Type 0} (stands : List Entry → Type 0) → KeepsOther stands → (id : Id) (p : List Entry) (a : Seen Fixed) (k : Plan) (p' : List Entry) (b : Seen Fixed) → end_plan id p ≡ k → FollowsHost k p a Done p' b → Left stands id p p'
+end_left stands keep id p a k p' b is led =
+    left_done stands keep id (end_plan id p) p a.shown.told None a.shown.faults p' b.shown.told None b.shown.faults (subst (λ (j : Plan). Leads j p a.shown.told None a.shown.faults Done p' b.shown.told None b.shown.faults) (sym is) (led k p a None None (ran-none k p a None)).led) (sound_end id p)
 
 -- asks, whatever is answered
-pub send_left : {A E : Type 0} (r : Result A E) (id : Id) (ask : Ask) (p p' : List Entry) → OnOk r (FollowsAlone (send_plan id (sends_of ask) p) p Done p') → OnErr r (p' ≡ p) → NamesItsOwn p → Left (λ q. Unit {0}) id p p'
-send_left (Ok a) id ask p p' ok err own = left_done (λ q. Unit {0}) (λ q e o i h. tt) id (send_plan id (sends_of ask) p) p None None 0 p' None None 0 (ok _ p None None 0 None None 0 Here) own (sound_send id ask p) (send_living id (sends_of ask) p)
-send_left (Err a) id ask p p' ok err own = rw err (left_same (λ q. Unit {0}) id p own)
+pub send_left : {A E : Type 0} (r : Result A E) (id : Id) (ask : Ask) (p p' : List Entry) → OnOk r (FollowsAlone (send_plan id (sends_of ask) p) p Done p') → OnErr r (p' ≡ p) → Left (λ q. Unit {0}) id p p'
+send_left (Ok a) id ask p p' ok err = left_done (λ q. Unit {0}) (λ q e o i h. tt) id (send_plan id (sends_of ask) p) p None None 0 p' None None 0 (ok _ p None None 0 None None 0 Here) (sound_send id ask p)
+send_left (Err a) id ask p p' ok err = rw err (left_same (λ q. Unit {0}) id p)
+
+-- a step calls no hooks
+pub step_quiet : {A E Fixed : Type 0} (r : Result A E) (k : Plan) (p p' : List Entry) (a b : Seen Fixed) → OnOk r (FollowsHost k p a Done p' b) → OnErr r (p' ≡ p) → Quiet p p'
+step_quiet (Ok r) k p p' a b ok err = quiet_led k p _ _ Done p' _ _ (ok k p a (Some []) (Some []) (ran-none k p a (Some []))).led
+step_quiet (Err r) k p p' a b ok err = rw err Same

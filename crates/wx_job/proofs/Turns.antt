@@ -4,7 +4,7 @@ use Rattle.wx_command.specs.declared.command.Command.{Command}
 use Rattle.wx_control.specs.declared.id.Id.{Id}
 use Rattle.wx_journal.specs.declared.entry.Entry.{Entry}
 use Rattle.wx_journal.specs.declared.entry.Entry.TheVariants.{Turn as Turned, Hand, Made}
-use Rattle.wx_journal.specs.declared.entry.Act.{Act}
+use Rattle.wx_journal.specs.Acts.{JournalAct as Act}
 use Rattle.wx_journal.specs.declared.entry.Act.TheVariants.{Create}
 use Rattle.wx_journal.specs.Names.{NamesItsOwn}
 use Rattle.wx_journal.specs.declared.entry.TurnKind.TheVariants as turn

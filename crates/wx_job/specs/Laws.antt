@@ -6,7 +6,7 @@ use Rattle.wx_control.specs.declared.ask.Ask.{Ask}
 use Rattle.wx_control.specs.Asks.{sends_of}
 use Rattle.wx_journal.specs.declared.entry.Entry.{Entry}
 use Rattle.wx_journal.specs.declared.entry.Entry.TheVariants.{Made, Asked, Pick, Spawn, Kill, Wait, Dropped, Gone}
-use Rattle.wx_journal.specs.Names.{NamesItsOwn}
+use Rattle.wx_journal.specs.Names.{NamesItsOwn, child_count}
 use Rattle.wx_job.specs.declared.state.CommandState.TheVariants.{Pending}
 use Rattle.wx_job.specs.History.{same, lives, child, state, unless, owner, SameHistory}
 use Rattle.wx_job.specs.Table.{Done, step_plan, send_plan, end_plan}
@@ -20,15 +20,15 @@ unreaped id (Spawn c job tag what (Ok done) ∷ p) = if same job id then Some c 
 unreaped id (Wait c (Ok status) ∷ p) = unless c (unreaped id p)
 unreaped id (_ ∷ p) = unreaped id p
 
--- each child of a job is reaped before the next spawn, save a last one, from where the job was last made
+-- each child of a job is reaped before the next spawn, save a last one, since the job was last made
 abbrev pub AreReaped : Id → List Entry → Type 0
 AreReaped id [] = Unit {0}
 AreReaped id (Made job ∷ p) = same job id ≡ false → AreReaped id p
 AreReaped id (Spawn c job tag what answer ∷ p) = (same job id ≡ true → unreaped id p ≡ None) × AreReaped id p
 AreReaped id (_ ∷ p) = AreReaped id p
 
--- Each child of a job was reaped before the next spawn. While the job lives a last one that wasn't is the one that runs, and
--- where it is gone none runs: the last one was let go.
+-- It speaks of a job since it was last made: each child was reaped before the next spawn. While the job lives a last one that
+-- wasn't is the one that runs, and where it is gone none runs: the last one was let go.
 pub record IsReaping (id : Id) (p : List Entry) : Type 0 where
   pub each : AreReaped id p
   pub last : lives id p ≡ true → unreaped id p ≡ child id p
@@ -63,11 +63,17 @@ is_about id p (Dropped c) = is_owner id (owner c p)
 is_about id p (Gone job) = same job id
 is_about id p (_) = false
 
--- The life of a job: it is made; then come asks, whole steps and its end, each by its plan, and between them entries that
--- are not about it.
+-- each child has the next name
+abbrev pub NamesChildren : List Entry → Type 0
+NamesChildren [] = Unit {0}
+NamesChildren (Spawn c job tag what answer ∷ p) = (c ≡ child_count p) × NamesChildren p
+NamesChildren (_ ∷ p) = NamesChildren p
+
+-- The life of a job since it was last made: then come asks, whole steps and its end, each by its plan, and between them
+-- entries that are not about it. Nothing is asked of other names than those of children.
 pub data Lived (id : Id) (command : Command) : List Entry → Type 0 where
-  Begins : (p : List Entry) → NamesItsOwn (Made id ∷ p) → Lived id command (Made id ∷ p)
-  Others : (e : Entry) (p : List Entry) → Lived id command p → NamesItsOwn (e ∷ p) → is_about id p e ≡ false → Lived id command (e ∷ p)
+  Begins : (p : List Entry) → NamesChildren p → Lived id command (Made id ∷ p)
+  Others : (e : Entry) (p : List Entry) → Lived id command p → NamesChildren (e ∷ p) → is_about id p e ≡ false → Lived id command (e ∷ p)
   Asks : (ask : Ask) (p p' : List Entry) (host hooks host' hooks' : Option (List Entry)) (n n' : ℕ) → Lived id command p → Leads (send_plan id (sends_of ask) p) p host hooks n Done p' host' hooks' n' → Lived id command p'
   Steps : (p p' : List Entry) (host hooks host' hooks' : Option (List Entry)) (n n' : ℕ) → Lived id command p → Leads (step_plan id command p) p host hooks n Done p' host' hooks' n' → Lived id command p'
   Ends : (p p' : List Entry) (host hooks host' hooks' : Option (List Entry)) (n n' : ℕ) → Lived id command p → Leads (end_plan id p) p host hooks n Done p' host' hooks' n' → Lived id command p'
@@ -77,6 +83,13 @@ pub record LeavesOthers (id : Id) (p p' : List Entry) : Type 0 where
   pub own : NamesItsOwn p'
   pub others : (other : Id) → other ≢ id → SameHistory other p p'
 
--- in the life of a job each child is reaped before the next spawn, save a last one, and no child runs after its end
+-- What calls on one job leave of what holds of the histories. What is said of this job asks nothing of the journal's names.
+pub record LeavesLaws (id : Id) (p p' : List Entry) : Type 0 where
+  pub others : NamesItsOwn p → LeavesOthers id p p'
+  pub reaped : IsReaping id p → IsReaping id p'
+  pub failed : AfterFaults p → AfterFaults p'
+
+-- in the life of a job, since it was last made, each child is reaped before the next spawn, save a last one, and no child
+-- runs after its end
 abbrev pub ChildrenAreReaped : Type 0
 ChildrenAreReaped = (id : Id) (command : Command) (p : List Entry) → Lived id command p → IsReaping id p

@@ -1,5 +1,7 @@
 pub mod States
 pub mod Progress
+pub mod Seen
+pub mod Kept
 pub mod History
 pub mod Table
 pub mod Case

@@ -7,6 +7,7 @@ use Rattle.wx_control.specs.declared.level.Level.TheVariants.{Normal, High, Urge
 use Rattle.wx_journal.specs.declared.entry.Entry.{Entry}
 use Rattle.wx_journal.specs.declared.entry.Entry.TheVariants.{Turn as Turned}
 use Rattle.wx_journal.specs.declared.entry.TurnKind.TheVariants.{Ended}
+use Rattle.wx_journal.specs.Written.{Written}
 use Rattle.wx_job.specs.declared.state.CommandState.{CommandState}
 use Rattle.wx_job.specs.declared.state.CommandState.TheVariants.{Pending, Running, Finished}
 use Rattle.wx_job.specs.declared.task.Waiting.{Waiting}
@@ -54,6 +55,12 @@ pub record Stands (k : JobTask) (p : List Entry) : Type 0 where
 pub record SameJob (k k' : JobTask) : Type 0 where
   pub same_id : id_of k' ≡ id_of k
   pub same_command : command_of k' ≡ command_of k
+
+-- nothing was done to the task, the journal and the host
+pub record Undone {Host : Type 0} (k : JobTask) (j : Written) (h : Host) (k' : JobTask) (j' : Written) (h' : Host) : Type 0 where
+  pub task : k' ≡ k
+  pub journal : j' ≡ j
+  pub host : h' ≡ h
 
 -- all that a task keeps is the same
 pub record SameTask (k k' : JobTask) : Type 0 where

@@ -12,52 +12,58 @@ use Rattle.wx_control.specs.declared.ask.Sends.{Sends}
 use Rattle.wx_journal.specs.declared.child.SpawnTag.{SpawnTag}
 use Rattle.wx_journal.specs.declared.child.SpawnTag.TheVariants.{Default}
 use Rattle.wx_journal.specs.declared.entry.Entry.{Entry}
-use Rattle.wx_journal.specs.declared.entry.Word.{Word}
+use Rattle.wx_journal.specs.declared.entry.Entry.TheVariants.{Word as Said, Pick, Dropped, Raise, Gone}
 use Rattle.wx_journal.specs.declared.entry.Word.TheVariants.{Idle as TheIdle}
 use Rattle.wx_job.specs.declared.choice.Choice.{Choice}
 use Rattle.wx_job.specs.declared.choice.Choice.TheVariants.{End, Next, Nothing}
 use Rattle.wx_job.specs.declared.choice.Stepped.{Stepped}
-use Rattle.wx_job.specs.declared.choice.Stepped.TheVariants.{Did, Idle, Gone}
+use Rattle.wx_job.specs.declared.choice.Stepped.TheVariants.{Did, Idle, Gone as IsGone}
 use Rattle.wx_job.specs.History.{lives, waits, child, kept}
 
--- The entries that are still to come. Each has behind it what comes then; a call that can fail has this twice, for an
--- answer ok and for a fault.
+-- What brings one entry, whose answer is free where it has one. A spawn and an ask give the next name of the journal.
+pub data Call : Type 0 where
+  -- just this entry
+  Adds : Entry → Call
+  -- a child is spawned, killed, waited for
+  Spawns : Id → SpawnTag → Spawnable → Call
+  Kills : ℕ → Call
+  Waits : ℕ → Call
+  -- a control is asked
+  Asks : Id → Level → Control → Call
+
+-- The entries that are still to come. Each has behind it what comes then, first where it holds no fault and then where it
+-- does.
 pub data Plan : Type 0 where
   -- nothing is owed
   Done : Plan
-  -- the control of this ticket is picked
-  Picks : Id → ℕ → Plan → Plan
-  -- a child is spawned, killed, waited for
-  Spawns : Id → SpawnTag → Spawnable → Plan → Plan → Plan
-  Kills : ℕ → Plan → Plan → Plan
-  Waits : ℕ → Plan → Plan → Plan
-  -- a child is let go
-  Drops : ℕ → Plan → Plan
-  -- a ticket is raised
-  Raises : ℕ → Plan → Plan
-  -- a job is gone
-  Goes : Id → Plan → Plan
-  -- a job is made
-  Makes : Id → Plan → Plan
-  -- a control is asked
-  Asks : Id → Level → Control → Plan → Plan
-  -- a word is said
-  Says : Word → Plan → Plan
+  -- the case was given up: nothing may come, and it isn't done
+  GivenUp : Plan
+  Owes : Call → Plan → Plan → Plan
+
+-- an entry that holds no fault, and what comes then
+abbrev pub adds : Entry → Plan → Plan
+adds e k = Owes (Adds e) k Done
+
+abbrev pub asks : Id → Level → Control → Plan → Plan
+asks id level control k = Owes (Asks id level control) k Done
+
+-- the last entry of the case of a control
+abbrev pub raises : ℕ → Plan
+raises ticket = adds (Raise ticket) Done
 
 -- reap the child: kill it, then wait for it; where either fails the ticket is raised and nothing else is done
 abbrev pub reap : ℕ → ℕ → Plan → Plan
-reap c ticket k = Kills c (Waits c k (Raises ticket Done)) (Raises ticket Done)
+reap c ticket k = Owes (Kills c) (Owes (Waits c) k (raises ticket)) (raises ticket)
 
 -- spawn a fresh child, whatever comes of it
 abbrev pub fresh : Id → Command → Plan → Plan
-fresh id command k = Spawns id Default (spawnable_of command) k k
+fresh id command k = Owes (Spawns id Default (spawnable_of command)) k k
 
 -- The case of a control that was picked with this ticket, where this child runs, or none does.
 abbrev pub row : Id → Command → ℕ → Control → Option ℕ → Plan
-row id command ticket Start None = fresh id command (Raises ticket Done)
-row id command ticket Start (Some c) = Raises ticket Done
-row id command ticket Stop None = Raises ticket Done
-row id command ticket Stop (Some c) = reap c ticket (Raises ticket Done)
+row id command ticket Start None = fresh id command (raises ticket)
+row id command ticket Stop (Some c) = reap c ticket (raises ticket)
+row id command ticket (_) (_) = raises ticket
 
 -- the case spawns a child
 abbrev pub spawns : Control → Option ℕ → Bool
@@ -66,7 +72,7 @@ spawns (_) (_) = false
 
 -- the case of the end of a child
 abbrev pub ended : ℕ → Plan
-ended c = Waits c Done Done
+ended c = Owes (Waits c) Done Done
 
 -- the first control that waits, with its ticket
 abbrev pub first : List (ℕ × Control) → List (ℕ × Control) → List (ℕ × Control) → Option (ℕ × Control)
@@ -97,8 +103,8 @@ is_spawning Nothing running = false
 -- what a step that picks this owes
 abbrev pub case : Id → Command → Option ℕ → Choice → Plan
 case id command running (End c) = ended c
-case id command running (Next ticket control) = Picks id ticket (row id command ticket control running)
-case id command running Nothing = Says TheIdle Done
+case id command running (Next ticket control) = adds (Pick id ticket) (row id command ticket control running)
+case id command running Nothing = adds (Said TheIdle) Done
 
 -- A step of a job that is gone owes nothing.
 abbrev pub step_plan : Id → Command → List Entry → Plan
@@ -106,7 +112,7 @@ step_plan id command p = if lives id p then case id command (child id p) (pick i
 
 -- what a step answers
 abbrev pub answer_of : Bool → Choice → Stepped
-answer_of true choice = Gone
+answer_of true choice = IsGone
 answer_of false (End c) = Did
 answer_of false (Next ticket control) = Did
 answer_of false Nothing = Idle
@@ -114,10 +120,10 @@ answer_of false Nothing = Idle
 -- the controls of an ask, and what comes then
 abbrev pub ask_second : Id → Level → Option Control → Plan → Plan
 ask_second id level None k = k
-ask_second id level (Some control) k = Asks id level control k
+ask_second id level (Some control) k = asks id level control k
 
 abbrev pub ask_plan : Id → Sends → Plan → Plan
-ask_plan id sends k = Asks id sends.level sends.first (ask_second id sends.level sends.second k)
+ask_plan id sends k = asks id sends.level sends.first (ask_second id sends.level sends.second k)
 
 -- nothing is asked of a job that is gone
 abbrev pub send_plan : Id → Sends → List Entry → Plan
@@ -126,7 +132,7 @@ send_plan id sends p = if lives id p then ask_plan id sends Done else Done
 -- the end of a job: a child that runs is let go, and the job is gone
 abbrev pub drop_plan : Option ℕ → Plan → Plan
 drop_plan None k = k
-drop_plan (Some c) k = Drops c k
+drop_plan (Some c) k = adds (Dropped c) k
 
 abbrev pub end_plan : Id → List Entry → Plan
-end_plan id p = if lives id p then drop_plan (child id p) (Goes id Done) else Done
+end_plan id p = if lives id p then drop_plan (child id p) (adds (Gone id) Done) else Done

@@ -9,11 +9,11 @@ ghost use Rattle.wx_journal.specs.declared.child.SpawnTag.{SpawnTag as the-Spawn
 ghost use Rattle.wx_journal.specs.Names.{moment};
 ghost use Rattle.wx_job.specs.declared.choice.Choice.TheVariants.{End, Next};
 ghost use Rattle.wx_job.specs.History.{finish};
-ghost use Rattle.wx_job.specs.Table.{Plan, Done, Raises, Kills, Waits, reap, fresh, row, ended, spawns, is_spawning, case};
+ghost use Rattle.wx_job.specs.Table.{Plan, Done, Kills, Waits, Owes, adds, reap, fresh, row, ended, spawns, is_spawning, case};
 ghost use Rattle.wx_job.specs.Prepared.{prepared};
 ghost use Rattle.wx_job.specs.Case.{FollowsHost};
-ghost use Rattle.wx_job.specs.Steady.{IsSteady};
-ghost use Rattle.wx_job.specs.Stands.{Stands, child_of, running_of, choice_of, ticketed};
+ghost use Rattle.wx_job.specs.Steady.{AreSpare, Spends};
+ghost use Rattle.wx_job.specs.Stands.{Stands, Undone, child_of, running_of, choice_of, ticketed};
 
 use crate::choice::Choice;
 use crate::outside::Host;
@@ -30,14 +30,10 @@ impl JobTask {
     /// Raises a ticket.
     fn raise<H: Host>(&self, ticket: u64, done: &Flag, host: &mut H, journal: &mut Journal)
         requires stands { Stands self.now journal.old.past }
-        requires journal_room { 1 ≤ journal.old.spare }
-        requires host_room { 1 ≤ H.spare host.old }
+        requires room { AreSpare 1 journal.old (H.seen host.old) }
         ensures stands { Stands self.now journal.new.past }
-        ensures follows { (k : Plan) → FollowsHost (Raises ticket k) journal.old.past (H.told host.old) (H.host_faults host.old) k journal.new.past (H.told host.new) (H.host_faults host.new) }
-        ensures kept { IsSteady H.Plan (H.plan host.old) (H.plan host.new) (H.progress host.old) (H.progress host.new) (H.place host.old) (H.place host.new) }
-        ensures moment { moment journal.new.past ≡ moment journal.old.past }
-        ensures journal_room { journal.old.spare ≤ journal.new.spare + 1 }
-        ensures host_room { H.spare host.old ≤ H.spare host.new + 1 }
+        ensures follows { (k : Plan) → FollowsHost (adds (Entry.Raise ticket) k) journal.old.past (H.seen host.old) k journal.new.past (H.seen host.new) }
+        ensures spends { Spends 1 journal.old (H.seen host.old) journal.new (H.seen host.new) }
     {
         host.raise(ticket, done);
         journal.push(Entry::Raise(ticket));
@@ -51,15 +47,11 @@ impl JobTask {
         journal: &mut Journal,
     ) -> Result<(), HostFault>
         requires stands { Stands self.now journal.old.past }
-        requires journal_room { 1 ≤ journal.old.spare }
-        requires host_room { 1 ≤ H.spare host.old }
+        requires room { AreSpare 1 journal.old (H.seen host.old) }
         ensures stands { Stands self.now journal.new.past }
-        ensures ok { OnOk result ((k : Plan) (f : Plan) → FollowsHost (Kills child k f) journal.old.past (H.told host.old) (H.host_faults host.old) k journal.new.past (H.told host.new) (H.host_faults host.new)) }
-        ensures err { OnErr result ((k : Plan) (f : Plan) → FollowsHost (Kills child k f) journal.old.past (H.told host.old) (H.host_faults host.old) f journal.new.past (H.told host.new) (H.host_faults host.new)) }
-        ensures kept { IsSteady H.Plan (H.plan host.old) (H.plan host.new) (H.progress host.old) (H.progress host.new) (H.place host.old) (H.place host.new) }
-        ensures moment { moment journal.new.past ≡ moment journal.old.past }
-        ensures journal_room { journal.old.spare ≤ journal.new.spare + 1 }
-        ensures host_room { H.spare host.old ≤ H.spare host.new + 1 }
+        ensures ok { OnOk result ((k : Plan) (f : Plan) → FollowsHost (Owes (Kills child) k f) journal.old.past (H.seen host.old) k journal.new.past (H.seen host.new)) }
+        ensures err { OnErr result ((k : Plan) (f : Plan) → FollowsHost (Owes (Kills child) k f) journal.old.past (H.seen host.old) f journal.new.past (H.seen host.new)) }
+        ensures spends { Spends 1 journal.old (H.seen host.old) journal.new (H.seen host.new) }
     {
         let answer = host.kill(child);
         journal.push(Entry::Kill { child, answer });
@@ -78,17 +70,13 @@ impl JobTask {
         requires runs { child_of self.old.state ≡ Some child }
         requires here { self.old.gone ≡ false }
         requires at { moment journal.old.past ≡ at }
-        requires journal_room { 1 ≤ journal.old.spare }
-        requires host_room { 1 ≤ H.spare host.old }
+        requires room { AreSpare 1 journal.old (H.seen host.old) }
         ensures stands { Stands self.new journal.new.past }
-        ensures ok { OnOk result ((k : Plan) (f : Plan) → FollowsHost (Waits child k f) journal.old.past (H.told host.old) (H.host_faults host.old) k journal.new.past (H.told host.new) (H.host_faults host.new)) }
-        ensures err { OnErr result ((k : Plan) (f : Plan) → FollowsHost (Waits child k f) journal.old.past (H.told host.old) (H.host_faults host.old) f journal.new.past (H.told host.new) (H.host_faults host.new)) }
+        ensures ok { OnOk result ((k : Plan) (f : Plan) → FollowsHost (Owes (Waits child) k f) journal.old.past (H.seen host.old) k journal.new.past (H.seen host.new)) }
+        ensures err { OnErr result ((k : Plan) (f : Plan) → FollowsHost (Owes (Waits child) k f) journal.old.past (H.seen host.old) f journal.new.past (H.seen host.new)) }
         ensures fields { self.new ≡ record self.old { state = self.new.state; kept = self.new.kept } }
         ensures runs { OnErr result (self.new.state ≡ self.old.state) }
-        ensures kept { IsSteady H.Plan (H.plan host.old) (H.plan host.new) (H.progress host.old) (H.progress host.new) (H.place host.old) (H.place host.new) }
-        ensures moment { moment journal.new.past ≡ moment journal.old.past }
-        ensures journal_room { journal.old.spare ≤ journal.new.spare + 1 }
-        ensures host_room { H.spare host.old ≤ H.spare host.new + 1 }
+        ensures spends { Spends 1 journal.old (H.seen host.old) journal.new (H.seen host.new) }
     {
         let answer = host.wait(child);
         journal.push(Entry::Wait { child, answer });
@@ -113,17 +101,13 @@ impl JobTask {
         requires runs { child_of self.old.state ≡ Some child }
         requires here { self.old.gone ≡ false }
         requires at { moment journal.old.past ≡ at }
-        requires journal_room { 3 ≤ journal.old.spare }
-        requires host_room { 3 ≤ H.spare host.old }
+        requires room { AreSpare 3 journal.old (H.seen host.old) }
         ensures stands { Stands self.new journal.new.past }
-        ensures done { OnTrue result ((k : Plan) → FollowsHost (reap child ticket k) journal.old.past (H.told host.old) (H.host_faults host.old) k journal.new.past (H.told host.new) (H.host_faults host.new)) }
-        ensures not_done { OnFalse result ((k : Plan) → FollowsHost (reap child ticket k) journal.old.past (H.told host.old) (H.host_faults host.old) Done journal.new.past (H.told host.new) (H.host_faults host.new)) }
+        ensures done { OnTrue result ((k : Plan) → FollowsHost (reap child ticket k) journal.old.past (H.seen host.old) k journal.new.past (H.seen host.new)) }
+        ensures not_done { OnFalse result ((k : Plan) → FollowsHost (reap child ticket k) journal.old.past (H.seen host.old) Done journal.new.past (H.seen host.new)) }
         ensures fields { self.new ≡ record self.old { state = self.new.state; kept = self.new.kept } }
         ensures runs { OnFalse result (self.new.state ≡ self.old.state) }
-        ensures kept { IsSteady H.Plan (H.plan host.old) (H.plan host.new) (H.progress host.old) (H.progress host.new) (H.place host.old) (H.place host.new) }
-        ensures moment { moment journal.new.past ≡ moment journal.old.past }
-        ensures journal_room { journal.old.spare ≤ journal.new.spare + 3 }
-        ensures host_room { H.spare host.old ≤ H.spare host.new + 3 }
+        ensures spends { Spends 3 journal.old (H.seen host.old) journal.new (H.seen host.new) }
     {
         if self.kill(child, host, journal).is_err() {
             self.raise(ticket, done, host, journal);
@@ -151,15 +135,11 @@ impl JobTask {
         requires at { moment journal.old.past ≡ at }
         requires what { what ≡ spawnable_of self.old.command }
         requires listed { listed ≡ what }
-        requires journal_room { 1 ≤ journal.old.spare }
-        requires host_room { 1 ≤ H.spare host.old }
+        requires room { AreSpare 1 journal.old (H.seen host.old) }
         ensures stands { Stands self.new journal.new.past }
-        ensures follows { (k : Plan) → FollowsHost (fresh self.old.id self.old.command k) journal.old.past (H.told host.old) (H.host_faults host.old) k journal.new.past (H.told host.new) (H.host_faults host.new) }
+        ensures follows { (k : Plan) → FollowsHost (fresh self.old.id self.old.command k) journal.old.past (H.seen host.old) k journal.new.past (H.seen host.new) }
         ensures fields { self.new ≡ record self.old { state = self.new.state; previous = self.new.previous; kept = self.new.kept } }
-        ensures kept { IsSteady H.Plan (H.plan host.old) (H.plan host.new) (H.progress host.old) (H.progress host.new) (H.place host.old) (H.place host.new) }
-        ensures moment { moment journal.new.past ≡ moment journal.old.past }
-        ensures journal_room { journal.old.spare ≤ journal.new.spare + 1 }
-        ensures host_room { H.spare host.old ≤ H.spare host.new + 1 }
+        ensures spends { Spends 1 journal.old (H.seen host.old) journal.new (H.seen host.new) }
     {
         let child = journal.children();
         let answer = host.spawn(child, self.id, what, SpawnTag::Default);
@@ -193,14 +173,11 @@ impl JobTask {
         requires here { self.old.gone ≡ false }
         requires at { moment journal.old.past ≡ at }
         requires what { what ≡ prepared self.old.command Start (child_of self.old.state) }
-        requires journal_room { 2 ≤ journal.old.spare }
-        requires host_room { 2 ≤ H.spare host.old }
+        requires room { AreSpare 2 journal.old (H.seen host.old) }
         ensures stands { Stands self.new journal.new.past }
-        ensures follows { FollowsHost (row self.old.id self.old.command ticket Start (child_of self.old.state)) journal.old.past (H.told host.old) (H.host_faults host.old) Done journal.new.past (H.told host.new) (H.host_faults host.new) }
+        ensures follows { FollowsHost (row self.old.id self.old.command ticket Start (child_of self.old.state)) journal.old.past (H.seen host.old) Done journal.new.past (H.seen host.new) }
         ensures fields { self.new ≡ record self.old { state = self.new.state; previous = self.new.previous; kept = self.new.kept } }
-        ensures kept { IsSteady H.Plan (H.plan host.old) (H.plan host.new) (H.progress host.old) (H.progress host.new) (H.place host.old) (H.place host.new) }
-        ensures journal_room { journal.old.spare ≤ journal.new.spare + 2 }
-        ensures host_room { H.spare host.old ≤ H.spare host.new + 2 }
+        ensures spends { Spends 2 journal.old (H.seen host.old) journal.new (H.seen host.new) }
     {
         if let Some((what, listed)) = what {
             self.spawn(what, listed, at, host, journal);
@@ -220,14 +197,11 @@ impl JobTask {
         requires stands { Stands self.old journal.old.past }
         requires here { self.old.gone ≡ false }
         requires at { moment journal.old.past ≡ at }
-        requires journal_room { 4 ≤ journal.old.spare }
-        requires host_room { 4 ≤ H.spare host.old }
+        requires room { AreSpare 4 journal.old (H.seen host.old) }
         ensures stands { Stands self.new journal.new.past }
-        ensures follows { FollowsHost (row self.old.id self.old.command ticket Stop (child_of self.old.state)) journal.old.past (H.told host.old) (H.host_faults host.old) Done journal.new.past (H.told host.new) (H.host_faults host.new) }
+        ensures follows { FollowsHost (row self.old.id self.old.command ticket Stop (child_of self.old.state)) journal.old.past (H.seen host.old) Done journal.new.past (H.seen host.new) }
         ensures fields { self.new ≡ record self.old { state = self.new.state; previous = self.new.previous; kept = self.new.kept } }
-        ensures kept { IsSteady H.Plan (H.plan host.old) (H.plan host.new) (H.progress host.old) (H.progress host.new) (H.place host.old) (H.place host.new) }
-        ensures journal_room { journal.old.spare ≤ journal.new.spare + 4 }
-        ensures host_room { H.spare host.old ≤ H.spare host.new + 4 }
+        ensures spends { Spends 4 journal.old (H.seen host.old) journal.new (H.seen host.new) }
     {
         if let Some(child) = child_of(self.state) {
             if !self.reap(child, ticket, done, at, host, journal) {
@@ -243,14 +217,11 @@ impl JobTask {
         requires runs { child_of self.old.state ≡ Some child }
         requires here { self.old.gone ≡ false }
         requires at { moment journal.old.past ≡ at }
-        requires journal_room { 1 ≤ journal.old.spare }
-        requires host_room { 1 ≤ H.spare host.old }
+        requires room { AreSpare 1 journal.old (H.seen host.old) }
         ensures stands { Stands self.new journal.new.past }
-        ensures follows { FollowsHost (ended child) journal.old.past (H.told host.old) (H.host_faults host.old) Done journal.new.past (H.told host.new) (H.host_faults host.new) }
+        ensures follows { FollowsHost (ended child) journal.old.past (H.seen host.old) Done journal.new.past (H.seen host.new) }
         ensures fields { self.new ≡ record self.old { state = self.new.state; kept = self.new.kept } }
-        ensures kept { IsSteady H.Plan (H.plan host.old) (H.plan host.new) (H.progress host.old) (H.progress host.new) (H.place host.old) (H.place host.new) }
-        ensures journal_room { journal.old.spare ≤ journal.new.spare + 1 }
-        ensures host_room { H.spare host.old ≤ H.spare host.new + 1 }
+        ensures spends { Spends 1 journal.old (H.seen host.old) journal.new (H.seen host.new) }
     {
         let _answer = self.wait(child, at, host, journal);
     }
@@ -326,14 +297,11 @@ impl JobTask {
         requires here { self.old.gone ≡ false }
         requires at { moment journal.old.past ≡ at }
         requires what { what ≡ prepared self.old.command control (child_of self.old.state) }
-        requires journal_room { 4 ≤ journal.old.spare }
-        requires host_room { 4 ≤ H.spare host.old }
+        requires room { AreSpare 4 journal.old (H.seen host.old) }
         ensures stands { Stands self.new journal.new.past }
-        ensures follows { FollowsHost (row self.old.id self.old.command waiting.now.ticket control (child_of self.old.state)) journal.old.past (H.told host.old) (H.host_faults host.old) Done journal.new.past (H.told host.new) (H.host_faults host.new) }
+        ensures follows { FollowsHost (row self.old.id self.old.command waiting.now.ticket control (child_of self.old.state)) journal.old.past (H.seen host.old) Done journal.new.past (H.seen host.new) }
         ensures fields { self.new ≡ record self.old { state = self.new.state; previous = self.new.previous; kept = self.new.kept } }
-        ensures kept { IsSteady H.Plan (H.plan host.old) (H.plan host.new) (H.progress host.old) (H.progress host.new) (H.place host.old) (H.place host.new) }
-        ensures journal_room { journal.old.spare ≤ journal.new.spare + 4 }
-        ensures host_room { H.spare host.old ≤ H.spare host.new + 4 }
+        ensures spends { Spends 4 journal.old (H.seen host.old) journal.new (H.seen host.new) }
     {
         match control {
             Control::Start => self.start(waiting.ticket, &waiting.done, what, at, host, journal),
@@ -354,19 +322,14 @@ impl JobTask {
         requires here { self.old.gone ≡ false }
         requires chosen { choice ≡ choice_of self.old }
         requires at { moment journal.old.past ≡ at }
-        requires journal_room { 5 ≤ journal.old.spare }
-        requires host_room { 4 ≤ H.spare host.old }
+        requires room { AreSpare 5 journal.old (H.seen host.old) }
         requires ends { (c : ℕ) → choice ≡ End c → child_of self.old.state ≡ Some c }
         ensures stands { Stands self.new journal.new.past }
-        ensures ok { OnOk result (FollowsHost (case self.old.id self.old.command (child_of self.old.state) choice) journal.old.past (H.told host.old) (H.host_faults host.old) Done journal.new.past (H.told host.new) (H.host_faults host.new)) }
+        ensures ok { OnOk result (FollowsHost (case self.old.id self.old.command (child_of self.old.state) choice) journal.old.past (H.seen host.old) Done journal.new.past (H.seen host.new)) }
         ensures fields { self.new ≡ record self.old { waiting = self.new.waiting; state = self.new.state; previous = self.new.previous; kept = self.new.kept } }
-        ensures kept { IsSteady H.Plan (H.plan host.old) (H.plan host.new) (H.progress host.old) (H.progress host.new) (H.place host.old) (H.place host.new) }
-        ensures task { OnErr result (self.new ≡ self.old) }
-        ensures journal { OnErr result (journal.new ≡ journal.old) }
-        ensures host { OnErr result (host.new ≡ host.old) }
+        ensures err { OnErr result (Undone self.old journal.old host.old self.new journal.new host.new) }
         ensures memory { OnErr result (is_spawning choice (child_of self.old.state) ≡ true) }
-        ensures journal_room { journal.old.spare ≤ journal.new.spare + 5 }
-        ensures host_room { H.spare host.old ≤ H.spare host.new + 4 }
+        ensures spends { Spends 5 journal.old (H.seen host.old) journal.new (H.seen host.new) }
     {
         match choice {
             Choice::End(child) => self.end_child(child, at, host, journal),

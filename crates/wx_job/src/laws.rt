@@ -1,7 +1,8 @@
 // Laws of every job.
 ghost use Rattle.wx_job.specs.Laws.{ChildrenAreReaped};
 
-/// In the life of a job each child is reaped before the next spawn, save a last one, and no child runs once the job is gone.
+/// In the life of a job, since it was last made, each child is reaped before the next spawn, save a last one, and no child
+/// runs once the job is gone.
 #[tactic(auto, using(crate::proofs::LifeLaws::children_are_reaped))]
 pub fn children_are_reaped()
     ensures { ChildrenAreReaped }

@@ -2,8 +2,10 @@
 ghost use Rattle.std.specs.Prelude.{◌≡◌, ◌∷◌, [], ◌≤◌, ◌+◌, OnOk, is_err, List, ℕ, Bool, true, false, Option, None};
 ghost use Rattle.wx_journal.specs.declared.entry.Entry.{Entry};
 ghost use Rattle.wx_journal.specs.Names.{NamesItsOwn};
-ghost use Rattle.wx_journal.specs.Told.{tell, is_hooks, Counts};
-ghost use Rattle.wx_job.specs.Progress.{Progress};
+ghost use Rattle.wx_journal.specs.Told.{is_hooks};
+ghost use Rattle.wx_job.specs.Seen.{Seen, Hooked};
+ghost use Rattle.wx_job.specs.Kept.{OnlyHooksRoom};
+ghost use Rattle.wx_job.specs.Steady.{OnlyRoom, Tells};
 
 use wx_command::Spawnable;
 use wx_control::{Flag, Id};
@@ -16,23 +18,8 @@ pub trait Outside {
     /// The type of what no call changes.
     ghost Plan: { Type 0 };
 
-    /// What no call changes.
-    ghost plan: { Self → Plan };
-
-    /// The entries that were told so far, the newest first, where it tells.
-    ghost told: { Self → Option (List Entry) };
-
-    /// How many entries there is room to tell.
-    ghost spare: { Self → ℕ };
-
-    /// Where it is in its turns. No call on children changes it.
-    ghost progress: { Self → Progress };
-
-    /// How often a call on a child failed. It never falls.
-    ghost host_faults: { Self → ℕ };
-
-    /// Where the object lies that is lent to it, where one is.
-    ghost place: { Self → List ℕ } = { λ _. [] };
+    /// What contracts see of it.
+    ghost seen: { Self → Seen Plan };
 }
 
 /// What runs children. Each call is told as its entry, in room that was taken before. A fault comes only where the
@@ -40,13 +27,8 @@ pub trait Outside {
 pub trait Host: Outside {
     /// Takes room to tell `n` entries more. It fails only for want of memory.
     fn reserve(&mut self, n: u64) -> Result<(), Memory>
-        ensures room { OnOk result (n ≤ Self.spare self.new) }
-        ensures kept { Self.spare self.old ≤ Self.spare self.new }
-        ensures told { Self.told self.new ≡ Self.told self.old }
-        ensures plan { Self.plan self.new ≡ Self.plan self.old }
-        ensures progress { Self.progress self.new ≡ Self.progress self.old }
-        ensures faults { Self.host_faults self.new ≡ Self.host_faults self.old }
-        ensures place { Self.place self.new ≡ Self.place self.old };
+        ensures room { OnOk result (n ≤ (Self.seen self.new).spare) }
+        ensures rest { OnlyRoom (Self.seen self.old) (Self.seen self.new) };
 
     /// Spawns a child of this name for a job.
     fn spawn(
@@ -56,63 +38,33 @@ pub trait Host: Outside {
         what: Spawnable,
         tag: SpawnTag,
     ) -> Result<(), HostFault>
-        requires { 1 ≤ Self.spare self.old }
-        ensures told { Self.told self.new ≡ tell (Entry.Spawn child job tag what result) (Self.told self.old) }
-        ensures room { Self.spare self.old ≤ Self.spare self.new + 1 }
-        ensures plan { Self.plan self.new ≡ Self.plan self.old }
-        ensures progress { Self.progress self.new ≡ Self.progress self.old }
-        ensures faults { Counts (is_err result) (Self.host_faults self.old) (Self.host_faults self.new) }
-        ensures place { Self.place self.new ≡ Self.place self.old };
+        requires { 1 ≤ (Self.seen self.old).spare }
+        ensures { Tells (Entry.Spawn child job tag what result) (is_err result) (Self.seen self.old) (Self.seen self.new) };
 
     /// Kills a child.
     fn kill(&mut self, child: u64) -> Result<(), HostFault>
-        requires { 1 ≤ Self.spare self.old }
-        ensures told { Self.told self.new ≡ tell (Entry.Kill child result) (Self.told self.old) }
-        ensures room { Self.spare self.old ≤ Self.spare self.new + 1 }
-        ensures plan { Self.plan self.new ≡ Self.plan self.old }
-        ensures progress { Self.progress self.new ≡ Self.progress self.old }
-        ensures faults { Counts (is_err result) (Self.host_faults self.old) (Self.host_faults self.new) }
-        ensures place { Self.place self.new ≡ Self.place self.old };
+        requires { 1 ≤ (Self.seen self.old).spare }
+        ensures { Tells (Entry.Kill child result) (is_err result) (Self.seen self.old) (Self.seen self.new) };
 
     /// Waits for a child, and answers how it ended.
     fn wait(&mut self, child: u64) -> Result<ProcessEnd, HostFault>
-        requires { 1 ≤ Self.spare self.old }
-        ensures told { Self.told self.new ≡ tell (Entry.Wait child result) (Self.told self.old) }
-        ensures room { Self.spare self.old ≤ Self.spare self.new + 1 }
-        ensures plan { Self.plan self.new ≡ Self.plan self.old }
-        ensures progress { Self.progress self.new ≡ Self.progress self.old }
-        ensures faults { Counts (is_err result) (Self.host_faults self.old) (Self.host_faults self.new) }
-        ensures place { Self.place self.new ≡ Self.place self.old };
+        requires { 1 ≤ (Self.seen self.old).spare }
+        ensures { Tells (Entry.Wait child result) (is_err result) (Self.seen self.old) (Self.seen self.new) };
 
     /// Lets go of a child that still runs.
     fn drop_child(&mut self, child: u64)
-        requires { 1 ≤ Self.spare self.old }
-        ensures told { Self.told self.new ≡ tell (Entry.Dropped child) (Self.told self.old) }
-        ensures room { Self.spare self.old ≤ Self.spare self.new + 1 }
-        ensures plan { Self.plan self.new ≡ Self.plan self.old }
-        ensures progress { Self.progress self.new ≡ Self.progress self.old }
-        ensures faults { Self.host_faults self.old ≤ Self.host_faults self.new }
-        ensures place { Self.place self.new ≡ Self.place self.old };
+        requires { 1 ≤ (Self.seen self.old).spare }
+        ensures { Tells (Entry.Dropped child) false (Self.seen self.old) (Self.seen self.new) };
 
     /// Raises the flag of a ticket, whose control was done.
     fn raise(&mut self, ticket: u64, flag: &Flag)
-        requires { 1 ≤ Self.spare self.old }
-        ensures told { Self.told self.new ≡ tell (Entry.Raise ticket) (Self.told self.old) }
-        ensures room { Self.spare self.old ≤ Self.spare self.new + 1 }
-        ensures plan { Self.plan self.new ≡ Self.plan self.old }
-        ensures progress { Self.progress self.new ≡ Self.progress self.old }
-        ensures faults { Self.host_faults self.old ≤ Self.host_faults self.new }
-        ensures place { Self.place self.new ≡ Self.place self.old };
+        requires { 1 ≤ (Self.seen self.old).spare }
+        ensures { Tells (Entry.Raise ticket) false (Self.seen self.old) (Self.seen self.new) };
 
     /// Raises the flag of a job that is gone.
     fn gone(&mut self, job: Id, flag: &Flag)
-        requires { 1 ≤ Self.spare self.old }
-        ensures told { Self.told self.new ≡ tell (Entry.Gone job) (Self.told self.old) }
-        ensures room { Self.spare self.old ≤ Self.spare self.new + 1 }
-        ensures plan { Self.plan self.new ≡ Self.plan self.old }
-        ensures progress { Self.progress self.new ≡ Self.progress self.old }
-        ensures faults { Self.host_faults self.old ≤ Self.host_faults self.new }
-        ensures place { Self.place self.new ≡ Self.place self.old };
+        requires { 1 ≤ (Self.seen self.old).spare }
+        ensures { Tells (Entry.Gone job) false (Self.seen self.old) (Self.seen self.new) };
 }
 
 /// What jobs call. It has a plan, which no call changes, and a rule: whether a call on it may come after a journal.
@@ -122,8 +74,8 @@ pub trait JobHooks {
     /// The type of the plan.
     ghost Plan: { Type 0 };
 
-    /// What no call changes.
-    ghost plan: { Self → Plan };
+    /// What contracts see of them.
+    ghost seen: { Self → Hooked Plan };
 
     /// Whether an entry, which is a call on these hooks, may come after these.
     ghost rule: { Plan → List Entry → Entry → Type 0 };
@@ -131,27 +83,10 @@ pub trait JobHooks {
     /// Whether the calls in this journal left just this object. One that doesn't say so stands for each.
     ghost stands: { Self → List Entry → Type 0 } = { λ _ _. Unit {0} };
 
-    /// Whether something was refused for want of memory. One that doesn't say so never is short.
-    ghost short: { Self → Bool } = { λ _. false };
-
-    /// The entries that were told so far, the newest first, where it tells. One that doesn't say so tells nothing.
-    ghost told: { Self → Option (List Entry) } = { λ _. None };
-
-    /// How many entries there is room to tell.
-    ghost spare: { Self → ℕ };
-
-    /// Where the object lies that is lent to it, where one is.
-    ghost place: { Self → List ℕ } = { λ _. [] };
-
     /// Takes room to tell `n` entries more. It fails only for want of memory.
     fn reserve(&mut self, n: u64) -> Result<(), Memory>
-        ensures room { OnOk result (n ≤ spare self.new) }
-        ensures kept { spare self.old ≤ spare self.new }
-        ensures plan { plan self.new ≡ plan self.old }
-        ensures told { told self.new ≡ told self.old }
-        ensures short { short self.new ≡ short self.old }
-        ensures stands { (p : List Entry) → stands self.old p → stands self.new p }
-        ensures place { place self.new ≡ place self.old };
+        ensures room { OnOk result (n ≤ (seen self.new).spare) }
+        ensures rest { OnlyHooksRoom seen stands self.old self.new };
 
     /// What is no call on it leaves what it stands for.
     ghost stands_other: { (x : Self) (p : List Entry) (e : Entry) → NamesItsOwn p → is_hooks e ≡ false → stands x p → stands x (e ∷ p) };

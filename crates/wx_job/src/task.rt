@@ -7,12 +7,13 @@ ghost use Rattle.wx_journal.specs.declared.entry.Entry.TheVariants.{Turn as Turn
 ghost use Rattle.wx_journal.specs.declared.entry.TurnKind.TheVariants.{Ended};
 ghost use Rattle.wx_journal.specs.Names.{moment, NamesItsOwn};
 ghost use Rattle.wx_job.specs.History.{child as running, state, previous};
-ghost use Rattle.wx_job.specs.Table.{Plan, Done, Asks, send_plan, pick, is_spawning, Goes, answer_of, step_plan, drop_plan, end_plan};
-ghost use Rattle.wx_job.specs.Case.{Leads, FollowsHost, FollowsAlone};
+ghost use Rattle.wx_job.specs.Table.{Plan, Done, adds, asks, send_plan, pick, is_spawning, answer_of, step_plan, drop_plan, end_plan};
+ghost use Rattle.wx_job.specs.Case.{Ran, FollowsHost, FollowsAlone};
 ghost use Rattle.wx_job.specs.Faults.{Counted};
-ghost use Rattle.wx_job.specs.Steady.{IsSteady};
-ghost use Rattle.wx_job.specs.Laws.{LeavesOthers, IsReaping, AfterFaults};
-ghost use Rattle.wx_job.specs.Stands.{Stands, SameJob, SameTask, IsEnding, child_of, id_of, command_of, gone_of, running_of, with_end};
+ghost use Rattle.wx_job.specs.Steady.{AreSpare, Spends};
+ghost use Rattle.wx_job.specs.Kept.{KeepsOn};
+ghost use Rattle.wx_job.specs.Laws.{LeavesLaws};
+ghost use Rattle.wx_job.specs.Stands.{Stands, Undone, SameJob, SameTask, IsEnding, child_of, id_of, command_of, gone_of, running_of, with_end};
 
 use crate::case::child_of;
 use crate::choice::{Choice, Stepped};
@@ -88,8 +89,7 @@ impl JobTask {
         ensures leads { OnOk result (FollowsAlone (send_plan (id_of self.old) (sends_of ask) journal.old.past) journal.old.past Done journal.new.past) }
         ensures task { OnErr result (SameTask self.old self.new) }
         ensures past { OnErr result (journal.new.past ≡ journal.old.past) }
-        ensures leaves { NamesItsOwn journal.old.past → LeavesOthers (id_of self.old) journal.old.past journal.new.past }
-        ensures reaped { NamesItsOwn journal.old.past → IsReaping (id_of self.old) journal.old.past → IsReaping (id_of self.old) journal.new.past }
+        ensures leaves { LeavesLaws (id_of self.old) journal.old.past journal.new.past }
         ensures journal_room { journal.old.spare ≤ journal.new.spare + 2 }
     {
         self.put(alloc, ask, last, journal)
@@ -108,27 +108,21 @@ impl JobTask {
     ) -> Result<Stepped, Memory>
         requires stands { Stands self.old journal.old.past }
         requires at { moment journal.old.past ≡ at }
-        requires journal_room { 16 ≤ journal.old.spare }
-        requires host_room { 16 ≤ H.spare host.old }
-        requires hooks_room { 16 ≤ K.spare hooks.old }
+        requires room { AreSpare 16 journal.old (H.seen host.old) }
+        requires hooks_room { 16 ≤ (K.seen hooks.old).spare }
         ensures stands { Stands self.new journal.new.past }
         ensures job { SameJob self.old self.new }
-        ensures leads { OnOk result (Leads (step_plan (id_of self.old) (command_of self.old) journal.old.past) journal.old.past (H.told host.old) (K.told hooks.old) (H.host_faults host.old) Done journal.new.past (H.told host.new) (K.told hooks.new) (H.host_faults host.new)) }
+        ensures leads { OnOk result (Ran (step_plan (id_of self.old) (command_of self.old) journal.old.past) journal.old.past (H.seen host.old) (K.seen hooks.old).told Done journal.new.past (H.seen host.new) (K.seen hooks.new).told) }
         ensures answer { IfOk result (λ stepped. stepped ≡ answer_of (gone_of self.old) (pick (id_of self.old) journal.old.past)) }
         ensures gone { gone_of self.new ≡ gone_of self.old }
         ensures memory { OnErr result (is_spawning (pick (id_of self.old) journal.old.past) (running (id_of self.old) journal.old.past) ≡ true) }
-        ensures task { OnErr result (self.new ≡ self.old) }
-        ensures journal { OnErr result (journal.new ≡ journal.old) }
-        ensures host { OnErr result (host.new ≡ host.old) }
+        ensures err { OnErr result (Undone self.old journal.old host.old self.new journal.new host.new) }
         ensures hooks { hooks.new ≡ hooks.old }
-        ensures kept { IsSteady H.Plan (H.plan host.old) (H.plan host.new) (H.progress host.old) (H.progress host.new) (H.place host.old) (H.place host.new) }
-        ensures leaves { NamesItsOwn journal.old.past → LeavesOthers (id_of self.old) journal.old.past journal.new.past }
-        ensures reaped { NamesItsOwn journal.old.past → IsReaping (id_of self.old) journal.old.past → IsReaping (id_of self.old) journal.new.past }
-        ensures failed { NamesItsOwn journal.old.past → AfterFaults journal.old.past → AfterFaults journal.new.past }
+        ensures leaves { LeavesLaws (id_of self.old) journal.old.past journal.new.past }
+        ensures keeps { KeepsOn K.seen K.rule K.stands hooks.old journal.old.past hooks.new journal.new.past }
         ensures hooks_stand { NamesItsOwn journal.old.past → K.stands hooks.old journal.old.past → K.stands hooks.new journal.new.past }
-        ensures faults { Counted journal.old.past (H.host_faults host.old) journal.new.past (H.host_faults host.new) }
-        ensures journal_room { journal.old.spare ≤ journal.new.spare + 16 }
-        ensures host_room { H.spare host.old ≤ H.spare host.new + 16 }
+        ensures faults { Counted journal.old.past (H.seen host.old).shown.faults journal.new.past (H.seen host.new).shown.faults }
+        ensures spends { Spends 16 journal.old (H.seen host.old) journal.new (H.seen host.new) }
     {
         self.walk(alloc, at, host, journal)
     }
@@ -157,27 +151,21 @@ impl JobTask {
     ) -> Result<Stepped, Memory>
         requires stands { IsEnding self.old child at journal.old.past }
         requires runs { running_of self.old ≡ Some child }
-        requires journal_room { 16 ≤ journal.old.spare }
-        requires host_room { 16 ≤ H.spare host.old }
-        requires hooks_room { 16 ≤ K.spare hooks.old }
+        requires room { AreSpare 16 journal.old (H.seen host.old) }
+        requires hooks_room { 16 ≤ (K.seen hooks.old).spare }
         ensures stands { Stands self.new journal.new.past }
         ensures job { SameJob self.old self.new }
-        ensures leads { OnOk result (Leads (step_plan (id_of self.old) (command_of self.old) journal.old.past) journal.old.past (H.told host.old) (K.told hooks.old) (H.host_faults host.old) Done journal.new.past (H.told host.new) (K.told hooks.new) (H.host_faults host.new)) }
+        ensures leads { OnOk result (Ran (step_plan (id_of self.old) (command_of self.old) journal.old.past) journal.old.past (H.seen host.old) (K.seen hooks.old).told Done journal.new.past (H.seen host.new) (K.seen hooks.new).told) }
         ensures answer { IfOk result (λ stepped. stepped ≡ answer_of (gone_of self.old) (pick (id_of self.old) journal.old.past)) }
         ensures gone { gone_of self.new ≡ gone_of self.old }
         ensures memory { OnErr result (is_spawning (pick (id_of self.old) journal.old.past) (running (id_of self.old) journal.old.past) ≡ true) }
-        ensures task { OnErr result (self.new ≡ with_end self.old) }
-        ensures journal { OnErr result (journal.new ≡ journal.old) }
-        ensures host { OnErr result (host.new ≡ host.old) }
+        ensures err { OnErr result (Undone (with_end self.old) journal.old host.old self.new journal.new host.new) }
         ensures hooks { hooks.new ≡ hooks.old }
-        ensures kept { IsSteady H.Plan (H.plan host.old) (H.plan host.new) (H.progress host.old) (H.progress host.new) (H.place host.old) (H.place host.new) }
-        ensures leaves { NamesItsOwn journal.old.past → LeavesOthers (id_of self.old) journal.old.past journal.new.past }
-        ensures reaped { NamesItsOwn journal.old.past → IsReaping (id_of self.old) journal.old.past → IsReaping (id_of self.old) journal.new.past }
-        ensures failed { NamesItsOwn journal.old.past → AfterFaults journal.old.past → AfterFaults journal.new.past }
+        ensures leaves { LeavesLaws (id_of self.old) journal.old.past journal.new.past }
+        ensures keeps { KeepsOn K.seen K.rule K.stands hooks.old journal.old.past hooks.new journal.new.past }
         ensures hooks_stand { NamesItsOwn journal.old.past → K.stands hooks.old journal.old.past → K.stands hooks.new journal.new.past }
-        ensures faults { Counted journal.old.past (H.host_faults host.old) journal.new.past (H.host_faults host.new) }
-        ensures journal_room { journal.old.spare ≤ journal.new.spare + 16 }
-        ensures host_room { H.spare host.old ≤ H.spare host.new + 16 }
+        ensures faults { Counted journal.old.past (H.seen host.old).shown.faults journal.new.past (H.seen host.new).shown.faults }
+        ensures spends { Spends 16 journal.old (H.seen host.old) journal.new (H.seen host.new) }
     {
         self.keep_end(child, at, journal);
         self.step(alloc, at, host, hooks, journal)
@@ -186,17 +174,13 @@ impl JobTask {
     /// The end of the job: a running child is let go, and the job is gone. A job that is gone stays as it is.
     pub fn end<H: Host>(&mut self, host: &mut H, journal: &mut Journal)
         requires stands { Stands self.old journal.old.past }
-        requires journal_room { 2 ≤ journal.old.spare }
-        requires host_room { 2 ≤ H.spare host.old }
+        requires room { AreSpare 2 journal.old (H.seen host.old) }
         ensures stands { Stands self.new journal.new.past }
         ensures job { SameJob self.old self.new }
-        ensures leads { (hooks : Option (List Entry)) → Leads (end_plan (id_of self.old) journal.old.past) journal.old.past (H.told host.old) hooks (H.host_faults host.old) Done journal.new.past (H.told host.new) hooks (H.host_faults host.new) }
+        ensures leads { (hooks : Option (List Entry)) → Ran (end_plan (id_of self.old) journal.old.past) journal.old.past (H.seen host.old) hooks Done journal.new.past (H.seen host.new) hooks }
         ensures gone { gone_of self.new ≡ true }
-        ensures kept { IsSteady H.Plan (H.plan host.old) (H.plan host.new) (H.progress host.old) (H.progress host.new) (H.place host.old) (H.place host.new) }
-        ensures leaves { NamesItsOwn journal.old.past → LeavesOthers (id_of self.old) journal.old.past journal.new.past }
-        ensures reaped { NamesItsOwn journal.old.past → IsReaping (id_of self.old) journal.old.past → IsReaping (id_of self.old) journal.new.past }
-        ensures journal_room { journal.old.spare ≤ journal.new.spare + 2 }
-        ensures host_room { H.spare host.old ≤ H.spare host.new + 2 }
+        ensures leaves { LeavesLaws (id_of self.old) journal.old.past journal.new.past }
+        ensures spends { Spends 2 journal.old (H.seen host.old) journal.new (H.seen host.new) }
     {
         if self.gone {
             return;
@@ -292,7 +276,7 @@ impl JobTask {
         requires room { vec_len self.old.waiting < vec_capacity self.old.waiting }
         requires journal_room { 1 ≤ journal.old.spare }
         ensures stands { Stands self.new journal.new.past }
-        ensures follows { (k : Plan) → FollowsAlone (Asks self.old.id Normal control k) journal.old.past k journal.new.past }
+        ensures follows { (k : Plan) → FollowsAlone (asks self.old.id Normal control k) journal.old.past k journal.new.past }
         ensures fields { self.new ≡ record self.old { waiting = self.new.waiting } }
         ensures journal_room { journal.old.spare ≤ journal.new.spare + 1 }
     {
@@ -315,14 +299,11 @@ impl JobTask {
         requires stands { Stands self.old journal.old.past }
         requires runs { child_of self.old.state ≡ child }
         requires here { self.old.gone ≡ false }
-        requires journal_room { 2 ≤ journal.old.spare }
-        requires host_room { 2 ≤ H.spare host.old }
+        requires room { AreSpare 2 journal.old (H.seen host.old) }
         ensures stands { Stands self.new journal.new.past }
-        ensures follows { FollowsHost (drop_plan child (Goes self.old.id Done)) journal.old.past (H.told host.old) (H.host_faults host.old) Done journal.new.past (H.told host.new) (H.host_faults host.new) }
+        ensures follows { FollowsHost (drop_plan child (adds (Entry.Gone self.old.id) Done)) journal.old.past (H.seen host.old) Done journal.new.past (H.seen host.new) }
         ensures fields { self.new ≡ record self.old { waiting = self.new.waiting; kept = false; gone = true } }
-        ensures kept { IsSteady H.Plan (H.plan host.old) (H.plan host.new) (H.progress host.old) (H.progress host.new) (H.place host.old) (H.place host.new) }
-        ensures journal_room { journal.old.spare ≤ journal.new.spare + 2 }
-        ensures host_room { H.spare host.old ≤ H.spare host.new + 2 }
+        ensures spends { Spends 2 journal.old (H.seen host.old) journal.new (H.seen host.new) }
     {
         if let Some(child) = child {
             host.drop_child(child);
@@ -345,21 +326,15 @@ impl JobTask {
     ) -> Result<Stepped, Memory>
         requires stands { Stands self.old journal.old.past }
         requires at { moment journal.old.past ≡ at }
-        requires journal_room { 5 ≤ journal.old.spare }
-        requires host_room { 4 ≤ H.spare host.old }
+        requires room { AreSpare 5 journal.old (H.seen host.old) }
         ensures stands { Stands self.new journal.new.past }
         ensures job { SameJob self.old self.new }
-        ensures follows { OnOk result (FollowsHost (step_plan (id_of self.old) (command_of self.old) journal.old.past) journal.old.past (H.told host.old) (H.host_faults host.old) Done journal.new.past (H.told host.new) (H.host_faults host.new)) }
+        ensures follows { OnOk result (FollowsHost (step_plan (id_of self.old) (command_of self.old) journal.old.past) journal.old.past (H.seen host.old) Done journal.new.past (H.seen host.new)) }
         ensures answer { IfOk result (λ stepped. stepped ≡ answer_of (gone_of self.old) (pick (id_of self.old) journal.old.past)) }
         ensures gone { gone_of self.new ≡ gone_of self.old }
         ensures memory { OnErr result (is_spawning (pick (id_of self.old) journal.old.past) (running (id_of self.old) journal.old.past) ≡ true) }
-        ensures task { OnErr result (self.new ≡ self.old) }
-        ensures journal { OnErr result (journal.new ≡ journal.old) }
-        ensures host { OnErr result (host.new ≡ host.old) }
-        ensures past { OnErr result (journal.new.past ≡ journal.old.past) }
-        ensures kept { IsSteady H.Plan (H.plan host.old) (H.plan host.new) (H.progress host.old) (H.progress host.new) (H.place host.old) (H.place host.new) }
-        ensures journal_room { journal.old.spare ≤ journal.new.spare + 5 }
-        ensures host_room { H.spare host.old ≤ H.spare host.new + 4 }
+        ensures err { OnErr result (Undone self.old journal.old host.old self.new journal.new host.new) }
+        ensures spends { Spends 5 journal.old (H.seen host.old) journal.new (H.seen host.new) }
     {
         if self.gone {
             return Ok(Stepped::Gone);

@@ -70,15 +70,7 @@ impl Outside for TestHost {
 
     ghost Plan = { ℕ };
 
-    ghost plan = { λ _. 0 };
-
-    ghost told = { λ s. Some s.told.past };
-
-    ghost spare = { λ s. s.told.spare };
-
-    ghost progress = { λ _. record { turns = None; left = 0; moment = 0; turn_faults = 0; maker_faults = 0 } };
-
-    ghost host_faults = { λ s. s.faults };
+    ghost seen = { λ s. record { plan = 0; shown = record { told = Some s.told.past; faults = s.faults }; spare = s.told.spare; progress = record { turns = None; left = 0; moment = 0; turn_faults = 0; maker_faults = 0 }; place = [] } };
 }
 
 impl Host for TestHost {
@@ -138,17 +130,11 @@ impl JobHooks for NoHooks {
 
     ghost Plan = { ℕ };
 
-    ghost plan = { λ _. 0 };
+    ghost seen = { λ _. record { plan = 0; told = None; spare = 2 ^ 64; short = false; place = [] } };
 
     ghost rule = { λ _ _ _. Unit {0} };
 
     ghost stands = { λ _ _. Unit {0} };
-
-    ghost short = { λ _. false };
-
-    ghost told = { λ _. None };
-
-    ghost spare = { λ _. 2 ^ 64 };
 
     fn reserve(&mut self, _n: u64) -> Result<(), Memory> {
         Ok(())

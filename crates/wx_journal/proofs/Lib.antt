@@ -1,2 +1,2 @@
-pub mod PutLaws
 pub mod CountLaws
+pub mod LineLaws

@@ -1,44 +1,53 @@
--- What a handler asks of the engine, as words.
-use Rattle.std.specs.Prelude.{ℕ, List, [], ◌∷◌, decimal, codes}
-use Rattle.wx_words.specs.Combine.{Reader, read_pair, read_as, read_nothing, read_rows}
-use Rattle.wx_command.specs.Commands.{CommandFits, command_words, read_command}
-use Rattle.wx_command.specs.declared.command.Command.{Command}
-use Rattle.wx_control.specs.Ids.{IdFits, read_id}
-use Rattle.wx_control.specs.Asks.{AskFits, ask_words, read_ask}
+-- What a handler asks of the engine, as words: `j` spells which job is to be created.
+use Rattle.std.proofs.Common.{refl}
+use Rattle.std.specs.Prelude.{ℕ, List, [], ◌∷◌, codes}
+use Rattle.wx_words.specs.Spellings.{Spelling}
+use Rattle.wx_words.specs.Choices.{Row, row, Behind, fields}
+use Rattle.wx_words.specs.ChoiceLaws.{MadeAgain, SpeltSo, choice, some_words}
+use Rattle.wx_words.specs.ToEnd.{HasWord}
+use Rattle.wx_words.specs.Parts.{line, nothing, both}
+use Rattle.wx_command.specs.Commands.{command}
+use Rattle.wx_control.specs.Ids.{id}
+use Rattle.wx_control.specs.Asks.{ask}
 use Rattle.wx_control.specs.declared.id.Id.{Id}
-use Rattle.wx_control.specs.declared.ask.Ask.{Ask as AnAsk}
 use Rattle.wx_journal.specs.declared.entry.Act.{Act}
 use Rattle.wx_journal.specs.declared.entry.Act.TheVariants.{Create, Ask, Quit}
 
-abbrev pub ActFits : Act → Type 0
-ActFits (Create job command) = IdFits job × CommandFits command
-ActFits (Ask job ask) = IdFits job × AskFits ask
-ActFits Quit = Unit {0}
-
-abbrev pub act_words : Act → List (List ℕ)
-act_words (Create job command) = codes "create" ∷ decimal job.0 ∷ command_words command
-act_words (Ask job ask) = codes "ask" ∷ decimal job.0 ∷ ask_words ask
-act_words Quit = codes "quit" ∷ []
-
-abbrev pub make_create : Id × Command → Act
-make_create p = Create p.0 p.1
-
-abbrev pub read_create : Reader Act
-read_create ws = read_as make_create (read_pair read_id read_command) ws
-
-abbrev pub make_ask_act : Id × AnAsk → Act
-make_ask_act p = Ask p.0 p.1
-
-abbrev pub read_ask_act : Reader Act
-read_ask_act ws = read_as make_ask_act (read_pair read_id read_ask) ws
-
--- each first word of an act, and how the rest is read
-abbrev pub act_rows : List (List ℕ × Reader Act)
-act_rows =
-    (codes "create", read_create)
-    ∷ (codes "ask", read_ask_act)
-    ∷ (codes "quit", read_as (λ u. Quit) read_nothing)
+-- each first word of an act, and what stands behind it
+abbrev pub act_rows : {J : Type 0} → Spelling line J → List (Row line (Act J))
+act_rows j =
+    row (codes "create") (both j command) (λ p. Create p.0 p.1)
+    ∷ row (codes "ask") (both id ask) (λ p. Ask p.0 p.1)
+    ∷ row (codes "quit") nothing (λ u. Quit)
     ∷ []
 
-unfoldable pub read_act : Reader Act
-read_act ws = read_rows act_rows ws
+abbrev pub act_word : {J : Type 0} → Act J → List ℕ
+act_word (Create _ _) = codes "create"
+act_word (Ask _ _) = codes "ask"
+act_word Quit = codes "quit"
+
+abbrev pub act_behind : {J : Type 0} → Spelling line J → Act J → Behind line
+act_behind j (Create job order) = fields (both j command) (job, order)
+act_behind j (Ask job wish) = fields (both id ask) (job, wish)
+act_behind j Quit = fields nothing tt
+
+pub act_again : {J : Type 0} (j : Spelling line J) → MadeAgain (act_rows j) act_word (act_behind j)
+act_again j Quit = (_, refl, refl)
+act_again j x = (_, refl, refl)
+
+pub act_so : {J : Type 0} (j : Spelling line J) → SpeltSo (act_rows j) act_word (act_behind j)
+act_so j = search
+
+unfoldable pub act_of : {J : Type 0} → Spelling line J → Spelling line (Act J)
+act_of j = choice (act_rows j) act_word (act_behind j) (act_again j) (act_so j) refl
+
+pub act_has_word : {J : Type 0} (j : Spelling line J) → HasWord (act_of j)
+unfolding act_of
+act_has_word j x = some_words _ _
+
+-- the acts of a journal: each job has its name
+abbrev pub JournalAct : Type 0
+JournalAct = Act Id
+
+abbrev pub act : Spelling line JournalAct
+act = act_of id

@@ -1,68 +1,70 @@
 -- What a turn brings, as words.
-use Rattle.std.specs.Prelude.{ℕ, ◌^◌, ◌<◌, List, [], ◌∷◌, decimal, codes}
-use Rattle.wx_words.specs.Combine.{Reader, read_pair, read_as, read_nothing, read_rows}
-use Rattle.wx_words.specs.Numbers.{read_number}
-use Rattle.wx_events.specs.Events.{priority_word, read_priority, EventFits, event_words, read_event}
+use Rattle.std.proofs.Common.{refl}
+use Rattle.std.specs.Prelude.{ℕ, List, [], ◌∷◌, ◌++◌, codes}
+use Rattle.wx_words.specs.Spellings.{Spelling}
+use Rattle.wx_words.specs.Choices.{Row, row, Behind, fields}
+use Rattle.wx_words.specs.ChoiceLaws.{MadeAgain, SpeltSo, choice}
+use Rattle.wx_words.specs.Parts.{line, nothing, both, renamed, as_line, number}
+use Rattle.wx_events.specs.Events.{priority, event}
 use Rattle.wx_events.specs.declared.priority.Priority.{Priority}
 use Rattle.wx_events.specs.declared.event.Event.{Event}
-use Rattle.wx_control.specs.Ids.{IdFits, id_words, read_id}
-use Rattle.wx_control.specs.Asks.{AskFits, ask_words, read_ask}
+use Rattle.wx_control.specs.Ids.{id}
+use Rattle.wx_control.specs.Asks.{ask}
 use Rattle.wx_control.specs.declared.id.Id.{Id}
 use Rattle.wx_control.specs.declared.ask.Ask.{Ask as AnAsk}
+use Rattle.wx_journal.specs.declared.entry.Turn.{Turn}
 use Rattle.wx_journal.specs.declared.entry.TurnKind.{TurnKind}
 use Rattle.wx_journal.specs.declared.entry.TurnKind.TheVariants.{Arrive, Work, Job, Ended, Ask, Last}
 
 -- an event with its priority, which stands before it
-abbrev pub ranked_words : Priority × Event → List (List ℕ)
-ranked_words p = priority_word p.0 ∷ event_words p.1
-
-abbrev pub read_ranked : Reader (Priority × Event)
-read_ranked ws = read_pair read_priority read_event ws
-
-abbrev pub KindFits : TurnKind → Type 0
-KindFits (Arrive event priority) = EventFits event
-KindFits Work = Unit {0}
-KindFits (Job job) = IdFits job
-KindFits (Ended child) = child < 2 ^ 64
-KindFits (Ask job ask) = IdFits job × AskFits ask
-KindFits Last = Unit {0}
-
-abbrev pub kind_words : TurnKind → List (List ℕ)
-kind_words (Arrive event priority) = codes "arrive" ∷ ranked_words (priority, event)
-kind_words Work = codes "work" ∷ []
-kind_words (Job job) = codes "job" ∷ id_words job
-kind_words (Ended child) = codes "ended" ∷ decimal child ∷ []
-kind_words (Ask job ask) = codes "ask" ∷ decimal job.0 ∷ ask_words ask
-kind_words Last = codes "last" ∷ []
+abbrev pub ranked : Spelling line (Priority × Event)
+ranked = both priority event
 
 abbrev pub make_arrive : Priority × Event → TurnKind
 make_arrive p = Arrive p.1 p.0
 
-abbrev pub read_arrive : Reader TurnKind
-read_arrive ws = read_as make_arrive read_ranked ws
-
-abbrev pub read_job : Reader TurnKind
-read_job ws = read_as Job read_id ws
-
-abbrev pub read_ended : Reader TurnKind
-read_ended ws = read_as Ended read_number ws
-
 abbrev pub make_ask_turn : Id × AnAsk → TurnKind
 make_ask_turn p = Ask p.0 p.1
 
-abbrev pub read_ask_turn : Reader TurnKind
-read_ask_turn ws = read_as make_ask_turn (read_pair read_id read_ask) ws
-
--- each first word of what a turn brings, and how the rest is read
-abbrev pub kind_rows : List (List ℕ × Reader TurnKind)
+-- each first word of what a turn brings, and what stands behind it
+abbrev pub kind_rows : List (Row line TurnKind)
 kind_rows =
-    (codes "arrive", read_arrive)
-    ∷ (codes "work", read_as (λ u. Work) read_nothing)
-    ∷ (codes "job", read_job)
-    ∷ (codes "ended", read_ended)
-    ∷ (codes "ask", read_ask_turn)
-    ∷ (codes "last", read_as (λ u. Last) read_nothing)
+    row (codes "arrive") ranked make_arrive
+    ∷ row (codes "work") nothing (λ u. Work)
+    ∷ row (codes "job") id Job
+    ∷ row (codes "ended") (as_line number) Ended
+    ∷ row (codes "ask") (both id ask) make_ask_turn
+    ∷ row (codes "last") nothing (λ u. Last)
     ∷ []
 
-unfoldable pub read_kind : Reader TurnKind
-read_kind ws = read_rows kind_rows ws
+abbrev pub kind_word : TurnKind → List ℕ
+kind_word (Arrive _ _) = codes "arrive"
+kind_word Work = codes "work"
+kind_word (Job _) = codes "job"
+kind_word (Ended _) = codes "ended"
+kind_word (Ask _ _) = codes "ask"
+kind_word Last = codes "last"
+
+abbrev pub kind_behind : TurnKind → Behind line
+kind_behind (Arrive e p) = fields ranked (p, e)
+kind_behind (Job job) = fields id job
+kind_behind (Ended child) = fields (as_line number) child
+kind_behind (Ask job wish) = fields (both id ask) (job, wish)
+kind_behind _ = fields nothing tt
+
+pub kind_again : MadeAgain kind_rows kind_word kind_behind
+kind_again Work = (_, refl, refl)
+kind_again x = (_, refl, refl)
+
+pub kind_so : SpeltSo kind_rows kind_word kind_behind
+kind_so = search
+
+unfoldable pub kind : Spelling line TurnKind
+kind = choice kind_rows kind_word kind_behind kind_again kind_so refl
+
+-- a turn is its moment, and what it brings
+abbrev pub make_turn : ℕ × TurnKind → Turn
+make_turn p = record { at = p.0; kind = p.1 }
+
+unfoldable pub turn : Spelling line Turn
+turn = renamed (both (as_line number) kind) make_turn (λ t. (t.at, t.kind)) (λ t. refl) (λ p. refl)

@@ -3,13 +3,8 @@ pub mod Names
 pub mod Told
 pub mod Counted
 pub mod Answers
-pub mod AnswerLaws
 pub mod Acts
-pub mod ActLaws
 pub mod Kinds
-pub mod KindLaws
 pub mod Words
-pub mod WordLaws
-pub mod Readers
+pub mod Entries
 pub mod Lines
-pub mod LineLaws

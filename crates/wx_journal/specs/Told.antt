@@ -1,7 +1,7 @@
 -- What the outside is told, and what its counts and rules mean.
 use Rattle.std.specs.Prelude.{◌≡◌, ℕ, ◌≤◌, ◌+◌, ◌-◌, ◌^◌, min, Bool, true, false, if◌then◌else◌, Option, None, Some, List, [], ◌∷◌}
 use Rattle.wx_journal.specs.declared.entry.Entry.{Entry}
-use Rattle.wx_journal.specs.declared.entry.Entry.TheVariants.{Turn as Turned, TurnFault, Hand, Spawn, Kill, Wait, Dropped, Raise, Gone}
+use Rattle.wx_journal.specs.declared.entry.Entry.TheVariants.{Begin, Sent, Turn as Turned, TurnFault, Offer, Word as Said, Take, Hand, Made, Asked, Pick, Spawn, Kill, Wait, Dropped, Raise, Gone}
 
 -- what is told after one entry more, where anything is told
 abbrev pub tell : Entry → Option (List Entry) → Option (List Entry)
@@ -11,33 +11,94 @@ tell e (Some before) = Some (e ∷ before)
 abbrev pub tell_if : Bool → Entry → Option (List Entry) → Option (List Entry)
 tell_if mine e before = if mine then tell e before else before
 
--- what is told after those of these entries that are calls on it
-abbrev pub tells : (Entry → Bool) → List Entry → Option (List Entry) → Option (List Entry)
+-- what is told after those of these entries that are calls on it, each by the entries before it
+abbrev pub tells : (List Entry → Entry → Bool) → List Entry → Option (List Entry) → Option (List Entry)
 tells mine [] before = before
-tells mine (e ∷ es) before = tell_if (mine e) e (tells mine es before)
+tells mine (e ∷ p) before = tell_if (mine p e) e (tells mine p before)
 
--- the entries that are calls on the world
-abbrev pub is_world : Entry → Bool
-is_world (Turned t) = true
-is_world (TurnFault code) = true
-is_world (Spawn child job tag what answer) = true
-is_world (Kill child answer) = true
-is_world (Wait child answer) = true
-is_world (Dropped child) = true
-is_world (Raise ticket) = true
-is_world (Gone job) = true
-is_world (_) = false
+-- a kind of entries, whatever stands before them
+abbrev pub anywhere : (Entry → Bool) → List Entry → Entry → Bool
+anywhere kind p e = kind e
+
+-- the entries that are calls on the world, by those before them
+abbrev pub is_world : List Entry → Entry → Bool
+is_world p (Begin throttle size errors keyboard follow jobsignals watcher cwd paths) = false
+is_world p (Sent name event priority) = false
+is_world p (Turned t) = true
+is_world p (TurnFault code) = true
+is_world p (Offer name item result event priority) = false
+is_world p (Said word) = false
+is_world p (Take name) = false
+is_world p (Hand n names acts) = false
+is_world p (Made job) = false
+is_world p (Asked ticket job level control) = false
+is_world p (Pick job ticket) = false
+is_world p (Spawn child job tag what answer) = true
+is_world p (Kill child answer) = true
+is_world p (Wait child answer) = true
+is_world p (Dropped child) = true
+is_world p (Raise ticket) = true
+is_world p (Gone job) = true
 
 -- the entries that are calls on the hooks
 abbrev pub is_hooks : Entry → Bool
+is_hooks (Begin throttle size errors keyboard follow jobsignals watcher cwd paths) = false
+is_hooks (Sent name event priority) = false
+is_hooks (Turned t) = false
+is_hooks (TurnFault code) = false
+is_hooks (Offer name item result event priority) = false
+is_hooks (Said word) = false
+is_hooks (Take name) = false
 is_hooks (Hand n names acts) = true
-is_hooks (_) = false
+is_hooks (Made job) = false
+is_hooks (Asked ticket job level control) = false
+is_hooks (Pick job ticket) = false
+is_hooks (Spawn child job tag what answer) = false
+is_hooks (Kill child answer) = false
+is_hooks (Wait child answer) = false
+is_hooks (Dropped child) = false
+is_hooks (Raise ticket) = false
+is_hooks (Gone job) = false
+
+-- the entries that hand a batch
+abbrev pub is_hand : Entry → Bool
+is_hand (Begin throttle size errors keyboard follow jobsignals watcher cwd paths) = false
+is_hand (Sent name event priority) = false
+is_hand (Turned t) = false
+is_hand (TurnFault code) = false
+is_hand (Offer name item result event priority) = false
+is_hand (Said word) = false
+is_hand (Take name) = false
+is_hand (Hand n names acts) = true
+is_hand (Made job) = false
+is_hand (Asked ticket job level control) = false
+is_hand (Pick job ticket) = false
+is_hand (Spawn child job tag what answer) = false
+is_hand (Kill child answer) = false
+is_hand (Wait child answer) = false
+is_hand (Dropped child) = false
+is_hand (Raise ticket) = false
+is_hand (Gone job) = false
 
 -- the turns and their faults
 abbrev pub is_turn : Entry → Bool
+is_turn (Begin throttle size errors keyboard follow jobsignals watcher cwd paths) = false
+is_turn (Sent name event priority) = false
 is_turn (Turned t) = true
 is_turn (TurnFault code) = true
-is_turn (_) = false
+is_turn (Offer name item result event priority) = false
+is_turn (Said word) = false
+is_turn (Take name) = false
+is_turn (Hand n names acts) = false
+is_turn (Made job) = false
+is_turn (Asked ticket job level control) = false
+is_turn (Pick job ticket) = false
+is_turn (Spawn child job tag what answer) = false
+is_turn (Kill child answer) = false
+is_turn (Wait child answer) = false
+is_turn (Dropped child) = false
+is_turn (Raise ticket) = false
+is_turn (Gone job) = false
 
 -- a count that rose, or stands at the end of its range
 abbrev pub Rose : ℕ → ℕ → Type 0

@@ -1,6 +1,9 @@
 // What is said of children.
+ghost use Rattle.std.specs.Prelude.{◌≡◌};
+
 use std::alloc::Global;
-use wx_events::{Keyword, Memory, Spelled, Text, Words, put_keyword, read_keyword};
+use wx_events::{Memory, Spelled, Text, Words};
+use wx_words::{put_word, read_rows};
 
 /// What spawns a child.
 #[derive(Clone, Copy, Debug, PartialEq, Eq)]
@@ -13,50 +16,21 @@ pub enum SpawnTag {
 #[derive(Clone, Copy, Debug, PartialEq, Eq)]
 pub struct HostFault(pub u32);
 
-const TAGS: [SpawnTag; 1] = [SpawnTag::Default];
+#[tactic(auto, unfolding(crate::specs::Words::tag))]
+impl Spelled for SpawnTag {
+    ghost use Rattle.wx_journal.specs.Words.{tag};
 
-impl Keyword for SpawnTag {
-    ghost use Rattle.wx_journal.specs.Words.{tag_word, tag_all};
-    ghost use Rattle.wx_journal.specs.WordLaws.{tag_found, tag_word_clean};
+    ghost spelling = { tag };
 
-    ghost word = { tag_word };
-
-    ghost all = { tag_all };
-
-    ghost found = { tag_found };
-
-    ghost clean = { tag_word_clean };
-
-    fn word(self) -> &'static [u8] {
+    fn put_after(&self, out: &mut Text) -> Result<(), Memory> {
         match self {
-            SpawnTag::Default => b"default",
+            SpawnTag::Default => put_word(b"default", out),
         }
     }
 
-    fn all() -> &'static [SpawnTag] {
-        &TAGS
-    }
-}
-
-impl Spelled for SpawnTag {
-    ghost use Rattle.wx_journal.specs.Words.{tag_words, read_tag};
-    ghost use Rattle.wx_journal.specs.WordLaws.{tag_form, tag_clean};
-
-    ghost words = { tag_words };
-
-    ghost fits = { λ x. Unit {0} };
-
-    ghost read = { read_tag };
-
-    ghost form = { tag_form };
-
-    ghost clean = { tag_clean };
-
-    fn put_after(&self, out: &mut Text) -> Result<(), Memory> {
-        put_keyword(*self, out)
-    }
-
     fn read(_alloc: Global, line: &mut Words) -> Result<Option<SpawnTag>, Memory> {
-        Ok(read_keyword(line))
+        read_rows!(_alloc, line;
+            b"default" => SpawnTag::Default,
+        )
     }
 }

@@ -48,11 +48,11 @@ pub enum Word {
     Ignored,
 }
 
-/// What a handler asks of the engine.
+/// What a handler asks of the engine. A `J` says which job is to be created: in a journal that is its name.
 #[derive(Drop, Debug)]
-pub enum Act {
-    /// A job of this name is to be made, which runs this command.
-    Create(Id, Command),
+pub enum Act<J = Id> {
+    /// This job is to be made, which runs this command.
+    Create(J, Command),
     /// This is to be asked of the job of this name.
     Ask(Id, Ask),
     /// The run is to end at once.
@@ -173,8 +173,8 @@ impl Copies for Turn {
     }
 }
 
-impl Copies for Act {
-    fn copy(&self, alloc: Global) -> Result<Act, Memory> {
+impl<J: Copy + Drop> Copies for Act<J> {
+    fn copy(&self, alloc: Global) -> Result<Act<J>, Memory> {
         match self {
             Act::Create(job, command) => Ok(Act::Create(*job, command.copy(alloc)?)),
             Act::Ask(job, ask) => Ok(Act::Ask(*job, ask.copy(alloc)?)),

@@ -1,7 +1,8 @@
 // The journal of a run.
-ghost use Rattle.std.specs.Prelude.{◌≡◌, ℕ, ◌+◌, ◌<◌, ◌≤◌, ◌^◌, ◌==◌, if◌then◌else◌, [], ◌∷◌, length, reverse, OnOk, OnErr, IfOk};
+ghost use Rattle.std.specs.Prelude.{◌≡◌, ℕ, ◌+◌, ◌<◌, ◌≤◌, ◌^◌, ◌==◌, if◌then◌else◌, List, [], ◌∷◌, length, reverse, OnOk, OnErr, IfOk};
+ghost use Rattle.wx_journal.specs.declared.entry.Entry.{Entry as AnEntry};
 ghost use Rattle.std.specs.Slice.Iter.{iter_rest};
-ghost use Rattle.wx_journal.specs.Names.{names_ticket, names_child, names_job, ticket_count, child_count, job_count};
+ghost use Rattle.wx_journal.specs.Names.{names_ticket, names_child, ticket_count, child_count, next_job};
 
 use crate::entry::Entry;
 use std::alloc::Global;
@@ -18,7 +19,7 @@ pub struct Journal {
     entries: Vec<Entry>,
     tickets: u64,
     children: u64,
-    jobs: u64,
+    next_job: u64,
 }
 
 impl Model for Journal {
@@ -30,7 +31,7 @@ impl Model for Journal {
 
     ghost view = { λ j. record { past = reverse j.entries.items; spare = vec_capacity j.entries - vec_len j.entries } };
 
-    ghost invariant = { λ j. AreCounted j.tickets j.children j.jobs (reverse j.entries.items) };
+    ghost invariant = { λ j. AreCounted j.tickets j.children j.next_job (reverse j.entries.items) };
 }
 
 impl Journal {
@@ -42,7 +43,7 @@ impl Journal {
             entries: Vec::new(alloc),
             tickets: 0,
             children: 0,
-            jobs: 0,
+            next_job: 0,
         })
     }
 
@@ -66,7 +67,7 @@ impl Journal {
     {
         self.tickets = counted(self.entries.as_slice(), self.tickets, names_ticket(&entry));
         self.children = counted(self.entries.as_slice(), self.children, names_child(&entry));
-        self.jobs = counted(self.entries.as_slice(), self.jobs, names_job(&entry));
+        self.next_job = next_job(self.next_job, &entry);
         self.entries.push_reserved(entry);
     }
 
@@ -92,11 +93,11 @@ impl Journal {
         self.children
     }
 
-    /// How many jobs were made: the next one has this name.
-    pub fn jobs(&self) -> u64
-        ensures { result ≡ job_count self.now.past }
+    /// The id of the next new job, which is above each that was made.
+    pub fn next_job(&self) -> u64
+        ensures { result ≡ next_job self.now.past }
     {
-        self.jobs
+        self.next_job
     }
 
     /// How many entries there are.
@@ -143,11 +144,14 @@ fn names_child(entry: &Entry) -> bool
     matches!(entry, Entry::Spawn { .. })
 }
 
-/// Whether this entry names a job.
-fn names_job(entry: &Entry) -> bool
-    ensures { result ≡ names_job entry.now }
+/// The id of the next new job, behind this entry, where it was this before.
+fn next_job(before: u64, entry: &Entry) -> u64
+    ensures { (p : List AnEntry) → before ≡ next_job p → result ≡ next_job (entry.now ∷ p) }
 {
-    matches!(entry, Entry::Made(_))
+    match entry {
+        Entry::Made(id) if before <= id.0 as u64 => id.0 as u64 + 1,
+        _ => before,
+    }
 }
 
 /// This count of some of the entries, with one more where that is so.

@@ -1,128 +1,52 @@
-// What a turn brings, as words.
-ghost use Rattle.std.specs.Prelude.{◌≡◌, ◌++◌, OnOk, IfOk};
-ghost use Rattle.wx_words.specs.Line.{spaced, Reads};
-ghost use Rattle.wx_journal.specs.Kinds.{ranked_words, kind_words, read_arrive, read_job, read_ended, read_ask_turn, read_kind};
-ghost use Rattle.wx_events.specs.Events.{EventFits};
-
-use crate::entry::TurnKind;
+// Turns, and what they bring, as words.
+use crate::entry::{Turn, TurnKind};
 use std::alloc::Global;
-use wx_control::{Ask, Id};
-use wx_events::{Event, Memory, Priority, Spelled, Text, Words};
+use wx_events::{Memory, Spelled, Text, Words};
+use wx_words::{Fields, put_row, put_word, read_rows};
 
-/// Appends the words of a priority and of an event, each with a space before it.
-#[tactic(auto, using(wx_words::specs::LineLaws::spaces))]
-pub fn put_ranked(priority: Priority, event: &Event, out: &mut Text) -> Result<(), Memory>
-    ensures text { OnOk result (out.new ≡ out.old ++ spaced (ranked_words (priority, event.now))) }
-    ensures fits { OnOk result (EventFits event.now) }
-{
-    priority.put_after(out)?;
-    event.put_after(out)
-}
-
-/// Takes the event that arrives, or loses the place.
-fn take_arrive(alloc: Global, line: &mut Words) -> Result<Option<TurnKind>, Memory>
-    ensures { IfOk result (λ x. Reads line.new x (read_arrive line.old)) }
-{
-    let Some(priority) = Priority::read(alloc, line)? else {
-        return Ok(None);
-    };
-    let Some(event) = Event::read(alloc, line)? else {
-        return Ok(None);
-    };
-    Ok(Some(TurnKind::Arrive(event, priority)))
-}
-
-/// Takes the job that takes a step, or loses the place.
-fn take_job(alloc: Global, line: &mut Words) -> Result<Option<TurnKind>, Memory>
-    ensures { IfOk result (λ x. Reads line.new x (read_job line.old)) }
-{
-    match Id::read(alloc, line)? {
-        Some(job) => Ok(Some(TurnKind::Job(job))),
-        None => Ok(None),
-    }
-}
-
-/// Takes the child that has ended, or loses the place.
-fn take_ended(alloc: Global, line: &mut Words) -> Result<Option<TurnKind>, Memory>
-    ensures { IfOk result (λ x. Reads line.new x (read_ended line.old)) }
-{
-    match u64::read(alloc, line)? {
-        Some(child) => Ok(Some(TurnKind::Ended(child))),
-        None => Ok(None),
-    }
-}
-
-/// Takes the job and what is asked of it, or loses the place.
-fn take_ask(alloc: Global, line: &mut Words) -> Result<Option<TurnKind>, Memory>
-    ensures { IfOk result (λ x. Reads line.new x (read_ask_turn line.old)) }
-{
-    let Some(job) = Id::read(alloc, line)? else {
-        return Ok(None);
-    };
-    let Some(ask) = Ask::read(alloc, line)? else {
-        return Ok(None);
-    };
-    Ok(Some(TurnKind::Ask(job, ask)))
-}
-
+#[tactic(auto, unfolding(crate::specs::Kinds::kind, wx_words::specs::Parts::both))]
 impl Spelled for TurnKind {
-    ghost use Rattle.wx_journal.specs.Kinds.{KindFits};
-    ghost use Rattle.wx_journal.specs.KindLaws.{kind_form, kind_clean};
+    ghost use Rattle.wx_journal.specs.Kinds.{kind};
 
-    ghost words = { kind_words };
+    ghost spelling = { kind };
 
-    ghost fits = { KindFits };
-
-    ghost read = { read_kind };
-
-    ghost form = { kind_form };
-
-    ghost clean = { kind_clean };
-
-    #[tactic(auto, using(wx_words::specs::LineLaws::spaces))]
     fn put_after(&self, out: &mut Text) -> Result<(), Memory> {
         match self {
-            TurnKind::Arrive(event, priority) => {
-                out.append(b" arrive")?;
-                put_ranked(*priority, event, out)
-            }
-            TurnKind::Work => out.append(b" work"),
-            TurnKind::Job(job) => {
-                out.append(b" job")?;
-                job.put_after(out)
-            }
-            TurnKind::Ended(child) => {
-                out.append(b" ended")?;
-                child.put_after(out)
-            }
-            TurnKind::Ask(job, ask) => {
-                out.append(b" ask")?;
-                job.put_after(out)?;
-                ask.put_after(out)
-            }
-            TurnKind::Last => out.append(b" last"),
+            TurnKind::Arrive(event, priority) => put_row(b"arrive", &(priority, event), out),
+            TurnKind::Work => put_word(b"work", out),
+            TurnKind::Job(job) => put_row(b"job", &job, out),
+            TurnKind::Ended(child) => put_row(b"ended", &child, out),
+            TurnKind::Ask(job, ask) => put_row(b"ask", &(job, ask), out),
+            TurnKind::Last => put_word(b"last", out),
         }
     }
 
-    #[tactic(auto, unfolding(crate::specs::Kinds::read_kind))]
     fn read(alloc: Global, line: &mut Words) -> Result<Option<TurnKind>, Memory> {
-        let Some(word) = line.next() else {
+        read_rows!(alloc, line;
+            b"arrive" (priority, event) => TurnKind::Arrive(event, priority),
+            b"work" => TurnKind::Work,
+            b"job" (job) => TurnKind::Job(job),
+            b"ended" (child) => TurnKind::Ended(child),
+            b"ask" (job, ask) => TurnKind::Ask(job, ask),
+            b"last" => TurnKind::Last,
+        )
+    }
+}
+
+#[tactic(auto, unfolding(crate::specs::Kinds::turn, wx_words::specs::Parts::both))]
+impl Spelled for Turn {
+    ghost use Rattle.wx_journal.specs.Kinds.{turn};
+
+    ghost spelling = { turn };
+
+    fn put_after(&self, out: &mut Text) -> Result<(), Memory> {
+        (&self.at, &self.kind).put_fields(out)
+    }
+
+    fn read(alloc: Global, line: &mut Words) -> Result<Option<Turn>, Memory> {
+        let Some((at, kind)) = Spelled::read(alloc, line)? else {
             return Ok(None);
         };
-        if word == b"arrive".as_slice() {
-            take_arrive(alloc, line)
-        } else if word == b"work".as_slice() {
-            Ok(Some(TurnKind::Work))
-        } else if word == b"job".as_slice() {
-            take_job(alloc, line)
-        } else if word == b"ended".as_slice() {
-            take_ended(alloc, line)
-        } else if word == b"ask".as_slice() {
-            take_ask(alloc, line)
-        } else if word == b"last".as_slice() {
-            Ok(Some(TurnKind::Last))
-        } else {
-            Ok(None)
-        }
+        Ok(Some(Turn { at, kind }))
     }
 }

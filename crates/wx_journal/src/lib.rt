@@ -5,7 +5,6 @@ mod acts;
 mod answers;
 mod child;
 mod entry;
-mod job_words;
 mod journal;
 mod kinds;
 mod lines;
@@ -13,7 +12,7 @@ mod lines;
 mod tests;
 mod words;
 
-pub use answers::{answers_are_read_again, put_answer, take_answer};
+pub use answers::answers_are_read_again;
 pub use child::{HostFault, SpawnTag};
 pub use entry::{Act, Entry, Named, Offered, Turn, TurnKind, Word};
 pub use journal::{Entries, Journal};

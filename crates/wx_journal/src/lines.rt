@@ -1,15 +1,16 @@
 // The lines of entries, and the end line of a run.
 ghost use Rattle.std.specs.Prelude.{◌≡◌, ◌++◌, OnOk};
 ghost use Rattle.std.specs.List.{flat_map};
-ghost use Rattle.wx_words.specs.Line.{spaced, joined};
-ghost use Rattle.wx_journal.specs.Lines.{entry_line, answer_words, end_words, line_of};
+ghost use Rattle.wx_words.specs.Line.{behind, joined};
+ghost use Rattle.wx_journal.specs.Lines.{answer, AnswerFits, end_words, entry_line, line_of};
 ghost use Rattle.std.specs.List.{AllByRecursion};
-ghost use Rattle.wx_journal.specs.LineLaws.{EntryFits, AnswerFits};
+ghost use Rattle.wx_journal.specs.Entries.{EntryFits};
 
 use crate::entry::Entry;
 use crate::words::append_entry;
 use wx_config::CriticalError;
-use wx_events::{List, Memory, Spelled, Text};
+use wx_events::{List, Memory, Text};
+use wx_words::{put_row, put_word};
 
 /// Appends the line of an entry.
 fn put_line(entry: &Entry, out: &mut Text) -> Result<(), Memory>
@@ -31,23 +32,24 @@ pub fn put_lines(entries: &[Entry], out: &mut Text) -> Result<(), Memory>
     Ok(())
 }
 
-/// Appends the words of the answer of a run, each with a space before it.
-#[tactic(auto, using(wx_words::specs::LineLaws::spaces))]
-fn put_outcome(answer: &Result<(), CriticalError>, out: &mut Text) -> Result<(), Memory>
-    ensures text { OnOk result (out.new ≡ out.old ++ spaced (answer_words answer.now)) }
-    ensures fits { OnOk result (AnswerFits answer.now) }
+/// Appends the words of the answer of a run.
+#[tactic(auto, using(wx_words::specs::LineLaws::behinds), unfolding(crate::specs::Lines::answer))]
+fn put_outcome(outcome: &Result<(), CriticalError>, out: &mut Text) -> Result<(), Memory>
+    ensures text { OnOk result (out.new ≡ behind out.old (answer.words outcome.now)) }
+    ensures fits { OnOk result (AnswerFits outcome.now) }
 {
-    match answer {
-        Ok(()) => out.append(b" ok"),
+    match outcome {
+        Ok(()) => put_word(b"ok", out),
         Err(error) => {
-            out.append(b" error")?;
-            error.put_after(out)
+            put_word(b"error", out)?;
+            error.put_after(out)?;
+            Ok(())
         }
     }
 }
 
 /// Appends the words of the end line.
-#[tactic(auto, using(wx_words::specs::LineLaws::spaces))]
+#[tactic(auto, using(wx_words::specs::LineLaws::begins), unfolding(wx_words::specs::Parts::both))]
 fn put_end_words(
     answer: &Result<(), CriticalError>,
     lost: &List<u64>,
@@ -58,8 +60,8 @@ fn put_end_words(
 {
     out.append(b"end")?;
     put_outcome(answer, out)?;
-    out.append(b" lost")?;
-    lost.put_after(out)
+    put_row(b"lost", &lost, out)?;
+    Ok(())
 }
 
 /// Appends the end line. A part of it may stand in `out` where memory runs out.

@@ -1,5 +1,4 @@
 // Lines of entries, what turns bring, answers and the journal: the expected values are worked out by hand.
-use crate::answers::{put_answer, take_answer};
 use crate::child::{HostFault, SpawnTag};
 use crate::entry::{Act, Entry, Offered, Turn, TurnKind, Word};
 use crate::journal::Journal;
@@ -14,6 +13,7 @@ use wx_control::{Ask, Control, Id, Level};
 use wx_events::{
     Copies, Event, List, Memory, Priority, ProcessEnd, Signal, Spelled, Text, TextPath, Words,
 };
+use wx_words::{Fields, ResultRef, read_result};
 
 /// The line of an entry.
 fn line_of(alloc: Global, entry: &Entry) -> Result<Text, Memory> {
@@ -328,12 +328,12 @@ fn what_turns_bring(rt: HostRuntime) -> Result<(), Fail> {
 /// Whether this whole line is an answer, and is written so again.
 fn is_answer<T: Spelled>(alloc: Global, line: &[u8]) -> Result<bool, Memory> {
     let mut words = Words::new(line);
-    let found: Option<Result<T, HostFault>> = take_answer(alloc, &mut words)?;
+    let found: Option<Result<T, HostFault>> = read_result(alloc, &mut words)?;
     let Some(answer) = found else {
         return Ok(false);
     };
     let mut text = Text::new(alloc);
-    put_answer(&answer, &mut text)?;
+    ResultRef { result: &answer }.put_fields(&mut text)?;
     Ok(words.is_done() && text.as_slice().strip_prefix(b" ") == Some(line))
 }
 
@@ -374,15 +374,14 @@ fn answers_by_value(rt: HostRuntime) -> Result<(), Fail> {
     let alloc = rt.alloc();
     let stop = NonZeroI32::new(19).ok_or("nineteen")?;
     let mut words = Words::new(b"ok fault 7 stop.19 fault");
-    let first: Option<Result<(), HostFault>> = take_answer(alloc, &mut words)?;
+    let first: Option<Result<(), HostFault>> = read_result(alloc, &mut words)?;
     assert_eq!(rt; first, Some(Ok(())));
-    let second: Option<Result<(), HostFault>> = take_answer(alloc, &mut words)?;
+    let second: Option<Result<(), HostFault>> = read_result(alloc, &mut words)?;
     assert_eq!(rt; second, Some(Err(HostFault(7))));
-    let third: Option<Result<ProcessEnd, HostFault>> = take_answer(alloc, &mut words)?;
+    let third: Option<Result<ProcessEnd, HostFault>> = read_result(alloc, &mut words)?;
     assert_eq!(rt; third, Some(Ok(ProcessEnd::ExitStop(stop))));
-    let fourth: Option<Result<ProcessEnd, HostFault>> = take_answer(alloc, &mut words)?;
+    let fourth: Option<Result<ProcessEnd, HostFault>> = read_result(alloc, &mut words)?;
     assert_eq!(rt; fourth, None);
-    assert_eq!(rt; words.next(), Some(b"fault".as_slice()));
     Ok(())
 }
 
@@ -404,7 +403,7 @@ fn a_journal_and_its_counts(rt: HostRuntime) -> Result<(), Fail> {
     journal.reserve(4)?;
     let room = journal.spare();
     journal.push(Entry::Made(Id(3)));
-    assert_eq!(rt; journal.jobs(), 1);
+    assert_eq!(rt; journal.next_job(), 4);
     journal.push(asked(0));
     journal.push(asked(1));
     journal.push(spawn(alloc, 0, Ok(()))?);
@@ -413,7 +412,7 @@ fn a_journal_and_its_counts(rt: HostRuntime) -> Result<(), Fail> {
     assert!(rt; !journal.is_empty());
     assert_eq!(rt; journal.tickets(), 2);
     assert_eq!(rt; journal.children(), 1);
-    assert_eq!(rt; journal.jobs(), 1);
+    assert_eq!(rt; journal.next_job(), 4);
     assert_eq!(rt; journal.as_slice().len(), 4);
     assert_eq!(rt;
         text_of(alloc, &journal)?.as_slice(),

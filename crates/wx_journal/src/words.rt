@@ -1,223 +1,64 @@
 // How entries are written.
-ghost use Rattle.std.specs.Prelude.{◌≡◌, [], ◌∷◌, ◌++◌, OnOk, OnErr, IfOk};
-ghost use Rattle.std.specs.List.{flat_map};
-ghost use Rattle.wx_words.specs.Line.{spaced, joined, Reads};
-ghost use Rattle.wx_words.specs.Lists.{ListFits, list_words};
-ghost use Rattle.wx_journal.specs.Words.{limit_words, switch_words, watch_words, entry_words};
-ghost use Rattle.wx_journal.specs.declared.entry.Entry.TheVariants.{Sent, Turn as Turned, Offer, Hand};
-ghost use Rattle.wx_words.specs.Texts.{AllBytes};
-ghost use Rattle.wx_config.specs.Watched.{WatcherFits, PathFits};
-ghost use Rattle.wx_journal.specs.LineLaws.{EntryFits};
+ghost use Rattle.std.specs.Prelude.{◌≡◌, ◌++◌, true, OnOk, OnErr};
+ghost use Rattle.wx_words.specs.Line.{joined};
+ghost use Rattle.wx_journal.specs.Entries.{entry_words, EntryFits};
+ghost use Rattle.wx_journal.specs.Words.{is_begin, is_of_job};
+ghost use Rattle.wx_journal.specs.declared.entry.Entry.TheVariants.{Hand};
 
-use crate::entry::{Act, Entry, Offered, Turn, Word};
-use crate::job_words::put_job_entry;
-use crate::kinds::put_ranked;
+use crate::entry::{Act, Entry, Offered, Word};
 use std::alloc::Global;
-use wx_config::{WatchedPath, Watcher};
-use wx_events::{
-    Event, Keyword, List, Memory, Priority, Spelled, Text, TextPath, Words, put_items, put_keyword,
-    read_keyword,
-};
+use wx_events::{List, Memory, Spelled, Text, Words, put_items};
+use wx_words::{ResultRef, begin_row, named, put_word, read_rows};
 
-const OFFERED: [Offered; 2] = [Offered::Queued, Offered::Full];
-
-impl Keyword for Offered {
-    ghost use Rattle.wx_journal.specs.Words.{offered_word, offered_all};
-    ghost use Rattle.wx_journal.specs.WordLaws.{offered_found, offered_word_clean};
-
-    ghost word = { offered_word };
-
-    ghost all = { offered_all };
-
-    ghost found = { offered_found };
-
-    ghost clean = { offered_word_clean };
-
-    fn word(self) -> &'static [u8] {
-        match self {
-            Offered::Queued => b"queued",
-            Offered::Full => b"full",
-        }
-    }
-
-    fn all() -> &'static [Offered] {
-        &OFFERED
-    }
-}
-
+#[tactic(auto, unfolding(crate::specs::Words::offered))]
 impl Spelled for Offered {
-    ghost use Rattle.wx_journal.specs.Words.{offered_words, read_offered};
-    ghost use Rattle.wx_journal.specs.WordLaws.{offered_form, offered_clean};
+    ghost use Rattle.wx_journal.specs.Words.{offered};
 
-    ghost words = { offered_words };
-
-    ghost fits = { λ x. Unit {0} };
-
-    ghost read = { read_offered };
-
-    ghost form = { offered_form };
-
-    ghost clean = { offered_clean };
+    ghost spelling = { offered };
 
     fn put_after(&self, out: &mut Text) -> Result<(), Memory> {
-        put_keyword(*self, out)
+        match self {
+            Offered::Queued => put_word(b"queued", out),
+            Offered::Full => put_word(b"full", out),
+        }
     }
 
     fn read(_alloc: Global, line: &mut Words) -> Result<Option<Offered>, Memory> {
-        Ok(read_keyword(line))
+        read_rows!(_alloc, line;
+            b"queued" => Offered::Queued,
+            b"full" => Offered::Full,
+        )
     }
 }
 
-const WORDS: [Word; 2] = [Word::Idle, Word::Ignored];
+#[tactic(auto, unfolding(crate::specs::Words::said))]
+impl Spelled for Word {
+    ghost use Rattle.wx_journal.specs.Words.{said};
 
-impl Keyword for Word {
-    ghost use Rattle.wx_journal.specs.Words.{said_word, said_all};
-    ghost use Rattle.wx_journal.specs.WordLaws.{said_found, said_word_clean};
+    ghost spelling = { said };
 
-    ghost word = { said_word };
-
-    ghost all = { said_all };
-
-    ghost found = { said_found };
-
-    ghost clean = { said_word_clean };
-
-    fn word(self) -> &'static [u8] {
+    fn put_after(&self, out: &mut Text) -> Result<(), Memory> {
         match self {
-            Word::Idle => b"idle",
-            Word::Ignored => b"ignored",
+            Word::Idle => put_word(b"idle", out),
+            Word::Ignored => put_word(b"ignored", out),
         }
     }
 
-    fn all() -> &'static [Word] {
-        &WORDS
-    }
-}
-
-impl Spelled for Word {
-    ghost use Rattle.wx_journal.specs.Words.{said_words, read_said};
-    ghost use Rattle.wx_journal.specs.WordLaws.{said_form, said_clean};
-
-    ghost words = { said_words };
-
-    ghost fits = { λ x. Unit {0} };
-
-    ghost read = { read_said };
-
-    ghost form = { said_form };
-
-    ghost clean = { said_clean };
-
-    fn put_after(&self, out: &mut Text) -> Result<(), Memory> {
-        put_keyword(*self, out)
-    }
-
     fn read(_alloc: Global, line: &mut Words) -> Result<Option<Word>, Memory> {
-        Ok(read_keyword(line))
+        read_rows!(_alloc, line;
+            b"idle" => Word::Idle,
+            b"ignored" => Word::Ignored,
+        )
     }
-}
-
-/// Appends the words of the throttle and of the sizes.
-#[tactic(auto, using(wx_words::specs::LineLaws::spaces))]
-fn put_limits(throttle: u64, size: u32, errors: u32, out: &mut Text) -> Result<(), Memory>
-    ensures { OnOk result (out.new ≡ out.old ++ spaced (limit_words throttle size errors)) }
-{
-    out.append(b" throttle")?;
-    throttle.put_after(out)?;
-    out.append(b" size")?;
-    size.put_after(out)?;
-    out.append(b" errors")?;
-    errors.put_after(out)
-}
-
-/// Appends the words of what is on or off.
-#[tactic(auto, using(wx_words::specs::LineLaws::spaces))]
-fn put_switches(
-    keyboard: bool,
-    follow: bool,
-    jobsignals: bool,
-    out: &mut Text,
-) -> Result<(), Memory>
-    ensures { OnOk result (out.new ≡ out.old ++ spaced (switch_words keyboard follow jobsignals)) }
-{
-    out.append(b" keyboard")?;
-    keyboard.put_after(out)?;
-    out.append(b" follow")?;
-    follow.put_after(out)?;
-    out.append(b" jobsignals")?;
-    jobsignals.put_after(out)
-}
-
-/// Appends the words of what is watched.
-#[tactic(auto, using(wx_words::specs::LineLaws::spaces))]
-fn put_watch(
-    watcher: Watcher,
-    cwd: &TextPath,
-    paths: &List<WatchedPath>,
-    out: &mut Text,
-) -> Result<(), Memory>
-    ensures text { OnOk result (out.new ≡ out.old ++ spaced (watch_words watcher cwd.now paths.now)) }
-    ensures fits { OnOk result (WatcherFits watcher × AllBytes cwd.now × ListFits PathFits paths.now) }
-{
-    out.append(b" watcher")?;
-    watcher.put_after(out)?;
-    out.append(b" cwd")?;
-    cwd.put_after(out)?;
-    out.append(b" paths")?;
-    paths.put_after(out)
-}
-
-/// Appends the words of an event that was sent.
-#[tactic(auto, using(wx_words::specs::LineLaws::spaces))]
-fn put_sent(name: u64, event: &Event, priority: Priority, out: &mut Text) -> Result<(), Memory>
-    ensures text { OnOk result (out.new ≡ out.old ++ joined (entry_words (Sent name event.now priority))) }
-    ensures fits { OnOk result (EntryFits (Sent name event.now priority)) }
-{
-    out.append(b"sent")?;
-    name.put_after(out)?;
-    put_ranked(priority, event, out)
-}
-
-/// Appends the words of a turn.
-#[tactic(auto, using(wx_words::specs::LineLaws::spaces))]
-fn put_turn(turn: &Turn, out: &mut Text) -> Result<(), Memory>
-    ensures text { OnOk result (out.new ≡ out.old ++ joined (entry_words (Turned turn.now))) }
-    ensures fits { OnOk result (EntryFits (Turned turn.now)) }
-{
-    out.append(b"turn")?;
-    turn.at.put_after(out)?;
-    turn.kind.put_after(out)
-}
-
-/// Appends the words of an event that was offered.
-#[tactic(auto, using(wx_words::specs::LineLaws::spaces))]
-fn put_offer(
-    name: u64,
-    item: Option<u64>,
-    outcome: Offered,
-    event: &Event,
-    priority: Priority,
-    out: &mut Text,
-) -> Result<(), Memory>
-    ensures text { OnOk result (out.new ≡ out.old ++ joined (entry_words (Offer name item outcome event.now priority))) }
-    ensures fits { OnOk result (EntryFits (Offer name item outcome event.now priority)) }
-{
-    out.append(b"offer")?;
-    name.put_after(out)?;
-    item.put_after(out)?;
-    outcome.put_after(out)?;
-    put_ranked(priority, event, out)
 }
 
 /// Appends the words of a batch that was handed, and of the acts that were asked for.
-#[tactic(auto, using(wx_words::specs::LineLaws::spaces))]
+#[tactic(auto, using(wx_words::specs::LineLaws::spaces), unfolding(wx_words::specs::Parts::both))]
 fn put_hand(n: u32, names: &List<u64>, acts: &List<Act>, out: &mut Text) -> Result<(), Memory>
     ensures text { OnOk result (out.new ≡ out.old ++ joined (entry_words (Hand n names.now acts.now))) }
     ensures fits { OnOk result (EntryFits (Hand n names.now acts.now)) }
 {
-    out.append(b"hand")?;
-    n.put_after(out)?;
-    names.put_after(out)?;
+    begin_row(b"hand", &(&n, names), out)?;
     put_items(acts.as_slice(), out)
 }
 
@@ -233,55 +74,117 @@ pub fn put_entry(entry: &Entry, out: &mut Text) -> Result<(), Memory>
     out.append(spelled.as_slice())
 }
 
+/// Appends the words of the beginning.
+#[tactic(auto, unfolding(crate::specs::Entries::entry, wx_words::specs::Parts::both))]
+fn put_begin(entry: &Entry, out: &mut Text) -> Result<(), Memory>
+    requires { is_begin entry.now ≡ true }
+    ensures text { OnOk result (out.new ≡ out.old ++ joined (entry_words entry.now)) }
+    ensures fits { OnOk result (EntryFits entry.now) }
+{
+    let Entry::Begin {
+        throttle,
+        size,
+        errors,
+        keyboard,
+        follow,
+        jobsignals,
+        watcher,
+        cwd,
+        paths,
+    } = entry
+    else {
+        return Ok(());
+    };
+    let limits = (
+        named!(b"throttle", throttle),
+        (named!(b"size", size), named!(b"errors", errors)),
+    );
+    let switches = (
+        named!(b"keyboard", keyboard),
+        (named!(b"follow", follow), named!(b"jobsignals", jobsignals)),
+    );
+    let watch = (
+        named!(b"watcher", watcher),
+        (named!(b"cwd", cwd), named!(b"paths", paths)),
+    );
+    begin_row(b"begin", &(limits, (switches, watch)), out)
+}
+
+/// Appends the words of an entry of a job.
+#[tactic(auto, unfolding(crate::specs::Entries::entry, wx_words::specs::Parts::both))]
+fn put_job_entry(entry: &Entry, out: &mut Text) -> Result<(), Memory>
+    requires { is_of_job entry.now ≡ true }
+    ensures text { OnOk result (out.new ≡ out.old ++ joined (entry_words entry.now)) }
+    ensures fits { OnOk result (EntryFits entry.now) }
+{
+    match entry {
+        Entry::Made(job) => begin_row(b"made", &job, out),
+        Entry::Asked {
+            ticket,
+            job,
+            level,
+            control,
+        } => begin_row(b"asked", &(ticket, (job, (level, control))), out),
+        Entry::Pick { job, ticket } => begin_row(b"pick", &(job, ticket), out),
+        Entry::Spawn {
+            child,
+            job,
+            tag,
+            what,
+            answer: result,
+        } => begin_row(
+            b"spawn",
+            &(child, (job, (tag, (what, ResultRef { result })))),
+            out,
+        ),
+        Entry::Kill {
+            child,
+            answer: result,
+        } => begin_row(b"kill", &(child, ResultRef { result }), out),
+        Entry::Wait {
+            child,
+            answer: result,
+        } => begin_row(b"wait", &(child, ResultRef { result }), out),
+        Entry::Dropped(child) => begin_row(b"drop", &child, out),
+        Entry::Raise(ticket) => begin_row(b"raise", &ticket, out),
+        Entry::Gone(job) => begin_row(b"gone", &job, out),
+        _ => Ok(()),
+    }
+}
+
 /// Appends the words of an entry with one space between them.
-#[tactic(auto, using(wx_words::specs::LineLaws::spaces))]
+#[tactic(auto, unfolding(crate::specs::Entries::entry, wx_words::specs::Parts::both))]
 pub fn append_entry(entry: &Entry, out: &mut Text) -> Result<(), Memory>
     ensures text { OnOk result (out.new ≡ out.old ++ joined (entry_words entry.now)) }
     ensures fits { OnOk result (EntryFits entry.now) }
 {
     match entry {
-        Entry::Begin {
-            throttle,
-            size,
-            errors,
-            keyboard,
-            follow,
-            jobsignals,
-            watcher,
-            cwd,
-            paths,
-        } => {
-            out.append(b"begin")?;
-            put_limits(*throttle, *size, *errors, out)?;
-            put_switches(*keyboard, *follow, *jobsignals, out)?;
-            put_watch(*watcher, cwd, paths, out)
-        }
+        Entry::Begin { .. } => put_begin(entry, out),
         Entry::Sent {
             name,
             event,
             priority,
-        } => put_sent(*name, event, *priority, out),
-        Entry::Turn(turn) => put_turn(turn, out),
-        Entry::TurnFault(code) => put_word(b"turnfault", code, out),
+        } => begin_row(b"sent", &(name, (priority, event)), out),
+        Entry::Turn(turn) => begin_row(b"turn", &turn, out),
+        Entry::TurnFault(code) => begin_row(b"turnfault", &code, out),
         Entry::Offer {
             name,
             item,
             result: outcome,
             event,
             priority,
-        } => put_offer(*name, *item, *outcome, event, *priority, out),
-        Entry::Word(word) => put_word(b"word", word, out),
-        Entry::Take(name) => put_word(b"take", name, out),
+        } => begin_row(b"offer", &(name, (item, (outcome, (priority, event)))), out),
+        Entry::Word(word) => begin_row(b"word", &word, out),
+        Entry::Take(name) => begin_row(b"take", &name, out),
         Entry::Hand { n, names, acts } => put_hand(*n, names, acts, out),
-        _ => put_job_entry(entry, out),
+        Entry::Made(_)
+        | Entry::Asked { .. }
+        | Entry::Pick { .. }
+        | Entry::Spawn { .. }
+        | Entry::Kill { .. }
+        | Entry::Wait { .. }
+        | Entry::Dropped(_)
+        | Entry::Raise(_)
+        | Entry::Gone(_) => put_job_entry(entry, out),
     }
-}
-
-/// Appends a word, and the words of this value behind it.
-pub fn put_word<T: Spelled>(word: &[u8], value: &T, out: &mut Text) -> Result<(), Memory>
-    ensures text { OnOk result (out.new ≡ out.old ++ joined (word.now ∷ T.words value.now)) }
-    ensures fits { OnOk result (T.fits value.now) }
-{
-    out.append(word)?;
-    value.put_after(out)
 }

@@ -1,5 +1,1 @@
-pub mod ActLaws
-pub mod KnownLaws
-pub mod Parts
-pub mod ScanLemmas
-pub mod ReplayLaws
+mod WordLaws

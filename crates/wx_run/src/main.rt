@@ -1,30 +1,22 @@
 //! Runs scripts of events, and writes the journal of each run.
 #![tactic(auto)]
 
-mod acts;
-mod feeding;
-mod lines;
-mod memory;
 #[cfg(test)]
 mod random;
-mod replay;
-mod script;
-mod sink;
-mod source;
 mod standard;
-mod status;
 #[cfg(test)]
 mod tests;
+mod top;
 
 use log::{Log, warn};
-use replay::wx_main;
 use standard::{StdSink, StdSource};
-use status::Status;
 use std::alloc::Global;
 use std::io::ErrorKind;
 use std::process::ExitCode;
 use std::{env, io};
+use top::wx_main;
 use wx_events::{Memory, Text};
+use wx_replay::Status;
 
 /// The words of the command line, without the program's name. There are none where one of them is no text.
 fn words(rt: &HostRuntime) -> Result<Vec<Text>, Memory> {

@@ -1,14 +1,13 @@
 // Random scripts. How many lines of each sort their journals have is known by counting alone.
 ghost use Rattle.std.specs.Prelude.{◌<◌};
 
-use crate::memory::{MemSink, MemSource};
-use crate::replay::wx_main;
-use crate::status::Status;
+use crate::top::wx_main;
 use rand_pcg::Pcg32;
 use rand_pcg::rand_core::Rng;
 use std::alloc::Global;
 use std::test::Fail;
 use wx_events::{Memory, Text};
+use wx_replay::{MemSink, MemSource, Status};
 use wx_words::Words;
 
 /// How many lines of each sort a journal has.

@@ -1,9 +1,8 @@
 ghost use Rattle.std.specs.Prelude.{◌≡◌, MatchOption, unsigned_abs};
 ghost use Rattle.std.specs.IoError.{raw_os_error};
 
-use crate::sink::{Sink, WriteFault};
-use crate::source::{ReadFault, Source};
 use std::io;
+use wx_replay::{ReadFault, Sink, Source, WriteFault};
 
 /// A source over a reader, as that of standard input.
 ///

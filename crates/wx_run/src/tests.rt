@@ -1,11 +1,9 @@
 // Worked runs of the program, from bytes to bytes.
-use crate::feeding::LIMIT;
-use crate::memory::{MemSink, MemSource};
-use crate::replay::wx_main;
-use crate::status::Status;
+use crate::top::wx_main;
 use std::alloc::Global;
 use std::test::Fail;
 use wx_events::{Memory, Text, cut};
+use wx_replay::{LIMIT, MemSink, MemSource, Status};
 
 /// These words, of which a space stands between two.
 fn words_of(alloc: Global, line: &[u8]) -> Result<Vec<Text>, Memory> {

@@ -62,8 +62,9 @@ items_clean fits words each (x ∷ xs) all = each_append IsClean (words x) (flat
 pub list_clean : {X : Type 0} (fits : X → Type 0) (words : X → List (List ℕ)) → ((x : X) → fits x → AllClean (words x)) → (xs : List X) → ListFits fits xs → AllClean (list_words words xs)
 list_clean fits words each xs all = (number_clean (length xs) all.0, items_clean fits words each xs all.1)
 
-pub keyword_clean : {X : Type 0} (word : X → List ℕ) → ((x : X) → IsClean (word x)) → (x : X) → Unit {0} → AllClean (word x ∷ [])
-keyword_clean word each x fits = (each x, tt)
+pub pair_clean : {A B : Type 0} (fa : A → Type 0) (wa : A → List (List ℕ)) → ((a : A) → fa a → AllClean (wa a)) → (fb : B → Type 0) (wb : B → List (List ℕ)) → ((b : B) → fb b → AllClean (wb b))
+    → (p : A × B) → fa p.0 × fb p.1 → AllClean (wa p.0 ++ wb p.1)
+pair_clean fa wa first fb wb second p fits = each_append IsClean (wa p.0) (wb p.1) (first p.0 fits.0) (second p.1 fits.1)
 
 -- ---- lines
 

@@ -49,6 +49,10 @@ read_below limit read ws = do
 abbrev pub read_nothing : Reader (Unit {0})
 read_nothing ws = Some (tt, ws)
 
+-- what can't be read
+abbrev pub read_never : {X : Type 0} → Reader X
+read_never ws = None
+
 -- what the first word calls for
 abbrev pub row_at : {X : Type 0} → List (List ℕ × Reader X) → List ℕ → Reader X
 row_at [] w ws = None

@@ -5,7 +5,7 @@ use Rattle.std.specs.List.{AllByRecursion}
 use Rattle.wx_words.specs.Line.{◌>>=◌}
 use Rattle.wx_words.specs.LineLaws.{bytes_same, bytes_again}
 use Rattle.wx_words.specs.OptionLaws.{bind_some, guarded}
-use Rattle.wx_words.specs.Combine.{Reader, pair_words, read_pair, read_as, read_some, read_nothing, read_literal, row_at, read_rows}
+use Rattle.wx_words.specs.Combine.{Reader, pair_words, read_pair, read_as, read_some, read_nothing, read_never, read_literal, row_at, read_rows}
 use Rattle.wx_words.specs.Forms.{Stood, IsForm}
 use Rattle.wx_words.specs.FormLaws.{stood-one, stood-then, same_read}
 
@@ -40,6 +40,9 @@ nothing_form see = record {
     rest_of : Words → Option (Unit {0} × Words) → Words
     rest_of ws None = ws
     rest_of ws (Some p) = p.1
+
+pub never_form : {V : Type 0} (see : List ℕ → V) {X : Type 0} → IsForm see (λ (x : X). ⊥) (λ x. []) read_never
+never_form see = record { again = λ x rest fits. absurd fits; takes = λ ws x rest e. absurd cc }
 
 pub literal_form : {V : Type 0} (see : List ℕ → V) (v : List ℕ) → IsForm see (λ (u : Unit {0}). Unit {0}) (λ u. v ∷ []) (read_literal v)
 literal_form {V} see v = record { again = λ u rest fits. rw (bytes_again v) refl; takes = takes }

@@ -15,6 +15,10 @@ abbrev pub spaced : List (List ℕ) → List ℕ
 spaced [] = []
 spaced (w ∷ ws) = 32 ∷ (w ++ spaced ws)
 
+-- a text with these words behind it
+unfoldable pub behind : List ℕ → List (List ℕ) → List ℕ
+behind text ws = text ++ spaced ws
+
 -- the words with one space between them
 abbrev pub joined : List (List ℕ) → List ℕ
 joined ws = drop 1 (spaced ws)

@@ -3,14 +3,33 @@ use Rattle.std.proofs.Common.{◌≡◌, true, eq-eqb, ◌<◌, length, arith, �
 use Rattle.std.specs.Prelude.{◌==◌, nat_eq}
 use Rattle.std.specs.Str.{bytes_eq}
 use Rattle.std.proofs.lemmas.Bool.{eqb-true, and_parts}
+use Rattle.std.proofs.lemmas.List.{append-nil}
 use Rattle.std.proofs.lemmas.List.Splits.{length-slice_split}
-use Rattle.wx_words.specs.Line.{spaced, parts}
+use Rattle.wx_words.specs.Line.{spaced, joined, behind, parts}
 
 pub spaced-append : (vs ws : List (List ℕ)) → spaced (vs ++ ws) ≡ spaced vs ++ spaced ws
 spaced-append [] ws = refl
 spaced-append (v ∷ vs) ws = ap (λ (x : List ℕ). 32 ∷ x) (ap (λ (x : List ℕ). v ++ x) (spaced-append vs ws) ∙ sym (append_assoc v (spaced vs) (spaced ws)))
 
 pub ruleset spaces = (spaced-append)
+
+-- words behind words
+pub behind-behind : (text : List ℕ) (vs ws : List (List ℕ)) → behind (behind text vs) ws ≡ behind text (vs ++ ws)
+unfolding behind
+behind-behind text vs ws = append_assoc text (spaced vs) (spaced ws) ∙ ap (λ (t : List ℕ). text ++ t) (sym (spaced-append vs ws))
+
+pub behind-nothing : (text : List ℕ) → behind text [] ≡ text
+unfolding behind
+behind-nothing text = append-nil text
+
+pub ruleset behinds = (behind-behind, behind-nothing)
+
+-- a first word with no space before it, and the words behind it
+pub behind-word : (old w : List ℕ) (ws : List (List ℕ)) → behind (old ++ w) ws ≡ old ++ joined (w ∷ ws)
+unfolding behind
+behind-word old w ws = append_assoc old w (spaced ws)
+
+pub ruleset begins = (behind-behind, behind-nothing, behind-word)
 
 pub some_part : (c : ℕ) (line : List ℕ) → 0 < length (parts c line)
 some_part c line = omega (arith, length-slice_split (λ b. b == c) line)

@@ -1,17 +1,19 @@
 -- What is on or off, as a word.
+use Rattle.std.proofs.Common.{refl}
 use Rattle.std.specs.Prelude.{ℕ, Bool, true, false, List, [], ◌∷◌, codes}
-use Rattle.wx_words.specs.Combine.{Reader}
-use Rattle.wx_words.specs.Keywords.{read_keyword}
+use Rattle.wx_words.specs.Spellings.{Spelling}
+use Rattle.wx_words.specs.Parts.{line, HasWords, keyword}
 
-abbrev pub on_word : Bool → List ℕ
-on_word true = codes "on"
-on_word false = codes "off"
+abbrev pub switch_word : Bool → List ℕ
+switch_word true = codes "on"
+switch_word false = codes "off"
 
 abbrev pub switches : List Bool
 switches = true ∷ false ∷ []
 
-abbrev pub on_words : Bool → List (List ℕ)
-on_words b = on_word b ∷ []
+pub switch_found : HasWords switch_word switches
+switch_found true = refl
+switch_found false = refl
 
-abbrev pub read_on : Reader Bool
-read_on ws = read_keyword on_word switches ws
+unfoldable pub switch : Spelling line Bool
+switch = keyword switch_word switches switch_found refl

@@ -1,16 +1,17 @@
 //! Texts, lists, and the words in which values are written.
-#![tactic(auto)]
+#![tactic(auto, unfolding(crate::specs::Line::behind))]
 
 mod cursor;
 mod done;
 mod dotted;
-mod keyword;
 mod list;
 mod lists;
 mod non_zero;
 mod numbers;
 mod optional;
 mod path;
+mod results;
+mod rows;
 mod signed;
 mod spelled;
 mod switches;
@@ -18,14 +19,16 @@ mod switches;
 mod tests;
 mod text;
 mod texts;
+mod tuples;
 
 pub use cursor::{Words, cut};
 pub use dotted::{Dotted, read_dotted};
-pub use keyword::{Keyword, put_keyword, read_keyword, take_literal, with_word};
 pub use list::{Copies, List, Memory};
-pub use lists::put_items;
+pub use lists::{put_items, read_to_end};
 pub use numbers::number_of;
 pub use path::TextPath;
+pub use results::{ResultRef, read_result};
+pub use rows::{Fields, NamedFields, begin_row, put_row, put_word, take_literal};
 pub use spelled::Spelled;
 pub use text::Text;
 pub use texts::{Escaped, text_in};

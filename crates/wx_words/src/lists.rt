@@ -1,9 +1,8 @@
 // Lists as words.
 ghost use Rattle.std.specs.Prelude.{◌≡◌, ℕ, ◌+◌, [], ◌∷◌, ◌++◌, List, Option, Some, None, OnOk, IfOk};
 ghost use Rattle.std.specs.List.{flat_map, AllByRecursion};
-ghost use Rattle.wx_words.specs.CleanLaws.{list_clean};
-ghost use Rattle.wx_words.specs.ListLaws.{list_form};
 ghost use Rattle.wx_words.specs.Line.{spaced, joined, Reads};
+ghost use Rattle.wx_words.specs.ToEnd.{HasWord, read_to_end};
 ghost use Rattle.wx_words.specs.Lists.{ListFits, list_words, read_items, read_list};
 
 use crate::cursor::Words;
@@ -15,8 +14,8 @@ use std::alloc::Global;
 /// Appends the words of each item, each with a space before it. A part of the words may stand in `out` where memory
 /// runs out.
 pub fn put_items<T: Spelled>(items: &[T], out: &mut Text) -> Result<(), Memory>
-    ensures text { OnOk result (out.new ≡ out.old ++ spaced (flat_map T.words items.now)) }
-    ensures fits { OnOk result (AllByRecursion T.fits items.now) }
+    ensures text { OnOk result (out.new ≡ out.old ++ spaced (flat_map T.spelling.words items.now)) }
+    ensures fits { OnOk result (AllByRecursion T.spelling.fits items.now) }
 {
     for item in items {
         item.put_after(out)?;
@@ -30,7 +29,7 @@ fn take_items<T: Spelled>(
     count: u64,
     line: &mut Words,
 ) -> Result<Option<List<T>>, Memory>
-    ensures { IfOk result (λ xs. Reads line.new xs (read_items T.read count line.old)) }
+    ensures { IfOk result (λ xs. Reads line.new xs (read_items T.spelling.read count line.old)) }
 {
     let mut items = List::new(alloc);
     for _ in 0..count {
@@ -42,18 +41,28 @@ fn take_items<T: Spelled>(
     Ok(Some(items))
 }
 
+/// Takes all values to the end of the line, or loses the place.
+#[tactic(auto, using(crate::proofs::ToEndLemmas::stops, crate::proofs::ToEndLemmas::ends))]
+pub fn read_to_end<T: Spelled>(alloc: Global, line: &mut Words) -> Result<Option<List<T>>, Memory>
+    requires { HasWord T.spelling }
+    ensures { IfOk result (λ xs. Reads line.new xs (read_to_end T.spelling.read line.old)) }
+{
+    let mut items = List::new(alloc);
+    while !line.is_done() {
+        let Some(item) = T::read(alloc, line)? else {
+            return Ok(None);
+        };
+        items.push(item)?;
+    }
+    Ok(Some(items))
+}
+
 impl<T: Spelled> Spelled for List<T> {
-    ghost words = { list_words T.words };
+    ghost use Rattle.wx_words.specs.Parts.{list_of};
 
-    ghost fits = { ListFits T.fits };
+    ghost spelling = { list_of T.spelling };
 
-    ghost read = { read_list T.read };
-
-    ghost form = { list_form T.form };
-
-    ghost clean = { list_clean T.fits T.words T.clean };
-
-    #[tactic(auto, using(crate::specs::LineLaws::spaces))]
+    #[tactic(auto, using(crate::specs::LineLaws::spaces), unfolding(crate::specs::Line::behind))]
     fn put_after(&self, out: &mut Text) -> Result<(), Memory> {
         (self.len() as u64).put_after(out)?;
         put_items(self.as_slice(), out)

@@ -1,8 +1,5 @@
 // Signed numbers other than zero, as words.
 ghost use Rattle.std.specs.Prelude.{◌≡◌};
-ghost use Rattle.wx_words.specs.Texts.{text_in};
-ghost use Rattle.wx_words.specs.NonZero.{NonZeroI64Fits, NonZeroI32Fits, non_zero_i64_words, non_zero_i32_words, read_non_zero_i64, read_non_zero_i32};
-ghost use Rattle.wx_words.specs.NonZeroLaws.{non_zero_i64_form, non_zero_i32_form, non_zero_i64_clean, non_zero_i32_clean};
 
 use crate::cursor::Words;
 use crate::list::Memory;
@@ -12,15 +9,9 @@ use std::alloc::Global;
 use std::num::{NonZeroI32, NonZeroI64};
 
 impl Spelled for NonZeroI64 {
-    ghost words = { non_zero_i64_words };
+    ghost use Rattle.wx_words.specs.Parts.{as_line, non_zero_i64};
 
-    ghost fits = { NonZeroI64Fits };
-
-    ghost read = { read_non_zero_i64 };
-
-    ghost form = { non_zero_i64_form text_in };
-
-    ghost clean = { non_zero_i64_clean };
+    ghost spelling = { as_line non_zero_i64 };
 
     fn put_after(&self, out: &mut Text) -> Result<(), Memory> {
         self.get().put_after(out)
@@ -38,15 +29,9 @@ impl Spelled for NonZeroI64 {
 }
 
 impl Spelled for NonZeroI32 {
-    ghost words = { non_zero_i32_words };
+    ghost use Rattle.wx_words.specs.Parts.{as_line, non_zero_i32};
 
-    ghost fits = { NonZeroI32Fits };
-
-    ghost read = { read_non_zero_i32 };
-
-    ghost form = { non_zero_i32_form text_in };
-
-    ghost clean = { non_zero_i32_clean };
+    ghost spelling = { as_line non_zero_i32 };
 
     fn put_after(&self, out: &mut Text) -> Result<(), Memory> {
         self.get().put_after(out)

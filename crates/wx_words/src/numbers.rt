@@ -43,15 +43,9 @@ fn with_digits(word: &[u8]) -> Option<u64>
 }
 
 impl Spelled for u64 {
-    ghost words = { λ n. decimal n ∷ [] };
+    ghost use Rattle.wx_words.specs.Parts.{as_line, number};
 
-    ghost fits = { λ n. n < 2 ^ 64 };
-
-    ghost read = { read_number };
-
-    ghost form = { number_form text_in };
-
-    ghost clean = { number_words_clean };
+    ghost spelling = { as_line number };
 
     fn put_after(&self, out: &mut Text) -> Result<(), Memory> {
         out.push(32)?;
@@ -67,15 +61,9 @@ impl Spelled for u64 {
 }
 
 impl Spelled for u32 {
-    ghost words = { λ n. decimal n ∷ [] };
+    ghost use Rattle.wx_words.specs.Parts.{u32};
 
-    ghost fits = { λ n. n < 2 ^ 32 };
-
-    ghost read = { read_u32 };
-
-    ghost form = { u32_form text_in };
-
-    ghost clean = { u32_clean };
+    ghost spelling = { u32 };
 
     fn put_after(&self, out: &mut Text) -> Result<(), Memory> {
         (*self as u64).put_after(out)

@@ -23,19 +23,9 @@ fn optional_of(word: &[u8]) -> Option<Option<u64>>
 }
 
 impl Spelled for Option<u64> {
-    ghost use Rattle.wx_words.specs.Optional.{OptionalFits, optional_words, read_optional};
-    ghost use Rattle.wx_words.specs.OptionalLaws.{optional_form, optional_clean};
-    ghost use Rattle.wx_words.specs.Texts.{text_in};
+    ghost use Rattle.wx_words.specs.Parts.{optional};
 
-    ghost words = { optional_words };
-
-    ghost fits = { OptionalFits };
-
-    ghost read = { read_optional };
-
-    ghost form = { optional_form text_in };
-
-    ghost clean = { optional_clean };
+    ghost spelling = { optional };
 
     fn put_after(&self, out: &mut Text) -> Result<(), Memory> {
         match self {

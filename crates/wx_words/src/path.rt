@@ -53,15 +53,7 @@ impl Spelled for TextPath {
     ghost use Rattle.wx_words.specs.TextLaws.{text_form};
     ghost use Rattle.wx_words.specs.CleanLaws.{text_words_clean};
 
-    ghost words = { text_words };
-
-    ghost fits = { AllBytes };
-
-    ghost read = { read_text };
-
-    ghost form = { text_form };
-
-    ghost clean = { text_words_clean };
+    ghost spelling = { record { fits = AllBytes; words = text_words; read = read_text; form = text_form; clean = text_words_clean } };
 
     fn put_after(&self, out: &mut Text) -> Result<(), Memory> {
         self.text.put_after(out)

@@ -54,15 +54,7 @@ fn take_i32(line: &mut Words) -> Option<i32>
 }
 
 impl Spelled for i64 {
-    ghost words = { signed_words };
-
-    ghost fits = { λ z. FitsSigned w64 z };
-
-    ghost read = { read_i64 };
-
-    ghost form = { i64_form text_in };
-
-    ghost clean = { i64_clean };
+    ghost spelling = { record { fits = λ z. FitsSigned w64 z; words = signed_words; read = read_i64; form = i64_form text_in; clean = i64_clean } };
 
     fn put_after(&self, out: &mut Text) -> Result<(), Memory> {
         out.push(32)?;
@@ -75,15 +67,9 @@ impl Spelled for i64 {
 }
 
 impl Spelled for i32 {
-    ghost words = { signed_words };
+    ghost use Rattle.wx_words.specs.Parts.{as_line, i32};
 
-    ghost fits = { λ z. FitsSigned w32 z };
-
-    ghost read = { read_i32 };
-
-    ghost form = { i32_form text_in };
-
-    ghost clean = { i32_clean };
+    ghost spelling = { as_line i32 };
 
     fn put_after(&self, out: &mut Text) -> Result<(), Memory> {
         (*self as i64).put_after(out)

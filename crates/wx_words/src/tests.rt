@@ -1,8 +1,8 @@
 // Lines and values by the rules of the words: the expected values are worked out by hand.
 use crate::cursor::Words;
-use crate::keyword::take_literal;
 use crate::list::{List, Memory};
 use crate::path::TextPath;
+use crate::rows::take_literal;
 use crate::spelled::Spelled;
 use crate::text::Text;
 use std::alloc::Global;

@@ -129,15 +129,7 @@ impl fmt::Display for Escaped<'_> {
 }
 
 impl Spelled for Text {
-    ghost words = { text_words };
-
-    ghost fits = { AllBytes };
-
-    ghost read = { read_text };
-
-    ghost form = { text_form };
-
-    ghost clean = { text_words_clean };
+    ghost spelling = { record { fits = AllBytes; words = text_words; read = read_text; form = text_form; clean = text_words_clean } };
 
     fn put_after(&self, out: &mut Text) -> Result<(), Memory> {
         out.push(32)?;

@@ -1,4 +1,4 @@
-use Rattle.prio_channel.specs.BagLaws.{same-refl, same-sym, same-trans, same-length}
+use Rattle.prio_channel.proofs.BagLaws.{same-refl, same-sym, same-trans, same-length}
 use Rattle.prio_channel.proofs.bag.same_bag_is_an_equivalence.Goals as goal
 
 pub returns : goal.returns

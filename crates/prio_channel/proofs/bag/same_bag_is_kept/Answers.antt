@@ -1,4 +1,4 @@
-use Rattle.prio_channel.specs.BagLaws.{add-bag, take-bag, all-same}
+use Rattle.prio_channel.proofs.BagLaws.{add-bag, take-bag, all-same}
 use Rattle.prio_channel.proofs.bag.same_bag_is_kept.Goals as goal
 
 pub returns : goal.returns

@@ -1,4 +1,4 @@
-use Rattle.wx_action.specs.OneSpelling.{one_spelling}
+use Rattle.wx_action.proofs.OneSpelling.{one_spelling}
 use Rattle.wx_action.proofs.printing.one_spelling.Goals as goal
 
 pub returns : goal.returns

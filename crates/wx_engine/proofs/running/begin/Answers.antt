@@ -4,6 +4,7 @@ use Rattle.wx_events.specs.declared.priority.Priority.{Priority}
 use Rattle.wx_action.specs.Start.{Start, IsStart}
 use Rattle.wx_action.specs.Journal.{bag}
 use Rattle.wx_action.specs.Due.{Sends, rest, sends, begin_of}
+use Rattle.wx_action.proofs.ServesLaws.{adds, adds_then}
 use Rattle.wx_engine.proofs.BeginLemmas.{none_yet, begun, calm_begun, next_sent}
 use Rattle.wx_engine.proofs.running.begin.Goals as goal
 
@@ -16,17 +17,15 @@ loop-item-init g c =
     record {
       is_start = subst IsStart is c.engine.invariant;
       all = all;
-      ready = b.ready;
+      stands = b.stands;
       room = c.in_ok-worker.ensures.room;
       due = b.due ∙ ap sends (sym all);
       count = b.count;
-      follows = b.follows;
-      apart = b.apart;
-      turns = b.turns;
+      adds = adds _ _ _ b.follows b.quiet b.turns;
     }
 
 pub returns-in_err-event-clause-calm : goal.returns-in_err-event-clause-calm
-returns-in_err-event-clause-calm g c = calm_begun g.start _ _ c.loop-item.invariant.ready.run c.loop-item.invariant.due
+returns-in_err-event-clause-calm g c = calm_begun g.start c.args.journal.now.past _ _ c.requires.1 c.loop-item.invariant.adds c.loop-item.invariant.due
 
 pub send-requires : goal.send-requires
 send-requires g c =
@@ -34,10 +33,10 @@ send-requires g c =
     let rest_is : List (Event × Priority) = drop (c.loop-item.item-index + 1) c.as_slice-item-items.result.now in
     let lt : length (bag c.loop-item.journal.past) < g.start.config.event_channel_size =
     omega (arith, c.loop-item.invariant.count, ap (λ (xs : List (Event × Priority)). length xs) c.loop-item.invariant.all, c.loop-item.invariant.is_start.events, c.loop-item-test.true) in
-    ((rest_is, n ∙ ap (λ (e : Event). Sends e c.item-item.result.1 rest_is) (sym c.in_ok-event.ensures)), (c.loop-item.invariant.ready, lt))
+    ((rest_is, n ∙ ap (λ (e : Event). Sends e c.item-item.result.1 rest_is) (sym c.in_ok-event.ensures)), (c.loop-item.invariant.stands, lt))
 
 pub returns-in_err-send-clause-calm : goal.returns-in_err-send-clause-calm
-returns-in_err-send-clause-calm g c = rw c.in_err-send.ensures.err (calm_begun g.start _ _ c.loop-item.invariant.ready.run c.loop-item.invariant.due)
+returns-in_err-send-clause-calm g c = rw c.in_err-send.ensures.err (calm_begun g.start c.args.journal.now.past _ _ c.requires.1 c.loop-item.invariant.adds c.loop-item.invariant.due)
 
 pub loop-item-preserved : goal.loop-item-preserved
 loop-item-preserved g c =
@@ -45,23 +44,21 @@ loop-item-preserved g c =
     record {
       is_start = c.loop-item.invariant.is_start;
       all = c.loop-item.invariant.all;
-      ready = c.send.ensures.ready;
-      room = c.send.ensures.end_room ∙ c.loop-item.invariant.room;
+      stands = c.send.ensures.grows.stands;
+      room = c.send.ensures.grows.end_kept ∙ c.loop-item.invariant.room;
       due = c.in_ok-send.ensures.done ∙ ap (rest _) n;
       count = c.in_ok-send.ensures.bag ∙ ap (λ n. n + 1) c.loop-item.invariant.count;
-      follows = λ world hooks p₀ world₀ hooks₀ l. c.send.ensures.follows world hooks p₀ world₀ hooks₀ (c.loop-item.invariant.follows world hooks p₀ world₀ hooks₀ l);
-      apart = λ p₀ a. c.send.ensures.apart p₀ (c.loop-item.invariant.apart p₀ a);
-      turns = λ p₀ t. c.send.ensures.turns p₀ (c.loop-item.invariant.turns p₀ t);
+      adds = adds_then _ _ _ _ c.loop-item.invariant.adds c.send.ensures.grows.adds;
     }
 
 pub returns-clause-calm : goal.returns-clause-calm
-returns-clause-calm g c = calm_begun g.start _ _ c.loop-item.invariant.ready.run c.loop-item.invariant.due
+returns-clause-calm g c = calm_begun g.start c.args.journal.now.past _ _ c.requires.1 c.loop-item.invariant.adds c.loop-item.invariant.due
 
 pub returns-in_err-event-clause-none : goal.returns-in_err-event-clause-none
-returns-in_err-event-clause-none g c = none_yet g.start c.loop-item.worker c.loop-item.journal.past c.loop-item.invariant.ready.stands c.loop-item.invariant.room
+returns-in_err-event-clause-none g c = none_yet g.start c.loop-item.worker c.loop-item.journal.past c.loop-item.invariant.stands c.loop-item.invariant.room
 
 pub returns-in_err-send-clause-none : goal.returns-in_err-send-clause-none
-returns-in_err-send-clause-none g c = rw c.in_err-send.ensures.err (none_yet g.start c.loop-item.worker c.loop-item.journal.past c.loop-item.invariant.ready.stands c.loop-item.invariant.room)
+returns-in_err-send-clause-none g c = rw c.in_err-send.ensures.err (none_yet g.start c.loop-item.worker c.loop-item.journal.past c.loop-item.invariant.stands c.loop-item.invariant.room)
 
 pub returns-clause-none : goal.returns-clause-none
-returns-clause-none g c = none_yet g.start c.loop-item.worker c.loop-item.journal.past c.loop-item.invariant.ready.stands c.loop-item.invariant.room
+returns-clause-none g c = none_yet g.start c.loop-item.worker c.loop-item.journal.past c.loop-item.invariant.stands c.loop-item.invariant.room

@@ -1,9 +1,8 @@
 use Rattle.std.proofs.Common.{◌≡◌, length, drop}
 use Rattle.wx_action.specs.Journal.{bag}
 use Rattle.wx_action.specs.Due.{agenda, sends}
-use Rattle.wx_action.specs.Leads.{StaysApart, FollowsAlone}
-use Rattle.wx_action.specs.Turns.{StaysInTurn}
-use Rattle.wx_action.specs.Stands.{Ready, end_room}
+use Rattle.wx_action.specs.Serves.{Adds}
+use Rattle.wx_action.specs.Stands.{Stands, end_room}
 use Rattle.wx_action.specs.Start.{IsStart}
 use Rattle.wx_engine.proofs.running.begin.Given as goal
 
@@ -14,11 +13,9 @@ abbrev pub invariant-loop-item : goal.invariant-loop-item
 invariant-loop-item g l = record {
   is_start : IsStart g.start;
   all : l.item-items ≡ g.start.events;
-  ready : Ready g.start l.worker l.journal.past;
+  stands : Stands g.start l.worker l.journal.past;
   room : end_room l.worker ≡ 0;
   due : agenda g.start l.journal.past ≡ sends (drop l.item-index l.item-items);
   count : length (bag l.journal.past) ≡ l.item-index;
-  follows : FollowsAlone g.start l.fn.journal.past l.journal.past;
-  apart : StaysApart l.fn.journal.past l.journal.past;
-  turns : StaysInTurn l.fn.journal.past l.journal.past;
+  adds : Adds g.start l.fn.journal.past l.journal.past;
 }

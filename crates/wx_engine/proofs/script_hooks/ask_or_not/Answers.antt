@@ -1,5 +1,5 @@
 use Rattle.std.proofs.Common.{List, ap, sym, ◌∙◌}
-use Rattle.wx_journal.specs.declared.entry.Act.{Act}
+use Rattle.wx_journal.specs.Acts.{JournalAct as Act}
 use Rattle.wx_engine.proofs.ActedLaws.{ok_then, made_ask, ask_made, ask_held, ask_none}
 use Rattle.wx_engine.proofs.script_hooks.ask_or_not.Goals as goal
 

@@ -1,7 +1,7 @@
 use Rattle.std.proofs.Common.{◌≡◌, ◌++◌, take}
 use Rattle.std.specs.List.{flat_map, AllByRecursion}
 use Rattle.wx_journal.specs.Lines.{entry_line}
-use Rattle.wx_journal.specs.LineLaws.{EntryFits}
+use Rattle.wx_journal.specs.Entries.{EntryFits}
 use Rattle.wx_journal.proofs.lines.put_lines.Given as goal
 
 abbrev pub invariant-loop-entry : goal.invariant-loop-entry

@@ -1,6 +1,6 @@
 use Rattle.std.proofs.Common.{◌<◌, length, refl}
 use Rattle.std.proofs.lemmas.Option.{slice_get_read}
-use Rattle.prio_channel.specs.BagLaws.{same-refl}
+use Rattle.prio_channel.proofs.BagLaws.{same-refl}
 use Rattle.prio_channel.proofs.GreatestLemmas.{greatest-here}
 use Rattle.prio_channel.proofs.queue.PrioQueue.try_recv.Goals as goal
 

@@ -1,4 +1,4 @@
-use Rattle.prio_channel.specs.BagLaws.{same-refl}
+use Rattle.prio_channel.proofs.BagLaws.{same-refl}
 use Rattle.prio_channel.proofs.queue.PrioQueue.try_send.Goals as goal
 
 pub returns-clause-sent : goal.returns-clause-sent

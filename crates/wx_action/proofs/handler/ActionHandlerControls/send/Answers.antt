@@ -1,5 +1,9 @@
-use Rattle.std.proofs.Common.{◌≡◌, ◌∷◌, ◌++◌, [], length, ap, arith}
+use Rattle.std.proofs.Common.{◌≡◌, ◌∷◌, ◌++◌, ◌∙◌, [], Option, None, Some, length, ap, arith, refl}
+use Rattle.std.specs.Prelude.{is_none}
+use Rattle.wx_journal.specs.Acts.{JournalAct as Act}
 use Rattle.wx_journal.specs.declared.entry.Act.TheVariants.{Ask}
+use Rattle.wx_action.specs.declared.handler.Second.{Second}
+use Rattle.wx_action.specs.KeptHandler.{StaysTwice, AddsTwice}
 use Rattle.wx_action.proofs.HandlerLemmas.{kept_ask, asks_ask}
 use Rattle.wx_action.proofs.handler.ActionHandlerControls.send.Goals as goal
 
@@ -10,7 +14,21 @@ invariant_of-self-2 c =
     (rw (c.reserve_act.ensures.acts, c.in_ok-copy-3.ensures) at c.push_reserved.ensures.items)
     (rw c.reserve_act.ensures.todo at c.push_reserved-2.ensures.items)
 
-pub returns-clause-asks : goal.returns-clause-asks
-returns-clause-asks c =
+-- what stands a second time still does
+still_added : (act : Act) (a b : Option Second) → AddsTwice act a b → is_none b ≡ is_none a
+still_added act None None h = refl
+still_added act (Some x) (Some y) h = refl
+still_added act None (Some y) h = absurd h
+still_added act (Some x) None h = absurd h
+
+still_there : (a b : Option Second) → StaysTwice a b → is_none b ≡ is_none a
+still_there None None h = refl
+still_there (Some x) (Some y) h = refl
+still_there None (Some y) h = absurd h
+still_there (Some x) None h = absurd h
+
+pub returns-clause-sink : goal.returns-clause-sink
+returns-clause-sink c =
     let grown : c.push_reserved.new.self.items ≡ c.self.inside.acts.items ++ Ask c.id-id.result c.args.ask ∷ [] = rw (c.reserve_act.ensures.acts, c.in_ok-copy-3.ensures) at c.push_reserved.ensures.items in
-    rw (grown, asks_ask c.self.inside.acts.items c.id-id.result c.args.ask, c.id-id.ensures, ap (λ h. h.acts) c.self.view_is)
+    let handed : is_none c.push_second.new.second ≡ is_none c.self.inside.second = still_added _ c.reserve_act.new.second c.push_second.new.second c.push_second.ensures ∙ still_there c.self.inside.second c.reserve_act.new.second c.reserve_act.ensures.second in
+    rw (grown, asks_ask c.self.inside.acts.items c.id-id.result c.args.ask, c.id-id.ensures, ← c.self.view_is, handed) refl

@@ -1,44 +1,34 @@
-use Rattle.std.proofs.Common.{◌≡◌, length, drop, subst, sym, ◌∙◌}
-use Rattle.wx_events.specs.declared.process.ProcessEnd.TheVariants.{Success}
-use Rattle.wx_engine.specs.Answered.{AreAnswered, spawn_answers, kill_answers, wait_answers}
+use Rattle.std.proofs.Common.{◌≡◌, length, drop, sym, ◌∙◌}
+use Rattle.wx_engine.specs.Answered.{Answered, spawns, kills, waits}
 use Rattle.wx_engine.specs.Turns.{FollowsGiven, turns_of}
-use Rattle.wx_engine.proofs.GivenLaws.{rest_more, rest_none, follows_more, follows_last, spawns_over, kills_over, waits_over}
+use Rattle.wx_engine.proofs.GivenLaws.{rest_more, rest_none, follows_more, follows_last, turn_over, no_spawn, no_kill, no_wait}
 use Rattle.wx_engine.proofs.script_world.ScriptWorldWorld.turn.Goals.{After-push-2}
 use Rattle.wx_engine.proofs.script_world.ScriptWorldWorld.turn.Goals as goal
 
 -- ---- a last turn was told
 
 pub invariant_of-self-clause-follows : goal.invariant_of-self-clause-follows
-invariant_of-self-clause-follows c = rw (c.push.ensures.past, c.last_turn.ensures) (follows_last (record { turns = c.args.self.now.turns; last = c.args.self.now.last; spawns = c.args.self.now.spawns.lines; kills = c.args.self.now.kills.lines; waits = c.args.self.now.waits.lines }) c.args.self.now.told.past (sym c.in_default.ensures.none ∙ c.args.self.now.rest) c.args.self.now.follows)
+invariant_of-self-clause-follows c = rw (c.push.ensures.past, c.last_turn.ensures) (follows_last c.args.self.now.turns c.args.self.now.last c.args.self.now.told.past (sym c.in_default.ensures.none ∙ c.args.self.now.rest) c.args.self.now.follows)
 
 pub invariant_of-self-clause-rest : goal.invariant_of-self-clause-rest
 invariant_of-self-clause-rest c = rw (c.push.ensures.past, c.in_default.ensures.same) (rest_none c.args.self.now.turns (length (turns_of c.args.self.now.told.past)) (sym c.in_default.ensures.none ∙ c.args.self.now.rest))
 
-pub invariant_of-self-clause-of_spawns : goal.invariant_of-self-clause-of_spawns
-invariant_of-self-clause-of_spawns c = rw c.push.ensures.past c.args.self.now.of_spawns
-
-pub invariant_of-self-clause-of_kills : goal.invariant_of-self-clause-of_kills
-invariant_of-self-clause-of_kills c = rw c.push.ensures.past c.args.self.now.of_kills
-
-pub invariant_of-self-clause-of_waits : goal.invariant_of-self-clause-of_waits
-invariant_of-self-clause-of_waits c = rw c.push.ensures.past c.args.self.now.of_waits
-
 -- ---- a turn of the script was told, or its fault
 
-follows : (c : After-push-2) → FollowsGiven (record { turns = c.args.self.now.turns; last = c.args.self.now.last; spawns = c.args.self.now.spawns.lines; kills = c.args.self.now.kills.lines; waits = c.args.self.now.waits.lines }) c.push-2.new.self.past
-follows c = rw (c.push-2.ensures.past, c.entry_of.ensures, c.in-Some.ensures.twice) (follows_more (record { turns = c.args.self.now.turns; last = c.args.self.now.last; spawns = c.args.self.now.spawns.lines; kills = c.args.self.now.kills.lines; waits = c.args.self.now.waits.lines }) c.args.self.now.told.past _ _ (sym c.in-Some.ensures.some ∙ c.args.self.now.rest) c.args.self.now.follows)
+follows : (c : After-push-2) → FollowsGiven c.args.self.now.turns c.args.self.now.last c.push-2.new.self.past
+follows c = rw (c.push-2.ensures.past, c.entry_of.ensures, c.in-Some.ensures.twice) (follows_more c.args.self.now.turns c.args.self.now.last c.args.self.now.told.past _ _ (sym c.in-Some.ensures.some ∙ c.args.self.now.rest) c.args.self.now.follows)
 
 rest : (c : After-push-2) → c.next.new.self ≡ drop (length (turns_of c.push-2.new.self.past)) c.args.self.now.turns
 rest c = rw (c.push-2.ensures.past, c.entry_of.ensures, c.in-Some.ensures.twice) (rest_more c.args.self.now.turns c.args.self.now.told.past _ _ (sym c.in-Some.ensures.some ∙ c.args.self.now.rest))
 
-of_spawns : (c : After-push-2) → AreAnswered tt c.args.self.now.spawns.lines (spawn_answers c.push-2.new.self.past)
-of_spawns c = rw (c.push-2.ensures.past, c.entry_of.ensures) (subst (AreAnswered tt c.args.self.now.spawns.lines) (spawns_over _ c.args.self.now.told.past) c.args.self.now.of_spawns)
+spawned : (c : After-push-2) → Answered spawns c.args.self.now.spawns.lines c.args.self.now.spawns.used c.push-2.new.self.past
+spawned c = rw (c.push-2.ensures.past, c.entry_of.ensures) (turn_over spawns _ _ _ _ no_spawn c.args.self.now.spawned)
 
-of_kills : (c : After-push-2) → AreAnswered tt c.args.self.now.kills.lines (kill_answers c.push-2.new.self.past)
-of_kills c = rw (c.push-2.ensures.past, c.entry_of.ensures) (subst (AreAnswered tt c.args.self.now.kills.lines) (kills_over _ c.args.self.now.told.past) c.args.self.now.of_kills)
+killed : (c : After-push-2) → Answered kills c.args.self.now.kills.lines c.args.self.now.kills.used c.push-2.new.self.past
+killed c = rw (c.push-2.ensures.past, c.entry_of.ensures) (turn_over kills _ _ _ _ no_kill c.args.self.now.killed)
 
-of_waits : (c : After-push-2) → AreAnswered Success c.args.self.now.waits.lines (wait_answers c.push-2.new.self.past)
-of_waits c = rw (c.push-2.ensures.past, c.entry_of.ensures) (subst (AreAnswered Success c.args.self.now.waits.lines) (waits_over _ c.args.self.now.told.past) c.args.self.now.of_waits)
+waited : (c : After-push-2) → Answered waits c.args.self.now.waits.lines c.args.self.now.waits.used c.push-2.new.self.past
+waited c = rw (c.push-2.ensures.past, c.entry_of.ensures) (turn_over waits _ _ _ _ no_wait c.args.self.now.waited)
 
 -- ---- the goals
 
@@ -54,20 +44,20 @@ invariant_of-self-in-Turn-clause-rest c = rest (goal.at.invariant_of-self-in-Tur
 pub invariant_of-self-in-Fault-clause-rest : goal.invariant_of-self-in-Fault-clause-rest
 invariant_of-self-in-Fault-clause-rest c = rest (goal.at.invariant_of-self-in-Fault-clause-rest c).After-push-2
 
-pub invariant_of-self-in-Turn-clause-of_spawns : goal.invariant_of-self-in-Turn-clause-of_spawns
-invariant_of-self-in-Turn-clause-of_spawns c = of_spawns (goal.at.invariant_of-self-in-Turn-clause-of_spawns c).After-push-2
+pub invariant_of-self-in-Turn-clause-spawned : goal.invariant_of-self-in-Turn-clause-spawned
+invariant_of-self-in-Turn-clause-spawned c = spawned (goal.at.invariant_of-self-in-Turn-clause-spawned c).After-push-2
 
-pub invariant_of-self-in-Fault-clause-of_spawns : goal.invariant_of-self-in-Fault-clause-of_spawns
-invariant_of-self-in-Fault-clause-of_spawns c = of_spawns (goal.at.invariant_of-self-in-Fault-clause-of_spawns c).After-push-2
+pub invariant_of-self-in-Fault-clause-spawned : goal.invariant_of-self-in-Fault-clause-spawned
+invariant_of-self-in-Fault-clause-spawned c = spawned (goal.at.invariant_of-self-in-Fault-clause-spawned c).After-push-2
 
-pub invariant_of-self-in-Turn-clause-of_kills : goal.invariant_of-self-in-Turn-clause-of_kills
-invariant_of-self-in-Turn-clause-of_kills c = of_kills (goal.at.invariant_of-self-in-Turn-clause-of_kills c).After-push-2
+pub invariant_of-self-in-Turn-clause-killed : goal.invariant_of-self-in-Turn-clause-killed
+invariant_of-self-in-Turn-clause-killed c = killed (goal.at.invariant_of-self-in-Turn-clause-killed c).After-push-2
 
-pub invariant_of-self-in-Fault-clause-of_kills : goal.invariant_of-self-in-Fault-clause-of_kills
-invariant_of-self-in-Fault-clause-of_kills c = of_kills (goal.at.invariant_of-self-in-Fault-clause-of_kills c).After-push-2
+pub invariant_of-self-in-Fault-clause-killed : goal.invariant_of-self-in-Fault-clause-killed
+invariant_of-self-in-Fault-clause-killed c = killed (goal.at.invariant_of-self-in-Fault-clause-killed c).After-push-2
 
-pub invariant_of-self-in-Turn-clause-of_waits : goal.invariant_of-self-in-Turn-clause-of_waits
-invariant_of-self-in-Turn-clause-of_waits c = of_waits (goal.at.invariant_of-self-in-Turn-clause-of_waits c).After-push-2
+pub invariant_of-self-in-Turn-clause-waited : goal.invariant_of-self-in-Turn-clause-waited
+invariant_of-self-in-Turn-clause-waited c = waited (goal.at.invariant_of-self-in-Turn-clause-waited c).After-push-2
 
-pub invariant_of-self-in-Fault-clause-of_waits : goal.invariant_of-self-in-Fault-clause-of_waits
-invariant_of-self-in-Fault-clause-of_waits c = of_waits (goal.at.invariant_of-self-in-Fault-clause-of_waits c).After-push-2
+pub invariant_of-self-in-Fault-clause-waited : goal.invariant_of-self-in-Fault-clause-waited
+invariant_of-self-in-Fault-clause-waited c = waited (goal.at.invariant_of-self-in-Fault-clause-waited c).After-push-2

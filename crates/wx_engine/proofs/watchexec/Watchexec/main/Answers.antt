@@ -1,7 +1,5 @@
-use Rattle.std.proofs.Common.{[]}
-use Rattle.wx_journal.specs.Told.{Same}
-use Rattle.wx_action.specs.ReapLaws.{ran_reaps}
-use Rattle.wx_engine.specs.MainLaws.{answered_ran}
+use Rattle.wx_action.proofs.ReapLaws.{ran_reaps}
+use Rattle.wx_engine.proofs.MainLaws.{answered_ran, ran_makes_once, ran_is_served}
 use Rattle.wx_engine.proofs.watchexec.Watchexec.main.Goals as goal
 
 pub returns-clause-ran : goal.returns-clause-ran
@@ -16,5 +14,8 @@ returns-clause-none_runs g c = (ran_reaps c.args.self _ c.run.result c.run.ensur
 pub returns-clause-after_faults : goal.returns-clause-after_faults
 returns-clause-after_faults g c = (ran_reaps c.args.self _ c.run.result c.run.ensures.answers).failed
 
-pub returns-clause-rule : goal.returns-clause-rule
-returns-clause-rule g c = λ short stood. c.run.ensures.promised.rule_kept short stood [] Same
+pub returns-clause-ids : goal.returns-clause-ids
+returns-clause-ids g c = ran_makes_once c.args.self _ (answered_ran c.args.self _ c.run.result c.run.ensures.answers)
+
+pub returns-clause-served : goal.returns-clause-served
+returns-clause-served g c = ran_is_served c.args.self _ (answered_ran c.args.self _ c.run.result c.run.ensures.answers)

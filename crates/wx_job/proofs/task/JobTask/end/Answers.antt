@@ -3,7 +3,4 @@ use Rattle.wx_job.proofs.StepLaws.{end_left}
 use Rattle.wx_job.proofs.task.JobTask.end.Goals as goal
 
 pub returns-clause-leaves : goal.returns-clause-leaves
-returns-clause-leaves g c own = (end_left (λ p. Unit {0}) (λ q e o i h. tt) c.args.self.now.id c.args.journal.now.past _ _ _ c.let_go.new.journal.past _ _ (end-is c.args.self.now c.args.journal.now.past c.child_of.result c.requires.stands c.if-self.false c.child_of.ensures) c.let_go.ensures.follows own).leaves
-
-pub returns-clause-reaped : goal.returns-clause-reaped
-returns-clause-reaped g c own = (end_left (λ p. Unit {0}) (λ q e o i h. tt) c.args.self.now.id c.args.journal.now.past _ _ _ c.let_go.new.journal.past _ _ (end-is c.args.self.now c.args.journal.now.past c.child_of.result c.requires.stands c.if-self.false c.child_of.ensures) c.let_go.ensures.follows own).reaped
+returns-clause-leaves g c = (end_left (λ p. Unit {0}) (λ q e o i h. tt) c.args.self.now.id c.args.journal.now.past _ _ c.let_go.new.journal.past _ (end-is c.args.self.now c.args.journal.now.past c.child_of.result c.requires.stands c.if-self.false c.child_of.ensures) c.let_go.ensures.follows).leaves

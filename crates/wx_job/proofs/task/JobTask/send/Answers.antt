@@ -2,7 +2,4 @@ use Rattle.wx_job.proofs.StepLaws.{send_left}
 use Rattle.wx_job.proofs.task.JobTask.send.Goals as goal
 
 pub returns-clause-leaves : goal.returns-clause-leaves
-returns-clause-leaves c own = (send_left c.put.result c.args.self.now.id c.args.ask c.args.journal.now.past c.put.new.journal.past c.put.ensures.leads c.put.ensures.past own).leaves
-
-pub returns-clause-reaped : goal.returns-clause-reaped
-returns-clause-reaped c own = (send_left c.put.result c.args.self.now.id c.args.ask c.args.journal.now.past c.put.new.journal.past c.put.ensures.leads c.put.ensures.past own).reaped
+returns-clause-leaves c = (send_left c.put.result c.args.self.now.id c.args.ask c.args.journal.now.past c.put.new.journal.past c.put.ensures.leads c.put.ensures.past).leaves

@@ -1,0 +1,108 @@
+-- What the plans of a run let come, and what they name.
+use Rattle.std.proofs.Common.{◌≡◌, ℕ, Bool, true, false, cond, List, [], ◌∷◌, refl, sym, subst, eq-eqb}
+use Rattle.std.specs.Prelude.{◌==◌, ◌||◌, Option, None, Some}
+use Rattle.std.proofs.lemmas.Bool.{or_right}
+use Rattle.wx_command.specs.declared.command.Command.{Command}
+use Rattle.wx_control.specs.declared.id.Id.{Id}
+use Rattle.wx_control.specs.declared.ask.Ask.{Ask as AnAsk}
+use Rattle.wx_control.specs.declared.ask.Ask.TheVariants.{One}
+use Rattle.wx_control.specs.Asks.{sends_of}
+use Rattle.wx_journal.specs.Acts.{JournalAct as Act}
+use Rattle.wx_journal.specs.declared.entry.Act.TheVariants.{Create, Ask, Quit}
+use Rattle.wx_journal.specs.declared.entry.Entry.{Entry}
+use Rattle.wx_journal.specs.declared.entry.Entry.TheVariants.{Begin, Sent, Turn as Turned, TurnFault, Offer, Take, Hand, Made, Spawn, Kill, Wait, Dropped, Gone}
+use Rattle.wx_journal.specs.Names.{Names, NamesItsOwn, creates, is_created, next_job}
+use Rattle.wx_job.specs.History.{same, lives, child}
+use Rattle.wx_job.specs.Table.{Plan, Done, adds, step_plan, ask_plan, drop_plan, end_plan}
+use Rattle.wx_job.specs.Case.{Admits as Follows, next}
+use Rattle.wx_job.proofs.Owners.{either}
+use Rattle.wx_job.proofs.Always.{always_now, always_also}
+use Rattle.wx_job.proofs.Sound.{Fits, IsSound, Sound, sound_step, sound_ask, sound_end}
+use Rattle.wx_action.specs.Jobs.{AreLawful, act_plan, jobs, first_end, end}
+use Rattle.wx_action.specs.Lawful.{IsOfPlan, IsOfEnd, IsFree, LetsGo, InOrder, IsLawful, Lawful}
+
+pub lawful_now : (p : List Entry) (k : Plan) (e : Entry) → Follows p k e → Lawful p k → IsLawful p e (next k e)
+lawful_now p k e d l = always_now IsLawful p k e d l
+
+-- ---- the plans of a job
+
+order_fit : (id : Id) (e : Entry) (p : List Entry) → Fits id p e → InOrder p e
+order_fit id (Made job) p s = absurd s
+order_fit id (_) p s = tt
+
+pub plan_fit : (id : Id) (e : Entry) (p : List Entry) → Fits id p e → IsOfPlan e
+plan_fit id (Begin throttle size errors keyboard follow jobsignals watcher cwd paths) p s = absurd s
+plan_fit id (Sent name event priority) p s = absurd s
+plan_fit id (Turned t) p s = absurd s
+plan_fit id (TurnFault code) p s = absurd s
+plan_fit id (Offer name item result event priority) p s = absurd s
+plan_fit id (Take name) p s = absurd s
+plan_fit id (Hand n names acts) p s = absurd s
+plan_fit id (_) p s = tt
+
+free_fit : (id : Id) (e : Entry) (k : Plan) (p : List Entry) → IsSound id p e k → IsFree p e
+free_fit id (Spawn c job tag what answer) k p s = rw s.fits.0 (s.alive, s.fits.1)
+free_fit id (Kill c answer) k p s = (id, s.fits)
+free_fit id (Wait c answer) k p s = (id, s.fits)
+free_fit id (Gone job) k p s = rw s.fits.0 s.fits.1
+free_fit id (_) k p s = tt
+
+go_fit : (id : Id) (e : Entry) (k : Plan) (p : List Entry) → IsSound id p e k → LetsGo p e k
+go_fit id (Dropped c) k p s = (id, s.fits, s.closes)
+go_fit id (_) k p s = tt
+
+lawful_fit : (id : Id) (p : List Entry) (e : Entry) (k : Plan) → NamesItsOwn p → IsSound id p e k → IsLawful p e k
+lawful_fit id p e k own s = record { names = s.names own; in_order = order_fit id e p s.fits; free = free_fit id e k p s; of_plan = plan_fit id e p s.fits; lets_go = go_fit id e k p s }
+
+lawful_sound : (id : Id) (p : List Entry) (k : Plan) → NamesItsOwn p → Sound id p k → Lawful p k
+lawful_sound id p k own s = always_also NamesItsOwn (IsSound id) IsLawful (λ q e j own s. let l = lawful_fit id q e j own s in (l, (l.names, own))) p k own s
+
+pub lawful_step : (id : Id) (command : Command) (p : List Entry) → NamesItsOwn p → Lawful p (step_plan id command p)
+lawful_step id command p own = lawful_sound id p (step_plan id command p) own (sound_step id command p)
+
+pub lawful_ask : (id : Id) (ask : AnAsk) (p : List Entry) → NamesItsOwn p → lives id p ≡ true → Lawful p (ask_plan id (sends_of ask) Done)
+lawful_ask id ask p own alive = lawful_sound id p (ask_plan id (sends_of ask) Done) own (sound_ask id ask p alive)
+
+-- ---- the plan of acts
+
+pub lawful_acts : (there : Id → Bool) (acts : List Act) (p : List Entry) → ((id : Id) → creates id acts ≡ true → is_created id p ≡ true) → AreLawful (next_job p) acts → Lawful p (act_plan there acts)
+lawful_acts there [] p h l = tt
+lawful_acts there (Create id command ∷ acts) p h l = λ a. (
+  record { names = h id (rw (eq-eqb id.0 id.0 refl) refl); in_order = l.0; free = tt; of_plan = tt; lets_go = tt },
+  lawful_acts (λ job. same id job || there job) acts (Made id ∷ p) (λ job e. h job (or_right (id.0 == job.0) (creates job acts) e)) l.1,
+)
+lawful_acts there (Ask id (One control) ∷ acts) p h l =
+    either (Lawful p) (there id) _ _
+    (λ a. (record { names = refl; in_order = tt; free = tt; of_plan = tt; lets_go = tt }, lawful_acts there acts _ h l))
+    (λ a. (record { names = tt; in_order = tt; free = tt; of_plan = tt; lets_go = tt }, lawful_acts there acts _ h l))
+lawful_acts there (Quit ∷ acts) p h l = lawful_acts there acts p h l
+
+-- ---- the end
+
+of_drop : (p : List Entry) (id : Id) (b : Bool) (running : Option ℕ) (e : Entry) → Follows p (cond b (drop_plan running (adds (Gone id) Done)) Done) e → IsOfEnd e
+of_drop p id true None e d = subst IsOfEnd (sym d.1) tt
+of_drop p id true (Some c) e d = subst IsOfEnd (sym d.1) tt
+of_drop p id false running e d = absurd d
+
+of_first_end : (ids : List Id) (p : List Entry) (e : Entry) → Follows p (first_end ids p) e → IsOfEnd e
+of_first_end [] p e d = absurd d
+of_first_end (id ∷ ids) p e d = of_drop p id (lives id p) (child id p) e d
+
+pub of_end : (p : List Entry) (e : Entry) → Follows p (end p) e → IsOfEnd e
+of_end p e d = of_first_end (jobs p) p e d
+
+pub end_is_plan : (e : Entry) → IsOfEnd e → IsOfPlan e
+end_is_plan (Dropped c) o = tt
+end_is_plan (Gone id) o = tt
+end_is_plan (_) o = absurd o
+
+pub end_in_order : (e : Entry) (p : List Entry) → IsOfEnd e → InOrder p e
+end_in_order (Made job) p o = absurd o
+end_in_order (_) p o = tt
+
+names_first_end : (ids : List Id) (p : List Entry) (e : Entry) → NamesItsOwn p → Follows p (first_end ids p) e → Names p e
+names_first_end [] p e own d = absurd d
+names_first_end (id ∷ ids) p e own d = (always_now (IsSound id) p (end_plan id p) e d (sound_end id p)).names own
+
+pub names_end : (p : List Entry) (e : Entry) → NamesItsOwn p → Follows p (end p) e → Names p e
+names_end p e own d = names_first_end (jobs p) p e own d

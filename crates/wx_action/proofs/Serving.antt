@@ -1,0 +1,83 @@
+-- What calls serve, one after another.
+use Rattle.std.proofs.Common.{◌≡◌, Option, List, arith, refl, ap, ◌∙◌}
+use Rattle.wx_journal.specs.declared.entry.Entry.{Entry}
+use Rattle.wx_job.specs.Seen.{Seen, Shown, Hooked}
+use Rattle.wx_job.specs.Kept.{OnlyHooksRoom, Same, KeepsOn, Past, Roomy}
+use Rattle.wx_job.specs.Steady.{OnlyRoom}
+use Rattle.wx_job.proofs.SteadyLemmas.{steady_none, steady_then}
+use Rattle.wx_action.specs.Start.{Start}
+use Rattle.wx_action.specs.declared.worker_state.Worker.{Worker}
+use Rattle.wx_action.specs.Serves.{Adds, AddsHand, Serves, Grows, GrowsHand, Continues}
+use Rattle.wx_action.specs.Stands.{Stands}
+
+-- only room was taken
+pub serves_room : {Fixed : Type 0} (s : Start) (p p' : List Entry) (a b : Seen Fixed) (hooks hooks' : Option (List Entry)) → OnlyRoom a b → p' ≡ p → hooks' ≡ hooks → Serves s p a hooks p' b hooks'
+serves_room s p p' a b hooks hooks' only past told = record {
+  follows = rw (past, told, only.shown) (λ p₀ world₀ hooks₀ l. l);
+  turns = rw past (λ p₀ t. t);
+  counts = rw (past, only.shown) (λ p₀ n₀ c. c);
+  steady = only.steady;
+}
+
+pub serves_adds : {Fixed : Type 0} (s : Start) (p p' : List Entry) (a : Seen Fixed) (hooks : Option (List Entry)) → Adds s p p' → Serves s p a hooks p' a hooks
+serves_adds s p p' a hooks h = record { follows = h.follows a.shown.told hooks; turns = h.turns; counts = h.counts a.shown.faults; steady = steady_none }
+
+pub serves_hand : {Fixed : Type 0} (s : Start) (p p' : List Entry) (a : Seen Fixed) (hooks hooks' : Option (List Entry)) → AddsHand s p hooks p' hooks' → Serves s p a hooks p' a hooks'
+serves_hand s p p' a hooks hooks' h = record { follows = h.follows a.shown.told; turns = h.turns; counts = h.counts a.shown.faults; steady = steady_none }
+
+pub serves_then : {Fixed : Type 0} (s : Start) (p q r : List Entry) (a b c : Seen Fixed) (hooks hooks' hooks'' : Option (List Entry)) → Serves s q b hooks' r c hooks'' → Serves s p a hooks q b hooks' → Serves s p a hooks r c hooks''
+serves_then s p q r a b c hooks hooks' hooks'' h g = record {
+  follows = λ p₀ world₀ hooks₀ l. h.follows p₀ world₀ hooks₀ (g.follows p₀ world₀ hooks₀ l);
+  turns = λ p₀ t. h.turns p₀ (g.turns p₀ t);
+  counts = λ p₀ n₀ c. h.counts p₀ n₀ (g.counts p₀ n₀ c);
+  steady = steady_then g.steady h.steady;
+}
+
+-- entries are added, and room is taken
+pub serves_both : {Fixed : Type 0} (s : Start) (p q r : List Entry) (a b : Seen Fixed) (hooks hooks' : Option (List Entry)) → AddsHand s p hooks q hooks' → Adds s q r → OnlyRoom a b → Serves s p a hooks r b hooks'
+serves_both s p q r a b hooks hooks' h adds only = serves_then s p q r a b b hooks hooks' hooks' (serves_adds s q r b hooks' adds) (serves_then s p p q a b b hooks hooks hooks' (serves_hand s p q b hooks hooks' h) (serves_room s p p a b hooks hooks only refl refl))
+
+pub ruleset serving = (serves_room, serves_adds, serves_hand, serves_then, serves_both)
+
+-- what hooks keep, where entries are added that are no calls on them
+pub keeps_adds : {K Fixed : Type 0} (seen : K → Hooked Fixed) (rule : Fixed → List Entry → Entry → Type 0) (stands : K → List Entry → Type 0) (x : K) (s : Start) (p p' : List Entry) → Adds s p p' → KeepsOn seen rule stands x p x p'
+keeps_adds seen rule stands x s p p' adds = λ x₀ p₀ k. Past x p p' k (adds.quiet p Same)
+
+-- what grows where neither is called continues where both may be
+pub continues_grows : {K Fixed Plan : Type 0} (seen : K → Hooked Fixed) (rule : Fixed → List Entry → Entry → Type 0) (holds : K → List Entry → Type 0) (s : Start) (w : Worker) (p : List Entry) (a : Seen Plan) (x : K) (w' : Worker) (p' : List Entry) → Grows s w p w' p' → Continues seen rule holds s p a x w' p' a x
+continues_grows seen rule holds s w p a x w' p' g = record { stands = g.stands; serves = serves_adds s p p' a (seen x).told g.adds; keeps = keeps_adds seen rule holds x s p p' g.adds }
+
+-- only room was taken
+pub hooks_none : {K Fixed : Type 0} (seen : K → Hooked Fixed) (holds : K → List Entry → Type 0) (x : K) → OnlyHooksRoom seen holds x x
+hooks_none seen holds x = record { plan_kept = refl; told_kept = refl; short_kept = refl; place_kept = refl; spare_kept = omega arith; stands_kept = λ p h. h }
+
+pub continues_room : {K Fixed Plan : Type 0} (seen : K → Hooked Fixed) (rule : Fixed → List Entry → Entry → Type 0) (holds : K → List Entry → Type 0) (s : Start) (p p' : List Entry) (a b : Seen Plan) (x x' : K) (w : Worker) → Stands s w p → p' ≡ p → OnlyRoom a b → OnlyHooksRoom seen holds x x' → Continues seen rule holds s p a x w p' b x'
+continues_room seen rule holds s p p' a b x x' w stands same only hooks_only = record {
+  stands = rw same stands;
+  serves = serves_room s p p' a b (seen x).told (seen x').told only same hooks_only.told_kept;
+  keeps = λ x₀ p₀ k. rw same (Roomy x x' p k hooks_only);
+}
+
+-- nothing was done
+pub continues_none : {K Fixed Plan : Type 0} (seen : K → Hooked Fixed) (rule : Fixed → List Entry → Entry → Type 0) (holds : K → List Entry → Type 0) (s : Start) (p p' : List Entry) (a b : Seen Plan) (x x' : K) (w : Worker) → Stands s w p' → p' ≡ p → b ≡ a → x' ≡ x → Continues seen rule holds s p a x w p' b x'
+continues_none seen rule holds s p p' a b x x' w stands same same_host same_hooks = record {
+  stands = stands;
+  serves = rw (same, same_host, same_hooks) (record { follows = λ p₀ world₀ hooks₀ l. l; turns = λ p₀ t. t; counts = λ p₀ n₀ c. c; steady = steady_none });
+  keeps = rw (same, same_hooks) (λ x₀ p₀ k. k);
+}
+
+-- it continues, once room was taken
+pub continues_after : {K Fixed Plan : Type 0} (seen : K → Hooked Fixed) (rule : Fixed → List Entry → Entry → Type 0) (holds : K → List Entry → Type 0) (s : Start) (p q r : List Entry) (a b c : Seen Plan) (x y z : K) (w : Worker) → q ≡ p → OnlyRoom a b → OnlyHooksRoom seen holds x y → Continues seen rule holds s q b y w r c z → Continues seen rule holds s p a x w r c z
+continues_after seen rule holds s p q r a b c x y z w same only hooks_only h = record {
+  stands = h.stands;
+  serves = serves_then s p q r a b c (seen x).told (seen y).told (seen z).told h.serves (serves_room s p q a b (seen x).told (seen y).told only same hooks_only.told_kept);
+  keeps = λ x₀ p₀ k. h.keeps x₀ p₀ (rw same (Roomy x y p k hooks_only));
+}
+
+-- and once hooks may have been called
+pub continues_hand : {K Fixed Plan : Type 0} (seen : K → Hooked Fixed) (rule : Fixed → List Entry → Entry → Type 0) (holds : K → List Entry → Type 0) (s : Start) (p q r : List Entry) (a b : Seen Plan) (x y z : K) (v w : Worker) → GrowsHand seen rule holds s p x v q y → Continues seen rule holds s q a y w r b z → Continues seen rule holds s p a x w r b z
+continues_hand seen rule holds s p q r a b x y z v w g h = record {
+  stands = h.stands;
+  serves = serves_then s p q r a a b (seen x).told (seen y).told (seen z).told h.serves (serves_hand s p q a (seen x).told (seen y).told g.adds);
+  keeps = λ x₀ p₀ k. h.keeps x₀ p₀ (g.keeps x₀ p₀ k);
+}

@@ -1,0 +1,18 @@
+use Rattle.wx_job.specs.Steady.{OnlyRoom}
+use Rattle.wx_action.specs.Due.{Agenda}
+use Rattle.wx_action.specs.Serves.{Adds}
+use Rattle.wx_action.specs.Perform.{OwesActs}
+use Rattle.wx_action.specs.Stands.{Stands, HasRoom}
+use Rattle.wx_action.proofs.acts_done.perform.Given as goal
+
+abbrev pub ghost-perform_one : goal.ghost-perform_one
+ghost-perform_one g a = g.start
+
+abbrev pub invariant-loop-one : goal.invariant-loop-one
+invariant-loop-one g l = record {
+  owes : (more : Agenda) → OwesActs g.start l.initial.journal.past l.initial.one-iterator.rest.items more → OwesActs g.start l.journal.past l.one-iterator.rest.items more;
+  stands : Stands g.start l.worker l.journal.past;
+  adds : Adds g.start l.initial.journal.past l.journal.past;
+  rest : OnlyRoom (g.W.Outside.seen l.initial.host) (g.W.Outside.seen l.host);
+  room : HasRoom l.worker l.journal.spare (g.W.Outside.seen l.host).spare;
+}

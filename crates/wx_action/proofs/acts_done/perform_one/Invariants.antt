@@ -1,0 +1,7 @@
+use Rattle.wx_action.proofs.acts_done.perform_one.Given as goal
+
+abbrev pub ghost-make : goal.ghost-make
+ghost-make g a = g.start
+
+abbrev pub ghost-ask_or_ignore : goal.ghost-ask_or_ignore
+ghost-ask_or_ignore g a = g.start

@@ -1,0 +1,6 @@
+use Rattle.std.proofs.Common.{arith}
+use Rattle.wx_action.proofs.Serving.{continues_grows}
+use Rattle.wx_action.proofs.job_turns.ended_turn.Goals as goal
+
+pub returns-in_default-clause-continues : goal.returns-in_default-clause-continues
+returns-in_default-clause-continues g c = continues_grows _ _ _ _ _ _ _ _ _ _ c.ignored.ensures.grows

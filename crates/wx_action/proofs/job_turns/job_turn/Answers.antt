@@ -1,0 +1,26 @@
+use Rattle.std.proofs.Common.{◌≡◌, true, false, refl, sym, ◌∙◌}
+use Rattle.wx_journal.specs.declared.entry.TurnKind.TheVariants.{Job}
+use Rattle.wx_job.specs.History.{lives}
+use Rattle.wx_action.proofs.TurnLaws.{at_turn}
+use Rattle.wx_action.proofs.HeldLemmas.{alive_is}
+use Rattle.wx_action.proofs.JobLemmas.{step_owed}
+use Rattle.wx_action.proofs.Serving.{continues_grows}
+use Rattle.wx_action.proofs.job_turns.job_turn.Goals as goal
+
+pub ignored-requires : goal.ignored-requires
+ignored-requires g c =
+    let at = at_turn g.start c.args.worker.now c.args.at (Job c.args.id) c.args.journal.now.past tt c.requires.1.1 in
+    let gone : lives c.args.id c.args.journal.now.past ≡ false = sym (alive_is g.start c.args.worker.now c.args.journal.now.past c.args.id at.stands) ∙ sym c.lives.ensures ∙ c.if-not-lives.true in
+    (at.due ∙ rw gone refl, at.stands)
+
+pub returns-then-not-lives-clause-room : goal.returns-then-not-lives-clause-room
+returns-then-not-lives-clause-room g c = λ room. record { in_journal = c.ignored.ensures.room room.in_journal; in_host = room.in_host }
+
+pub take_step-requires : goal.take_step-requires
+take_step-requires g c = λ κs lent.
+    let at = at_turn g.start c.args.worker.now c.args.at (Job c.args.id) c.args.journal.now.past tt c.requires.1.1 in
+    let alive : lives c.args.id c.args.journal.now.past ≡ true = sym (alive_is g.start c.args.worker.now c.args.journal.now.past c.args.id at.stands) ∙ sym c.lives.ensures ∙ c.if-not-lives.false in
+    (lent.0, (lent.1, (step_owed g.start c.args.worker.now c.args.at c.args.id c.args.journal.now.past at.stands at.going at.due at.now alive, at.stands)))
+
+pub returns-then-not-lives-clause-continues : goal.returns-then-not-lives-clause-continues
+returns-then-not-lives-clause-continues g c = continues_grows _ _ _ _ _ _ _ _ _ _ c.ignored.ensures.grows

@@ -1,0 +1,55 @@
+use Rattle.std.proofs.Common.{◌≡◌, ◌*◌, ◌≤◌, arith, refl, ap, sym, subst}
+use Rattle.wx_job.specs.declared.task.JobTask.{JobTask}
+use Rattle.wx_job.specs.Stands.{Stands as TaskStands}
+use Rattle.wx_action.specs.Due.{Open}
+use Rattle.wx_action.specs.HeldJobs.{with_task}
+use Rattle.wx_action.proofs.FaultLaws.{counts_on}
+use Rattle.wx_action.proofs.PlanLemmas.{JobDone}
+use Rattle.wx_action.proofs.JobListLemmas.{length_with}
+use Rattle.wx_action.proofs.JobLemmas.{lent, same_lent, alive_held, step_done}
+use Rattle.wx_action.proofs.Serving.{continues_none}
+use Rattle.wx_action.proofs.job_turns.step_of.Goals as goal
+
+pub task_mut-task-requires : goal.task_mut-task-requires
+task_mut-task-requires g c = record { held = alive_held g.start c.args.worker.now c.args.journal.now.past c.args.id c.requires.1.1.1.0 c.requires.1.1.0.alive }
+
+pub step-requires-clause-stands : goal.step-requires-clause-stands
+step-requires-clause-stands g c =
+    let l = lent g.start c.args.worker.now c.args.journal.now.past c.args.id c.task_mut-task.result.now c.requires.1.1.1.0 c.task_mut-task.ensures.task in
+    subst (λ (k : JobTask). TaskStands k c.args.journal.now.past) l.task_is l.stood.task_stands
+
+pub returns-in_err-step-clause-continues : goal.returns-in_err-step-clause-continues
+returns-in_err-step-clause-continues g c =
+    let l = lent g.start c.args.worker.now c.args.journal.now.past c.args.id c.task_mut-task.result.now c.requires.1.1.1.0 c.task_mut-task.ensures.task in
+    let undone = c.in_err-step.ensures.err in
+    let stands = same_lent g.start c.args.worker.now _ c.args.id c.task_mut-task.result.now c.step.new.self c.args.journal.now.past c.step.new.journal.past c.requires.1.1.1.0 (ap (λ j. j.past) undone.journal) l refl refl c.step.ensures.job c.step.ensures.stands in
+    continues_none _ _ _ _ _ _ _ _ _ _ _ stands (ap (λ j. j.past) undone.journal) (ap (λ h. g.W.Outside.seen h) undone.host) c.step.ensures.hooks
+
+pub returns-in_err-step-clause-room : goal.returns-in_err-step-clause-room
+returns-in_err-step-clause-room g c = let same = length_with c.args.id c.args.worker.now.jobs c.step.new.self in record {
+  in_journal = omega (arith, ap (λ n. 2 * n) same, c.requires.1.1.1.1.0, c.step.ensures.spends.in_journal);
+  in_host = omega (arith, ap (λ n. 2 * n) same, c.requires.1.1.1.1.1.0, c.step.ensures.spends.in_host);
+}
+
+done : (g : _) (c : goal.In_ok-step g) → JobDone g.start (record c.args.worker.now { jobs = with_task c.args.id c.args.worker.now.jobs c.step.new.self }) Open c.args.journal.now.past c.step.new.journal.past
+    (g.W.Outside.seen c.args.host.now).shown.told (g.W.Outside.seen c.step.new.host).shown.told (g.H.JobHooks.seen c.args.hooks.now).told (g.H.JobHooks.seen c.step.new.hooks).told
+done g c =
+    let l = lent g.start c.args.worker.now c.args.journal.now.past c.args.id c.task_mut-task.result.now c.requires.1.1.1.0 c.task_mut-task.ensures.task in
+    step_done g.start c.args.worker.now _ c.args.at c.args.id c.task_mut-task.result.now c.step.new.self c.args.journal.now.past c.step.new.journal.past _ _ _ _ _ _ c.requires.1.1.1.0 c.requires.1.1.0 l refl refl
+    c.step.ensures.job c.step.ensures.stands (c.step.ensures.leaves.others c.requires.1.1.1.0.orderly.own) c.in_ok-step.ensures.leads.led
+
+pub returns-clause-continues : goal.returns-clause-continues
+returns-clause-continues g c = let d = done g c in record {
+  stands = d.stands;
+  serves = record { follows = d.follows; turns = d.turns; counts = counts_on _ _ _ _ c.step.ensures.faults; steady = c.step.ensures.spends.steady };
+  keeps = c.step.ensures.keeps;
+}
+
+pub returns-clause-settles : goal.returns-clause-settles
+returns-clause-settles g c = record { done = (done g c).done; err = tt }
+
+pub returns-clause-room : goal.returns-clause-room
+returns-clause-room g c = let same = length_with c.args.id c.args.worker.now.jobs c.step.new.self in record {
+  in_journal = omega (arith, ap (λ n. 2 * n) same, c.requires.1.1.1.1.0, c.step.ensures.spends.in_journal);
+  in_host = omega (arith, ap (λ n. 2 * n) same, c.requires.1.1.1.1.1.0, c.step.ensures.spends.in_host);
+}

@@ -1,4 +1,0 @@
-use Rattle.wx_action.proofs.jobs.ask_turn.Given as goal
-
-abbrev pub ghost-ignored : goal.ghost-ignored
-ghost-ignored g a = g.start

@@ -1,7 +1,0 @@
-use Rattle.wx_action.proofs.jobs.job_turn.Given as goal
-
-abbrev pub ghost-ignored : goal.ghost-ignored
-ghost-ignored g a = g.start
-
-abbrev pub ghost-take_step : goal.ghost-take_step
-ghost-take_step g a = g.start

@@ -1,4 +1,0 @@
-use Rattle.wx_action.proofs.work.throttle_collect.Given as goal
-
-abbrev pub ghost-collect : goal.ghost-collect
-ghost-collect g a = g.start

@@ -1,7 +1,0 @@
-use Rattle.wx_action.proofs.work.worker.Given as goal
-
-abbrev pub ghost-throttle_collect : goal.ghost-throttle_collect
-ghost-throttle_collect g a = g.start
-
-abbrev pub ghost-hand : goal.ghost-hand
-ghost-hand g a = g.start

@@ -1,0 +1,67 @@
+-- What a turn did to a journal, and what it told.
+use Rattle.std.specs.Prelude.{◌≡◌, ℕ, Option, Result, OnOk, OnErr, List}
+use Rattle.wx_journal.specs.declared.entry.Entry.{Entry}
+use Rattle.wx_journal.specs.Written.{Written}
+use Rattle.wx_job.specs.Seen.{Seen, Hooked}
+use Rattle.wx_job.specs.Kept.{StaysQuiet, KeepsOn}
+use Rattle.wx_job.specs.Faults.{CountsOn}
+use Rattle.wx_job.specs.Steady.{IsSteady, OnlyRoom}
+use Rattle.wx_action.specs.declared.worker_state.Worker.{Worker}
+use Rattle.wx_action.specs.Start.{Start}
+use Rattle.wx_action.specs.Stands.{Stands, Ready, end_room}
+use Rattle.wx_action.specs.Due.{agenda, Open}
+use Rattle.wx_action.specs.Leads.{Follows, FollowsHooks, FollowsAlone}
+use Rattle.wx_action.specs.Turns.{StaysInTurn}
+
+-- what calls add that are none on the world, nor on the hooks: entries that were due, none of them a turn, and no fault
+pub record Adds (s : Start) (p p' : List Entry) : Type 0 where
+  pub follows : FollowsAlone s p p'
+  pub quiet : StaysQuiet p p'
+  pub turns : StaysInTurn p p'
+  pub counts : (n : ℕ) → CountsOn p n p' n
+
+-- the same where hooks may be called
+pub record AddsHand (s : Start) (p : List Entry) (hooks : Option (List Entry)) (p' : List Entry) (hooks' : Option (List Entry)) : Type 0 where
+  pub follows : FollowsHooks s p hooks p' hooks'
+  pub turns : StaysInTurn p p'
+  pub counts : (n : ℕ) → CountsOn p n p' n
+
+-- the same where both may be: each entry was told by just the one that it is a call on, and each fault raised the count
+pub record Serves {Fixed : Type 0} (s : Start) (p : List Entry) (a : Seen Fixed) (hooks : Option (List Entry)) (p' : List Entry) (b : Seen Fixed) (hooks' : Option (List Entry)) : Type 0 where
+  pub follows : Follows s p a.shown.told hooks p' b.shown.told hooks'
+  pub turns : StaysInTurn p p'
+  pub counts : CountsOn p a.shown.faults p' b.shown.faults
+  pub steady : IsSteady a b
+
+-- ---- with the worker, which stands for the longer journal
+
+-- where neither world nor hooks are called; as many jobs are held
+pub record Grows (s : Start) (w : Worker) (p : List Entry) (w' : Worker) (p' : List Entry) : Type 0 where
+  pub stands : Stands s w' p'
+  pub adds : Adds s p p'
+  pub end_kept : end_room w' ≡ end_room w
+
+-- where jobs may be made, for which room is taken in the world too
+pub record Performs {Plan : Type 0} (s : Start) (p : List Entry) (a : Seen Plan) (w' : Worker) (j' : Written) (b : Seen Plan) : Type 0 where
+  pub ready : Ready s w' j' b
+  pub adds : Adds s p j'.past
+  pub rest : OnlyRoom a b
+
+-- where hooks may be called, which keep what each call promises
+pub record GrowsHand {K Fixed : Type 0} (seen : K → Hooked Fixed) (rule : Fixed → List Entry → Entry → Type 0) (holds : K → List Entry → Type 0) (s : Start) (p : List Entry) (x : K) (w' : Worker) (p' : List Entry) (x' : K) : Type 0 where
+  pub stands : Stands s w' p'
+  pub adds : AddsHand s p (seen x).told p' (seen x').told
+  pub keeps : KeepsOn seen rule holds x p x' p'
+
+-- where both may be
+pub record Continues {K Fixed Plan : Type 0} (seen : K → Hooked Fixed) (rule : Fixed → List Entry → Entry → Type 0) (holds : K → List Entry → Type 0) (s : Start) (p : List Entry) (a : Seen Plan) (x : K) (w' : Worker) (p' : List Entry) (b : Seen Plan) (x' : K) : Type 0 where
+  pub stands : Stands s w' p'
+  pub serves : Serves s p a (seen x).told p' b (seen x').told
+  pub keeps : KeepsOn seen rule holds x p x' p'
+
+-- ---- with the answer
+
+-- where it went well nothing is due, and else no entry was added
+pub record Settles {X E : Type 0} (result : Result X E) (s : Start) (p p' : List Entry) : Type 0 where
+  pub done : OnOk result (agenda s p' ≡ Open)
+  pub err : OnErr result (p' ≡ p)

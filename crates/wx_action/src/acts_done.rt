@@ -1,0 +1,112 @@
+// What acts ask for is done.
+ghost use Rattle.std.specs.Prelude.{◌≡◌, ◌<◌, ◌≤◌, List, Some, OnOk, OnErr};
+ghost use Rattle.wx_journal.specs.declared.entry.Word.TheVariants.{Ignored};
+ghost use Rattle.wx_action.specs.declared.handler.Todo.{Todo as ATodo};
+ghost use Rattle.wx_action.specs.declared.handler.Todo.TheVariants as todo;
+ghost use Rattle.wx_action.specs.Serves.{Grows, Performs};
+ghost use Rattle.wx_action.specs.Start.{Start};
+ghost use Rattle.wx_action.specs.Due.{Agenda, agenda};
+ghost use Rattle.wx_action.specs.Perform.{OwesActs, IsFirst, IsDone};
+ghost use Rattle.wx_action.specs.Stands.{Stands, Ready, end_room};
+
+use crate::handler::Todo;
+use crate::worker_state::{Held, Worker};
+use std::alloc::Global;
+use wx_control::{Ask, Flag, Id};
+use wx_events::Memory;
+use wx_job::Host;
+use wx_journal::{Entry, Journal, Word};
+
+/// Makes a job that an act created: it is held from now on, with the room for its end. It fails only for want of memory,
+/// and adds no entry then.
+fn make<W: Host>(
+    worker: &mut Worker,
+    held: Held,
+    host: &mut W,
+    journal: &mut Journal,
+) -> Result<(), Memory>
+    ghost start: { Start }
+    requires owes { IsFirst start journal.old.past (todo.Create held) }
+    requires ready { Ready start worker.old journal.old (W.seen host.old) }
+    ensures performs { Performs start journal.old.past (W.seen host.old) worker.new journal.new (W.seen host.new) }
+    ensures owes { OnOk result (IsDone start journal.old.past (todo.Create held) journal.new.past) }
+    ensures err { OnErr result (journal.new.past ≡ journal.old.past) }
+{
+    worker.reserve(3, journal)?;
+    worker.reserve_host(2, host)?;
+    let id = held.handle.id();
+    worker.jobs.add(held)?;
+    journal.push(Entry::Made(id));
+    Ok(())
+}
+
+/// Asks of a job what an act asked of it, where the job lives, and else says that it is ignored. It fails only for want of
+/// memory, and adds no entry then.
+fn ask_or_ignore(
+    alloc: Global,
+    worker: &mut Worker,
+    id: Id,
+    ask: Ask,
+    done: Flag,
+    journal: &mut Journal,
+) -> Result<(), Memory>
+    ghost start: { Start }
+    requires owes { IsFirst start journal.old.past (todo.Ask id ask done) }
+    requires stands { Stands start worker.old journal.old.past }
+    requires room { end_room worker.old ≤ journal.old.spare }
+    ensures grows { Grows start worker.old journal.old.past worker.new journal.new.past }
+    ensures owes { OnOk result (IsDone start journal.old.past (todo.Ask id ask done) journal.new.past) }
+    ensures err { OnErr result (journal.new.past ≡ journal.old.past) }
+    ensures room { end_room worker.new ≤ journal.new.spare }
+{
+    worker.reserve(2, journal)?;
+    if !worker.jobs.lives(id) {
+        journal.push(Entry::Word(Word::Ignored));
+        return Ok(());
+    }
+    let task = worker.jobs.task_mut(id);
+    task.send(alloc, ask, Some(done), journal)?;
+    Ok(())
+}
+
+/// Does what an act asks for. It fails only for want of memory, and adds no entry then.
+fn perform_one<W: Host>(
+    alloc: Global,
+    worker: &mut Worker,
+    todo: Todo,
+    host: &mut W,
+    journal: &mut Journal,
+) -> Result<(), Memory>
+    ghost start: { Start }
+    requires owes { IsFirst start journal.old.past todo }
+    requires ready { Ready start worker.old journal.old (W.seen host.old) }
+    ensures performs { Performs start journal.old.past (W.seen host.old) worker.new journal.new (W.seen host.new) }
+    ensures owes { OnOk result (IsDone start journal.old.past todo journal.new.past) }
+    ensures err { OnErr result (journal.new.past ≡ journal.old.past) }
+{
+    match todo {
+        Todo::Create(held) => make(worker, held, host, journal),
+        Todo::Ask { job, ask, done } => ask_or_ignore(alloc, worker, job, ask, done, journal),
+    }
+}
+
+/// Does what the acts of a batch ask for, in order. It fails only for want of memory; what was done before stays.
+pub(crate) fn perform<W: Host>(
+    alloc: Global,
+    worker: &mut Worker,
+    todo: Vec<Todo>,
+    host: &mut W,
+    journal: &mut Journal,
+) -> Result<(), Memory>
+    ghost start: { Start }
+    requires owes { (more : Agenda) × OwesActs start journal.old.past todo.items more }
+    requires ready { Ready start worker.old journal.old (W.seen host.old) }
+    ensures performs { Performs start journal.old.past (W.seen host.old) worker.new journal.new (W.seen host.new) }
+    ensures owes { (more : Agenda) → OwesActs start journal.old.past todo.items more → (rest : List ATodo) × OwesActs start journal.new.past rest more }
+    ensures done { OnOk result ((more : Agenda) → OwesActs start journal.old.past todo.items more → agenda start journal.new.past ≡ more) }
+{
+    for one in todo {
+        perform_one(alloc, worker, one, host, journal)?;
+    }
+    Ok(())
+}

@@ -1,0 +1,174 @@
+// The turns of jobs.
+ghost use Rattle.std.specs.Prelude.{◌≡◌, ℕ, [], ◌+◌, ◌<◌, ◌≤◌, List, Option, IfSome, IfNone, OnOk, OnErr};
+ghost use Rattle.wx_journal.specs.declared.entry.Entry.{Entry as AnEntry};
+ghost use Rattle.wx_journal.specs.Told.{is_world};
+ghost use Rattle.wx_journal.specs.declared.entry.TurnKind.TheVariants.{Ask as AsksTurn, Job as JobTurn, Ended as EndedTurn};
+ghost use Rattle.wx_journal.specs.declared.entry.Word.TheVariants.{Ignored};
+ghost use Rattle.wx_job.specs.Steady.{IsSteady};
+ghost use Rattle.wx_action.specs.Serves.{Grows, Continues, Settles};
+ghost use Rattle.wx_action.specs.Start.{Start};
+ghost use Rattle.wx_action.specs.Jobs.{jobs};
+ghost use Rattle.wx_action.specs.Due.{agenda, Says, Open, Ends};
+ghost use Rattle.wx_action.specs.Answer.{Dying};
+ghost use Rattle.wx_action.specs.Told.{TellsOn};
+ghost use Rattle.wx_job.specs.Faults.{CountsOn};
+ghost use Rattle.wx_action.specs.Leads.{Follows};
+ghost use Rattle.wx_action.specs.Stands.{Stands, Ready, AtTurn, IsStepOf, HasRoom, end_room};
+
+use crate::outside::Hooks;
+use crate::worker_state::Worker;
+use std::alloc::Global;
+use wx_control::{Ask, Id};
+use wx_events::Memory;
+use wx_job::Host;
+use wx_journal::Journal;
+
+/// A turn that asks this of a job: the controls wait. It fails only for want of memory, and adds no entry then.
+pub fn ask_turn(
+    alloc: Global,
+    worker: &mut Worker,
+    id: Id,
+    ask: Ask,
+    journal: &mut Journal,
+) -> Result<(), Memory>
+    ghost start: { Start }
+    requires turn { (at : ℕ) × AtTurn start worker.old at (AsksTurn id ask) journal.old.past }
+    ensures grows { Grows start worker.old journal.old.past worker.new journal.new.past }
+    ensures settles { Settles result start journal.old.past journal.new.past }
+    ensures room { end_room worker.old ≤ journal.old.spare → end_room worker.new ≤ journal.new.spare }
+{
+    if !worker.jobs.lives(id) {
+        return worker.ignored(journal);
+    }
+    worker.reserve(2, journal)?;
+    let task = worker.jobs.task_mut(id);
+    task.send(alloc, ask, None, journal)?;
+    Ok(())
+}
+
+/// The step of the job of this id, which is owed. It fails only for want of memory, and adds no entry then.
+fn step_of<W: Host, H: Hooks>(
+    alloc: Global,
+    worker: &mut Worker,
+    id: Id,
+    at: u64,
+    host: &mut W,
+    hooks: &mut H,
+    journal: &mut Journal,
+) -> Result<(), Memory>
+    ghost start: { Start }
+    requires due { IsStepOf start id at journal.old.past }
+    requires stands { Stands start worker.old journal.old.past }
+    requires room { 16 + end_room worker.old ≤ journal.old.spare }
+    requires host_room { 16 + end_room worker.old ≤ (W.seen host.old).spare }
+    requires hooks_room { 16 ≤ (H.seen hooks.old).spare }
+    ensures continues { Continues H.seen H.rule H.stands start journal.old.past (W.seen host.old) hooks.old worker.new journal.new.past (W.seen host.new) hooks.new }
+    ensures settles { Settles result start journal.old.past journal.new.past }
+    ensures room { HasRoom worker.new journal.new.spare (W.seen host.new).spare }
+{
+    let task = worker.jobs.task_mut(id);
+    task.step(alloc, at, host, hooks, journal)?;
+    Ok(())
+}
+
+/// The step of the job of this id, which is owed, once room is taken for it. It fails only for want of memory, and adds
+/// no entry then.
+#[tactic(auto, using(wx_job::proofs::KeptLemmas::kept))]
+fn take_step<W: Host, H: Hooks>(
+    alloc: Global,
+    worker: &mut Worker,
+    id: Id,
+    at: u64,
+    host: &mut W,
+    hooks: &mut H,
+    journal: &mut Journal,
+) -> Result<(), Memory>
+    ghost start: { Start }
+    requires due { IsStepOf start id at journal.old.past }
+    requires stands { Stands start worker.old journal.old.past }
+    ensures continues { Continues H.seen H.rule H.stands start journal.old.past (W.seen host.old) hooks.old worker.new journal.new.past (W.seen host.new) hooks.new }
+    ensures settles { Settles result start journal.old.past journal.new.past }
+    ensures room { HasRoom worker.old journal.old.spare (W.seen host.old).spare → HasRoom worker.new journal.new.spare (W.seen host.new).spare }
+{
+    worker.reserve(16, journal)?;
+    worker.reserve_host(16, host)?;
+    hooks.reserve(16)?;
+    step_of(alloc, worker, id, at, host, hooks, journal)
+}
+
+/// A turn of a job: it takes a step. It fails only for want of memory, and adds no entry then.
+pub fn job_turn<W: Host, H: Hooks>(
+    alloc: Global,
+    worker: &mut Worker,
+    id: Id,
+    at: u64,
+    host: &mut W,
+    hooks: &mut H,
+    journal: &mut Journal,
+) -> Result<(), Memory>
+    ghost start: { Start }
+    requires turn { AtTurn start worker.old at (JobTurn id) journal.old.past }
+    ensures continues { Continues H.seen H.rule H.stands start journal.old.past (W.seen host.old) hooks.old worker.new journal.new.past (W.seen host.new) hooks.new }
+    ensures settles { Settles result start journal.old.past journal.new.past }
+    ensures room { HasRoom worker.old journal.old.spare (W.seen host.old).spare → HasRoom worker.new journal.new.spare (W.seen host.new).spare }
+{
+    if !worker.jobs.lives(id) {
+        return worker.ignored(journal);
+    }
+    take_step(alloc, worker, id, at, host, hooks, journal)
+}
+
+/// Keeps the end of a child that a turn told, with the job that ran it, and answers the id of this. It takes no memory.
+pub fn keep_end(worker: &mut Worker, child: u64, at: u64, journal: &Journal) -> Option<Id>
+    ghost start: { Start }
+    requires turn { AtTurn start worker.old at (EndedTurn child) journal.now.past }
+    ensures stands { Stands start worker.new journal.now.past }
+    ensures some { IfSome result (λ id. IsStepOf start id at journal.now.past) }
+    ensures none { IfNone result (agenda start journal.now.past ≡ Says Ignored Open) }
+    ensures room { end_room worker.new ≡ end_room worker.old }
+{
+    let Some(id) = worker.jobs.parent(child) else {
+        return None;
+    };
+    let task = worker.jobs.task_mut(id);
+    task.keep_end(child, at, journal);
+    Some(id)
+}
+
+/// A turn that tells the end of a child: the job that ran it keeps the end, and takes a step. It fails only for want of
+/// memory, and adds no entry then.
+pub fn ended_turn<W: Host, H: Hooks>(
+    alloc: Global,
+    worker: &mut Worker,
+    child: u64,
+    at: u64,
+    host: &mut W,
+    hooks: &mut H,
+    journal: &mut Journal,
+) -> Result<(), Memory>
+    ghost start: { Start }
+    requires turn { AtTurn start worker.old at (EndedTurn child) journal.old.past }
+    ensures continues { Continues H.seen H.rule H.stands start journal.old.past (W.seen host.old) hooks.old worker.new journal.new.past (W.seen host.new) hooks.new }
+    ensures settles { Settles result start journal.old.past journal.new.past }
+    ensures room { HasRoom worker.old journal.old.spare (W.seen host.old).spare → HasRoom worker.new journal.new.spare (W.seen host.new).spare }
+{
+    let Some(id) = keep_end(worker, child, at, journal) else {
+        return worker.ignored(journal);
+    };
+    take_step(alloc, worker, id, at, host, hooks, journal)
+}
+
+/// The end of all jobs: each that lives is gone, by rising name, and its child is let go. It takes no memory: the room
+/// for it was kept.
+pub fn end_jobs<W: Host>(worker: &mut Worker, host: &mut W, journal: &mut Journal)
+    ghost start: { Start }
+    requires ready { Ready start worker.old journal.old (W.seen host.old) }
+    ensures dying { Dying journal.old.past journal.new.past }
+    ensures none { jobs journal.new.past ≡ [] }
+    ensures told { TellsOn is_world journal.old.past (W.seen host.old).shown.told journal.new.past (W.seen host.new).shown.told }
+    ensures follows { agenda start journal.old.past ≡ Ends → (hooks : Option (List AnEntry)) → Follows start journal.old.past (W.seen host.old).shown.told hooks journal.new.past (W.seen host.new).shown.told hooks }
+    ensures kept { IsSteady (W.seen host.old) (W.seen host.new) }
+    ensures faults { CountsOn journal.old.past (W.seen host.old).shown.faults journal.new.past (W.seen host.new).shown.faults }
+{
+    worker.jobs.end_all(host, journal);
+}

@@ -1,0 +1,207 @@
+// What an engine keeps between turns.
+ghost use Rattle.std.specs.Prelude.{◌≡◌, ◌∷◌, [], ◌++◌, ◌+◌, ◌*◌, ◌^◌, ◌<◌, ◌≤◌, ◌==◌, false, length, List, IfOk, OnOk, OnErr};
+ghost use Rattle.wx_events.specs.declared.event.Event.{Event as AnEvent};
+ghost use Rattle.wx_events.specs.declared.priority.Priority.{Priority as APriority};
+ghost use Rattle.prio_channel.specs.SameBag.{SameBag};
+ghost use Rattle.wx_journal.specs.declared.entry.Entry.{Entry};
+ghost use Rattle.wx_journal.specs.declared.entry.Word.TheVariants.{Ignored};
+ghost use Rattle.wx_journal.specs.Names.{event_count};
+ghost use Rattle.wx_job.specs.Steady.{OnlyRoom};
+ghost use Rattle.wx_action.specs.Serves.{Grows, Settles};
+ghost use Rattle.wx_action.specs.Start.{Start, IsSize};
+ghost use Rattle.wx_action.specs.Journal.{bag};
+ghost use Rattle.wx_action.specs.Due.{agenda, Open, Sends, rest, Offers, Says, begin_of};
+ghost use Rattle.wx_action.specs.Stands.{Stands, IsOffered, end_room};
+ghost use Rattle.wx_action.specs.HeldJobs.{is_here, runs_child};
+
+use crate::batch::Batch;
+use crate::job_list::JobList;
+use prio_channel::PrioQueue;
+use std::alloc::Global;
+use wx_config::Config;
+use wx_control::Job;
+use wx_events::{Copies, Event, Memory, Priority};
+use wx_job::{Host, JobTask};
+use wx_journal::{Entry, Journal, Named, Offered, Word};
+
+/// What is held of a job: a handle on it, for the action handler, and its task.
+#[derive(Drop, Debug)]
+pub struct Held {
+    pub handle: Job,
+    pub task: JobTask,
+}
+
+/// What an engine keeps between turns: its settings, the queue, how many events have a name, the window, the moment at
+/// which the window's first event was taken, in nanoseconds, and the jobs that a handler sees, by rising name.
+#[derive(Drop, Debug)]
+pub struct Worker {
+    pub config: Config,
+    pub queue: PrioQueue<Named>,
+    pub named: u64,
+    pub batch: Batch,
+    pub first: u64,
+    pub jobs: JobList,
+}
+
+impl Held {
+    /// Whether the job isn't gone.
+    pub(crate) fn is_here(&self) -> bool
+        ensures { result ≡ is_here self.now }
+    {
+        !self.task.is_gone()
+    }
+
+    /// Whether this child runs.
+    pub(crate) fn runs(&self, child: u64) -> bool
+        ensures { result ≡ runs_child child self.now }
+    {
+        match self.task.running_child() {
+            Some(running) => running == child,
+            None => false,
+        }
+    }
+}
+
+/// The room for so many entries, besides what the end of so many jobs takes.
+fn room_besides(jobs: u64, n: u64) -> Result<u64, Memory>
+    ensures { IfOk result (λ room. room ≡ n + 2 * jobs) }
+{
+    let end = jobs.checked_mul(2).ok_or(Memory)?;
+    let room = end.checked_add(n).ok_or(Memory)?;
+    Ok(room)
+}
+
+impl Worker {
+    /// A worker with an empty queue. It stands for the journal that holds the beginning alone. It fails only for want of
+    /// memory.
+    pub fn new(alloc: Global, config: Config) -> Result<Worker, Memory>
+        requires size { IsSize config.event_channel_size }
+        ensures stands { IfOk result (λ worker. (s : Start) → s.config ≡ config → Stands s worker (begin_of s ∷ [])) }
+        ensures room { IfOk result (λ worker. end_room worker ≡ 0) }
+    {
+        let queue = PrioQueue::bounded(alloc, config.event_channel_size)?;
+        Ok(Worker {
+            config,
+            queue,
+            named: 0,
+            batch: Batch::new(alloc),
+            first: 0,
+            jobs: JobList::new(alloc),
+        })
+    }
+
+    /// Takes room in the journal for so many entries, besides what the end of all jobs takes. It fails only for want of
+    /// memory.
+    pub fn reserve(&self, n: u64, journal: &mut Journal) -> Result<(), Memory>
+        ensures same { journal.new.past ≡ journal.old.past }
+        ensures kept { journal.old.spare ≤ journal.new.spare }
+        ensures room { OnOk result (n + end_room self.now ≤ journal.new.spare) }
+        ensures fits { OnOk result (length journal.new.past + journal.new.spare < 2 ^ 64) }
+    {
+        let room = room_besides(self.jobs.len() as u64, n)?;
+        journal.reserve(room)?;
+        Ok(())
+    }
+
+    /// The same for a host.
+    pub fn reserve_host<W: Host>(&self, n: u64, host: &mut W) -> Result<(), Memory>
+        ensures room { OnOk result (n + end_room self.now ≤ (W.seen host.new).spare) }
+        ensures rest { OnlyRoom (W.seen host.old) (W.seen host.new) }
+    {
+        let room = room_besides(self.jobs.len() as u64, n)?;
+        host.reserve(room)?;
+        Ok(())
+    }
+
+    /// Lists an event that was sent before the run, and puts it into the queue, where there is room. It fails only for
+    /// want of memory. The worker stays as it was then, and no entry is added.
+    pub fn send(
+        &mut self,
+        alloc: Global,
+        event: Event,
+        priority: Priority,
+        journal: &mut Journal,
+    ) -> Result<(), Memory>
+        ghost start: { Start }
+        requires due { (more : List (AnEvent × APriority)) × (agenda start journal.old.past ≡ Sends event priority more) }
+        requires stands { Stands start self.old journal.old.past }
+        requires fits { length (bag journal.old.past) < start.config.event_channel_size }
+        ensures grows { Grows start self.old journal.old.past self.new journal.new.past }
+        ensures done { OnOk result (agenda start journal.new.past ≡ rest (Entry.Sent self.old.named event priority) (agenda start journal.old.past)) }
+        ensures bag { OnOk result (length (bag journal.new.past) ≡ length (bag journal.old.past) + 1) }
+        ensures err { OnErr result (journal.new.past ≡ journal.old.past) }
+        ensures same { OnErr result (self.new ≡ self.old) }
+        ensures room { end_room self.old ≤ journal.old.spare → end_room self.new ≤ journal.new.spare }
+    {
+        self.reserve(1, journal)?;
+        let name = self.named;
+        let twice = event.copy(alloc)?;
+        let _ = offer_to(&mut self.queue, Named { name, event: twice }, priority);
+        self.named = name + 1;
+        journal.push(Entry::Sent {
+            name,
+            event,
+            priority,
+        });
+        Ok(())
+    }
+
+    /// Offers an event that arrived to the queue. It fails only for want of memory. The worker stays as it was then, and no
+    /// entry is added.
+    pub fn arrive(
+        &mut self,
+        alloc: Global,
+        event: Event,
+        priority: Priority,
+        journal: &mut Journal,
+    ) -> Result<(), Memory>
+        ghost start: { Start }
+        requires due { agenda start journal.old.past ≡ Offers event priority Open }
+        requires stands { Stands start self.old journal.old.past }
+        ensures grows { Grows start self.old journal.old.past self.new journal.new.past }
+        ensures settles { Settles result start journal.old.past journal.new.past }
+        ensures same { OnErr result (self.new ≡ self.old) }
+        ensures room { end_room self.old ≤ journal.old.spare → end_room self.new ≤ journal.new.spare }
+    {
+        self.reserve(1, journal)?;
+        let name = self.named;
+        let twice = event.copy(alloc)?;
+        let result = offer_to(&mut self.queue, Named { name, event: twice }, priority);
+        self.named = name + 1;
+        journal.push(Entry::Offer {
+            name,
+            item: None,
+            result,
+            event,
+            priority,
+        });
+        Ok(())
+    }
+
+    /// Says of a turn that what it is about isn't there. It fails only for want of memory, and adds no entry then.
+    pub fn ignored(&self, journal: &mut Journal) -> Result<(), Memory>
+        ghost start: { Start }
+        requires due { agenda start journal.old.past ≡ Says Ignored Open }
+        requires stands { Stands start self.now journal.old.past }
+        ensures grows { Grows start self.now journal.old.past self.now journal.new.past }
+        ensures settles { Settles result start journal.old.past journal.new.past }
+        ensures room { end_room self.now ≤ journal.old.spare → end_room self.now ≤ journal.new.spare }
+    {
+        self.reserve(1, journal)?;
+        journal.push(Entry::Word(Word::Ignored));
+        Ok(())
+    }
+}
+
+/// Offers an item to a queue, which drops it where it is full.
+fn offer_to(queue: &mut PrioQueue<Named>, item: Named, priority: Priority) -> Offered
+    requires { queue.old.closed ≡ false }
+    ensures offered { IsOffered queue.old (item, priority) queue.new result }
+    ensures size { queue.new.size ≡ queue.old.size }
+    ensures closed { queue.new.closed ≡ false }
+{
+    match queue.try_send(item, priority) {
+        Ok(()) => Offered::Queued,
+        Err(_) => Offered::Full,
+    }
+}

@@ -1,0 +1,200 @@
+// The controls that wait for a job.
+ghost use Rattle.std.specs.Prelude.{◌≡◌, ◌∷◌, ◌++◌, [], ◌+◌, ◌≤◌, ◌<◌, ◌==◌, vec_len, vec_capacity, false, OnOk, OnErr, IfOk, IfSome, IfNone, option_map};
+ghost use Rattle.wx_control.specs.Waits.{IsEmpty, ticketed, picked, joined, headed, first_of, first_level};
+
+use crate::control::Control;
+use crate::flag::Flag;
+use crate::level::Level;
+use std::alloc::Global;
+use std::marker::Model;
+use wx_events::Memory;
+
+/// A control that waits.
+#[derive(Drop, Debug)]
+struct Waiting {
+    ticket: u64,
+    done: Flag,
+    control: Control,
+}
+
+/// A control that was picked: its ticket, the flag to raise once it is done, and the level at which it waited.
+#[derive(Drop, Debug)]
+pub struct Picked {
+    pub ticket: u64,
+    pub done: Flag,
+    pub control: Control,
+    pub level: Level,
+}
+
+/// The controls that wait for a job, a list for each level, first in first out. Contracts see those of each level with
+/// their tickets, and how many more there is room for at every level.
+#[derive(Drop, Debug)]
+pub struct ThreeLists {
+    urgent: Vec<Waiting>,
+    high: Vec<Waiting>,
+    normal: Vec<Waiting>,
+}
+
+impl Model for ThreeLists {
+    ghost use Rattle.std.specs.Prelude.{map, min, ◌-◌, vec_len, vec_capacity};
+    ghost use Rattle.wx_control.specs.Waits.{Waits, ticketed};
+
+    ghost Value = { Waits };
+
+    ghost view = { λ l. record {
+      urgent = map ticketed l.urgent.items;
+      high = map ticketed l.high.items;
+      normal = map ticketed l.normal.items;
+      spare = min (vec_capacity l.urgent - vec_len l.urgent) (min (vec_capacity l.high - vec_len l.high) (vec_capacity l.normal - vec_len l.normal));
+    } };
+}
+
+impl ThreeLists {
+    /// Lists in which none waits. It fails only for want of memory.
+    pub fn new(alloc: Global) -> Result<ThreeLists, Memory>
+        ensures { IfOk result IsEmpty }
+    {
+        Ok(ThreeLists {
+            urgent: Vec::new(alloc),
+            high: Vec::new(alloc),
+            normal: Vec::new(alloc),
+        })
+    }
+
+    /// Takes room for `n` more at every level. It fails only for want of memory.
+    pub fn reserve(&mut self, n: u64) -> Result<(), Memory>
+        ensures same { self.new ≡ record self.old { spare = self.new.spare } }
+        ensures room { OnOk result (n ≤ self.new.spare) }
+        ensures kept { self.old.spare ≤ self.new.spare }
+    {
+        self.urgent.reserve(n as usize)?;
+        self.high.reserve(n as usize)?;
+        self.normal.reserve(n as usize)?;
+        Ok(())
+    }
+
+    /// A control waits at a level, behind the others. It fails only for want of memory, and nothing changes then.
+    pub fn put(
+        &mut self,
+        ticket: u64,
+        done: Flag,
+        control: Control,
+        level: Level,
+    ) -> Result<(), Memory>
+        ensures ok { OnOk result (self.new ≡ record (joined level (ticket, control) self.old) { spare = self.new.spare }) }
+        ensures err { OnErr result (self.new ≡ self.old) }
+    {
+        let waiting = Waiting {
+            ticket,
+            done,
+            control,
+        };
+        match level {
+            Level::Urgent => put_in(&mut self.urgent, waiting),
+            Level::High => put_in(&mut self.high, waiting),
+            Level::Normal => put_in(&mut self.normal, waiting),
+        }
+    }
+
+    /// A control waits at a level, behind the others, in room that was taken before.
+    pub fn put_reserved(&mut self, ticket: u64, done: Flag, control: Control, level: Level)
+        requires { 1 ≤ self.old.spare }
+        ensures joins { self.new ≡ record (joined level (ticket, control) self.old) { spare = self.new.spare } }
+        ensures room { self.old.spare ≤ self.new.spare + 1 }
+    {
+        let waiting = Waiting {
+            ticket,
+            done,
+            control,
+        };
+        match level {
+            Level::Urgent => self.urgent.push_reserved(waiting),
+            Level::High => self.high.push_reserved(waiting),
+            Level::Normal => self.normal.push_reserved(waiting),
+        }
+    }
+
+    /// The control that `pick` would take, with its ticket.
+    pub fn first(&self, grace: bool) -> Option<(u64, Control)>
+        ensures { result ≡ first_of grace self.now }
+    {
+        if let Some(waiting) = self.urgent.first() {
+            return Some((waiting.ticket, waiting.control));
+        }
+        if let Some(waiting) = self.high.first() {
+            return Some((waiting.ticket, waiting.control));
+        }
+        match self.normal.first() {
+            Some(_) if grace => None,
+            Some(waiting) => Some((waiting.ticket, waiting.control)),
+            None => None,
+        }
+    }
+
+    /// Takes the first urgent one, else the first of the level High, else, where no grace runs, the first of the level
+    /// Normal. There is none exactly where none of these waits. It takes no memory.
+    pub fn pick(&mut self, grace: bool) -> Option<Picked>
+        ensures picked { option_map picked result ≡ first_of grace self.old }
+        ensures level { option_map (λ x. x.level) result ≡ first_level grace self.old }
+        ensures taken { IfSome result (λ x. self.old ≡ record (headed x.level (picked x) self.new) { spare = self.old.spare }) }
+        ensures none { IfNone result (self.new ≡ self.old) }
+        ensures room { self.old.spare ≤ self.new.spare }
+    {
+        if !self.urgent.is_empty() {
+            return Some(take_first(&mut self.urgent, Level::Urgent));
+        }
+        if !self.high.is_empty() {
+            return Some(take_first(&mut self.high, Level::High));
+        }
+        if grace {
+            return None;
+        }
+        if self.normal.is_empty() {
+            return None;
+        }
+        Some(take_first(&mut self.normal, Level::Normal))
+    }
+
+    /// None waits any more.
+    pub fn clear(&mut self)
+        ensures empty { IsEmpty self.new }
+        ensures room { self.old.spare ≤ self.new.spare }
+    {
+        self.urgent.clear();
+        self.high.clear();
+        self.normal.clear();
+    }
+}
+
+/// Adds one at the end of a list. It fails only for want of memory, and nothing changes then.
+fn put_in(list: &mut Vec<Waiting>, waiting: Waiting) -> Result<(), Memory>
+    ensures ok { OnOk result (list.new.items ≡ list.old.items ++ waiting ∷ []) }
+    ensures items { OnErr result (list.new.items ≡ list.old.items) }
+    ensures len { OnErr result (vec_len list.new ≡ vec_len list.old) }
+    ensures capacity { OnErr result (vec_capacity list.new ≡ vec_capacity list.old) }
+{
+    list.reserve(1)?;
+    list.push_reserved(waiting);
+    Ok(())
+}
+
+/// Takes the first of the list of this level.
+fn take_first(list: &mut Vec<Waiting>, level: Level) -> Picked
+    requires { (vec_len list.old == 0) ≡ false }
+    ensures items { list.old.items ≡ record { ticket = result.ticket; done = result.done; control = result.control } ∷ list.new.items }
+    ensures level { result.level ≡ level }
+    ensures len { vec_len list.new + 1 ≡ vec_len list.old }
+    ensures capacity { vec_capacity list.new ≡ vec_capacity list.old }
+{
+    let Waiting {
+        ticket,
+        done,
+        control,
+    } = list.remove(0);
+    Picked {
+        ticket,
+        done,
+        control,
+        level,
+    }
+}

@@ -1,0 +1,180 @@
+-- Entries as words.
+use Rattle.std.proofs.Common.{refl}
+use Rattle.std.specs.Prelude.{ℕ, Bool, Result, Option, Some, List, [], ◌∷◌, ◌++◌, codes}
+use Rattle.std.specs.List.{flat_map, AllByRecursion}
+use Rattle.std.specs.Option.{option_or}
+use Rattle.wx_words.specs.Line.{◌>>=◌}
+use Rattle.wx_words.specs.Combine.{whole}
+use Rattle.wx_words.specs.Spellings.{Spelling}
+use Rattle.wx_words.specs.Choices.{Row, row, Behind, fields}
+use Rattle.wx_words.specs.ChoiceLaws.{MadeAgain, SpeltSo, choice}
+use Rattle.wx_words.specs.Parts.{line, never, both, named, list_of, as_line, number, u32, text, optional}
+use Rattle.wx_words.specs.Switches.{switch}
+use Rattle.wx_words.specs.ToEnd.{all_in}
+use Rattle.wx_events.specs.declared.priority.Priority.{Priority}
+use Rattle.wx_events.specs.declared.event.Event.{Event}
+use Rattle.wx_events.specs.declared.process.ProcessEnd.{ProcessEnd}
+use Rattle.wx_command.specs.Commands.{spawnable}
+use Rattle.wx_command.specs.declared.spawnable.Spawnable.{Spawnable}
+use Rattle.wx_config.specs.Watched.{watcher, watched}
+use Rattle.wx_config.specs.declared.watched.Watcher.{Watcher}
+use Rattle.wx_config.specs.declared.watched.WatchedPath.{WatchedPath}
+use Rattle.wx_control.specs.Ids.{id}
+use Rattle.wx_control.specs.Levels.{level}
+use Rattle.wx_control.specs.Controls.{control}
+use Rattle.wx_control.specs.declared.id.Id.{Id}
+use Rattle.wx_control.specs.declared.level.Level.{Level}
+use Rattle.wx_control.specs.declared.control.Control.{Control}
+use Rattle.wx_journal.specs.Acts.{JournalAct, act}
+use Rattle.wx_journal.specs.Answers.{done, waited}
+use Rattle.wx_journal.specs.Kinds.{ranked, turn}
+use Rattle.wx_journal.specs.Words.{offered, said, tag}
+use Rattle.wx_journal.specs.declared.child.SpawnTag.{SpawnTag}
+use Rattle.wx_journal.specs.declared.child.HostFault.{HostFault}
+use Rattle.wx_journal.specs.declared.entry.Offered.{Offered}
+use Rattle.wx_journal.specs.declared.entry.Entry.{Entry}
+use Rattle.wx_journal.specs.declared.entry.Entry.TheVariants.{Begin, Sent, Turn as Turned, TurnFault, Offer, Word as Said, Take, Hand, Made, Asked, Pick, Spawn, Kill, Wait, Dropped, Raise, Gone}
+
+-- ---- what stands behind the first word of an entry
+
+-- the settings, each behind its name
+abbrev pub limits : Spelling line (ℕ × (ℕ × ℕ))
+limits = both (named (codes "throttle") refl (as_line number)) (both (named (codes "size") refl u32) (named (codes "errors") refl u32))
+
+abbrev pub switches : Spelling line (Bool × (Bool × Bool))
+switches = both (named (codes "keyboard") refl switch) (both (named (codes "follow") refl switch) (named (codes "jobsignals") refl switch))
+
+abbrev pub watch : Spelling line (Watcher × (List ℕ × List WatchedPath))
+watch = both (named (codes "watcher") refl watcher) (both (named (codes "cwd") refl text) (named (codes "paths") refl (list_of watched)))
+
+abbrev pub settings : Spelling line ((ℕ × (ℕ × ℕ)) × ((Bool × (Bool × Bool)) × (Watcher × (List ℕ × List WatchedPath))))
+settings = both limits (both switches watch)
+
+abbrev pub make_begin : (ℕ × (ℕ × ℕ)) × ((Bool × (Bool × Bool)) × (Watcher × (List ℕ × List WatchedPath))) → Entry
+make_begin p = Begin p.0.0 p.0.1.0 p.0.1.1 p.1.0.0 p.1.0.1.0 p.1.0.1.1 p.1.1.0 p.1.1.1.0 p.1.1.1.1
+
+abbrev pub sent : Spelling line (ℕ × (Priority × Event))
+sent = both (as_line number) ranked
+
+abbrev pub offer : Spelling line (ℕ × (Option ℕ × (Offered × (Priority × Event))))
+offer = both (as_line number) (both optional (both offered ranked))
+
+abbrev pub asked : Spelling line (ℕ × (Id × (Level × Control)))
+asked = both (as_line number) (both id (both level control))
+
+abbrev pub pick : Spelling line (Id × ℕ)
+pick = both id (as_line number)
+
+abbrev pub spawn : Spelling line (ℕ × (Id × (SpawnTag × (Spawnable × Result (Unit {0}) HostFault))))
+spawn = both (as_line number) (both id (both tag (both spawnable done)))
+
+abbrev pub kill : Spelling line (ℕ × Result (Unit {0}) HostFault)
+kill = both (as_line number) done
+
+abbrev pub wait : Spelling line (ℕ × Result ProcessEnd HostFault)
+wait = both (as_line number) waited
+
+abbrev pub unread : Spelling line (ℕ × (List ℕ × List JournalAct))
+unread = never
+
+abbrev pub make_hand : ℕ × (List ℕ × List JournalAct) → Entry
+make_hand p = Hand p.0 p.1.0 p.1.1
+
+-- ---- each first word of an entry, and what stands behind it: of a Hand, whose acts run to the end of the line, nothing is
+-- read here
+
+abbrev pub entry_rows : List (Row line Entry)
+entry_rows =
+    row (codes "begin") settings make_begin
+    ∷ row (codes "sent") sent (λ p. Sent p.0 p.1.1 p.1.0)
+    ∷ row (codes "turn") turn Turned
+    ∷ row (codes "turnfault") u32 TurnFault
+    ∷ row (codes "offer") offer (λ p. Offer p.0 p.1.0 p.1.1.0 p.1.1.1.1 p.1.1.1.0)
+    ∷ row (codes "word") said Said
+    ∷ row (codes "take") (as_line number) Take
+    ∷ row (codes "hand") unread make_hand
+    ∷ row (codes "made") id Made
+    ∷ row (codes "asked") asked (λ p. Asked p.0 p.1.0 p.1.1.0 p.1.1.1)
+    ∷ row (codes "pick") pick (λ p. Pick p.0 p.1)
+    ∷ row (codes "spawn") spawn (λ p. Spawn p.0 p.1.0 p.1.1.0 p.1.1.1.0 p.1.1.1.1)
+    ∷ row (codes "kill") kill (λ p. Kill p.0 p.1)
+    ∷ row (codes "wait") wait (λ p. Wait p.0 p.1)
+    ∷ row (codes "drop") (as_line number) Dropped
+    ∷ row (codes "raise") (as_line number) Raise
+    ∷ row (codes "gone") id Gone
+    ∷ []
+
+abbrev pub entry_word : Entry → List ℕ
+entry_word (Begin _ _ _ _ _ _ _ _ _) = codes "begin"
+entry_word (Sent _ _ _) = codes "sent"
+entry_word (Turned _) = codes "turn"
+entry_word (TurnFault _) = codes "turnfault"
+entry_word (Offer _ _ _ _ _) = codes "offer"
+entry_word (Said _) = codes "word"
+entry_word (Take _) = codes "take"
+entry_word (Hand _ _ _) = codes "hand"
+entry_word (Made _) = codes "made"
+entry_word (Asked _ _ _ _) = codes "asked"
+entry_word (Pick _ _) = codes "pick"
+entry_word (Spawn _ _ _ _ _) = codes "spawn"
+entry_word (Kill _ _) = codes "kill"
+entry_word (Wait _ _) = codes "wait"
+entry_word (Dropped _) = codes "drop"
+entry_word (Raise _) = codes "raise"
+entry_word (Gone _) = codes "gone"
+
+abbrev pub entry_behind : Entry → Behind line
+entry_behind (Begin throttle size errors keyboard follow jobsignals how cwd paths) = fields settings ((throttle, (size, errors)), ((keyboard, (follow, jobsignals)), (how, (cwd, paths))))
+entry_behind (Sent name event priority) = fields sent (name, (priority, event))
+entry_behind (Turned t) = fields turn t
+entry_behind (TurnFault code) = fields u32 code
+entry_behind (Offer name item result event priority) = fields offer (name, (item, (result, (priority, event))))
+entry_behind (Said word) = fields said word
+entry_behind (Take name) = fields (as_line number) name
+entry_behind (Hand n names acts) = fields unread (n, (names, acts))
+entry_behind (Made job) = fields id job
+entry_behind (Asked ticket job l c) = fields asked (ticket, (job, (l, c)))
+entry_behind (Pick job ticket) = fields pick (job, ticket)
+entry_behind (Spawn child job by what answer) = fields spawn (child, (job, (by, (what, answer))))
+entry_behind (Kill child answer) = fields kill (child, answer)
+entry_behind (Wait child answer) = fields wait (child, answer)
+entry_behind (Dropped child) = fields (as_line number) child
+entry_behind (Raise ticket) = fields (as_line number) ticket
+entry_behind (Gone job) = fields id job
+
+pub entry_made : MadeAgain entry_rows entry_word entry_behind
+entry_made (Begin throttle size errors keyboard follow jobsignals how cwd paths) = (_, refl, refl)
+entry_made e = (_, refl, refl)
+
+pub entry_so : SpeltSo entry_rows entry_word entry_behind
+entry_so = search
+
+unfoldable pub entry : Spelling line Entry
+entry = choice entry_rows entry_word entry_behind entry_made entry_so refl
+
+-- ---- a Hand: the number of the handler and the names of the batch, and then the acts, which have no count: they are all
+-- words that are left
+
+abbrev pub hand : Spelling line (ℕ × List ℕ)
+hand = named (codes "hand") refl (both u32 (list_of (as_line number)))
+
+abbrev pub read_hand : List (List ℕ) → Option Entry
+read_hand ws = do
+  batch ← hand.read ws
+  acts ← all_in act.read batch.1
+  Some (Hand batch.0.0 batch.0.1 acts)
+
+-- ---- every entry
+
+abbrev pub entry_words : Entry → List (List ℕ)
+entry_words (Hand n names acts) = hand.words (n, names) ++ flat_map act.words acts
+entry_words e = entry.words e
+
+-- the entry whose words these are
+abbrev pub read_entry : List (List ℕ) → Option Entry
+read_entry ws = option_or (whole (entry.read ws)) (read_hand ws)
+
+-- the numbers and texts of an entry are those of the code
+abbrev pub EntryFits : Entry → Type 0
+EntryFits (Hand n names acts) = hand.fits (n, names) × AllByRecursion act.fits acts
+EntryFits e = entry.fits e

@@ -1,0 +1,99 @@
+// What one line of a script says.
+ghost use Rattle.std.specs.Prelude.{◌≡◌, IfOk};
+ghost use Rattle.wx_words.specs.Line.{Reads};
+ghost use Rattle.wx_replay.specs.Lines.{can_bring, is_scripted, read_set, read_form, line_in};
+
+use std::alloc::Global;
+use wx_engine::Wanted;
+use wx_events::{Event, List, Memory, Priority, ProcessEnd, Spelled, Words};
+use wx_journal::{Act, HostFault, Turn, TurnKind};
+use wx_words::{read_result, read_rows, read_to_end};
+
+/// What a line of a script says.
+#[derive(Drop, Debug)]
+pub enum Line {
+    /// Nothing, as an empty line and one that begins with `#`.
+    Nothing,
+    /// How long events are collected, in nanoseconds.
+    Throttle(u64),
+    /// How many events the queue holds.
+    Size(u32),
+    /// An event is sent before the run.
+    Send(Event, Priority),
+    /// The world gives a turn.
+    Turn(Turn),
+    /// The world has no turn to give, and this is the code of its fault.
+    Fault(u32),
+    /// The action handler asks for this in one call.
+    Acts(List<Act<Wanted>>),
+    /// The host answers this to a spawn.
+    Spawn(Result<(), HostFault>),
+    /// The host answers this to a kill.
+    Kill(Result<(), HostFault>),
+    /// The host answers this to a wait.
+    Wait(Result<ProcessEnd, HostFault>),
+}
+
+/// Whether a script can say that a turn brings this: all but an event with tags, and a last turn.
+fn can_bring(kind: &TurnKind) -> bool
+    ensures { result ≡ can_bring kind.now }
+{
+    match kind {
+        TurnKind::Arrive(event, _) => event.is_empty(),
+        TurnKind::Last => false,
+        _ => true,
+    }
+}
+
+/// Whether a script can say this.
+fn is_scripted(said: &Line) -> bool
+    ensures { result ≡ is_scripted said.now }
+{
+    match said {
+        Line::Send(event, _) => event.is_empty(),
+        Line::Turn(turn) => can_bring(&turn.kind),
+        _ => true,
+    }
+}
+
+/// Takes a setting, or loses the place.
+#[tactic(auto, unfolding(crate::specs::Lines::read_set))]
+fn take_set(alloc: Global, line: &mut Words) -> Result<Option<Line>, Memory>
+    ensures { IfOk result (λ said. Reads line.new said (read_set line.old)) }
+{
+    read_rows!(alloc, line;
+        b"throttle" (throttle) => Line::Throttle(throttle),
+        b"size" (size) => Line::Size(size),
+    )
+}
+
+/// Takes what the first word calls for, or loses the place.
+#[tactic(auto, using(wx_journal::specs::Acts::act_has_word), unfolding(crate::specs::Lines::read_form))]
+fn take_form(alloc: Global, line: &mut Words) -> Result<Option<Line>, Memory>
+    ensures { IfOk result (λ said. Reads line.new said (read_form line.old)) }
+{
+    read_rows!(alloc, line;
+        b"set" (said = take_set) => said,
+        b"send" (priority, event) => Line::Send(event, priority),
+        b"turn" (turn) => Line::Turn(turn),
+        b"turnfault" (code) => Line::Fault(code),
+        b"action" (acts = read_to_end) => Line::Acts(acts),
+        b"spawn" (answer = read_result) => Line::Spawn(answer),
+        b"kill" (answer = read_result) => Line::Kill(answer),
+        b"wait" (answer = read_result) => Line::Wait(answer),
+    )
+}
+
+/// What a line says, without its line feed.
+pub fn line_in(alloc: Global, line: &[u8]) -> Result<Option<Line>, Memory>
+    ensures { IfOk result (λ said. said ≡ line_in line.now) }
+{
+    if line.is_empty() || line[0] == 35 {
+        return Ok(Some(Line::Nothing));
+    }
+    let mut words = Words::new(line);
+    match take_form(alloc, &mut words)? {
+        Some(said) if words.is_done() && is_scripted(&said) => Ok(Some(said)),
+        _ => Ok(None),
+    }
+}

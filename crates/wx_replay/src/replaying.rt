@@ -1,0 +1,123 @@
+// A script from its bytes to the journal of its run.
+ghost use Rattle.std.specs.Prelude.{◌≡◌, ◌≢◌, ◌⊎◌, ◌++◌, ◌∷◌, [], IfOk, codes, decimal};
+ghost use Rattle.std.specs.Io.KnownBytes.{Appends};
+ghost use Rattle.wx_journal.specs.Told.{Rose};
+ghost use Rattle.wx_config.specs.Defaults.{default_config};
+ghost use Rattle.wx_engine.specs.Follows.{IsScript, start_of};
+ghost use Rattle.wx_replay.specs.Causes.{AddsFront};
+ghost use Rattle.wx_replay.specs.Replays.{IsReplay, ReplaysRead, IsWritten, HasRead, HasWritten};
+
+use crate::feeding::{LIMIT, Unread, read_all, write_all};
+use crate::script::read_script;
+use crate::sink::Sink;
+use crate::source::Source;
+use crate::status::Status;
+use std::alloc::Global;
+use wx_action::print_journal;
+use wx_config::{Config, CriticalError};
+use wx_engine::{Script, ScriptHooks, ScriptWorld, Watchexec};
+use wx_events::{Copies, Memory, Text, TextPath};
+use wx_journal::Journal;
+
+/// The settings that a script states.
+fn config_of(alloc: Global, script: &Script) -> Result<Config, Memory>
+    ensures { IfOk result (λ config. config ≡ record default_config { throttle = script.now.throttle; event_channel_size = script.now.size }) }
+{
+    let mut config = Config::new(alloc)?;
+    config.throttle.replace(script.throttle);
+    config.event_channel_size = script.size;
+    Ok(config)
+}
+
+/// The engine that a script states, to which all its events were sent.
+fn engine_of(alloc: Global, script: &Script) -> Result<Watchexec, Memory>
+    requires { IsScript script.now }
+    ensures { IfOk result (λ engine. engine ≡ start_of script.now) }
+{
+    let config = config_of(alloc, script)?;
+    let folder = TextPath::new(Text::from_slice(alloc, b"/")?);
+    let mut engine = Watchexec::with_config(alloc, config, folder)?;
+    for (event, priority) in script.sends.as_slice() {
+        // a script sends no more events than the queue holds
+        if engine.send_event(event.copy(alloc)?, *priority).is_err() {
+            return Err(Memory);
+        }
+    }
+    Ok(engine)
+}
+
+/// Runs a script. The text is the journal of the run with its end line.
+fn play(alloc: Global, script: &Script) -> Result<(Text, Status), Memory>
+    requires { IsScript script.now }
+    ensures text { IfOk result (λ r. IsReplay script.now r.0 r.1) }
+    ensures status { IfOk result (λ r. IsWritten r.1) }
+{
+    let engine = engine_of(alloc, script)?;
+    let mut world = ScriptWorld::new(alloc, script)?;
+    let mut hooks = ScriptHooks::new(alloc, script)?;
+    let mut journal = Journal::new(alloc)?;
+    let answer = engine.main(alloc, &mut world, &mut hooks, &mut journal);
+    let status = match &answer {
+        Ok(()) => Status::Done,
+        Err(CriticalError::IoError { .. }) => Status::Critical,
+        Err(CriticalError::Memory) => return Err(Memory),
+    };
+    if hooks.short() {
+        return Err(Memory);
+    }
+    let text = print_journal(alloc, &journal, &answer)?;
+    Ok((text, status))
+}
+
+/// The text about a bad line.
+fn about_line(alloc: Global, number: u64) -> Result<Text, Memory>
+    ensures { IfOk result (λ text. text ≡ codes "bad line " ++ decimal number ++ 10 ∷ []) }
+{
+    let mut out = Text::new(alloc);
+    out.append(b"bad line ")?;
+    out.append_number(number)?;
+    out.push(10)?;
+    Ok(out)
+}
+
+/// The text and the status that are due for these bytes.
+fn reply(alloc: Global, bytes: &[u8]) -> Result<(Text, Status), Memory>
+    ensures text { IfOk result (λ r. ReplaysRead bytes.now r.0 r.1) }
+    ensures status { IfOk result (λ r. IsWritten r.1) }
+{
+    match read_script(alloc, bytes)? {
+        Ok(script) => play(alloc, &script),
+        Err(bad) => Ok((about_line(alloc, bad.0)?, Status::NoScript)),
+    }
+}
+
+/// Writes a text, and answers this status where all of it was written.
+fn write_out<K: Sink>(sink: &mut K, text: &[u8], status: Status) -> Status
+    requires { IsWritten status }
+    ensures written { IsWritten result → Appends (K.held sink.old) (K.held sink.new) text.now × (result ≡ status) }
+    ensures part { result ≡ Status.WriteFault → AddsFront (K.held sink.old) (K.held sink.new) text.now × Rose (K.faults sink.old) (K.faults sink.new) }
+    ensures other { (result ≡ status) ⊎ (result ≡ Status.WriteFault) }
+{
+    match write_all(sink, text) {
+        Ok(()) => status,
+        Err(_) => Status::WriteFault,
+    }
+}
+
+/// Reads a script to its end, runs it, and writes the journal of the run.
+pub fn replay<S: Source, K: Sink>(alloc: Global, source: &mut S, sink: &mut K) -> Status
+    ensures usage { result ≢ Status.Usage }
+    ensures read { HasRead LIMIT S.left S.faults source.old source.new result }
+    ensures written { HasWritten LIMIT (S.left source.old) K.held K.faults sink.old sink.new result }
+{
+    let text = match read_all(alloc, source) {
+        Ok(text) => text,
+        Err(Unread::Fault) => return Status::ReadFault,
+        Err(Unread::Memory) => return Status::Memory,
+        Err(Unread::TooLong) => return write_out(sink, b"too long\n", Status::NoScript),
+    };
+    match reply(alloc, text.as_slice()) {
+        Ok((out, status)) => write_out(sink, out.as_slice(), status),
+        Err(_) => Status::Memory,
+    }
+}

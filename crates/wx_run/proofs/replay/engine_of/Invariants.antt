@@ -1,6 +1,0 @@
-use Rattle.std.proofs.Common.{◌≡◌, take}
-use Rattle.wx_engine.specs.Follows.{start_of}
-use Rattle.wx_run.proofs.replay.engine_of.Given as goal
-
-abbrev pub invariant-loop-event : goal.invariant-loop-event
-invariant-loop-event l = l.engine ≡ record (start_of l.script) { events = take l.event-index l.event-items }
