@@ -63,7 +63,11 @@ rest e (Sends event priority more) = sends more
 rest e (Offers event priority more) = more
 rest e (Says word more) = more
 rest e (Plans k more) = plans (next k e) more
-rest e (other) = other
+rest e Begins = Begins
+rest e Open = Open
+rest e Takes = Takes
+rest e Hands = Hands
+rest e Ends = Ends
 
 -- A Work turn: hand the window where the throttle is over, else say idle where the queue is empty, else take an event.
 abbrev pub work : Start → List Entry → ℕ → Agenda

@@ -6,7 +6,7 @@ use Rattle.wx_journal.specs.Names.{NamesItsOwn}
 use Rattle.wx_job.specs.History.{lives, child}
 use Rattle.wx_action.specs.Start.{Start}
 use Rattle.wx_action.specs.Journal.{window}
-use Rattle.wx_action.specs.Due.{Agenda, Open, Offers, Says, Hands, Plans, Ends, agenda, is_quitting}
+use Rattle.wx_action.specs.Due.{Agenda, Begins, Sends, Open, Offers, Says, Takes, Hands, Plans, Ends, agenda, is_quitting}
 use Rattle.wx_action.specs.Lawful.{MadeInOrder, Lawful}
 
 -- nothing, or the end
@@ -21,7 +21,11 @@ IsFit p (Offers event priority more) = IsQuiet more
 IsFit p (Says word more) = IsQuiet more
 IsFit p (Plans k more) = Lawful p k × IsQuiet more
 IsFit p Hands = 0 < length (window p)
-IsFit p (_) = Unit {0}
+IsFit p Begins = Unit {0}
+IsFit p (Sends event priority more) = Unit {0}
+IsFit p Open = Unit {0}
+IsFit p Takes = Unit {0}
+IsFit p Ends = Unit {0}
 
 -- Where something else than a plan or the end is owed the end wasn't asked for.
 abbrev pub IsGoing : List Entry → Agenda → Type 0
