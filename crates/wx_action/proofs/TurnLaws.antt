@@ -44,9 +44,9 @@ calm_after s w at kind p p' world hooks world' hooks' a f other h =
 task_over : (k : JobTask) (t : Turn) (p : List Entry) → names_end t.kind (child k.id p) ≡ false → TaskStands k p → TaskStands k (Turned t ∷ p)
 task_over k t p other stands = record {
   lives_kept = stands.lives_kept;
-  waits_kept = stands.waits_kept;
-  high_none = stands.high_none;
-  urgent_none = stands.urgent_none;
+  urgent_kept = stands.urgent_kept;
+  high_kept = stands.high_kept;
+  normal_kept = stands.normal_kept;
   child_kept = stands.child_kept;
   end_kept = rw other stands.end_kept;
   state_kept = stands.state_kept;

@@ -319,7 +319,7 @@ const PICKS: [(bool, Option<(u64, Control, Level)>); 10] = [
 #[test]
 fn the_most_pressing_is_picked_first(rt: HostRuntime) -> Result<(), Fail> {
     let alloc = rt.alloc();
-    let mut lists = ThreeLists::new(alloc)?;
+    let mut lists = ThreeLists::new(alloc);
     for (ticket, control, level) in PUTS {
         lists.put(ticket, Flag::new(alloc, false)?, control, level)?;
     }
@@ -336,7 +336,7 @@ fn the_most_pressing_is_picked_first(rt: HostRuntime) -> Result<(), Fail> {
 #[test]
 fn what_is_put_behind_a_pick_waits_behind(rt: HostRuntime) -> Result<(), Fail> {
     let alloc = rt.alloc();
-    let mut lists = ThreeLists::new(alloc)?;
+    let mut lists = ThreeLists::new(alloc);
     lists.reserve(2)?;
     lists.put_reserved(7, Flag::new(alloc, false)?, Control::Start, Level::Normal);
     lists.put_reserved(8, Flag::new(alloc, false)?, Control::Stop, Level::Normal);

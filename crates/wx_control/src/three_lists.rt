@@ -1,5 +1,5 @@
 // The controls that wait for a job.
-ghost use Rattle.std.specs.Prelude.{◌≡◌, ◌∷◌, ◌++◌, [], ◌+◌, ◌≤◌, ◌<◌, ◌==◌, vec_len, vec_capacity, false, OnOk, OnErr, IfOk, IfSome, IfNone, option_map};
+ghost use Rattle.std.specs.Prelude.{◌≡◌, ◌∷◌, ◌++◌, [], ◌+◌, ◌≤◌, ◌<◌, ◌==◌, vec_len, vec_capacity, false, OnOk, OnErr, IfSome, IfNone, option_map};
 ghost use Rattle.wx_control.specs.Waits.{IsEmpty, ticketed, picked, joined, headed, first_of, first_level};
 
 use crate::control::Control;
@@ -50,15 +50,15 @@ impl Model for ThreeLists {
 }
 
 impl ThreeLists {
-    /// Lists in which none waits. It fails only for want of memory.
-    pub fn new(alloc: Global) -> Result<ThreeLists, Memory>
-        ensures { IfOk result IsEmpty }
+    /// Lists in which none waits. It takes no memory.
+    pub fn new(alloc: Global) -> ThreeLists
+        ensures { IsEmpty result }
     {
-        Ok(ThreeLists {
+        ThreeLists {
             urgent: Vec::new(alloc),
             high: Vec::new(alloc),
             normal: Vec::new(alloc),
-        })
+        }
     }
 
     /// Takes room for `n` more at every level. It fails only for want of memory.

@@ -6,7 +6,7 @@ use Rattle.wx_journal.specs.Told.{tell_if, is_hooks, Obeys, Same as NoneMore, Mo
 use Rattle.wx_job.specs.Table.{Plan}
 use Rattle.wx_job.specs.Case.{Leads, Here, Then}
 use Rattle.wx_job.specs.Seen.{Hooked}
-use Rattle.wx_job.specs.Kept.{Keeps, OnlyHooksRoom, Quiet, Same, More, Kept, Still, Past, Roomy, Called, Promised}
+use Rattle.wx_job.specs.Kept.{OnlyHooksRoom, Quiet, Same, More, Kept, Still, Past, Roomy, Called, Promised}
 
 -- ---- quiet stretches
 

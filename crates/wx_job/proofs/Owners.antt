@@ -1,6 +1,6 @@
 -- Who spawned a child, and which tickets and children a journal that names its own can name.
 use Rattle.std.proofs.Common.{◌≡◌, ◌≢◌, ℕ, ◌+◌, ◌<◌, Bool, true, false, cond, List, [], ◌∷◌, ◌++◌, Option, Some, None, Ok, Err, refl, arith, ap, sym, eq-eqb, ne_eqb}
-use Rattle.std.specs.Prelude.{◌==◌, ◌&&◌}
+use Rattle.std.specs.Prelude.{◌==◌, ◌&&◌, not}
 use Rattle.std.specs.List.{AllByRecursion}
 use Rattle.std.proofs.lemmas.Bool.{eqb-true}
 use Rattle.wx_words.specs.EachLaws.{each_append, each_weaker}
@@ -9,13 +9,14 @@ use Rattle.wx_events.specs.declared.process.ProcessEnd.{ProcessEnd}
 use Rattle.wx_control.specs.declared.id.Id.{Id}
 use Rattle.wx_control.specs.declared.control.Control.{Control}
 use Rattle.wx_control.specs.declared.level.Level.{Level}
+use Rattle.wx_control.specs.declared.level.Level.TheVariants.{High, Urgent}
 use Rattle.wx_control.specs.Levels.{rank}
 use Rattle.wx_journal.specs.declared.entry.Entry.{Entry}
 use Rattle.wx_journal.specs.declared.entry.Entry.TheVariants.{Made, Asked, Pick, Spawn, Wait, Dropped, Gone}
 use Rattle.wx_journal.specs.Names.{NamesItsOwn, ticket_count, child_count, moment}
 use Rattle.wx_job.specs.declared.state.CommandState.{CommandState}
 use Rattle.wx_job.specs.declared.state.CommandState.TheVariants.{Pending, Running, Finished}
-use Rattle.wx_job.specs.History.{same, lives, without, waits, child, unless, state, finish, owner}
+use Rattle.wx_job.specs.History.{same, lives, has_above, without, waits, child, unless, state, finish, owner}
 use Rattle.wx_job.specs.Stands.{child_of}
 use Rattle.wx_job.specs.Laws.{unreaped, NamesChildren}
 
@@ -139,6 +140,6 @@ waits_asked id level (Made job ∷ p) own = either (AreAsked (ticket_count p)) (
 waits_asked id level (Asked ticket job at control ∷ p) own =
     let here = below_rise (ticket_count p) (waits id level p) (waits_asked id level p own.1) in
     either (AreAsked (ticket_count p + 1)) (same job id && rank at == rank level && lives id p) (waits id level p ++ (ticket, control) ∷ []) (waits id level p) (below_append (ticket_count p + 1) (waits id level p) (ticket, control) here (let name : ticket ≡ ticket_count p = own.0 in omega arith)) here
-waits_asked id level (Pick job ticket ∷ p) own = let here = waits_asked id level p own.1 in either (AreAsked (ticket_count p)) (same job id) (without ticket (waits id level p)) (waits id level p) (below_without (ticket_count p) ticket (waits id level p) here) here
+waits_asked id level (Pick job ticket ∷ p) own = let here = waits_asked id level p own.1 in either (AreAsked (ticket_count p)) (same job id && not (has_above ticket level (waits id Urgent p) (waits id High p))) (without ticket (waits id level p)) (waits id level p) (below_without (ticket_count p) ticket (waits id level p) here) here
 waits_asked id level (Gone job ∷ p) own = either (AreAsked (ticket_count p)) (same job id) [] (waits id level p) tt (waits_asked id level p own.1)
 waits_asked id level (_ ∷ p) own = waits_asked id level p own.1

@@ -1,5 +1,5 @@
 -- What the plan of a job names is the job's, and what following it leaves.
-use Rattle.std.proofs.Common.{◌≡◌, ◌≢◌, ℕ, ◌+◌, ◌≤◌, ◌<◌, Bool, true, false, cond, List, [], ◌∷◌, Option, Some, None, Result, Ok, Err, refl, arith, ap, sym, subst, ◌∙◌, eq-eqb}
+use Rattle.std.proofs.Common.{◌≡◌, ◌≢◌, ℕ, ◌+◌, ◌≤◌, ◌<◌, Bool, true, false, cond, List, [], ◌∷◌, Option, Some, None, Result, Ok, Err, refl, arith, ap, sym, ◌∙◌, eq-eqb}
 use Rattle.std.specs.Prelude.{not, ◌&&◌, ◌-◌, ◌^◌, min, is_err}
 use Rattle.std.specs.Bool.{MatchBool}
 use Rattle.wx_events.specs.declared.process.ProcessEnd.{ProcessEnd}
@@ -12,6 +12,7 @@ use Rattle.wx_control.specs.declared.level.Level.TheVariants.{Normal, High, Urge
 use Rattle.wx_control.specs.declared.ask.Ask.{Ask}
 use Rattle.wx_control.specs.declared.ask.Ask.TheVariants.{One}
 use Rattle.wx_control.specs.Asks.{sends_of}
+use Rattle.wx_control.specs.Waits.{first}
 use Rattle.wx_journal.specs.declared.child.HostFault.{HostFault}
 use Rattle.wx_journal.specs.declared.child.SpawnTag.TheVariants.{Default}
 use Rattle.wx_journal.specs.declared.entry.Entry.{Entry}
@@ -21,7 +22,7 @@ use Rattle.wx_journal.specs.Told.{is_hooks, Counts}
 use Rattle.wx_job.specs.declared.choice.Choice.{Choice}
 use Rattle.wx_job.specs.declared.choice.Choice.TheVariants.{End, Next, Nothing}
 use Rattle.wx_job.specs.History.{same, lives, waits, child, kept, unless, SameHistory}
-use Rattle.wx_job.specs.Table.{Call, Adds, Waits, Plan, Done, GivenUp, Owes, adds, raises, reap, fresh, row, first, choose, choose_control, pick, case, step_plan, ask_plan, send_plan, end_plan, drop_plan}
+use Rattle.wx_job.specs.Table.{Call, Adds, Waits, Plan, Done, GivenUp, Owes, adds, raises, reap, fresh, row, choose, choose_control, pick, case, step_plan, ask_plan, send_plan, end_plan, drop_plan}
 use Rattle.wx_job.specs.Case.{Answer, entry, Admits, is_fault, next, Leads, Here, Then}
 use Rattle.wx_job.specs.Faults.{fault_count, Counted}
 use Rattle.wx_job.specs.Laws.{unreaped, AreReaped, AfterFaults, NamesChildren}

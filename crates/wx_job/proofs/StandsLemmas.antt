@@ -1,21 +1,25 @@
 -- A task stands for the journal with one entry more.
 use Rattle.std.proofs.Common.{◌≡◌, ℕ, true, false, List, [], ◌∷◌, ◌++◌, Option, Some, None, Ok, Err, refl, ap, sym, ◌∙◌, eq-eqb}
-use Rattle.std.specs.Prelude.{◌==◌, map}
+use Rattle.std.specs.Prelude.{◌==◌}
 use Rattle.wx_events.specs.declared.process.ProcessEnd.{ProcessEnd}
 use Rattle.wx_command.specs.declared.spawnable.Spawnable.{Spawnable}
+use Rattle.wx_control.specs.declared.id.Id.{Id}
+use Rattle.wx_control.specs.declared.control.Control.{Control}
+use Rattle.wx_control.specs.declared.level.Level.{Level}
 use Rattle.wx_control.specs.declared.level.Level.TheVariants.{Normal, High, Urgent}
+use Rattle.wx_control.specs.declared.three_lists.Picked.{Picked}
+use Rattle.wx_control.specs.Waits.{Waits, picked, joined, headed, level_of, first_level}
 use Rattle.wx_journal.specs.declared.child.SpawnTag.{SpawnTag}
 use Rattle.wx_journal.specs.declared.child.HostFault.{HostFault}
 use Rattle.wx_journal.specs.declared.entry.Entry.{Entry}
-use Rattle.wx_journal.specs.declared.entry.Entry.TheVariants.{Asked, Spawn, Wait, Gone}
+use Rattle.wx_journal.specs.declared.entry.Entry.TheVariants.{Asked, Pick, Spawn, Wait, Gone}
 use Rattle.wx_journal.specs.Names.{moment}
 use Rattle.wx_job.specs.declared.state.CommandState.{CommandState}
 use Rattle.wx_job.specs.declared.state.CommandState.TheVariants.{Pending, Running, Finished}
-use Rattle.wx_job.specs.declared.task.Waiting.{Waiting}
 use Rattle.wx_job.specs.declared.task.JobTask.{JobTask}
-use Rattle.wx_job.specs.History.{lives, child, finish, SameHistory}
+use Rattle.wx_job.specs.History.{lives, waits, child, finish, SameHistory}
 use Rattle.wx_job.specs.Table.{Done, adds, drop_plan, end_plan}
-use Rattle.wx_job.specs.Stands.{Stands, child_of, id_of, ticketed}
+use Rattle.wx_job.specs.Stands.{Stands, child_of, id_of}
 use Rattle.wx_job.proofs.Owners.{self}
 use Rattle.wx_job.proofs.Frame.{is_silent, frame_silent}
 
@@ -23,9 +27,9 @@ use Rattle.wx_job.proofs.Frame.{is_silent, frame_silent}
 pub stands_history : (k : JobTask) (p p' : List Entry) → SameHistory (id_of k) p p' → Stands k p → Stands k p'
 stands_history k p p' h s = record {
   lives_kept = s.lives_kept ∙ sym h.lives_same;
-  waits_kept = s.waits_kept ∙ sym (h.waits_same Normal);
-  high_none = h.waits_same High ∙ s.high_none;
-  urgent_none = h.waits_same Urgent ∙ s.urgent_none;
+  urgent_kept = s.urgent_kept ∙ sym (h.waits_same Urgent);
+  high_kept = s.high_kept ∙ sym (h.waits_same High);
+  normal_kept = s.normal_kept ∙ sym (h.waits_same Normal);
   child_kept = s.child_kept ∙ sym h.child_same;
   end_kept = s.end_kept ∙ sym h.kept_same;
   state_kept = s.state_kept ∙ sym h.state_same;
@@ -51,9 +55,9 @@ stands-wait-ok k p c status s here runs =
     let found : (c == c) ≡ true = eq-eqb c c refl in
     record {
       lives_kept = s.lives_kept;
-      waits_kept = s.waits_kept;
-      high_none = s.high_none;
-      urgent_none = s.urgent_none;
+      urgent_kept = s.urgent_kept;
+      high_kept = s.high_kept;
+      normal_kept = s.normal_kept;
       child_kept = rw (here, is, found) (finish-child c status (moment p) k.state runs);
       end_kept = rw (is, found) refl;
       state_kept = ap (λ x. finish c status (moment p) x) s.state_kept;
@@ -66,9 +70,9 @@ stands-wait-err k p c fault s here runs =
     let found : (c == c) ≡ true = eq-eqb c c refl in
     record {
       lives_kept = s.lives_kept;
-      waits_kept = s.waits_kept;
-      high_none = s.high_none;
-      urgent_none = s.urgent_none;
+      urgent_kept = s.urgent_kept;
+      high_kept = s.high_kept;
+      normal_kept = s.normal_kept;
       child_kept = s.child_kept;
       end_kept = rw (is, found) refl;
       state_kept = s.state_kept;
@@ -78,9 +82,9 @@ stands-wait-err k p c fault s here runs =
 pub stands-spawn-ok : (k : JobTask) (p : List Entry) (c : ℕ) (tag : SpawnTag) (what : Spawnable) (a : Unit {0}) → Stands k p → k.gone ≡ false → Stands (record k { state = Running c (moment p); previous = Some k.state; kept = false }) (Spawn c k.id tag what (Ok a) ∷ p)
 stands-spawn-ok k p c tag what a s here = record {
   lives_kept = s.lives_kept;
-  waits_kept = s.waits_kept;
-  high_none = s.high_none;
-  urgent_none = s.urgent_none;
+  urgent_kept = s.urgent_kept;
+  high_kept = s.high_kept;
+  normal_kept = s.normal_kept;
   child_kept = rw (here, self k.id) refl;
   end_kept = rw (self k.id) refl;
   state_kept = rw (self k.id) refl;
@@ -90,28 +94,81 @@ stands-spawn-ok k p c tag what a s here = record {
 pub stands-spawn-err : (k : JobTask) (p : List Entry) (c : ℕ) (tag : SpawnTag) (what : Spawnable) (fault : HostFault) → Stands k p → k.gone ≡ false → child_of k.state ≡ None → Stands (record k { state = Pending; previous = Some k.state }) (Spawn c k.id tag what (Err fault) ∷ p)
 stands-spawn-err k p c tag what fault s here none = record {
   lives_kept = s.lives_kept;
-  waits_kept = s.waits_kept;
-  high_none = s.high_none;
-  urgent_none = s.urgent_none;
+  urgent_kept = s.urgent_kept;
+  high_kept = s.high_kept;
+  normal_kept = s.normal_kept;
   child_kept = rw here (rw (here, none) at s.child_kept);
   end_kept = s.end_kept;
   state_kept = rw (self k.id) refl;
   previous_kept = rw (self k.id) (ap (λ x. Some x) s.state_kept);
 }
 
--- a control is asked
-map-append : (ws : List Waiting) (w : Waiting) → map ticketed (ws ++ w ∷ []) ≡ map ticketed ws ++ ticketed w ∷ []
-map-append [] w = refl
-map-append (x ∷ ws) w = ap (λ xs. ticketed x ∷ xs) (map-append ws w)
+-- these hold what waits at each level
+abbrev AreWaiting : Waits → Id → List Entry → Type 0
+AreWaiting w id p = (w.urgent ≡ waits id Urgent p) × (w.high ≡ waits id High p) × (w.normal ≡ waits id Normal p)
 
-pub stands-asked : (k k' : JobTask) (p : List Entry) (w : Waiting) → Stands k p → k.gone ≡ false → k'.waiting.items ≡ k.waiting.items ++ w ∷ [] → k' ≡ record k { waiting = k'.waiting } → Stands k' (Asked w.ticket k.id Normal w.control ∷ p)
-stands-asked k k' p w s here items fields =
+-- a control is asked
+joined_waits : (w : Waits) (id : Id) (p : List Entry) (t : ℕ) (level : Level) (control : Control) → lives id p ≡ true → AreWaiting w id p → AreWaiting (joined level (t, control) w) id (Asked t id level control ∷ p)
+joined_waits w id p t Urgent control alive h = (rw (self id, alive) (ap (λ xs. xs ++ (t, control) ∷ []) h.0), rw (self id) h.1, rw (self id) h.2)
+joined_waits w id p t High control alive h = (rw (self id) h.0, rw (self id, alive) (ap (λ xs. xs ++ (t, control) ∷ []) h.1), rw (self id) h.2)
+joined_waits w id p t Normal control alive h = (rw (self id) h.0, rw (self id) h.1, rw (self id, alive) (ap (λ xs. xs ++ (t, control) ∷ []) h.2))
+
+pub stands-asked : (k k' : JobTask) (p : List Entry) (t : ℕ) (level : Level) (control : Control) → Stands k p → k.gone ≡ false → k'.waiting ≡ record (joined level (t, control) k.waiting) { spare = k'.waiting.spare } → k' ≡ record k { waiting = k'.waiting } → Stands k' (Asked t k.id level control ∷ p)
+stands-asked k k' p t level control s here joins fields =
     let alive : lives k.id p ≡ true = sym s.lives_kept ∙ rw here refl in
-    let stood : Stands (record k { waiting = k'.waiting }) (Asked w.ticket k.id Normal w.control ∷ p) = record {
+    let ws = joined_waits k.waiting k.id p t level control alive (s.urgent_kept, s.high_kept, s.normal_kept) in
+    let stood : Stands (record k { waiting = k'.waiting }) (Asked t k.id level control ∷ p) = record {
       lives_kept = s.lives_kept;
-      waits_kept = rw (self k.id, alive, items) (map-append k.waiting.items w ∙ ap (λ xs. xs ++ ticketed w ∷ []) s.waits_kept);
-      high_none = rw (self k.id) s.high_none;
-      urgent_none = rw (self k.id) s.urgent_none;
+      urgent_kept = rw joins ws.0;
+      high_kept = rw joins ws.1;
+      normal_kept = rw joins ws.2;
+      child_kept = s.child_kept;
+      end_kept = s.end_kept;
+      state_kept = s.state_kept;
+      previous_kept = s.previous_kept;
+    } in
+    rw fields stood
+
+-- a control is picked, at the most pressing level at which one waits
+no_urgent : (urgent high normal : List (ℕ × Control)) → level_of urgent high normal ≡ Some High → urgent ≡ []
+no_urgent [] high normal e = refl
+no_urgent (x ∷ urgent) high normal e = cc
+
+none_above : (urgent high normal : List (ℕ × Control)) → level_of urgent high normal ≡ Some Normal → (urgent ≡ []) × (high ≡ [])
+none_above [] [] normal e = (refl, refl)
+none_above [] (x ∷ high) normal e = cc
+none_above (x ∷ urgent) high normal e = cc
+
+headed_waits : (w w' : Waits) (id : Id) (p : List Entry) (t : ℕ) (level : Level) (control : Control) → w ≡ record (headed level (t, control) w') { spare = w.spare } → first_level false w ≡ Some level → AreWaiting w id p → AreWaiting w' id (Pick id t ∷ p)
+headed_waits w w' id p t Urgent control is level h =
+    let found : (t == t) ≡ true = eq-eqb t t refl in
+    let urgent : waits id Urgent p ≡ (t, control) ∷ w'.urgent = sym h.0 ∙ ap (λ (v : Waits). v.urgent) is in
+    let high : w'.high ≡ waits id High p = sym (ap (λ (v : Waits). v.high) is) ∙ h.1 in
+    let normal : w'.normal ≡ waits id Normal p = sym (ap (λ (v : Waits). v.normal) is) ∙ h.2 in
+    (rw (self id, urgent, found) refl, rw (self id, urgent, found) high, rw (self id, urgent, found) normal)
+headed_waits w w' id p t High control is level h =
+    let found : (t == t) ≡ true = eq-eqb t t refl in
+    let none : w.urgent ≡ [] = no_urgent w.urgent w.high w.normal level in
+    let urgent : waits id Urgent p ≡ [] = sym h.0 ∙ none in
+    let high : waits id High p ≡ (t, control) ∷ w'.high = sym h.1 ∙ ap (λ (v : Waits). v.high) is in
+    let normal : w'.normal ≡ waits id Normal p = sym (ap (λ (v : Waits). v.normal) is) ∙ h.2 in
+    (rw (self id, urgent) (sym (ap (λ (v : Waits). v.urgent) is) ∙ none), rw (self id, urgent, high, found) refl, rw (self id, urgent, high, found) normal)
+headed_waits w w' id p t Normal control is level h =
+    let found : (t == t) ≡ true = eq-eqb t t refl in
+    let none = none_above w.urgent w.high w.normal level in
+    let urgent : waits id Urgent p ≡ [] = sym h.0 ∙ none.0 in
+    let high : waits id High p ≡ [] = sym h.1 ∙ none.1 in
+    let normal : waits id Normal p ≡ (t, control) ∷ w'.normal = sym h.2 ∙ ap (λ (v : Waits). v.normal) is in
+    (rw (self id, urgent) (sym (ap (λ (v : Waits). v.urgent) is) ∙ none.0), rw (self id, urgent, high) (sym (ap (λ (v : Waits). v.high) is) ∙ none.1), rw (self id, urgent, high, normal, found) refl)
+
+pub stands-picked : (k k' : JobTask) (p : List Entry) (x : Picked) → Stands k p → k.waiting ≡ record (headed x.level (picked x) k'.waiting) { spare = k.waiting.spare } → first_level false k.waiting ≡ Some x.level → k' ≡ record k { waiting = k'.waiting } → Stands k' (Pick k.id x.ticket ∷ p)
+stands-picked k k' p x s heads level fields =
+    let ws = headed_waits k.waiting k'.waiting k.id p x.ticket x.level x.control heads level (s.urgent_kept, s.high_kept, s.normal_kept) in
+    let stood : Stands (record k { waiting = k'.waiting }) (Pick k.id x.ticket ∷ p) = record {
+      lives_kept = s.lives_kept;
+      urgent_kept = ws.0;
+      high_kept = ws.1;
+      normal_kept = ws.2;
       child_kept = s.child_kept;
       end_kept = s.end_kept;
       state_kept = s.state_kept;
@@ -123,4 +180,4 @@ stands-asked k k' p w s here items fields =
 pub end-is : (k : JobTask) (p : List Entry) (c : Option ℕ) → Stands k p → k.gone ≡ false → c ≡ child_of k.state → end_plan k.id p ≡ drop_plan c (adds (Gone k.id) Done)
 end-is k p c s here is = let alive : lives k.id p ≡ true = sym s.lives_kept ∙ rw here refl in let runs : child k.id p ≡ child_of k.state = sym s.child_kept ∙ rw here refl in rw (alive, runs, is) refl
 
-pub ruleset stands = (stands-asked, stands-silent, stands-wait-ok, stands-wait-err, stands-spawn-ok, stands-spawn-err)
+pub ruleset stands = (stands-asked, stands-picked, stands-silent, stands-wait-ok, stands-wait-err, stands-spawn-ok, stands-spawn-err)

@@ -1,5 +1,5 @@
 -- What a call that followed a plan, or did nothing, leaves.
-use Rattle.std.proofs.Common.{◌≡◌, ℕ, List, [], Option, Some, None, Result, Ok, Err, refl, arith, ap, sym, subst}
+use Rattle.std.proofs.Common.{◌≡◌, ℕ, List, [], Option, Some, None, Result, Ok, Err, arith, ap, sym, subst}
 use Rattle.std.specs.Prelude.{OnOk, OnErr}
 use Rattle.wx_command.specs.declared.command.Command.{Command}
 use Rattle.wx_control.specs.declared.id.Id.{Id}

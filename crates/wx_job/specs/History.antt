@@ -4,6 +4,7 @@ use Rattle.wx_events.specs.declared.process.ProcessEnd.{ProcessEnd}
 use Rattle.wx_control.specs.declared.id.Id.{Id}
 use Rattle.wx_control.specs.declared.control.Control.{Control}
 use Rattle.wx_control.specs.declared.level.Level.{Level}
+use Rattle.wx_control.specs.declared.level.Level.TheVariants.{Normal, High, Urgent}
 use Rattle.wx_control.specs.Levels.{rank}
 use Rattle.wx_journal.specs.declared.entry.Entry.{Entry}
 use Rattle.wx_journal.specs.declared.entry.Entry.TheVariants.{Turn as Turned, Made, Asked, Pick, Spawn, Wait, Dropped, Gone}
@@ -29,12 +30,24 @@ abbrev pub without : ℕ → List (ℕ × Control) → List (ℕ × Control)
 without ticket [] = []
 without ticket (x ∷ xs) = if x.0 == ticket then xs else x ∷ without ticket xs
 
--- the tickets that wait at a level: asked of the job while it lives, and not picked, in order
+-- this ticket waits
+abbrev pub has : ℕ → List (ℕ × Control) → Bool
+has ticket [] = false
+has ticket (x ∷ xs) = x.0 == ticket || has ticket xs
+
+-- this ticket waits at a level above this one, among these of the levels Urgent and High
+abbrev pub has_above : ℕ → Level → List (ℕ × Control) → List (ℕ × Control) → Bool
+has_above ticket Urgent urgent high = false
+has_above ticket High urgent high = has ticket urgent
+has_above ticket Normal urgent high = has ticket urgent || has ticket high
+
+-- The tickets that wait at a level: asked of the job while it lives, and not picked, in order. A pick takes its ticket out of
+-- one level, the most pressing one at which it waits.
 abbrev pub waits : Id → Level → List Entry → List (ℕ × Control)
 waits id level [] = []
 waits id level (Made job ∷ p) = if same job id then [] else waits id level p
 waits id level (Asked ticket job at control ∷ p) = if same job id && rank at == rank level && lives id p then waits id level p ++ (ticket, control) ∷ [] else waits id level p
-waits id level (Pick job ticket ∷ p) = if same job id then without ticket (waits id level p) else waits id level p
+waits id level (Pick job ticket ∷ p) = if same job id && not (has_above ticket level (waits id Urgent p) (waits id High p)) then without ticket (waits id level p) else waits id level p
 waits id level (Gone job ∷ p) = if same job id then [] else waits id level p
 waits id level (_ ∷ p) = waits id level p
 

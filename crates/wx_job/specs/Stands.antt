@@ -1,19 +1,18 @@
 -- What is kept of a job stands for it in a journal.
-use Rattle.std.specs.Prelude.{◌≡◌, ℕ, Bool, true, not, if◌then◌else◌, Option, None, Some, List, [], ◌∷◌, map}
+use Rattle.std.specs.Prelude.{◌≡◌, ℕ, Bool, true, false, not, if◌then◌else◌, Option, None, Some, List, ◌∷◌}
 use Rattle.wx_command.specs.declared.command.Command.{Command}
 use Rattle.wx_control.specs.declared.id.Id.{Id}
-use Rattle.wx_control.specs.declared.control.Control.{Control}
 use Rattle.wx_control.specs.declared.level.Level.TheVariants.{Normal, High, Urgent}
+use Rattle.wx_control.specs.Waits.{first_of}
 use Rattle.wx_journal.specs.declared.entry.Entry.{Entry}
 use Rattle.wx_journal.specs.declared.entry.Entry.TheVariants.{Turn as Turned}
 use Rattle.wx_journal.specs.declared.entry.TurnKind.TheVariants.{Ended}
 use Rattle.wx_journal.specs.Written.{Written}
 use Rattle.wx_job.specs.declared.state.CommandState.{CommandState}
 use Rattle.wx_job.specs.declared.state.CommandState.TheVariants.{Pending, Running, Finished}
-use Rattle.wx_job.specs.declared.task.Waiting.{Waiting}
 use Rattle.wx_job.specs.declared.task.JobTask.{JobTask}
 use Rattle.wx_job.specs.declared.choice.Choice.{Choice}
-use Rattle.wx_job.specs.Table.{first, choose}
+use Rattle.wx_job.specs.Table.{choose}
 use Rattle.wx_job.specs.History.{lives, waits, child, kept, state, previous}
 
 -- the child of a state
@@ -21,10 +20,6 @@ abbrev pub child_of : CommandState → Option ℕ
 child_of Pending = None
 child_of (Running c started) = Some c
 child_of (Finished status started finished) = None
-
--- the ticket of what waits, with its control
-abbrev pub ticketed : Waiting → ℕ × Control
-ticketed w = (w.ticket, w.control)
 
 -- what a task is of: the name of its job, and what that runs
 abbrev pub id_of : JobTask → Id
@@ -40,12 +35,12 @@ gone_of k = k.gone
 abbrev pub running_of : JobTask → Option ℕ
 running_of k = if k.gone then None else child_of k.state
 
--- The task keeps what the journal says of its job. Controls are asked at the level Normal alone.
+-- the task keeps what the journal says of its job
 pub record Stands (k : JobTask) (p : List Entry) : Type 0 where
   pub lives_kept : not k.gone ≡ lives k.id p
-  pub waits_kept : map ticketed k.waiting.items ≡ waits k.id Normal p
-  pub high_none : waits k.id High p ≡ []
-  pub urgent_none : waits k.id Urgent p ≡ []
+  pub urgent_kept : k.waiting.urgent ≡ waits k.id Urgent p
+  pub high_kept : k.waiting.high ≡ waits k.id High p
+  pub normal_kept : k.waiting.normal ≡ waits k.id Normal p
   pub child_kept : running_of k ≡ child k.id p
   pub end_kept : k.kept ≡ kept k.id p
   pub state_kept : k.state ≡ state k.id p
@@ -62,10 +57,10 @@ pub record Undone {Host : Type 0} (k : JobTask) (j : Written) (h : Host) (k' : J
   pub journal : j' ≡ j
   pub host : h' ≡ h
 
--- all that a task keeps is the same
+-- all that a task keeps is the same, but for the room for controls
 pub record SameTask (k k' : JobTask) : Type 0 where
   pub fields : k' ≡ record k { waiting = k'.waiting }
-  pub items : k'.waiting.items ≡ k.waiting.items
+  pub waiting : k'.waiting ≡ record k.waiting { spare = k'.waiting.spare }
 
 -- the task with the end of its child kept
 abbrev pub with_end : JobTask → JobTask
@@ -79,4 +74,4 @@ pub record IsEnding (k : JobTask) (c at : ℕ) (p : List Entry) : Type 0 where
 
 -- what a step of the task picks
 abbrev pub choice_of : JobTask → Choice
-choice_of k = choose (running_of k) k.kept (first [] [] (map ticketed k.waiting.items))
+choice_of k = choose (running_of k) k.kept (first_of false k.waiting)

@@ -1,5 +1,5 @@
 -- What a step of a job owes: the table of cases.
-use Rattle.std.specs.Prelude.{ℕ, Bool, true, false, if◌then◌else◌, Option, None, Some, List, [], ◌∷◌}
+use Rattle.std.specs.Prelude.{ℕ, Bool, true, false, if◌then◌else◌, Option, None, Some, List}
 use Rattle.wx_command.specs.declared.command.Command.{Command}
 use Rattle.wx_command.specs.declared.spawnable.Spawnable.{Spawnable}
 use Rattle.wx_command.specs.Spawnables.{spawnable_of}
@@ -9,6 +9,7 @@ use Rattle.wx_control.specs.declared.control.Control.TheVariants.{Start, Stop}
 use Rattle.wx_control.specs.declared.level.Level.{Level}
 use Rattle.wx_control.specs.declared.level.Level.TheVariants.{Normal, High, Urgent}
 use Rattle.wx_control.specs.declared.ask.Sends.{Sends}
+use Rattle.wx_control.specs.Waits.{first}
 use Rattle.wx_journal.specs.declared.child.SpawnTag.{SpawnTag}
 use Rattle.wx_journal.specs.declared.child.SpawnTag.TheVariants.{Default}
 use Rattle.wx_journal.specs.declared.entry.Entry.{Entry}
@@ -73,13 +74,6 @@ spawns (_) (_) = false
 -- the case of the end of a child
 abbrev pub ended : ℕ → Plan
 ended c = Owes (Waits c) Done Done
-
--- the first control that waits, with its ticket
-abbrev pub first : List (ℕ × Control) → List (ℕ × Control) → List (ℕ × Control) → Option (ℕ × Control)
-first (x ∷ urgent) high normal = Some x
-first [] (x ∷ high) normal = Some x
-first [] [] (x ∷ normal) = Some x
-first [] [] [] = None
 
 -- What a step picks, the first that applies: the kept end of the running child; a control that waits, the most pressing
 -- first; else nothing.

@@ -2,6 +2,7 @@
 ghost use Rattle.std.specs.Prelude.{◌≡◌, ℕ, ◌+◌, ◌<◌, ◌≤◌, ◌∷◌, [], OnOk, OnErr, IfOk, List, Option, Some, None, true, false, map};
 ghost use Rattle.std.specs.Bool.{OnTrue, OnFalse};
 ghost use Rattle.wx_control.specs.declared.control.Control.TheVariants.{Start, Stop};
+ghost use Rattle.wx_control.specs.Waits.{picked};
 ghost use Rattle.wx_command.specs.declared.spawnable.Spawnable.{Spawnable as the-Spawnable};
 ghost use Rattle.wx_command.specs.Spawnables.{spawnable_of};
 ghost use Rattle.wx_journal.specs.declared.entry.Entry.{Entry};
@@ -13,15 +14,15 @@ ghost use Rattle.wx_job.specs.Table.{Plan, Done, Kills, Waits, Owes, adds, reap,
 ghost use Rattle.wx_job.specs.Prepared.{prepared};
 ghost use Rattle.wx_job.specs.Case.{FollowsHost};
 ghost use Rattle.wx_job.specs.Steady.{AreSpare, Spends};
-ghost use Rattle.wx_job.specs.Stands.{Stands, Undone, child_of, running_of, choice_of, ticketed};
+ghost use Rattle.wx_job.specs.Stands.{Stands, Undone, child_of, running_of, choice_of};
 
 use crate::choice::Choice;
 use crate::outside::Host;
 use crate::state::CommandState;
-use crate::task::{JobTask, Waiting};
+use crate::task::JobTask;
 use std::alloc::Global;
 use wx_command::Spawnable;
-use wx_control::{Control, Flag};
+use wx_control::{Control, Flag, Picked};
 use wx_events::{Memory, ProcessEnd};
 use wx_journal::{Entry, HostFault, Journal, SpawnTag, Word};
 
@@ -237,11 +238,8 @@ impl JobTask {
                 return Choice::End(child);
             }
         }
-        match self.waiting.first() {
-            Some(waiting) => Choice::Next {
-                ticket: waiting.ticket,
-                control: waiting.control,
-            },
+        match self.waiting.first(false) {
+            Some((ticket, control)) => Choice::Next { ticket, control },
             None => Choice::Nothing,
         }
     }
@@ -263,31 +261,33 @@ impl JobTask {
         Ok(Some((what, listed)))
     }
 
-    /// Picks the first control that waits.
-    fn pick(&mut self, ticket: u64, control: Control, journal: &mut Journal) -> Waiting
+    /// Takes the control that is picked out of those that wait.
+    fn pick(&mut self, ticket: u64, control: Control, journal: &mut Journal) -> Picked
         requires stands { Stands self.old journal.old.past }
         requires here { self.old.gone ≡ false }
         requires chosen { choice_of self.old ≡ Next ticket control }
         requires journal_room { 1 ≤ journal.old.spare }
         ensures stands { Stands self.new journal.new.past }
-        ensures picked { ticketed result ≡ (ticket, control) }
+        ensures picked { picked result ≡ (ticket, control) }
         ensures entry { journal.new.past ≡ Entry.Pick self.old.id ticket ∷ journal.old.past }
         ensures fields { self.new ≡ record self.old { waiting = self.new.waiting } }
         ensures journal_room { journal.old.spare ≤ journal.new.spare + 1 }
     {
-        let waiting = self.waiting.remove(0);
+        let Some(picked) = self.waiting.pick(false) else {
+            unreachable!()
+        };
         journal.push(Entry::Pick {
             job: self.id,
-            ticket: waiting.ticket,
+            ticket: picked.ticket,
         });
-        waiting
+        picked
     }
 
     /// The case of a control that was picked.
     fn control<H: Host>(
         &mut self,
         control: Control,
-        waiting: &Waiting,
+        picked: &Picked,
         what: Option<(Spawnable, Spawnable)>,
         at: u64,
         host: &mut H,
@@ -299,13 +299,13 @@ impl JobTask {
         requires what { what ≡ prepared self.old.command control (child_of self.old.state) }
         requires room { AreSpare 4 journal.old (H.seen host.old) }
         ensures stands { Stands self.new journal.new.past }
-        ensures follows { FollowsHost (row self.old.id self.old.command waiting.now.ticket control (child_of self.old.state)) journal.old.past (H.seen host.old) Done journal.new.past (H.seen host.new) }
+        ensures follows { FollowsHost (row self.old.id self.old.command picked.now.ticket control (child_of self.old.state)) journal.old.past (H.seen host.old) Done journal.new.past (H.seen host.new) }
         ensures fields { self.new ≡ record self.old { state = self.new.state; previous = self.new.previous; kept = self.new.kept } }
         ensures spends { Spends 4 journal.old (H.seen host.old) journal.new (H.seen host.new) }
     {
         match control {
-            Control::Start => self.start(waiting.ticket, &waiting.done, what, at, host, journal),
-            Control::Stop => self.stop(waiting.ticket, &waiting.done, at, host, journal),
+            Control::Start => self.start(picked.ticket, &picked.done, what, at, host, journal),
+            Control::Stop => self.stop(picked.ticket, &picked.done, at, host, journal),
         }
     }
 
@@ -335,8 +335,8 @@ impl JobTask {
             Choice::End(child) => self.end_child(child, at, host, journal),
             Choice::Next { ticket, control } => {
                 let what = self.prepare(alloc, control)?;
-                let waiting = self.pick(ticket, control, journal);
-                self.control(control, &waiting, what, at, host, journal);
+                let picked = self.pick(ticket, control, journal);
+                self.control(control, &picked, what, at, host, journal);
             }
             Choice::Nothing => journal.push(Entry::Word(Word::Idle)),
         }

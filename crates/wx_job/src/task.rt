@@ -1,7 +1,6 @@
 // What is kept of a job.
-ghost use Rattle.std.specs.Prelude.{◌≡◌, ℕ, ◌+◌, ◌<◌, ◌≤◌, ◌∷◌, vec_len, vec_capacity, OnOk, OnErr, IfOk, List, Option, Some, None, option_map, true, false};
+ghost use Rattle.std.specs.Prelude.{◌≡◌, ℕ, ◌+◌, ◌≤◌, ◌∷◌, OnOk, OnErr, IfOk, List, Option, Some, None, option_map, true, false};
 ghost use Rattle.wx_control.specs.Asks.{sends_of};
-ghost use Rattle.wx_control.specs.declared.level.Level.TheVariants.{Normal};
 ghost use Rattle.wx_journal.specs.declared.entry.Entry.{Entry};
 ghost use Rattle.wx_journal.specs.declared.entry.Entry.TheVariants.{Turn as Turned, Made};
 ghost use Rattle.wx_journal.specs.declared.entry.TurnKind.TheVariants.{Ended};
@@ -21,17 +20,9 @@ use crate::outside::{Host, JobHooks};
 use crate::state::CommandState;
 use std::alloc::Global;
 use wx_command::Command;
-use wx_control::{Ask, Control, Flag, Id, Job, Level, Ticket};
+use wx_control::{Ask, Control, Flag, Id, Job, Level, ThreeLists, Ticket};
 use wx_events::{Copies, Memory};
 use wx_journal::{Entry, Journal};
-
-/// A control that waits.
-#[derive(Drop, Debug)]
-pub(crate) struct Waiting {
-    pub(crate) ticket: u64,
-    pub(crate) control: Control,
-    pub(crate) done: Flag,
-}
 
 /// A job, with the child that it drives. It stands for its job in a journal where it keeps what the journal says of it.
 #[derive(Drop, Debug)]
@@ -40,7 +31,7 @@ pub struct JobTask {
     pub(crate) command: Command,
     /// Raised when the job is gone.
     pub(crate) flag: Flag,
-    pub(crate) waiting: Vec<Waiting>,
+    pub(crate) waiting: ThreeLists,
     pub(crate) state: CommandState,
     pub(crate) previous: Option<CommandState>,
     /// The running child has ended, and wasn't waited for yet.
@@ -61,7 +52,7 @@ pub fn start_job(alloc: Global, id: Id, command: Command) -> Result<(Job, JobTas
         id,
         command,
         flag,
-        waiting: Vec::new(alloc),
+        waiting: ThreeLists::new(alloc),
         state: CommandState::Pending,
         previous: None,
         kept: false,
@@ -255,7 +246,7 @@ impl JobTask {
         let ticket = self.ticket(alloc, &done)?;
         journal.reserve(1)?;
         self.waiting.reserve(1)?;
-        self.ask(sends.first, done, journal);
+        self.ask(sends.first, sends.level, done, journal);
         Ok(ticket)
     }
 
@@ -269,27 +260,23 @@ impl JobTask {
         })
     }
 
-    /// A control waits at the level Normal.
-    fn ask(&mut self, control: Control, done: Flag, journal: &mut Journal)
+    /// A control waits at a level.
+    fn ask(&mut self, control: Control, level: Level, done: Flag, journal: &mut Journal)
         requires stands { Stands self.old journal.old.past }
         requires here { self.old.gone ≡ false }
-        requires room { vec_len self.old.waiting < vec_capacity self.old.waiting }
+        requires room { 1 ≤ self.old.waiting.spare }
         requires journal_room { 1 ≤ journal.old.spare }
         ensures stands { Stands self.new journal.new.past }
-        ensures follows { (k : Plan) → FollowsAlone (asks self.old.id Normal control k) journal.old.past k journal.new.past }
+        ensures follows { (k : Plan) → FollowsAlone (asks self.old.id level control k) journal.old.past k journal.new.past }
         ensures fields { self.new ≡ record self.old { waiting = self.new.waiting } }
         ensures journal_room { journal.old.spare ≤ journal.new.spare + 1 }
     {
         let ticket = journal.tickets();
-        self.waiting.push_reserved(Waiting {
-            ticket,
-            control,
-            done,
-        });
+        self.waiting.put_reserved(ticket, done, control, level);
         journal.push(Entry::Asked {
             ticket,
             job: self.id,
-            level: Level::Normal,
+            level,
             control,
         });
     }

@@ -187,7 +187,7 @@ pub(crate) fn command_of(alloc: Global, prog: &[u8]) -> Result<Command, Memory> 
 }
 
 /// A job of this name is created, which runs this program, and made.
-#[tactic(auto, using(crate::proofs::Turns::stands_created, crate::proofs::Turns::names_created))]
+#[tactic(auto, using(crate::proofs::Turns::names_created))]
 pub(crate) fn make_job(
     alloc: Global,
     id: Id,
