@@ -3,15 +3,15 @@ use Rattle.std.proofs.Common.{◌≡◌, ℕ, true, Some, List, ◌∷◌, refl}
 use Rattle.wx_command.specs.declared.command.Command.{Command}
 use Rattle.wx_control.specs.declared.id.Id.{Id}
 use Rattle.wx_journal.specs.declared.entry.Entry.{Entry}
-use Rattle.wx_journal.specs.declared.entry.Entry.TheVariants.{Raise, Gone}
+use Rattle.wx_journal.specs.declared.entry.Entry.TheVariants.{Raise}
 use Rattle.wx_job.specs.History.{lives, child}
-use Rattle.wx_job.specs.Table.{Done, adds, raises, reap, fresh, drop_plan}
-use Rattle.wx_job.proofs.Sound.{Sound, IsAsked, sound_raise, sound_fresh, sound_reap, sound_drop}
+use Rattle.wx_job.specs.Table.{adds, raises, reap, fresh, leave}
+use Rattle.wx_job.proofs.Sound.{Sound, IsAsked, sound_raise, sound_fresh, sound_reap, sound_leave}
 
 -- the running child is reaped, and a fresh one is spawned
 pub sound_restart : (id : Id) (command : Command) (d t : ℕ) (p : List Entry) → child id p ≡ Some d → lives id p ≡ true → IsAsked t p → Sound id p (reap d t (fresh id command (raises t)))
 sound_restart id command d t p is alive asked = sound_reap id d t (fresh id command (raises t)) p is alive asked (λ q none alive asked. sound_fresh id command t q none alive asked)
 
 -- the ticket is raised, the running child is let go, and the job is gone
-pub sound_delete : (id : Id) (t : ℕ) (p : List Entry) → lives id p ≡ true → IsAsked t p → Sound id p (adds (Raise t) (drop_plan (child id p) (adds (Gone id) Done)))
-sound_delete id t p alive asked = sound_raise id t (drop_plan (child id p) (adds (Gone id) Done)) p alive asked (sound_drop id (child id p) (Raise t ∷ p) refl alive)
+pub sound_delete : (id : Id) (t : ℕ) (p : List Entry) → lives id p ≡ true → IsAsked t p → Sound id p (adds (Raise t) (leave id (child id p)))
+sound_delete id t p alive asked = sound_raise id t (leave id (child id p)) p alive asked (sound_leave id (child id p) (Raise t ∷ p) refl alive)

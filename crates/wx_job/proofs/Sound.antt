@@ -16,13 +16,13 @@ use Rattle.wx_control.specs.Waits.{first}
 use Rattle.wx_journal.specs.declared.child.HostFault.{HostFault}
 use Rattle.wx_journal.specs.declared.child.SpawnTag.TheVariants.{Default}
 use Rattle.wx_journal.specs.declared.entry.Entry.{Entry}
-use Rattle.wx_journal.specs.declared.entry.Entry.TheVariants.{Turn as Turned, Word as Said, Hand, Made, Asked, Pick, Spawn, Kill, Wait, Dropped, Raise, Gone}
+use Rattle.wx_journal.specs.declared.entry.Entry.TheVariants.{Begin, Sent, Turn as Turned, TurnFault, Offer, Word as Said, Take, Hand, Made, Asked, Pick, Spawn, Kill, Wait, Dropped, Raise, Gone}
 use Rattle.wx_journal.specs.Names.{Names, NamesItsOwn, ticket_count, child_count}
 use Rattle.wx_journal.specs.Told.{is_hooks, Counts}
 use Rattle.wx_job.specs.declared.choice.Choice.{Choice}
 use Rattle.wx_job.specs.declared.choice.Choice.TheVariants.{End, Next, Nothing}
 use Rattle.wx_job.specs.History.{same, lives, waits, child, kept, unless, SameHistory}
-use Rattle.wx_job.specs.Table.{Call, Adds, Waits, Plan, Done, GivenUp, Owes, adds, raises, reap, fresh, row, choose, choose_control, pick, case, step_plan, ask_plan, send_plan, end_plan, drop_plan}
+use Rattle.wx_job.specs.Table.{Call, Adds, Waits, Plan, Done, GivenUp, Owes, adds, raises, reap, fresh, row, choose, choose_control, pick, case, step_plan, ask_plan, send_plan, end_plan, leave}
 use Rattle.wx_job.specs.Case.{Answer, entry, Admits, is_fault, next, Leads, Here, Then}
 use Rattle.wx_job.specs.Faults.{fault_count, Counted}
 use Rattle.wx_job.specs.Laws.{unreaped, AreReaped, AfterFaults, NamesChildren}
@@ -43,7 +43,14 @@ Fits id p (Raise t) = Unit {0}
 Fits id p (Gone job) = (job ≡ id) × (child id p ≡ None)
 Fits id p (Asked t job level control) = (job ≡ id) × (t ≡ ticket_count p)
 Fits id p (Said word) = Unit {0}
-Fits id p (_) = ⊥
+Fits id p (Begin throttle size errors keyboard follow jobsignals watcher cwd paths) = ⊥
+Fits id p (Sent name event priority) = ⊥
+Fits id p (Turned t) = ⊥
+Fits id p (TurnFault code) = ⊥
+Fits id p (Offer name item result event priority) = ⊥
+Fits id p (Take name) = ⊥
+Fits id p (Hand n names acts) = ⊥
+Fits id p (Made job) = ⊥
 
 -- that the job is gone comes next
 abbrev pub Goes : Id → Plan → Type 0
@@ -53,8 +60,23 @@ Goes id (Owes call k f) = call ≡ Adds (Gone id)
 
 -- where a child is let go the job is gone next
 abbrev pub Closes : Id → Entry → Plan → Type 0
+Closes id (Begin throttle size errors keyboard follow jobsignals watcher cwd paths) k = Unit {0}
+Closes id (Sent name event priority) k = Unit {0}
+Closes id (Turned t) k = Unit {0}
+Closes id (TurnFault code) k = Unit {0}
+Closes id (Offer name item result event priority) k = Unit {0}
+Closes id (Said word) k = Unit {0}
+Closes id (Take name) k = Unit {0}
+Closes id (Hand n names acts) k = Unit {0}
+Closes id (Made job) k = Unit {0}
+Closes id (Asked ticket job level control) k = Unit {0}
+Closes id (Pick job ticket) k = Unit {0}
+Closes id (Spawn c job tag what answer) k = Unit {0}
+Closes id (Kill c answer) k = Unit {0}
+Closes id (Wait c answer) k = Unit {0}
 Closes id (Dropped c) k = Goes id k
-Closes id (_) k = Unit {0}
+Closes id (Raise ticket) k = Unit {0}
+Closes id (Gone job) k = Unit {0}
 
 -- What is known of each entry that a plan of a job brings, with what is owed behind it. The job lives while it owes
 -- anything: what ends it comes last.
@@ -104,9 +126,9 @@ sound_reap id d t k p is alive asked rest = λ a.
     (record { alive = alive; fits = is; names = λ own. child_below id d p own is; closes = tt }, both _ last waits)
 
 -- the child that runs is let go, where one does, and the job is gone
-pub sound_drop : (id : Id) (c : Option ℕ) (p : List Entry) → child id p ≡ c → lives id p ≡ true → Sound id p (drop_plan c (adds (Gone id) Done))
-sound_drop id None p is alive = λ a. (record { alive = alive; fits = (refl, is); names = λ own. tt; closes = tt }, tt)
-sound_drop id (Some d) p is alive = λ a. (record { alive = alive; fits = is; names = λ own. child_below id d p own is; closes = refl }, λ b. (record { alive = alive; fits = (refl, gone_child d (child id p) is); names = λ own. tt; closes = tt }, tt))
+pub sound_leave : (id : Id) (c : Option ℕ) (p : List Entry) → child id p ≡ c → lives id p ≡ true → Sound id p (leave id c)
+sound_leave id None p is alive = λ a. (record { alive = alive; fits = (refl, is); names = λ own. tt; closes = tt }, tt)
+sound_leave id (Some d) p is alive = λ a. (record { alive = alive; fits = is; names = λ own. child_below id d p own is; closes = refl }, λ b. (record { alive = alive; fits = (refl, gone_child d (child id p) is); names = λ own. tt; closes = tt }, tt))
 
 -- ---- the plans of the table are sound
 
@@ -150,7 +172,7 @@ pub sound_send : (id : Id) (ask : Ask) (p : List Entry) → Sound id p (send_pla
 sound_send id ask p = always_if (IsSound id) p (lives id p) (ask_plan id (sends_of ask) Done) (sound_ask id ask p)
 
 pub sound_end : (id : Id) (p : List Entry) → Sound id p (end_plan id p)
-sound_end id p = always_if (IsSound id) p (lives id p) (drop_plan (child id p) (adds (Gone id) Done)) (sound_drop id (child id p) p refl)
+sound_end id p = always_if (IsSound id) p (lives id p) (leave id (child id p)) (sound_leave id (child id p) p refl)
 
 -- ---- one entry
 

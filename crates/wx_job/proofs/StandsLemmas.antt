@@ -12,13 +12,13 @@ use Rattle.wx_control.specs.Waits.{Waits, picked, joined, headed, level_of, firs
 use Rattle.wx_journal.specs.declared.child.SpawnTag.{SpawnTag}
 use Rattle.wx_journal.specs.declared.child.HostFault.{HostFault}
 use Rattle.wx_journal.specs.declared.entry.Entry.{Entry}
-use Rattle.wx_journal.specs.declared.entry.Entry.TheVariants.{Asked, Pick, Spawn, Wait, Gone}
+use Rattle.wx_journal.specs.declared.entry.Entry.TheVariants.{Asked, Pick, Spawn, Wait}
 use Rattle.wx_journal.specs.Names.{moment}
 use Rattle.wx_job.specs.declared.state.CommandState.{CommandState}
 use Rattle.wx_job.specs.declared.state.CommandState.TheVariants.{Pending, Running, Finished}
 use Rattle.wx_job.specs.declared.task.JobTask.{JobTask}
 use Rattle.wx_job.specs.History.{lives, waits, child, finish, SameHistory}
-use Rattle.wx_job.specs.Table.{Done, adds, drop_plan, end_plan}
+use Rattle.wx_job.specs.Table.{leave, end_plan}
 use Rattle.wx_job.specs.Stands.{Stands, child_of, id_of}
 use Rattle.wx_job.proofs.Owners.{self}
 use Rattle.wx_job.proofs.Frame.{is_silent, frame_silent}
@@ -177,7 +177,7 @@ stands-picked k k' p x s heads level fields =
     rw fields stood
 
 -- what the end of a job owes, by what the task keeps
-pub end-is : (k : JobTask) (p : List Entry) (c : Option ℕ) → Stands k p → k.gone ≡ false → c ≡ child_of k.state → end_plan k.id p ≡ drop_plan c (adds (Gone k.id) Done)
+pub end-is : (k : JobTask) (p : List Entry) (c : Option ℕ) → Stands k p → k.gone ≡ false → c ≡ child_of k.state → end_plan k.id p ≡ leave k.id c
 end-is k p c s here is = let alive : lives k.id p ≡ true = sym s.lives_kept ∙ rw here refl in let runs : child k.id p ≡ child_of k.state = sym s.child_kept ∙ rw here refl in rw (alive, runs, is) refl
 
 pub ruleset stands = (stands-asked, stands-picked, stands-silent, stands-wait-ok, stands-wait-err, stands-spawn-ok, stands-spawn-err)

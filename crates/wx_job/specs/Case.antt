@@ -12,10 +12,11 @@ use Rattle.wx_job.specs.Table.{Call, Adds, Spawns, Kills, Waits, Asks, Plan, Don
 
 -- what may be answered
 abbrev pub Answer : Call → Type 0
+Answer (Adds e) = Unit {0}
 Answer (Spawns id tag what) = Result (Unit {0}) HostFault
 Answer (Kills c) = Result (Unit {0}) HostFault
 Answer (Waits c) = Result ProcessEnd HostFault
-Answer (_) = Unit {0}
+Answer (Asks id level control) = Unit {0}
 
 -- the entry behind these, with this answer
 abbrev pub entry : List Entry → (call : Call) → Answer call → Entry

@@ -5,7 +5,7 @@ use Rattle.wx_control.specs.declared.id.Id.{Id}
 use Rattle.wx_control.specs.declared.ask.Ask.{Ask}
 use Rattle.wx_control.specs.Asks.{sends_of}
 use Rattle.wx_journal.specs.declared.entry.Entry.{Entry}
-use Rattle.wx_journal.specs.declared.entry.Entry.TheVariants.{Made, Asked, Pick, Spawn, Kill, Wait, Dropped, Gone}
+use Rattle.wx_journal.specs.declared.entry.Entry.TheVariants.{Begin, Sent, Turn as Turned, TurnFault, Offer, Word as Said, Take, Hand, Made, Asked, Pick, Spawn, Kill, Wait, Dropped, Raise, Gone}
 use Rattle.wx_journal.specs.Names.{NamesItsOwn, child_count}
 use Rattle.wx_job.specs.declared.state.CommandState.TheVariants.{Pending}
 use Rattle.wx_job.specs.History.{same, lives, child, state, unless, owner, SameHistory}
@@ -53,6 +53,14 @@ is_owner id (Some job) = same job id
 
 -- an entry is about a job where it names the job or a child that this spawned
 abbrev pub is_about : Id → List Entry → Entry → Bool
+is_about id p (Begin throttle size errors keyboard follow jobsignals watcher cwd paths) = false
+is_about id p (Sent name event priority) = false
+is_about id p (Turned t) = false
+is_about id p (TurnFault code) = false
+is_about id p (Offer name item result event priority) = false
+is_about id p (Said word) = false
+is_about id p (Take name) = false
+is_about id p (Hand n names acts) = false
 is_about id p (Made job) = same job id
 is_about id p (Asked ticket job level control) = same job id
 is_about id p (Pick job ticket) = same job id
@@ -60,8 +68,8 @@ is_about id p (Spawn c job tag what answer) = same job id
 is_about id p (Kill c answer) = is_owner id (owner c p)
 is_about id p (Wait c answer) = is_owner id (owner c p)
 is_about id p (Dropped c) = is_owner id (owner c p)
+is_about id p (Raise ticket) = false
 is_about id p (Gone job) = same job id
-is_about id p (_) = false
 
 -- each child has the next name
 abbrev pub NamesChildren : List Entry → Type 0

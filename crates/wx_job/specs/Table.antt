@@ -60,16 +60,27 @@ reap c ticket k = Owes (Kills c) (Owes (Waits c) k (raises ticket)) (raises tick
 abbrev pub fresh : Id → Command → Plan → Plan
 fresh id command k = Owes (Spawns id Default (spawnable_of command)) k k
 
+-- a child that runs is let go
+abbrev pub drop_plan : Option ℕ → Plan → Plan
+drop_plan None k = k
+drop_plan (Some c) k = adds (Dropped c) k
+
+-- the end of a job: a child that runs is let go, and the job is gone
+abbrev pub leave : Id → Option ℕ → Plan
+leave id running = drop_plan running (adds (Gone id) Done)
+
 -- The case of a control that was picked with this ticket, where this child runs, or none does.
 abbrev pub row : Id → Command → ℕ → Control → Option ℕ → Plan
 row id command ticket Start None = fresh id command (raises ticket)
+row id command ticket Start (Some c) = raises ticket
+row id command ticket Stop None = raises ticket
 row id command ticket Stop (Some c) = reap c ticket (raises ticket)
-row id command ticket (_) (_) = raises ticket
 
 -- the case spawns a child
 abbrev pub spawns : Control → Option ℕ → Bool
 spawns Start None = true
-spawns (_) (_) = false
+spawns Start (Some c) = false
+spawns Stop running = false
 
 -- the case of the end of a child
 abbrev pub ended : ℕ → Plan
@@ -123,10 +134,6 @@ ask_plan id sends k = asks id sends.level sends.first (ask_second id sends.level
 abbrev pub send_plan : Id → Sends → List Entry → Plan
 send_plan id sends p = if lives id p then ask_plan id sends Done else Done
 
--- the end of a job: a child that runs is let go, and the job is gone
-abbrev pub drop_plan : Option ℕ → Plan → Plan
-drop_plan None k = k
-drop_plan (Some c) k = adds (Dropped c) k
-
+-- nothing is owed at the end of a job that is gone
 abbrev pub end_plan : Id → List Entry → Plan
-end_plan id p = if lives id p then drop_plan (child id p) (adds (Gone id) Done) else Done
+end_plan id p = if lives id p then leave id (child id p) else Done

@@ -253,12 +253,14 @@ impl JobTask {
         ensures ok { IfOk result (λ what. what ≡ prepared self.now.command control (child_of self.now.state)) }
         ensures err { OnErr result (spawns control (child_of self.now.state) ≡ true) }
     {
-        if control != Control::Start || child_of(self.state).is_some() {
-            return Ok(None);
+        match (control, child_of(self.state)) {
+            (Control::Start, None) => {
+                let what = self.command.to_spawnable(alloc)?;
+                let listed = self.command.to_spawnable(alloc)?;
+                Ok(Some((what, listed)))
+            }
+            (Control::Start, Some(_)) | (Control::Stop, _) => Ok(None),
         }
-        let what = self.command.to_spawnable(alloc)?;
-        let listed = self.command.to_spawnable(alloc)?;
-        Ok(Some((what, listed)))
     }
 
     /// Takes the control that is picked out of those that wait.
@@ -350,7 +352,7 @@ pub(crate) fn child_of(state: CommandState) -> Option<u64>
 {
     match state {
         CommandState::Running { child, .. } => Some(child),
-        _ => None,
+        CommandState::Pending | CommandState::Finished { .. } => None,
     }
 }
 

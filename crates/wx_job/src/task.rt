@@ -6,7 +6,7 @@ ghost use Rattle.wx_journal.specs.declared.entry.Entry.TheVariants.{Turn as Turn
 ghost use Rattle.wx_journal.specs.declared.entry.TurnKind.TheVariants.{Ended};
 ghost use Rattle.wx_journal.specs.Names.{moment, NamesItsOwn};
 ghost use Rattle.wx_job.specs.History.{child as running, state, previous};
-ghost use Rattle.wx_job.specs.Table.{Plan, Done, adds, asks, send_plan, pick, is_spawning, answer_of, step_plan, drop_plan, end_plan};
+ghost use Rattle.wx_job.specs.Table.{Plan, Done, adds, asks, send_plan, pick, is_spawning, answer_of, step_plan, leave, end_plan};
 ghost use Rattle.wx_job.specs.Case.{Ran, FollowsHost, FollowsAlone};
 ghost use Rattle.wx_job.specs.Faults.{Counted};
 ghost use Rattle.wx_job.specs.Steady.{AreSpare, Spends};
@@ -288,7 +288,7 @@ impl JobTask {
         requires here { self.old.gone ≡ false }
         requires room { AreSpare 2 journal.old (H.seen host.old) }
         ensures stands { Stands self.new journal.new.past }
-        ensures follows { FollowsHost (drop_plan child (adds (Entry.Gone self.old.id) Done)) journal.old.past (H.seen host.old) Done journal.new.past (H.seen host.new) }
+        ensures follows { FollowsHost (leave self.old.id child) journal.old.past (H.seen host.old) Done journal.new.past (H.seen host.new) }
         ensures fields { self.new ≡ record self.old { waiting = self.new.waiting; kept = false; gone = true } }
         ensures spends { Spends 2 journal.old (H.seen host.old) journal.new (H.seen host.new) }
     {
@@ -337,7 +337,7 @@ fn stepped(choice: Choice) -> Stepped
     ensures { result ≡ answer_of false choice }
 {
     match choice {
+        Choice::End(_) | Choice::Next { .. } => Stepped::Did,
         Choice::Nothing => Stepped::Idle,
-        _ => Stepped::Did,
     }
 }
