@@ -7,7 +7,7 @@ use Rattle.wx_control.specs.declared.id.Id.{Id}
 use Rattle.wx_journal.specs.declared.entry.Entry.{Entry}
 use Rattle.wx_journal.specs.declared.entry.Entry.TheVariants.{Dropped, Gone}
 use Rattle.wx_journal.specs.Names.{NamesItsOwn}
-use Rattle.wx_journal.specs.Told.{tell_if, tells, is_world, is_hooks, anywhere}
+use Rattle.wx_journal.specs.Told.{tell_if, is_world, is_hooks, anywhere}
 use Rattle.wx_job.specs.History.{same, lives, child, unless}
 use Rattle.wx_job.specs.Table.{Plan, Done, adds, drop_plan, end_plan}
 use Rattle.wx_job.specs.Case.{Admits as Follows, next, Leads as Led, Here, Then as OneMore}

@@ -10,7 +10,6 @@ use Rattle.wx_job.specs.Table.{Plan, Done, end_plan}
 use Rattle.wx_job.specs.Case.{Admits as Lets, Leads as LeadsOn, Here as Stays, Then as Goes_on}
 use Rattle.wx_job.specs.Laws.{LeavesOthers}
 use Rattle.wx_action.specs.declared.worker_state.Held.{Held}
-use Rattle.wx_action.specs.declared.worker_state.Worker.{Worker}
 use Rattle.wx_action.specs.Start.{Start}
 use Rattle.wx_action.specs.Jobs.{set, jobs}
 use Rattle.wx_action.specs.Due.{agenda, Ends}

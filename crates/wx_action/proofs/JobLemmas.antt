@@ -1,5 +1,5 @@
 -- The turns of jobs.
-use Rattle.std.proofs.Common.{◌≡◌, ◌≢◌, ℕ, zero, suc, ◌+◌, ◌<◌, Bool, true, false, cond, List, [], ◌∷◌, length, get_or, set as put, inl, inr, arith, refl, ap, sym, subst, ◌∙◌, eq-eqb}
+use Rattle.std.proofs.Common.{◌≡◌, ℕ, zero, suc, ◌<◌, Bool, true, false, cond, List, [], ◌∷◌, length, get_or, inl, inr, arith, refl, ap, sym, subst, ◌∙◌, eq-eqb}
 use Rattle.std.specs.Prelude.{Option, None, Some, is_some, option_map, map, not}
 use Rattle.std.specs.List.{AllByRecursion, find}
 use Rattle.wx_words.specs.OptionLaws.{refused}
@@ -29,11 +29,11 @@ use Rattle.wx_job.specs.Kept.{StaysQuiet}
 use Rattle.wx_action.specs.Leads.{FollowsAlone}
 use Rattle.wx_action.specs.Turns.{StaysInTurn}
 use Rattle.wx_action.proofs.RunLaws.{orderly_turn}
-use Rattle.wx_action.proofs.JobLaws.{IsIn, in_set, all_in, is_child_some, none_by_ask, none_by_step, parent_is, parent_is_none}
+use Rattle.wx_action.proofs.JobLaws.{IsIn, is_child_some, none_by_ask, none_by_step, parent_is, parent_is_none}
 use Rattle.wx_action.proofs.TurnLaws.{at_end_of_none, other_over_end}
-use Rattle.wx_action.specs.HeldJobs.{is_of, is_alive, runs_child, handle_id, task_of, with_task}
+use Rattle.wx_action.specs.HeldJobs.{is_of, runs_child, handle_id, task_of, with_task}
 use Rattle.wx_action.specs.Stands.{Stands, AtTurn, IsStepOf, HeldStands, held_id}
-use Rattle.wx_action.proofs.JobListLemmas.{Placed, placed, with_put, none_at, also, some_alive, held_some, task_held, id_held, none_held}
+use Rattle.wx_action.proofs.JobListLemmas.{placed, with_put, none_at, also, some_alive, held_some, task_held, id_held, none_held}
 use Rattle.wx_action.proofs.HeldLemmas.{alive_is}
 use Rattle.wx_action.proofs.StandsLemmas.{quiet, quiet_over, held_at, tasks_put, ids_put, stands_quiet}
 use Rattle.wx_action.proofs.PlanLemmas.{JobDone, jobs_stand, Changes, plan_done, same_done}

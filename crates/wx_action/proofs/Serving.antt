@@ -1,7 +1,7 @@
 -- What calls serve, one after another.
-use Rattle.std.proofs.Common.{◌≡◌, Option, List, arith, refl, ap, ◌∙◌}
+use Rattle.std.proofs.Common.{◌≡◌, Option, List, arith, refl}
 use Rattle.wx_journal.specs.declared.entry.Entry.{Entry}
-use Rattle.wx_job.specs.Seen.{Seen, Shown, Hooked}
+use Rattle.wx_job.specs.Seen.{Seen, Hooked}
 use Rattle.wx_job.specs.Kept.{OnlyHooksRoom, Same, KeepsOn, Past, Roomy}
 use Rattle.wx_job.specs.Steady.{OnlyRoom}
 use Rattle.wx_job.proofs.SteadyLemmas.{steady_none, steady_then}

@@ -6,7 +6,6 @@ use Rattle.wx_journal.specs.declared.entry.Entry.TheVariants.{Begin, Sent, Turn 
 use Rattle.wx_journal.specs.Names.{Names, next_job, IsNextJob}
 use Rattle.wx_job.specs.History.{lives, child}
 use Rattle.wx_job.specs.Table.{Plan}
-use Rattle.wx_job.specs.Case.{next}
 use Rattle.wx_job.specs.Laws.{Runs}
 use Rattle.wx_job.proofs.Always.{Always}
 use Rattle.wx_job.proofs.Sound.{Goes}

@@ -1,5 +1,5 @@
 -- Signals and the ends of processes as words, which are parts with dots between them.
-use Rattle.std.proofs.Common.{◌≡◌, refl}
+use Rattle.std.proofs.Common.{refl}
 use Rattle.std.specs.Prelude.{ℕ, List, [], ◌∷◌, codes}
 use Rattle.wx_words.specs.Spellings.{Spelling}
 use Rattle.wx_words.specs.Choices.{Row, row, Behind, fields}

@@ -1,5 +1,5 @@
 -- Priorities, tags and events as words.
-use Rattle.std.proofs.Common.{◌≡◌, Some, refl}
+use Rattle.std.proofs.Common.{refl}
 use Rattle.std.specs.Prelude.{ℕ, List, [], ◌∷◌, codes}
 use Rattle.wx_words.specs.Spellings.{Spelling}
 use Rattle.wx_words.specs.Choices.{Row, row, Behind, fields}

@@ -1,5 +1,5 @@
 -- Printed entries and an end line are the text of these entries and of this answer alone.
-use Rattle.std.proofs.Common.{◌≡◌, ℕ, ◌^◌, ◌<◌, Option, None, Some, List, [], ◌∷◌, ◌++◌, sym, ap, subst, ◌∙◌, append_assoc, refl}
+use Rattle.std.proofs.Common.{◌≡◌, ℕ, ◌^◌, ◌<◌, Option, None, Some, List, [], ◌∷◌, ◌++◌, sym, ap, ◌∙◌, append_assoc, refl}
 use Rattle.std.specs.Prelude.{codes}
 use Rattle.std.specs.List.{flat_map, AllByRecursion}
 use Rattle.std.proofs.lemmas.List.{append-nil}
@@ -13,10 +13,10 @@ use Rattle.wx_words.specs.CleanLaws.{items_clean, words_back, line_back}
 use Rattle.wx_words.specs.EachLaws.{each_append}
 use Rattle.wx_words.specs.ToEndLaws.{all_again}
 use Rattle.wx_journal.specs.declared.entry.Entry.{Entry}
-use Rattle.wx_journal.specs.declared.entry.Entry.TheVariants.{Take, Hand, Gone}
+use Rattle.wx_journal.specs.declared.entry.Entry.TheVariants.{Take, Hand}
 use Rattle.wx_control.specs.Ids.{id}
 use Rattle.wx_journal.specs.Acts.{act, act_has_word}
-use Rattle.wx_journal.specs.Entries.{entry, hand, read_hand, entry_words, read_entry, EntryFits}
+use Rattle.wx_journal.specs.Entries.{entry, hand, entry_words, read_entry, EntryFits}
 use Rattle.wx_journal.specs.Lines.{Answer, AnswerFits, NamesFit, line_of, entry_line, end, end_words}
 
 -- ---- each entry is read again from its words

@@ -1,5 +1,5 @@
 -- What a call on a child answers, as words.
-use Rattle.std.proofs.Common.{◌≡◌, ℕ, Result, refl}
+use Rattle.std.proofs.Common.{ℕ, Result, refl}
 use Rattle.std.specs.Prelude.{codes}
 use Rattle.wx_words.specs.Spellings.{Spelling}
 use Rattle.wx_words.specs.Parts.{line, named, renamed, u32}

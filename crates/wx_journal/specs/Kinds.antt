@@ -1,6 +1,6 @@
 -- What a turn brings, as words.
 use Rattle.std.proofs.Common.{refl}
-use Rattle.std.specs.Prelude.{ℕ, List, [], ◌∷◌, ◌++◌, codes}
+use Rattle.std.specs.Prelude.{ℕ, List, [], ◌∷◌, codes}
 use Rattle.wx_words.specs.Spellings.{Spelling}
 use Rattle.wx_words.specs.Choices.{Row, row, Behind, fields}
 use Rattle.wx_words.specs.ChoiceLaws.{MadeAgain, SpeltSo, choice}

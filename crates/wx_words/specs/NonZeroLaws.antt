@@ -1,5 +1,5 @@
 -- A number other than zero is found by its number.
-use Rattle.std.proofs.Common.{◌≡◌, ℕ, zero, suc, ◌<◌, Some, List, sym, ap, ◌∙◌, arith}
+use Rattle.std.proofs.Common.{◌≡◌, zero, suc, ◌<◌, Some, sym, ap, ◌∙◌, arith}
 use Rattle.std.specs.Prelude.{ℤ, pos, negsuc, unsigned_abs}
 use Rattle.std.specs.Int.NonZero.{non_zero_i32_get, non_zero_i64_get}
 use Rattle.std.specs.declared.num.NonZeroI32.{NonZeroI32}

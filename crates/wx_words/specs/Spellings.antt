@@ -1,5 +1,5 @@
 -- The spelling of a type's values: which words they are, how these are read, and that the two agree.
-use Rattle.std.specs.Prelude.{◌≡◌, ℕ, Bool, true, ◌&&◌, List}
+use Rattle.std.specs.Prelude.{◌≡◌, ℕ, Bool, true, List}
 use Rattle.std.specs.List.{AllByRecursion}
 use Rattle.wx_words.specs.Combine.{Reader}
 use Rattle.wx_words.specs.Forms.{IsForm}

@@ -1,4 +1,4 @@
-use Rattle.std.proofs.Common.{◌≡◌, ◌*◌, ◌≤◌, true, false, List, ◌∷◌, arith, refl, ap, sym, subst, ◌∙◌}
+use Rattle.std.proofs.Common.{◌≡◌, ◌*◌, true, false, List, ◌∷◌, arith, refl, ap, sym, subst, ◌∙◌}
 use Rattle.wx_job.specs.declared.task.JobTask.{JobTask}
 use Rattle.wx_job.specs.History.{lives}
 use Rattle.wx_job.specs.Stands.{Stands as TaskStands}

@@ -1,4 +1,4 @@
-use Rattle.std.proofs.Common.{◌≡◌, ◌+◌, ◌*◌, ◌≤◌, List, ◌∷◌, length, length-append, arith, refl, ap, ◌∙◌}
+use Rattle.std.proofs.Common.{◌≡◌, ◌+◌, ◌*◌, List, ◌∷◌, length, length-append, arith, refl, ap, ◌∙◌}
 use Rattle.wx_action.specs.declared.handler.Todo.{Todo}
 use Rattle.wx_action.specs.declared.handler.Todo.TheVariants as todo
 use Rattle.wx_action.specs.Due.{Agenda}

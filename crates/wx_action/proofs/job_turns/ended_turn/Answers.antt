@@ -1,4 +1,3 @@
-use Rattle.std.proofs.Common.{arith}
 use Rattle.wx_action.proofs.Serving.{continues_grows}
 use Rattle.wx_action.proofs.job_turns.ended_turn.Goals as goal
 

@@ -1,4 +1,4 @@
-use Rattle.std.proofs.Common.{◌≡◌, ◌*◌, ◌≤◌, arith, refl, ap, sym, subst}
+use Rattle.std.proofs.Common.{◌*◌, arith, refl, ap, subst}
 use Rattle.wx_job.specs.declared.task.JobTask.{JobTask}
 use Rattle.wx_job.specs.Stands.{Stands as TaskStands}
 use Rattle.wx_action.specs.Due.{Open}

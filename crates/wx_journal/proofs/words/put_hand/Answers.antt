@@ -1,7 +1,7 @@
-use Rattle.std.proofs.Common.{◌≡◌, ◌∷◌, ◌++◌, OnOk, ℕ, List, sym, ap, subst, ◌∙◌, append_assoc}
+use Rattle.std.proofs.Common.{◌≡◌, ◌++◌, OnOk, ℕ, List, sym, ap, subst, ◌∙◌, append_assoc}
 use Rattle.std.specs.Prelude.{codes}
 use Rattle.std.specs.List.{flat_map}
-use Rattle.wx_words.specs.Line.{spaced, joined}
+use Rattle.wx_words.specs.Line.{spaced}
 use Rattle.wx_words.specs.LineLaws.{spaced-append}
 use Rattle.wx_words.specs.Parts.{both, list_of, as_line, number, u32}
 use Rattle.wx_journal.specs.Acts.{act}

@@ -1,4 +1,4 @@
-use Rattle.std.proofs.Common.{length, ap, ◌∙◌, arith}
+use Rattle.std.proofs.Common.{length, ap, arith}
 use Rattle.wx_journal.specs.Names.{next_job}
 use Rattle.wx_action.specs.Jobs.{set}
 use Rattle.wx_action.proofs.HandlerLemmas.{kept_create, next_grows}
