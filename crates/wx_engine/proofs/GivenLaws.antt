@@ -1,14 +1,22 @@
 -- One turn more is given.
-use Rattle.std.proofs.Common.{◌≡◌, ℕ, zero, suc, ◌+◌, ◌<◌, ◌≤◌, min, true, Option, None, Some, inl, inr, ◌⊎◌, List, [], ◌∷◌, length, drop, get_or, slice_get, refl, sym, ap, ◌∙◌, arith}
+use Rattle.std.proofs.Common.{◌≡◌, ℕ, zero, suc, ◌+◌, ◌<◌, ◌≤◌, min, Option, None, Some, Result, Ok, inl, inr, ◌⊎◌, List, [], ◌∷◌, length, drop, get_or, slice_get, refl, sym, ap, ◌∙◌, arith}
 use Rattle.std.proofs.lemmas.Bool.{cases_lt}
 use Rattle.std.proofs.lemmas.List.{get_or_past}
+use Rattle.wx_events.specs.declared.process.ProcessEnd.{ProcessEnd}
+use Rattle.wx_events.specs.declared.process.ProcessEnd.TheVariants.{Success}
+use Rattle.wx_command.specs.declared.spawnable.Spawnable.{Spawnable}
+use Rattle.wx_control.specs.declared.id.Id.{Id}
+use Rattle.wx_journal.specs.declared.child.HostFault.{HostFault}
+use Rattle.wx_journal.specs.declared.child.SpawnTag.{SpawnTag}
 use Rattle.wx_journal.specs.declared.entry.Entry.{Entry}
-use Rattle.wx_journal.specs.declared.entry.Entry.TheVariants.{Turn as Turned, TurnFault, Spawn, Kill, Wait}
+use Rattle.wx_journal.specs.declared.entry.Entry.TheVariants.{Turn as Turned, Spawn, Kill, Wait}
 use Rattle.wx_journal.specs.declared.entry.TurnKind.TheVariants.{Last}
 use Rattle.wx_engine.specs.declared.script.ScriptTurn.{ScriptTurn}
 use Rattle.wx_engine.specs.declared.script.ScriptTurn.TheVariants.{Turn, Fault}
-use Rattle.wx_journal.specs.Told.{is_turn}
-use Rattle.wx_engine.specs.Answered.{Calls, answers_of, Answered, answered_by, spawns, kills, waits}
+use Rattle.wx_engine.specs.declared.answers.Answers.{Answers}
+use Rattle.wx_engine.specs.declared.answers.Used.{Used}
+use Rattle.wx_engine.specs.Answered.{answers_of, Answered, answered_by}
+use Rattle.wx_engine.specs.HostCalls.{Spawns, Kills, Waits, reply, UsesAnswers}
 use Rattle.wx_engine.specs.Turns.{entry_of, entry_or_last, given, newest, turns_of, FollowsGiven}
 
 -- the next of the turns that are left, and those after it
@@ -67,29 +75,26 @@ next_line lines k usual = go (cases_lt k (length lines))
 -- a call more of this kind is answered by the next line
 pub answered_more : {Answer : Type 0} (pick : Entry → Option Answer) (usual : Answer) (lines : List Answer) (used used' : ℕ) (p : List Entry) (e : Entry) (answer : Answer)
     → pick e ≡ Some answer → answer ≡ get_or lines used usual → used' ≡ min (used + 1) (length lines) → Answered (answered_by pick usual) lines used p → Answered (answered_by pick usual) lines used' (e ∷ p)
-answered_more pick usual lines used used' p e answer picked is next h = record {
-  answers = rw picked (λ i. (is ∙ ap (λ (k : ℕ). get_or lines k usual) h.uses ∙ next_line lines (length (answers_of (answered_by pick usual) p)) usual) i ∷ h.answers i);
-  uses = rw picked (omega (arith, next, h.uses));
-}
+answered_more pick usual lines used used' p e answer picked is next (answers, uses) =
+    (rw picked (λ i. (is ∙ ap (λ (k : ℕ). get_or lines k usual) uses ∙ next_line lines (length (answers_of (answered_by pick usual) p)) usual) i ∷ answers i), rw picked (omega (arith, next, uses)))
 
--- and an entry that is no such call uses none
-pub answered_over : {Line Answer : Type 0} (calls : Calls Line Answer) (lines : List Line) (used : ℕ) (p : List Entry) (e : Entry) → calls.pick e ≡ None → Answered calls lines used p → Answered calls lines used (e ∷ p)
-answered_over calls lines used p e other h = record { answers = rw other h.answers; uses = rw other h.uses }
+-- an entry that is no call on the host uses none of its answers
+pub turn_over : (answers : Answers) (used : Used) (p : List Entry) (x : ScriptTurn) → UsesAnswers answers used p → UsesAnswers answers used (entry_of x ∷ p)
+turn_over answers used p (Turn t) all = all
+turn_over answers used p (Fault code) all = all
 
--- a turn is none
-pub turn_over : {Line Answer : Type 0} (calls : Calls Line Answer) (lines : List Line) (used : ℕ) (p : List Entry) (x : ScriptTurn)
-    → ((e : Entry) → is_turn e ≡ true → calls.pick e ≡ None) → Answered calls lines used p → Answered calls lines used (entry_of x ∷ p)
-turn_over calls lines used p (Turn t) none h = answered_over calls lines used p (Turned t) (none (Turned t) refl) h
-turn_over calls lines used p (Fault code) none h = answered_over calls lines used p (TurnFault code) (none (TurnFault code) refl) h
+-- a call of a kind uses one of its answers, and none of another
+pub spawn_more : (answers : Answers) (used : Used) (n : ℕ) (p : List Entry) (child : ℕ) (job : Id) (tag : SpawnTag) (what : Spawnable) (answer : Result (Unit {0}) HostFault)
+    → answer ≡ get_or answers.spawns used.spawns (Ok tt) → n ≡ min (used.spawns + 1) (length answers.spawns) → UsesAnswers answers used p → UsesAnswers answers (record used { spawns = n }) (Spawn child job tag what answer ∷ p)
+spawn_more answers used n p child job tag what answer is next all Spawns = answered_more (λ e. reply e Spawns) (Ok tt) answers.spawns used.spawns n p (Spawn child job tag what answer) answer refl is next (all Spawns)
+spawn_more answers used n p child job tag what answer is next all k = all k
 
-pub no_spawn : (e : Entry) → is_turn e ≡ true → spawns.pick e ≡ None
-no_spawn (Spawn child job tag what answer) turn = absurd cc
-no_spawn (_) turn = refl
+pub kill_more : (answers : Answers) (used : Used) (n : ℕ) (p : List Entry) (child : ℕ) (answer : Result (Unit {0}) HostFault)
+    → answer ≡ get_or answers.kills used.kills (Ok tt) → n ≡ min (used.kills + 1) (length answers.kills) → UsesAnswers answers used p → UsesAnswers answers (record used { kills = n }) (Kill child answer ∷ p)
+kill_more answers used n p child answer is next all Kills = answered_more (λ e. reply e Kills) (Ok tt) answers.kills used.kills n p (Kill child answer) answer refl is next (all Kills)
+kill_more answers used n p child answer is next all k = all k
 
-pub no_kill : (e : Entry) → is_turn e ≡ true → kills.pick e ≡ None
-no_kill (Kill child answer) turn = absurd cc
-no_kill (_) turn = refl
-
-pub no_wait : (e : Entry) → is_turn e ≡ true → waits.pick e ≡ None
-no_wait (Wait child answer) turn = absurd cc
-no_wait (_) turn = refl
+pub wait_more : (answers : Answers) (used : Used) (n : ℕ) (p : List Entry) (child : ℕ) (answer : Result ProcessEnd HostFault)
+    → answer ≡ get_or answers.waits used.waits (Ok Success) → n ≡ min (used.waits + 1) (length answers.waits) → UsesAnswers answers used p → UsesAnswers answers (record used { waits = n }) (Wait child answer ∷ p)
+wait_more answers used n p child answer is next all Waits = answered_more (λ e. reply e Waits) (Ok Success) answers.waits used.waits n p (Wait child answer) answer refl is next (all Waits)
+wait_more answers used n p child answer is next all k = all k

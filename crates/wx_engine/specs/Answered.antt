@@ -1,11 +1,6 @@
 -- What a script answers to the calls of each kind.
-use Rattle.std.specs.Prelude.{◌≡◌, ℕ, min, Bool, false, is_some, if◌then◌else◌, Option, None, Some, IfSome, Result, Ok, List, [], ◌∷◌, length, get_or}
-use Rattle.wx_events.specs.declared.process.ProcessEnd.{ProcessEnd}
-use Rattle.wx_events.specs.declared.process.ProcessEnd.TheVariants.{Success}
-use Rattle.wx_journal.specs.declared.child.HostFault.{HostFault}
+use Rattle.std.specs.Prelude.{◌≡◌, ℕ, min, Bool, false, is_some, if◌then◌else◌, Option, None, Some, IfSome, List, [], ◌∷◌, length, get_or}
 use Rattle.wx_journal.specs.declared.entry.Entry.{Entry}
-use Rattle.wx_journal.specs.declared.entry.Entry.TheVariants.{Spawn, Kill, Wait}
-use Rattle.wx_engine.specs.Turns.{Given}
 
 -- A kind of calls: what its entry was answered, and no other entry was; the line that is taken where none is written; and
 -- what a line answers, after these entries.
@@ -46,9 +41,8 @@ abbrev pub AreUsed : {Line Answer : Type 0} → Calls Line Answer → List Line 
 AreUsed calls lines used p = used ≡ min (length (answers_of calls p)) (length lines)
 
 -- both
-pub record Answered {Line Answer : Type 0} (calls : Calls Line Answer) (lines : List Line) (used : ℕ) (p : List Entry) : Type 0 where
-  pub answers : AreAnswered calls lines p
-  pub uses : AreUsed calls lines used p
+abbrev pub Answered : {Line Answer : Type 0} → Calls Line Answer → List Line → ℕ → List Entry → Type 0
+Answered calls lines used p = AreAnswered calls lines p × AreUsed calls lines used p
 
 -- each call of this kind is one of these entries
 abbrev pub AreAmong : {Line Answer : Type 0} → Calls Line Answer → (List Entry → Entry → Bool) → Type 0
@@ -57,32 +51,3 @@ AreAmong calls mine = (p : List Entry) (e : Entry) → mine p e ≡ false → ca
 -- calls whose line is the answer
 abbrev pub answered_by : {Answer : Type 0} → (Entry → Option Answer) → Answer → Calls Answer Answer
 answered_by pick usual = record { pick = pick; usual = usual; says = λ p line. line }
-
--- ---- the calls on children
-
-abbrev pub spawn_answer : Entry → Option (Result (Unit {0}) HostFault)
-spawn_answer (Spawn child job tag what answer) = Some answer
-spawn_answer (_) = None
-
-abbrev pub spawns : Calls (Result (Unit {0}) HostFault) (Result (Unit {0}) HostFault)
-spawns = answered_by spawn_answer (Ok tt)
-
-abbrev pub kill_answer : Entry → Option (Result (Unit {0}) HostFault)
-kill_answer (Kill child answer) = Some answer
-kill_answer (_) = None
-
-abbrev pub kills : Calls (Result (Unit {0}) HostFault) (Result (Unit {0}) HostFault)
-kills = answered_by kill_answer (Ok tt)
-
-abbrev pub wait_answer : Entry → Option (Result ProcessEnd HostFault)
-wait_answer (Wait child answer) = Some answer
-wait_answer (_) = None
-
-abbrev pub waits : Calls (Result ProcessEnd HostFault) (Result ProcessEnd HostFault)
-waits = answered_by wait_answer (Ok Success)
-
--- the calls on children are answered by what is given, kind by kind
-pub record FollowsAnswers (plan : Given) (p : List Entry) : Type 0 where
-  pub of_spawns : AreAnswered spawns plan.spawns p
-  pub of_kills : AreAnswered kills plan.kills p
-  pub of_waits : AreAnswered waits plan.waits p

@@ -1,8 +1,7 @@
 -- What a run with the world and the hooks of a script comes to.
-use Rattle.std.proofs.Common.{◌≡◌, ℕ, Bool, true, false, cond, if◌then◌else◌, is_some, Option, None, Some, IfSome, Ok, get_or, List, [], ◌∷◌, ◌++◌, length, nat_le, ◌&&◌, refl, ap, sym, subst, ◌∙◌}
+use Rattle.std.proofs.Common.{◌≡◌, ℕ, Bool, true, false, cond, if◌then◌else◌, is_some, Option, None, Some, IfSome, get_or, List, [], ◌∷◌, ◌++◌, length, nat_le, ◌&&◌, refl, ap, sym, subst, ◌∙◌}
 use Rattle.std.proofs.lemmas.List.{append-nil}
 use Rattle.std.specs.List.{list_all}
-use Rattle.wx_events.specs.declared.process.ProcessEnd.TheVariants.{Success}
 use Rattle.wx_journal.specs.declared.entry.Entry.{Entry}
 use Rattle.wx_journal.specs.declared.entry.Entry.TheVariants.{Hand, Spawn, Kill, Wait}
 use Rattle.wx_journal.specs.declared.entry.Turn.{Turn as Timed}
@@ -10,7 +9,8 @@ use Rattle.wx_journal.specs.Told.{tell_if, tells, anywhere, is_world, is_hooks, 
 use Rattle.wx_engine.specs.declared.script.Script.{Script}
 use Rattle.wx_engine.specs.declared.script.ScriptTurn.{ScriptTurn}
 use Rattle.wx_engine.specs.declared.script.ScriptTurn.TheVariants.{Turn, Fault}
-use Rattle.wx_engine.specs.Answered.{Calls, with_answer, answers_of, due_answer, due_answers, IsAnswered, AreAnswered, AreUsed, AreAmong, answered_by, spawn_answer, spawns, kill_answer, kills, wait_answer, waits, FollowsAnswers}
+use Rattle.wx_engine.specs.Answered.{Calls, with_answer, answers_of, due_answer, due_answers, IsAnswered, AreAnswered, AreUsed, AreAmong, answered_by}
+use Rattle.wx_engine.specs.HostCalls.{HostCall, row, reply, calls, FollowsAnswers}
 use Rattle.wx_engine.specs.Acted.{hands}
 use Rattle.wx_engine.specs.Turns.{comes, risen, Rises, Given, given, newest, turns_of, FollowsGiven}
 use Rattle.wx_engine.specs.Follows.{given_of, FollowsTurns}
@@ -99,36 +99,24 @@ obeys_answered {Line} {Answer} calls all lines rule due _ (More e p before passe
 
 -- ---- each kind
 
-spawns_among : AreAmong spawns is_world
-spawns_among p (Spawn child job tag what answer) other = absurd cc
-spawns_among p (_) other = refl
-
-kills_among : AreAmong kills is_world
-kills_among p (Kill child answer) other = absurd cc
-kills_among p (_) other = refl
-
-waits_among : AreAmong waits is_world
-waits_among p (Wait child answer) other = absurd cc
-waits_among p (_) other = refl
-
 pub hands_among : AreAmong hands (anywhere is_hooks)
 hands_among p (Hand n names acts) other = absurd cc
 hands_among p (_) other = refl
 
-answers_in : (plan : Given) (p : List Entry) → FollowsAnswers plan (among is_world p) → FollowsAnswers plan p
-answers_in plan p h = record {
-  of_spawns = told_answered spawn_answer (Ok tt) is_world spawns_among plan.spawns p h.of_spawns;
-  of_kills = told_answered kill_answer (Ok tt) is_world kills_among plan.kills p h.of_kills;
-  of_waits = told_answered wait_answer (Ok Success) is_world waits_among plan.waits p h.of_waits;
-}
+calls_among : (k : HostCall) → AreAmong (calls k) is_world
+calls_among k p (Spawn child job tag what answer) other = absurd cc
+calls_among k p (Kill child answer) other = absurd cc
+calls_among k p (Wait child answer) other = absurd cc
+calls_among k p (_) other = refl
 
 -- a world that answers what the script says, told the calls of this run
 pub follows_answers : (s : Script) (plan : Given) (told p : List Entry)
-    → plan ≡ given_of s → FollowsAnswers plan told → Some told ≡ tells is_world p (Some []) → FollowsAnswers (given_of s) p
-follows_answers s plan told p is follows tells_run =
+    → plan ≡ given_of s → FollowsAnswers plan.answers told → Some told ≡ tells is_world p (Some []) → FollowsAnswers s.answers p
+follows_answers s plan told p is follows tells_run k =
     let whole : Some told ≡ Some (among is_world p) = tells_run ∙ tells_among is_world p [] ∙ ap Some (append-nil (among is_world p)) in
     let same : told ≡ among is_world p = cc in
-    answers_in (given_of s) p (subst (λ (g : Given). FollowsAnswers g (among is_world p)) is (subst (FollowsAnswers plan) same follows))
+    told_answered (λ e. reply e k) (row k).usual is_world (calls_among k) ((row k).lines s.answers) p
+    (subst (λ (g : Given). AreAnswered (calls k) ((row k).lines g.answers) (among is_world p)) is (subst (AreAnswered (calls k) ((row k).lines plan.answers)) same (follows k)))
 
 -- ---- one turn more of a script
 

@@ -6,7 +6,8 @@ use Rattle.wx_config.specs.Defaults.{default_config}
 use Rattle.wx_action.specs.Start.{Start, IsSize}
 use Rattle.wx_engine.specs.declared.script.Script.{Script}
 use Rattle.wx_engine.specs.Turns.{comes, Rises, Given, FollowsGiven}
-use Rattle.wx_engine.specs.Answered.{AreAnswered, FollowsAnswers}
+use Rattle.wx_engine.specs.Answered.{AreAnswered}
+use Rattle.wx_engine.specs.HostCalls.{FollowsAnswers}
 use Rattle.wx_engine.specs.Acted.{hands}
 
 -- what holds of each script that is read
@@ -26,15 +27,15 @@ start_of s = record {
 
 -- what its world gives
 abbrev pub given_of : Script → Given
-given_of s = record { turns = s.turns; last = s.last; spawns = s.spawns; kills = s.kills; waits = s.waits }
+given_of s = record { turns = s.turns; last = s.last; answers = s.answers }
 
 -- the turns of the run are the script's first ones, and then last turns at its last moment
 abbrev pub FollowsTurns : Script → List Entry → Type 0
 FollowsTurns s p = FollowsGiven s.turns s.last p
 
 -- the run follows the script: in its turns, in what is asked for in each call of the action handler, and in what the calls
--- on children are answered
+-- on the host are answered
 pub record Follows (s : Script) (p : List Entry) : Type 0 where
   pub turns : FollowsTurns s p
   pub acts : AreAnswered hands s.actions p
-  pub answers : FollowsAnswers (given_of s) p
+  pub answers : FollowsAnswers s.answers p

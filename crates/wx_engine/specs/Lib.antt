@@ -2,6 +2,7 @@ pub mod Wishes
 pub mod Turns
 pub mod Acted
 pub mod Answered
+pub mod HostCalls
 pub mod Follows
 pub mod FollowLaws
 pub mod Sent

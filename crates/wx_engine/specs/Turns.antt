@@ -1,13 +1,12 @@
 -- The turns of a script, and what a world that follows it gives.
-use Rattle.std.specs.Prelude.{◌≡◌, ℕ, zero, suc, Bool, true, not, nat_le, if◌then◌else◌, Option, None, Some, Result, List, [], ◌∷◌, length, slice_get}
+use Rattle.std.specs.Prelude.{◌≡◌, ℕ, zero, suc, Bool, true, not, nat_le, if◌then◌else◌, Option, None, Some, List, [], ◌∷◌, length, slice_get}
 use Rattle.std.specs.List.{filter}
-use Rattle.wx_events.specs.declared.process.ProcessEnd.{ProcessEnd}
-use Rattle.wx_journal.specs.declared.child.HostFault.{HostFault}
 use Rattle.wx_journal.specs.declared.entry.Entry.{Entry}
 use Rattle.wx_journal.specs.declared.entry.Entry.TheVariants.{Turn as Turned, TurnFault}
 use Rattle.wx_journal.specs.declared.entry.TurnKind.TheVariants.{Last}
 use Rattle.wx_journal.specs.Told.{is_turn}
 use Rattle.wx_action.specs.Told.{is_last}
+use Rattle.wx_engine.specs.declared.answers.Answers.{Answers}
 use Rattle.wx_engine.specs.declared.script.ScriptTurn.{ScriptTurn}
 use Rattle.wx_engine.specs.declared.script.ScriptTurn.TheVariants.{Turn, Fault}
 
@@ -26,13 +25,11 @@ risen before (Fault code ∷ turns) = risen before turns
 abbrev pub Rises : List ScriptTurn → ℕ → Type 0
 Rises turns last = risen 0 turns ≡ Some last
 
--- what a world gives: these turns, and then last turns at this moment, and these answers to the calls on children
+-- what a world gives: these turns, and then last turns at this moment, and these answers to the calls on the host
 pub record Given : Type 0 where
   pub turns : List ScriptTurn
   pub last : ℕ
-  pub spawns : List (Result (Unit {0}) HostFault)
-  pub kills : List (Result (Unit {0}) HostFault)
-  pub waits : List (Result ProcessEnd HostFault)
+  pub answers : Answers
 
 -- the entry of a turn of a script, and where there is none that of a last turn
 abbrev pub entry_of : ScriptTurn → Entry

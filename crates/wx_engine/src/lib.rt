@@ -1,6 +1,7 @@
 //! The engine, and a world and hooks that follow a script.
 #![tactic(auto)]
 
+mod answers;
 #[cfg(test)]
 mod own_hooks;
 mod replies;
@@ -13,6 +14,7 @@ mod supply;
 mod tests;
 mod watchexec;
 
+pub use answers::Answers;
 pub use script::{Script, ScriptTurn, Wanted};
 pub use script_hooks::ScriptHooks;
 pub use script_world::ScriptWorld;

@@ -1,56 +1,36 @@
-// What a script says of the calls of one kind.
-ghost use Rattle.std.specs.Prelude.{◌≡◌, ◌+◌, ◌≤◌, length, min, get_or};
+// What is written down for the calls of one kind: its lines, of which so many were used.
+ghost use Rattle.std.specs.Prelude.{◌≡◌, ◌+◌, length, min, get_or};
 
 use wx_events::List;
 
-/// The lines that are written down for these calls, and how many of them were used.
-#[derive(Drop, Debug)]
-pub(crate) struct Replies<T> {
-    pub(crate) lines: List<T>,
-    pub(crate) used: usize,
-    ghost in_range: { used ≤ length lines },
+/// The line of the next call, and the usual one where none is left.
+pub(crate) fn line<'a, T>(lines: &'a List<T>, used: usize, usual: &'a T) -> &'a T
+    ensures { result.now ≡ get_or lines.now used usual.now }
+{
+    if used < lines.len() {
+        &lines.as_slice()[used]
+    } else {
+        usual
+    }
 }
 
-impl<T> Replies<T> {
-    /// These lines, before the first call.
-    pub(crate) fn new(lines: List<T>) -> Replies<T>
-        ensures lines { result.lines ≡ lines }
-        ensures used { result.used ≡ 0 }
-    {
-        Replies { lines, used: 0 }
+/// How many lines are used once the next call was made.
+pub(crate) fn passed<T>(lines: &List<T>, used: usize) -> usize
+    ensures { result ≡ min (used + 1) (length lines.now) }
+{
+    if used < lines.len() {
+        used + 1
+    } else {
+        lines.len()
     }
+}
 
-    /// The line of the next call, and the usual one where none is left.
-    pub(crate) fn line<'a>(&'a self, usual: &'a T) -> &'a T
-        ensures { result.now ≡ get_or self.now.lines self.now.used usual.now }
-    {
-        if self.used < self.lines.len() {
-            &self.lines.as_slice()[self.used]
-        } else {
-            usual
-        }
-    }
-
-    /// The next call was made: its line is used.
-    pub(crate) fn pass(&mut self)
-        ensures lines { self.new.lines ≡ self.old.lines }
-        ensures used { self.new.used ≡ min (self.old.used + 1) (length self.old.lines) }
-    {
-        if self.used < self.lines.len() {
-            self.used += 1;
-        }
-    }
-
-    /// The line of the next call, which is made now, and the usual one where none is left.
-    pub(crate) fn next(&mut self, usual: T) -> T
-    where
-        T: Copy,
-        ensures answer { result ≡ get_or self.old.lines self.old.used usual }
-        ensures lines { self.new.lines ≡ self.old.lines }
-        ensures used { self.new.used ≡ min (self.old.used + 1) (length self.old.lines) }
-    {
-        let answer = *self.line(&usual);
-        self.pass();
-        answer
-    }
+/// The line of the next call, which is made now, and the usual one where none is left.
+pub(crate) fn next<T: Copy>(lines: &List<T>, used: &mut usize, usual: T) -> T
+    ensures answer { result ≡ get_or lines.now used.old usual }
+    ensures used { used.new ≡ min (used.old + 1) (length lines.now) }
+{
+    let answer = *line(lines, *used, &usual);
+    *used = passed(lines, *used);
+    answer
 }

@@ -1,7 +1,8 @@
 // What is written down for a run.
+use crate::answers::Answers;
 use std::alloc::Global;
-use wx_events::{Copies, Event, List, Memory, Priority, ProcessEnd, Spelled, Text, Words};
-use wx_journal::{Act, HostFault, Turn};
+use wx_events::{Copies, Event, List, Memory, Priority, Spelled, Text, Words};
+use wx_journal::{Act, Turn};
 
 /// What the world is to do when it is asked for a turn.
 #[derive(Drop, Debug)]
@@ -56,12 +57,8 @@ pub struct Script {
     pub turns: List<ScriptTurn>,
     /// What the action handler asks for: the acts of its first call, of its second, and so on.
     pub actions: List<List<Act<Wanted>>>,
-    /// What the host answers to the spawns of children, in order.
-    pub spawns: List<Result<(), HostFault>>,
-    /// What it answers to their kills, in order.
-    pub kills: List<Result<(), HostFault>>,
-    /// What it answers to the waits for them, in order.
-    pub waits: List<Result<ProcessEnd, HostFault>>,
+    /// What the host answers.
+    pub answers: Answers,
     /// The moment of the last turn that is written down, in nanoseconds, 0 where there is none.
     pub last: u64,
 }

@@ -8,7 +8,7 @@ ghost use Rattle.wx_engine.specs.Answered.{IsAnswered, AreUsed};
 ghost use Rattle.wx_engine.specs.Acted.{is_made, AreMade, performed, with_create, with_ask, with_act, hands};
 ghost use Rattle.wx_engine.specs.FollowLaws.{uses_over, hands_among};
 
-use crate::replies::Replies;
+use crate::replies::{line, passed};
 use crate::script::{Script, Wanted};
 use std::alloc::Global;
 use wx_action::{ActionHandler, CreateRefused, Hooks, JobHooks};
@@ -22,7 +22,8 @@ use wx_journal::{Act, Entry, Journal};
 #[derive(Drop, Debug)]
 pub struct ScriptHooks {
     alloc: Global,
-    actions: Replies<List<Act<Wanted>>>,
+    actions: List<List<Act<Wanted>>>,
+    used: usize,
     told: Journal,
     is_short: bool,
 }
@@ -30,14 +31,15 @@ pub struct ScriptHooks {
 impl ScriptHooks {
     /// Hooks that follow this script, before the first call. It fails only for want of memory.
     pub fn new(alloc: Global, script: &Script) -> Result<ScriptHooks, Memory>
-        ensures plan { IfOk result (λ hooks. hooks.actions.lines ≡ script.now.actions) }
-        ensures stands { IfOk result (λ hooks. AreUsed hands hooks.actions.lines hooks.actions.used []) }
+        ensures plan { IfOk result (λ hooks. hooks.actions ≡ script.now.actions) }
+        ensures stands { IfOk result (λ hooks. AreUsed hands hooks.actions hooks.used []) }
         ensures told { IfOk result (λ hooks. hooks.told.past ≡ []) }
         ensures short { IfOk result (λ hooks. hooks.is_short ≡ false) }
     {
         Ok(ScriptHooks {
             alloc,
-            actions: Replies::new(script.actions.copy(alloc)?),
+            actions: script.actions.copy(alloc)?,
+            used: 0,
             told: Journal::new(alloc)?,
             is_short: false,
         })
@@ -54,28 +56,28 @@ impl ScriptHooks {
 impl JobHooks for ScriptHooks {
     ghost Plan = { List (List AnAct) };
 
-    ghost seen = { λ s. record { plan = s.actions.lines; told = Some s.told.past; spare = s.told.spare; short = s.is_short; place = [] } };
+    ghost seen = { λ s. record { plan = s.actions; told = Some s.told.past; spare = s.told.spare; short = s.is_short; place = [] } };
 
     ghost rule = { λ lines p e. IsAnswered hands lines p e };
 
-    ghost stands = { λ s p. AreUsed hands s.actions.lines s.actions.used p };
+    ghost stands = { λ s p. AreUsed hands s.actions s.used p };
 
     fn reserve(&mut self, n: u64) -> Result<(), Memory> {
         self.told.reserve(n)
     }
 
-    ghost stands_other = { λ s p e _ other. uses_over hands (anywhere is_hooks) hands_among s.actions.lines s.actions.used p e other };
+    ghost stands_other = { λ s p e _ other. uses_over hands (anywhere is_hooks) hands_among s.actions s.used p e other };
 }
 
 impl Hooks for ScriptHooks {
     fn action(&mut self, n: u32, handler: &mut ActionHandler<'_>) {
         let none = List::new(self.alloc);
-        let acts = self.actions.line(&none).as_slice();
+        let acts = line(&self.actions, self.used, &none).as_slice();
         if perform(self.alloc, acts, handler).is_err() {
             self.is_short = true;
             handler.quit();
         }
-        self.actions.pass();
+        self.used = passed(&self.actions, self.used);
         let entry = handler.hand(n);
         self.told.push(entry);
     }

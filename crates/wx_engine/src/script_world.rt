@@ -3,11 +3,12 @@ ghost use Rattle.std.specs.Prelude.{◌≡◌, [], true, Some, IfOk, length, dro
 ghost use Rattle.std.specs.List.{list_all};
 ghost use Rattle.wx_journal.specs.declared.entry.TurnKind.TheVariants.{Last};
 ghost use Rattle.wx_journal.specs.Told.{Counts};
-ghost use Rattle.wx_engine.specs.Answered.{Answered, spawns as of_spawns, kills as of_kills, waits as of_waits};
+ghost use Rattle.wx_engine.specs.HostCalls.{UsesAnswers, uses_prop};
 ghost use Rattle.wx_engine.specs.Follows.{given_of};
 ghost use Rattle.wx_engine.specs.Turns.{comes, risen, Rises, entry_of, Given, turns_of, FollowsGiven};
 
-use crate::replies::Replies;
+use crate::answers::{Answers, Used};
+use crate::replies::next;
 use crate::script::{Script, ScriptTurn};
 use crate::supply::Supply;
 use std::alloc::Global;
@@ -24,18 +25,15 @@ use wx_journal::{Entry, HostFault, Journal, SpawnTag, Turn, TurnKind};
 pub struct ScriptWorld {
     turns: List<ScriptTurn>,
     last: u64,
-    spawns: Replies<Result<(), HostFault>>,
-    kills: Replies<Result<(), HostFault>>,
-    waits: Replies<Result<ProcessEnd, HostFault>>,
+    answers: Answers,
+    used: Used,
     left: Supply,
     told: Journal,
     moment: u64,
     faults: u64,
     host_faults: u64,
     pub ghost follows: { FollowsGiven turns last told.past },
-    pub ghost spawned: { Answered of_spawns spawns.lines spawns.used told.past },
-    pub ghost killed: { Answered of_kills kills.lines kills.used told.past },
-    pub ghost waited: { Answered of_waits waits.lines waits.used told.past },
+    pub ghost answered: { UsesAnswers answers used told.past } by { uses_prop answers used told.past },
     ghost rest: { left ≡ drop (length (turns_of told.past)) turns },
     ghost come: { list_all comes left ≡ true },
     ghost rises: { risen moment left ≡ Some last },
@@ -46,7 +44,7 @@ impl ScriptWorld {
     pub fn new(alloc: Global, script: &Script) -> Result<ScriptWorld, Memory>
         requires come { list_all comes script.now.turns ≡ true }
         requires rises { Rises script.now.turns script.now.last }
-        ensures plan { IfOk result (λ world. record { turns = world.turns; last = world.last; spawns = world.spawns.lines; kills = world.kills.lines; waits = world.waits.lines } ≡ given_of script.now) }
+        ensures plan { IfOk result (λ world. record { turns = world.turns; last = world.last; answers = world.answers } ≡ given_of script.now) }
         ensures told { IfOk result (λ world. world.told.past ≡ []) }
         ensures moment { IfOk result (λ world. world.moment ≡ 0) }
         ensures faults { IfOk result (λ world. world.faults ≡ 0) }
@@ -55,9 +53,8 @@ impl ScriptWorld {
         Ok(ScriptWorld {
             turns: script.turns.copy(alloc)?,
             last: script.last,
-            spawns: Replies::new(copied(alloc, &script.spawns)?),
-            kills: Replies::new(copied(alloc, &script.kills)?),
-            waits: Replies::new(copied(alloc, &script.waits)?),
+            answers: script.answers.copy(alloc)?,
+            used: Used::default(),
             left: Supply::new(alloc, &script.turns)?,
             told: Journal::new(alloc)?,
             moment: 0,
@@ -70,14 +67,7 @@ impl ScriptWorld {
 impl Outside for ScriptWorld {
     ghost Plan = { Given };
 
-    ghost seen = { λ s. record { plan = record { turns = s.turns; last = s.last; spawns = s.spawns.lines; kills = s.kills.lines; waits = s.waits.lines }; shown = record { told = Some s.told.past; faults = s.host_faults }; spare = s.told.spare; progress = record { turns = Some (turns_of s.told.past); left = length s.left; moment = s.moment; turn_faults = s.faults; maker_faults = 0 }; place = [] } };
-}
-
-/// These lines once more. It fails only for want of memory.
-fn copied<T: Copy>(alloc: Global, lines: &List<T>) -> Result<List<T>, Memory>
-    ensures { IfOk result (λ copied. copied ≡ lines.now) }
-{
-    Ok(List::from_vec(Vec::from_slice(alloc, lines.as_slice())?))
+    ghost seen = { λ s. record { plan = record { turns = s.turns; last = s.last; answers = s.answers }; shown = record { told = Some s.told.past; faults = s.host_faults }; spare = s.told.spare; progress = record { turns = Some (turns_of s.told.past); left = length s.left; moment = s.moment; turn_faults = s.faults; maker_faults = 0 }; place = [] } };
 }
 
 /// A count of faults, after a call that failed or went well. It ends at the greatest number.
@@ -103,7 +93,7 @@ impl Host for ScriptWorld {
         what: Spawnable,
         tag: SpawnTag,
     ) -> Result<(), HostFault> {
-        let answer = self.spawns.next(Ok(()));
+        let answer = next(&self.answers.spawns, &mut self.used.spawns, Ok(()));
         self.host_faults = counted(self.host_faults, answer.is_err());
         self.told.push(Entry::Spawn {
             child,
@@ -116,14 +106,18 @@ impl Host for ScriptWorld {
     }
 
     fn kill(&mut self, child: u64) -> Result<(), HostFault> {
-        let answer = self.kills.next(Ok(()));
+        let answer = next(&self.answers.kills, &mut self.used.kills, Ok(()));
         self.host_faults = counted(self.host_faults, answer.is_err());
         self.told.push(Entry::Kill { child, answer });
         answer
     }
 
     fn wait(&mut self, child: u64) -> Result<ProcessEnd, HostFault> {
-        let answer = self.waits.next(Ok(ProcessEnd::Success));
+        let answer = next(
+            &self.answers.waits,
+            &mut self.used.waits,
+            Ok(ProcessEnd::Success),
+        );
         self.host_faults = counted(self.host_faults, answer.is_err());
         self.told.push(Entry::Wait { child, answer });
         answer

@@ -5,8 +5,11 @@ ghost use Rattle.wx_action.specs.Start.{IsSize};
 ghost use Rattle.wx_journal.specs.declared.entry.TurnKind.TheVariants.{Arrive, Work, Job};
 ghost use Rattle.wx_engine.specs.declared.script.ScriptTurn.TheVariants.{Turn as Comes};
 ghost use Rattle.wx_engine.specs.Follows.{IsScript};
+ghost use Rattle.wx_engine.specs.HostCalls.{no_answers};
 
-use crate::{Script, ScriptHooks, ScriptTurn, ScriptWorld, SendRefused, Wanted, Watchexec};
+use crate::{
+    Answers, Script, ScriptHooks, ScriptTurn, ScriptWorld, SendRefused, Wanted, Watchexec,
+};
 use std::alloc::Global;
 use std::process::Abort;
 use std::test::Fail;
@@ -46,9 +49,7 @@ fn script(alloc: Global) -> Result<Script, Memory>
         sends: List::new(alloc),
         turns,
         actions,
-        spawns: List::new(alloc),
-        kills: List::new(alloc),
-        waits: List::new(alloc),
+        answers: Answers::new(alloc),
         last: 8,
     })
 }
@@ -143,7 +144,7 @@ pub(crate) fn turn(at: u64, kind: TurnKind) -> ScriptTurn
 
 /// The default settings and no turn.
 pub(crate) fn empty(alloc: Global) -> Script
-    ensures { result ≡ record { throttle = 50_000_000; size = 4096; sends = []; turns = []; actions = []; spawns = []; kills = []; waits = []; last = 0 } }
+    ensures { result ≡ record { throttle = 50_000_000; size = 4096; sends = []; turns = []; actions = []; answers = no_answers; last = 0 } }
 {
     Script {
         throttle: 50_000_000,
@@ -151,9 +152,7 @@ pub(crate) fn empty(alloc: Global) -> Script
         sends: List::new(alloc),
         turns: List::new(alloc),
         actions: List::new(alloc),
-        spawns: List::new(alloc),
-        kills: List::new(alloc),
-        waits: List::new(alloc),
+        answers: Answers::new(alloc),
         last: 0,
     }
 }
@@ -237,7 +236,7 @@ fn created(alloc: Global) -> Result<List<Act<Wanted>>, Memory> {
 
 /// An urgent event is sent, and the first call creates a job and asks it to start.
 fn begins(alloc: Global) -> Result<Script, Memory>
-    ensures { IfOk result (λ script. script ≡ record { throttle = 50_000_000; size = 4096; sends = (record { tags = [] }, Urgent) ∷ []; turns = Comes (record { at = 0; kind = Work }) ∷ []; actions = script.actions; spawns = []; kills = []; waits = []; last = 0 }) }
+    ensures { IfOk result (λ script. script ≡ record { throttle = 50_000_000; size = 4096; sends = (record { tags = [] }, Urgent) ∷ []; turns = Comes (record { at = 0; kind = Work }) ∷ []; actions = script.actions; answers = no_answers; last = 0 }) }
 {
     let mut script = empty(alloc);
     script.sends.push((event(alloc), Priority::Urgent))?;

@@ -1,5 +1,5 @@
 -- What is due for the bytes that were read.
-use Rattle.std.proofs.Common.{ℕ, ◌≡◌, ◌<◌, ◌≤◌, Option, None, Some, IfSome, Result, Ok, Err, IfOk, List, [], ◌∷◌, length, get_or, codes, refl, ap, sym, subst, arith}
+use Rattle.std.proofs.Common.{ℕ, ◌≡◌, ◌<◌, ◌≤◌, Option, None, Some, IfSome, Result, Ok, Err, IfOk, List, length, codes, refl, ap, sym, subst, arith}
 use Rattle.std.specs.Io.KnownBytes.{Appends}
 use Rattle.wx_replay.specs.Causes.{AddsFront, IsWhole, IsLonger}
 use Rattle.wx_replay.specs.Replays.{Replays, ReplaysRead, IsWritten}

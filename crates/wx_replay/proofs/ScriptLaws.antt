@@ -1,6 +1,6 @@
 -- What holds of each script that is read.
-use Rattle.std.proofs.Common.{◌≡◌, ℕ, ◌<◌, ◌≤◌, Bool, true, false, cond, Option, None, Some, List, [], ◌∷◌, ◌++◌, length, refl, ap, subst, arith, length-append}
-use Rattle.std.specs.Prelude.{◌==◌, ◌&&◌, nat_lt, nat_le, not, IfSome}
+use Rattle.std.proofs.Common.{◌≡◌, ℕ, ◌<◌, ◌≤◌, Bool, true, false, cond, Option, Some, List, [], ◌∷◌, ◌++◌, length, refl, ap, subst, arith, length-append}
+use Rattle.std.specs.Prelude.{◌==◌, ◌&&◌, nat_lt, nat_le, not}
 use Rattle.std.proofs.lemmas.Bool.Decides.{nat_tests}
 use Rattle.std.proofs.lemmas.Option.{cond_some}
 use Rattle.wx_words.specs.Line.{words_of, ◌>>=◌}
@@ -74,18 +74,10 @@ accepts_lawful s t (Turned turn) is come e =
 accepts_lawful s t (Failed code) is come e =
     let same : record s { turns = s.turns ++ Fault code ∷ [] } ≡ t = some_same e in
     subst IsScript same (record { size = is.size; sends = is.sends; comes = come_more s.turns (Fault code) is.comes refl; rises = rises_fault s.turns s.last code is.rises })
-accepts_lawful s t (Acts acts) is come e =
-    let same : record s { actions = s.actions ++ acts ∷ [] } ≡ t = some_same e in
-    subst IsScript same (record { size = is.size; sends = is.sends; comes = is.comes; rises = is.rises })
-accepts_lawful s t (Spawn answer) is come e =
-    let same : record s { spawns = s.spawns ++ answer ∷ [] } ≡ t = some_same e in
-    subst IsScript same (record { size = is.size; sends = is.sends; comes = is.comes; rises = is.rises })
-accepts_lawful s t (Kill answer) is come e =
-    let same : record s { kills = s.kills ++ answer ∷ [] } ≡ t = some_same e in
-    subst IsScript same (record { size = is.size; sends = is.sends; comes = is.comes; rises = is.rises })
-accepts_lawful s t (Wait answer) is come e =
-    let same : record s { waits = s.waits ++ answer ∷ [] } ≡ t = some_same e in
-    subst IsScript same (record { size = is.size; sends = is.sends; comes = is.comes; rises = is.rises })
+accepts_lawful s t (Acts acts) is come e = subst IsScript (some_same e) (record { size = is.size; sends = is.sends; comes = is.comes; rises = is.rises })
+accepts_lawful s t (Spawn answer) is come e = subst IsScript (some_same e) (record { size = is.size; sends = is.sends; comes = is.comes; rises = is.rises })
+accepts_lawful s t (Kill answer) is come e = subst IsScript (some_same e) (record { size = is.size; sends = is.sends; comes = is.comes; rises = is.rises })
+accepts_lawful s t (Wait answer) is come e = subst IsScript (some_same e) (record { size = is.size; sends = is.sends; comes = is.comes; rises = is.rises })
 
 step_lawful : (s t : Script) (line : List ℕ) → IsScript s → step s line ≡ Some t → IsScript t
 step_lawful s t line is e =

@@ -7,7 +7,7 @@ ghost use Rattle.wx_replay.specs.Scripts.{accepts, step, start, IsScriptOf, IsFi
 
 use crate::lines::{Line, line_in};
 use std::alloc::Global;
-use wx_engine::{Script, ScriptTurn};
+use wx_engine::{Answers, Script, ScriptTurn};
 use wx_events::{Event, List, Memory, Priority, cut};
 use wx_journal::Turn;
 
@@ -25,9 +25,7 @@ fn start(alloc: Global) -> Script
         sends: List::new(alloc),
         turns: List::new(alloc),
         actions: List::new(alloc),
-        spawns: List::new(alloc),
-        kills: List::new(alloc),
-        waits: List::new(alloc),
+        answers: Answers::new(alloc),
         last: 0,
     }
 }
@@ -98,15 +96,15 @@ fn add(script: &mut Script, said: Line) -> Result<bool, Memory>
             Ok(true)
         }
         Line::Spawn(answer) => {
-            script.spawns.push(answer)?;
+            script.answers.spawns.push(answer)?;
             Ok(true)
         }
         Line::Kill(answer) => {
-            script.kills.push(answer)?;
+            script.answers.kills.push(answer)?;
             Ok(true)
         }
         Line::Wait(answer) => {
-            script.waits.push(answer)?;
+            script.answers.waits.push(answer)?;
             Ok(true)
         }
     }
@@ -218,9 +216,9 @@ mod tests {
                     .map_or(0, |acts| acts.len());
                 Some((
                     acts,
-                    script.spawns.len(),
-                    script.kills.len(),
-                    script.waits.len(),
+                    script.answers.spawns.len(),
+                    script.answers.kills.len(),
+                    script.answers.waits.len(),
                 ))
             }
             _ => None,

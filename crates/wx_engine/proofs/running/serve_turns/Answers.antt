@@ -1,4 +1,4 @@
-use Rattle.std.proofs.Common.{◌≡◌, ◌+◌, ◌≤◌, [], ap, arith, refl, sym, ◌∙◌}
+use Rattle.std.proofs.Common.{◌+◌, ◌≤◌, ap, arith, refl, sym, ◌∙◌}
 use Rattle.wx_journal.specs.declared.entry.Entry.TheVariants.{Turn as Turned, TurnFault}
 use Rattle.wx_journal.specs.Told.{tell}
 use Rattle.wx_job.specs.Seen.{Shown}

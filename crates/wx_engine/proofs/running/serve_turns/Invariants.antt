@@ -1,4 +1,4 @@
-use Rattle.std.proofs.Common.{◌≡◌, ◌≤◌, ◌+◌, None, false}
+use Rattle.std.proofs.Common.{◌≡◌, ◌≤◌, ◌+◌, None}
 use Rattle.std.specs.Prelude.{codes}
 use Rattle.wx_journal.specs.Names.{moment}
 use Rattle.wx_action.specs.Journal.{turn_count, early_count, turn_fault}

@@ -23,7 +23,7 @@ returns-clause-text c =
       acts = acts;
       answers = follows_answers c.args.script.now _ c.main-answer.new.world.told.past j
           (c.main-answer.ensures.world_plan ∙ c.in_ok-world.ensures.plan)
-          (record { of_spawns = c.main-answer.new.world.spawned.answers; of_kills = c.main-answer.new.world.killed.answers; of_waits = c.main-answer.new.world.waited.answers })
+          (λ k. (c.main-answer.new.world.answered k).0)
           (c.main-answer.ensures.world ∙ ap (λ (before : List Entry). tells is_world j (Some before)) c.in_ok-world.ensures.told);
     } in
     let fits = c.in_ok-text.ensures.fits in
