@@ -1,24 +1,20 @@
-// Tests of a world that follows a script, and of runs: their text is worked out by hand.
+// Tests of a world and hooks that follow a script, and of an engine. Whole runs are compared in `wx_run` and `wx_examples`.
 ghost use Rattle.std.specs.Prelude.{◌≡◌, ◌∷◌, [], IfOk};
-ghost use Rattle.wx_events.specs.declared.priority.Priority.TheVariants.{Urgent};
 ghost use Rattle.wx_action.specs.Start.{IsSize};
 ghost use Rattle.wx_journal.specs.declared.entry.TurnKind.TheVariants.{Arrive, Work, Job};
 ghost use Rattle.wx_engine.specs.declared.script.ScriptTurn.TheVariants.{Turn as Comes};
 ghost use Rattle.wx_engine.specs.Follows.{IsScript};
 ghost use Rattle.wx_engine.specs.HostCalls.{no_answers};
 
-use crate::{
-    Answers, Script, ScriptHooks, ScriptTurn, ScriptWorld, SendRefused, Wanted, Watchexec,
-};
+use crate::{Answers, Script, ScriptHooks, ScriptTurn, ScriptWorld, SendRefused, Watchexec};
 use std::alloc::Global;
-use std::process::Abort;
 use std::test::Fail;
 use wx_action::{Host, JobHooks, World, print_journal};
 use wx_command::{Command, Program, SpawnOptions, Spawnable};
 use wx_config::Config;
-use wx_control::{Ask, Control, Flag, Id};
+use wx_control::{Flag, Id};
 use wx_events::{Copies, Event, List, Memory, Priority, ProcessEnd, Tag, Text, TextPath, cut};
-use wx_journal::{Act, Entry, Journal, SpawnTag, Turn, TurnKind, Word};
+use wx_journal::{Act, Journal, SpawnTag, Turn, TurnKind};
 
 /// Two turns with a fault between them, and one call that quits.
 fn script(alloc: Global) -> Result<Script, Memory>
@@ -157,31 +153,6 @@ pub(crate) fn empty(alloc: Global) -> Script
     }
 }
 
-/// An urgent event is sent, and the first call quits.
-fn quits(alloc: Global) -> Result<Script, Memory>
-    ensures { IfOk result IsScript }
-{
-    let mut script = empty(alloc);
-    script.sends.push((event(alloc), Priority::Urgent))?;
-    script.turns.push(work(0))?;
-    script.turns.push(work(0))?;
-    let mut acts = List::new(alloc);
-    acts.push(Act::Quit)?;
-    script.actions.push(acts)?;
-    Ok(script)
-}
-
-/// The world has no turn to give while an event waits in the window.
-fn faults(alloc: Global) -> Result<Script, Memory>
-    ensures { IfOk result IsScript }
-{
-    let mut script = empty(alloc);
-    script.turns.push(arrive(alloc, 0, Priority::Normal))?;
-    script.turns.push(work(0))?;
-    script.turns.push(ScriptTurn::Fault(5))?;
-    Ok(script)
-}
-
 /// An urgent event arrives behind another one, and is handed first and at once.
 fn hurries(alloc: Global) -> Result<Script, Memory>
     ensures { IfOk result IsScript }
@@ -191,18 +162,6 @@ fn hurries(alloc: Global) -> Result<Script, Memory>
     script.turns.push(arrive(alloc, 3, Priority::Urgent))?;
     script.turns.push(work(4))?;
     script.last = 4;
-    Ok(script)
-}
-
-/// Turns that name a job and a child, of which there are none.
-fn strays(alloc: Global) -> Result<Script, Memory>
-    ensures { IfOk result IsScript }
-{
-    let mut script = empty(alloc);
-    let ask = Ask::One(Control::Start);
-    script.turns.push(turn(0, TurnKind::Job(Id(1))))?;
-    script.turns.push(turn(0, TurnKind::Ended(0)))?;
-    script.turns.push(turn(0, TurnKind::Ask(Id(1), ask)))?;
     Ok(script)
 }
 
@@ -222,46 +181,6 @@ pub(crate) fn program(alloc: Global) -> Result<Command, Memory> {
         },
         options: SpawnOptions::default(),
     })
-}
-
-/// A job is created, and asked to start. Something is asked of jobs that are not there, before and after.
-fn created(alloc: Global) -> Result<List<Act<Wanted>>, Memory> {
-    let mut acts = List::new(alloc);
-    acts.push(Act::Ask(Id(0), Ask::One(Control::Stop)))?;
-    acts.push(Act::Create(Wanted::New, program(alloc)?))?;
-    acts.push(Act::Ask(Id(0), Ask::One(Control::Start)))?;
-    acts.push(Act::Ask(Id(1), Ask::One(Control::Start)))?;
-    Ok(acts)
-}
-
-/// An urgent event is sent, and the first call creates a job and asks it to start.
-fn begins(alloc: Global) -> Result<Script, Memory>
-    ensures { IfOk result (λ script. script ≡ record { throttle = 50_000_000; size = 4096; sends = (record { tags = [] }, Urgent) ∷ []; turns = Comes (record { at = 0; kind = Work }) ∷ []; actions = script.actions; answers = no_answers; last = 0 }) }
-{
-    let mut script = empty(alloc);
-    script.sends.push((event(alloc), Priority::Urgent))?;
-    script.turns.push(work(0))?;
-    script.actions.push(created(alloc)?)?;
-    Ok(script)
-}
-
-/// The child runs at the end.
-fn drops(alloc: Global) -> Result<Script, Memory>
-    ensures { IfOk result IsScript }
-{
-    let mut script = begins(alloc)?;
-    script.turns.push(job(0))?;
-    Ok(script)
-}
-
-/// The child runs as the world has no turn to give.
-fn breaks(alloc: Global) -> Result<Script, Memory>
-    ensures { IfOk result IsScript }
-{
-    let mut script = begins(alloc)?;
-    script.turns.push(job(0))?;
-    script.turns.push(ScriptTurn::Fault(5))?;
-    Ok(script)
 }
 
 /// The topmost folder.
@@ -298,68 +217,6 @@ fn run_text(alloc: Global, engine: Watchexec, script: &Script) -> Result<(u64, T
     let answer = engine.main(alloc, &mut world, &mut hooks, &mut journal);
     let text = print_journal(alloc, &journal, &answer)?;
     Ok((journal.len(), text))
-}
-
-const QUITS: &[u8] = b"sent 0 urgent 0\nturn 0 work\ntake 0\nhand 0 1 0 quit\nend ok lost 0\n";
-
-const FAULTS: &[u8] =
-    b"turn 0 arrive normal 0\noffer 0 - queued normal 0\nturn 0 work\ntake 0\nturnfault 5\nend error io turn 5 lost 1 0\n";
-
-const HURRIES: &[u8] =
-    b"turn 0 arrive low 0\noffer 0 - queued low 0\nturn 3 arrive urgent 0\noffer 1 - queued urgent 0\nturn 4 work\ntake 1\nhand 0 1 1\nturn 4 last\nend ok lost 0\n";
-
-const DROPS: &[u8] =
-    b"sent 0 urgent 0\nturn 0 work\ntake 0\nhand 0 1 0 create 0 exec ---- 1 a ask 0 start\nmade 0\nasked 0 0 normal start\nturn 0 job 0\npick 0 0\nspawn 0 0 default ---- 1 a ok\nraise 0\nturn 0 last\ndrop 0\ngone 0\nend ok lost 0\n";
-
-const BREAKS: &[u8] =
-    b"sent 0 urgent 0\nturn 0 work\ntake 0\nhand 0 1 0 create 0 exec ---- 1 a ask 0 start\nmade 0\nasked 0 0 normal start\nturn 0 job 0\npick 0 0\nspawn 0 0 default ---- 1 a ok\nraise 0\nturnfault 5\ndrop 0\ngone 0\nend error io turn 5 lost 0\n";
-
-/// Holds a run that follows a script to this count of entries and to these lines behind the first one.
-fn expect_run(
-    rt: &impl Abort,
-    alloc: Global,
-    script: Script,
-    count: u64,
-    lines: &[u8],
-) -> Result<(), Fail>
-    requires { IsScript script }
-{
-    let engine = engine_with(alloc, script.throttle, script.size)?;
-    let (len, text) = run_text(alloc, engine, &script)?;
-    let (_, rest) = cut(text.as_slice(), 10).ok_or("a beginning")?;
-    assert_eq!(rt; rest, lines);
-    assert_eq!(rt; len, count, "at {lines:?}");
-    Ok(())
-}
-
-#[test]
-fn runs_follow_their_scripts(rt: HostRuntime) -> Result<(), Fail> {
-    let alloc = rt.alloc();
-    expect_run(&rt, alloc, quits(alloc)?, 5, QUITS)?;
-    expect_run(&rt, alloc, faults(alloc)?, 6, FAULTS)?;
-    expect_run(&rt, alloc, hurries(alloc)?, 9, HURRIES)?;
-    expect_run(&rt, alloc, drops(alloc)?, 14, DROPS)?;
-    expect_run(&rt, alloc, breaks(alloc)?, 14, BREAKS)?;
-    Ok(())
-}
-
-#[test]
-fn turns_of_no_job_are_ignored(rt: HostRuntime) -> Result<(), Fail> {
-    let alloc = rt.alloc();
-    let script = strays(alloc)?;
-    let engine = engine_with(alloc, script.throttle, script.size)?;
-    let mut world = ScriptWorld::new(alloc, &script)?;
-    let mut hooks = ScriptHooks::new(alloc, &script)?;
-    let mut journal = Journal::new(alloc)?;
-    let answer = engine.main(alloc, &mut world, &mut hooks, &mut journal);
-    assert!(rt; answer.is_ok());
-    // a beginning, three turns with a word after each, and the last turn
-    assert_eq!(rt; journal.len(), 8);
-    for (i, entry) in journal.as_slice().iter().enumerate() {
-        let is_ignored = matches!(entry, Entry::Word(Word::Ignored));
-        assert_eq!(rt; is_ignored, [2, 4, 6].contains(&i), "at {i}");
-    }
-    Ok(())
 }
 
 #[test]
