@@ -424,23 +424,74 @@ fn play_beside(
     }
 }
 
+/// Makes one move of the second job, or of the first.
+fn play_one(
+    a: &mut JobTask,
+    b: &mut JobTask,
+    alloc: Global,
+    with: (bool, Move),
+    world: &mut World,
+) -> Result<(), Memory>
+    requires stands { Stands a.old world.old.journal.past }
+    requires other { Stands b.old world.old.journal.past }
+    requires names { NamesItsOwn world.old.journal.past }
+    requires apart { id_of b.old ≢ id_of a.old }
+    requires back { id_of a.old ≢ id_of b.old }
+    ensures stands { Stands a.new world.new.journal.past }
+    ensures other { Stands b.new world.new.journal.past }
+    ensures names { NamesItsOwn world.new.journal.past }
+    ensures apart { id_of b.new ≢ id_of a.new }
+    ensures back { id_of a.new ≢ id_of b.new }
+{
+    if with.0 {
+        play_beside(b, a, alloc, with.1, world)?;
+    } else {
+        play_beside(a, b, alloc, with.1, world)?;
+    }
+    Ok(())
+}
+
+/// Makes three moves of two jobs, each of the second one where it says so.
+fn play_three(
+    a: &mut JobTask,
+    b: &mut JobTask,
+    alloc: Global,
+    moves: [(bool, Move); 3],
+    world: &mut World,
+) -> Result<(), Memory>
+    requires stands { Stands a.old world.old.journal.past }
+    requires other { Stands b.old world.old.journal.past }
+    requires names { NamesItsOwn world.old.journal.past }
+    requires apart { id_of b.old ≢ id_of a.old }
+    requires back { id_of a.old ≢ id_of b.old }
+    ensures stands { Stands a.new world.new.journal.past }
+    ensures other { Stands b.new world.new.journal.past }
+    ensures names { NamesItsOwn world.new.journal.past }
+    ensures apart { id_of b.new ≢ id_of a.new }
+    ensures back { id_of a.new ≢ id_of b.new }
+{
+    play_one(a, b, alloc, moves[0], world)?;
+    play_one(a, b, alloc, moves[1], world)?;
+    play_one(a, b, alloc, moves[2], world)
+}
+
 #[test]
 fn two_jobs(rt: HostRuntime) -> Result<(), Fail> {
     let alloc = rt.alloc();
     let mut world = new_world(alloc, host(alloc, None)?)?;
     let mut a = make_job(alloc, Id(0), b"a", &mut world)?;
     let mut b = make_job(alloc, Id(1), b"b", &mut world)?;
-    play_beside(&mut a, &b, alloc, START, &mut world)?;
-    play_beside(&mut b, &a, alloc, START, &mut world)?;
-    play_beside(&mut a, &b, alloc, STOP, &mut world)?;
-    play_beside(&mut b, &a, alloc, Move::Step(1), &mut world)?;
-    assert_eq!(rt; a.state(), &CommandState::Pending);
-    play_beside(&mut a, &b, alloc, Move::Step(2), &mut world)?;
-    play_beside(&mut b, &a, alloc, STOP, &mut world)?;
-    play_beside(&mut a, &b, alloc, Move::Step(3), &mut world)?;
+    let asked = [(false, START), (true, START), (false, STOP)];
+    play_three(&mut a, &mut b, alloc, asked, &mut world)?;
+    let started = [(true, Move::Step(1)), (false, Move::Step(2)), (true, STOP)];
+    play_three(&mut a, &mut b, alloc, started, &mut world)?;
     assert_eq!(rt; b.state(), &RUNS);
-    play_beside(&mut b, &a, alloc, Move::End, &mut world)?;
-    play_beside(&mut a, &b, alloc, Move::Step(4), &mut world)?;
+    let ended = [
+        (false, Move::Step(3)),
+        (true, Move::End),
+        (false, Move::Step(4)),
+    ];
+    play_three(&mut a, &mut b, alloc, ended, &mut world)?;
     assert_eq!(rt; a.state(), &finished(2, 3));
     assert_eq!(rt; (a.is_gone(), b.is_gone()), (false, true));
     assert_eq!(rt; lines_of(alloc, &world)?.as_slice(), BOTH);
