@@ -1,9 +1,14 @@
-// The default settings, and the words of what is watched and of errors: the expected values are worked out by hand.
-use crate::{Changeable, Config, CriticalError, WatchedPath, Watcher};
+// The default settings, filters, and the words of what is watched and of errors: the expected values are worked out by
+// hand.
+use crate::{
+    Changeable, Config, CriticalError, EntryKind, Filterer, FsWatcherError, NotifyFault,
+    RuntimeError, ScanFault, WatchedPath, Watcher,
+};
 use std::alloc::Global;
+use std::fmt;
 use std::hash::{DefaultHasher, Hash, Hasher};
 use std::test::Fail;
-use wx_events::{Copies, Memory, Spelled, Text, TextPath, Words};
+use wx_events::{Copies, Event, List, Memory, Priority, Spelled, Text, TextPath, Words};
 
 /// The value whose words are this whole line.
 fn read_line<T: Spelled>(alloc: Global, line: &[u8]) -> Result<Option<T>, Memory> {
@@ -63,37 +68,320 @@ fn what_is_watched(rt: HostRuntime) -> Result<(), Fail> {
     Ok(())
 }
 
-#[test]
-fn errors_as_words(rt: HostRuntime) -> Result<(), Fail> {
-    let alloc = rt.alloc();
-    let error = CriticalError::IoError {
-        about: Text::from_slice(alloc, b"turn")?,
-        err: 5,
+/// Whether this value is written and shown by this line.
+fn is_written<T: Spelled + fmt::Display>(
+    alloc: Global,
+    value: &T,
+    line: &str,
+) -> Result<bool, Fail> {
+    let written = line_of(alloc, value)?;
+    let shown = format!(in alloc; "{value}")?;
+    Ok(written.as_slice() == line.as_bytes() && shown.as_str() == line)
+}
+
+/// Whether this line is read as a value whose fields are shown by a text that begins so, and whether this value and
+/// its copy are written and shown by the line.
+fn is_line_of<T: Spelled + Copies + fmt::Display + fmt::Debug>(
+    alloc: Global,
+    line: &str,
+    begins: &str,
+) -> Result<bool, Fail> {
+    let Some(value) = read_line::<T>(alloc, line.as_bytes())? else {
+        return Ok(false);
     };
-    let mut text = Text::new(alloc);
-    error.put_after(&mut text)?;
-    CriticalError::from(Memory).put_after(&mut text)?;
-    assert!(rt; text.as_slice() == b" io turn 5 memory".as_slice());
+    let fields = format!(in alloc; "{value:?}")?;
+    if !fields.as_str().starts_with(begins) {
+        return Ok(false);
+    }
+    let copy = value.copy(alloc)?;
+    Ok(is_written(alloc, &value, line)? && is_written(alloc, &copy, line)?)
+}
+
+/// Whether this line is no value of this type.
+fn is_refused<T: Spelled>(alloc: Global, line: &[u8]) -> Result<bool, Memory> {
+    Ok(read_line::<T>(alloc, line)?.is_none())
+}
+
+#[test]
+fn faults_of_backends(rt: HostRuntime) -> Result<(), Fail> {
+    let alloc = rt.alloc();
+    let table: [(&str, &str); 7] = [
+        ("generic a%20b 2 /a /b%25", "NotifyFault { kind: Generic("),
+        ("io 28 0", "NotifyFault { kind: Io(28),"),
+        ("nopath 1 /a", "NotifyFault { kind: PathNotFound,"),
+        ("nowatch 1 /a", "NotifyFault { kind: WatchNotFound,"),
+        ("badconfig 0", "NotifyFault { kind: InvalidConfig,"),
+        ("maxwatches 0", "NotifyFault { kind: MaxFilesWatch,"),
+        ("memory 0", "NotifyFault { kind: Memory,"),
+    ];
+    for (line, begins) in table {
+        assert!(rt;
+            is_line_of::<NotifyFault>(alloc, line, begins)?,
+            "at {line}"
+        );
+    }
+    let table: [&[u8]; 8] = [
+        b"",
+        b"generic a",
+        b"generic 0",
+        b"io 4294967296 0",
+        b"nopath",
+        b"nopath 2 /a",
+        b"nopaths 0",
+        b"maxwatches 1",
+    ];
+    for line in table {
+        assert!(rt; is_refused::<NotifyFault>(alloc, line)?, "at {line:?}");
+    }
     Ok(())
 }
 
 #[test]
-fn errors_are_shown_by_their_words(rt: HostRuntime) -> Result<(), Fail> {
+fn faults_of_scans(rt: HostRuntime) -> Result<(), Fail> {
     let alloc = rt.alloc();
-    let table: [(&[u8], &str); 4] = [
-        (b"turn", "io turn 5"),
-        (b"a b%", "io a%20b%25 5"),
-        (b"", "io % 5"),
-        (b"\xff\n", "io %FF%0A 5"),
+    let table: [(&str, &str); 5] = [
+        ("notfound", "NotFound"),
+        ("io 5", "Io(5)"),
+        ("changed dir /a link", "Changed { identity: Directory("),
+        ("changed lexical % other", "Changed { identity: Lexical("),
+        ("changed dir /a dir /b", "Changed { identity: Directory("),
     ];
-    for (about, words) in table {
-        let about = Text::from_slice(alloc, about)?;
-        let error = CriticalError::IoError { about, err: 5 };
-        let shown = format!(in alloc; "{error}")?;
-        assert!(rt; shown.as_str() == words, "for {words}");
+    for (line, begins) in table {
+        assert!(rt; is_line_of::<ScanFault>(alloc, line, begins)?, "at {line}");
     }
-    let shown = format!(in alloc; "{}", CriticalError::Memory)?;
-    assert!(rt; shown.as_str() == "memory");
+    assert!(rt; is_line_of::<EntryKind>(alloc, "dir /b", "Directory(")?);
+    assert!(rt; is_line_of::<EntryKind>(alloc, "link", "NonFollowedSymlink")?);
+    assert!(rt; is_line_of::<EntryKind>(alloc, "other", "Other")?);
+    let table: [&[u8]; 7] = [
+        b"notfounb",
+        b"io",
+        b"io -5",
+        b"changed /a other",
+        b"changed dir /a",
+        b"changed dir other",
+        b"changed link dir /a",
+    ];
+    for line in table {
+        assert!(rt; is_refused::<ScanFault>(alloc, line)?, "at {line:?}");
+    }
+    Ok(())
+}
+
+#[test]
+fn errors_of_the_watching_of_files(rt: HostRuntime) -> Result<(), Fail> {
+    let alloc = rt.alloc();
+    let table: [(&str, &str); 7] = [
+        ("create generic x 0", "Create("),
+        ("toomanywatches maxwatches 1 /a", "TooManyWatches("),
+        ("toomanyhandles io 24 0", "TooManyHandles("),
+        ("event badconfig 0", "Event("),
+        ("pathadd /a%20b nopath 1 /a%20b", "PathAdd {"),
+        ("pathscan /a changed lexical /a dir /a", "PathScan {"),
+        ("pathremove /a nowatch 0", "PathRemove {"),
+    ];
+    for (line, begins) in table {
+        assert!(rt;
+            is_line_of::<FsWatcherError>(alloc, line, begins)?,
+            "at {line}"
+        );
+    }
+    let table: [&[u8]; 7] = [
+        b"create",
+        b"creates memory 0",
+        b"toomanywatches 0",
+        b"event notfound",
+        b"pathadd nopath 0",
+        b"pathscan /a nopath 0",
+        b"pathremove /a memory 0 0",
+    ];
+    for line in table {
+        assert!(rt; is_refused::<FsWatcherError>(alloc, line)?, "at {line:?}");
+    }
+    Ok(())
+}
+
+#[test]
+fn errors_that_a_run_goes_on_after(rt: HostRuntime) -> Result<(), Fail> {
+    let alloc = rt.alloc();
+    let table: [(&str, &str); 19] = [
+        ("exit", "Exit"),
+        ("external a%20b", "External("),
+        ("io turn 5", "IoError {"),
+        (
+            "fswatcher native create io 2 0",
+            "FsWatcher { kind: Native,",
+        ),
+        (
+            "keyboard stdinshutdown",
+            "KeyboardWatcher { err: StdinShutdown }",
+        ),
+        ("internal %", "InternalSupervisor("),
+        ("send fs normal 0", "EventChannelSend {"),
+        ("trysend fs full low 1 process 1", "EventChannelTrySend {"),
+        (
+            "trysend fs closed urgent 2 unknown end none",
+            "EventChannelTrySend {",
+        ),
+        ("handler x bad%0A", "Handler {"),
+        ("lockheld x", "HandlerLockHeld("),
+        ("process 4294967295", "Process(4294967295)"),
+        ("deadonarrival", "ProcessDeadOnArrival"),
+        ("unsupported custom.-3", "UnsupportedSignal(Custom(-3))"),
+        ("nocommands", "NoCommands"),
+        ("emptycommand", "CommandShellEmptyCommand"),
+        ("emptyshell", "CommandShellEmptyShell"),
+        ("filterer glob bad%20rule", "Filterer {"),
+        ("memory", "Memory"),
+    ];
+    for (line, begins) in table {
+        assert!(rt;
+            is_line_of::<RuntimeError>(alloc, line, begins)?,
+            "at {line}"
+        );
+    }
+    assert!(rt; is_written(alloc, &RuntimeError::from(Memory), "memory")?);
+    Ok(())
+}
+
+#[test]
+fn refuses_bad_errors(rt: HostRuntime) -> Result<(), Fail> {
+    let alloc = rt.alloc();
+    let table: [&[u8]; 21] = [
+        b"",
+        b"Exit",
+        b"exit 0",
+        b"external",
+        b"external a b",
+        b"io turn",
+        b"io turn -1",
+        b"fswatcher create io 2 0",
+        b"fswatcher poll create io 2 0",
+        b"keyboard stdinshutdowm",
+        b"send fs 0",
+        b"send fs normal",
+        b"send fs normal 1",
+        b"trysend fs fully low 0",
+        b"trysend full low 0",
+        b"handler x",
+        b"process 07",
+        b"unsupported custom",
+        b"emptyshells",
+        b"filterer glob",
+        b"filterer glob bad rule",
+    ];
+    for line in table {
+        assert!(rt; is_refused::<RuntimeError>(alloc, line)?, "at {line:?}");
+    }
+    let table: [&[u8]; 10] = [
+        b"",
+        b"elevated exit",
+        b"elevated exit some",
+        b"elevated exit nona",
+        b"elevated none",
+        b"elevated exit none none",
+        b"io 5",
+        b"send 0",
+        b"init create memory 0",
+        b"memories",
+    ];
+    for line in table {
+        assert!(rt; is_refused::<CriticalError>(alloc, line)?, "at {line:?}");
+    }
+    Ok(())
+}
+
+/// Whether want of memory is written and shown by this line.
+fn is_of_memory(alloc: Global, line: &str) -> Result<bool, Fail> {
+    is_written(alloc, &CriticalError::from(Memory), line)
+}
+
+/// Whether an error about this, of the code 5, is written and shown by this line.
+fn is_about(alloc: Global, about: &[u8], line: &str) -> Result<bool, Fail> {
+    let about = Text::from_slice(alloc, about)?;
+    is_written(alloc, &CriticalError::IoError { about, err: 5 }, line)
+}
+
+#[test]
+fn errors_that_end_a_run(rt: HostRuntime) -> Result<(), Fail> {
+    let alloc = rt.alloc();
+    let table: [(&str, &str); 8] = [
+        ("exit", "Exit"),
+        ("external a%25", "External("),
+        ("elevated filterer f x none", "Elevated {"),
+        (
+            "elevated exit some run%20it%20again",
+            "Elevated { err: Exit, help: Some(",
+        ),
+        ("io turn 5", "IoError {"),
+        ("send high 2 source os signal quit", "EventChannelSend {"),
+        (
+            "init poll 5 toomanywatches maxwatches 0",
+            "FsWatcherInit { kind: Poll(5),",
+        ),
+        ("memory", "Memory"),
+    ];
+    for (line, begins) in table {
+        assert!(rt;
+            is_line_of::<CriticalError>(alloc, line, begins)?,
+            "at {line}"
+        );
+    }
+    assert!(rt; is_of_memory(alloc, "memory")?);
+    assert!(rt; is_about(alloc, b"\xff\n", "io %FF%0A 5")?);
+    Ok(())
+}
+
+/// A filter that lets urgent events pass, and any folder but one.
+#[derive(Drop)]
+struct Urgent {
+    but: TextPath,
+}
+
+impl Filterer for Urgent {
+    ghost excludes = { λ _ _ _. Unit {0} };
+
+    ghost judges = { λ _ _ _ _. Unit {0} };
+
+    fn check_dir(&self, path: &TextPath) -> Result<bool, RuntimeError> {
+        if *path == self.but {
+            Ok(false)
+        } else {
+            Ok(true)
+        }
+    }
+
+    fn check_event(&self, _event: &Event, priority: Priority) -> Result<bool, RuntimeError> {
+        Ok(priority.is_urgent())
+    }
+}
+
+/// Whether this filter lets an event without tags pass.
+fn passes<F: Filterer>(alloc: Global, filter: &F, priority: Priority) -> Option<bool> {
+    let event = Event {
+        tags: List::new(alloc),
+    };
+    filter.check_event(&event, priority).ok()
+}
+
+/// Whether this filter lets this folder be watched.
+fn enters<F: Filterer>(alloc: Global, filter: &F, path: &[u8]) -> Result<Option<bool>, Memory> {
+    let path = TextPath::new(Text::from_slice(alloc, path)?);
+    Ok(filter.check_dir(&path).ok())
+}
+
+#[test]
+fn filters_pass_on(rt: HostRuntime) -> Result<(), Fail> {
+    let alloc = rt.alloc();
+    assert_eq!(rt; passes(alloc, &(), Priority::Low), Some(true));
+    assert_eq!(rt; enters(alloc, &(), b"/a")?, Some(true));
+    let urgent = Urgent {
+        but: TextPath::new(Text::from_slice(alloc, b"/a")?),
+    };
+    let boxed: Box<dyn Filterer + Drop> = Box::new(alloc, urgent)?;
+    assert_eq!(rt; passes(alloc, &boxed, Priority::Urgent), Some(true));
+    assert_eq!(rt; passes(alloc, &boxed, Priority::High), Some(false));
+    assert_eq!(rt; enters(alloc, &boxed, b"/a")?, Some(false));
+    assert_eq!(rt; enters(alloc, &boxed, b"/b")?, Some(true));
     Ok(())
 }
 

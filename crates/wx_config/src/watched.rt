@@ -2,6 +2,7 @@
 ghost use Rattle.std.specs.Prelude.{◌≡◌, true, false};
 
 use std::alloc::Global;
+use std::fmt;
 use wx_events::{Copies, Memory, Spelled, Text, TextPath, Words};
 use wx_words::{put_row, put_word, read_rows};
 
@@ -71,6 +72,15 @@ impl From<WatchedPath> for TextPath {
 
     fn from(watched: WatchedPath) -> TextPath {
         watched.path
+    }
+}
+
+impl fmt::Display for Watcher {
+    fn fmt<W: fmt::Write>(&self, f: &mut fmt::Formatter<W>) -> fmt::Result {
+        match self {
+            Watcher::Native => f.write_str("native"),
+            Watcher::Poll(interval) => write!(f, "poll {interval}"),
+        }
     }
 }
 

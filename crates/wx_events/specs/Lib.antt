@@ -1,3 +1,9 @@
 pub mod Priority
 pub mod Events
 pub mod Ends
+pub mod FileTypes
+pub mod Keys
+pub mod KeyLaws
+pub mod Kinds
+pub mod OrNone
+pub mod Sources

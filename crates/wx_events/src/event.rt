@@ -1,12 +1,40 @@
 // Events.
-ghost use Rattle.std.specs.Prelude.{◌≡◌, ◌==◌, length};
+ghost use Rattle.std.specs.Prelude.{◌≡◌, ◌==◌, length, IfOk};
+ghost use Rattle.wx_words.specs.Line.{Reads};
+ghost use Rattle.wx_events.specs.Events.{typed_path};
 
+use crate::file_type::FileType;
+use crate::keyboard::Keyboard;
+use crate::kind::FileEventKind;
+use crate::or_none::{OrNone, read_or_none};
+use crate::process::{ProcessEnd, Signal};
+use crate::source::Source;
 use std::alloc::Global;
-use wx_words::{Copies, List, Memory, Spelled, Text, Words, put_word, read_rows};
+use std::fmt;
+use wx_words::{
+    Copies, Escaped, List, Memory, Spelled, Text, TextPath, Words, put_row, put_word, read_rows,
+};
 
 /// What an event says of itself.
-#[derive(Clone, Copy, Debug, PartialEq, Eq)]
+#[derive(Drop, Debug, PartialEq, Eq)]
 pub enum Tag {
+    /// It is about this path. What the path leads to may not be known.
+    Path {
+        path: TextPath,
+        file_type: Option<FileType>,
+    },
+    /// This happened to a file.
+    FileEventKind(FileEventKind),
+    /// It came from here.
+    Source(Source),
+    /// This was read from the keyboard.
+    Keyboard(Keyboard),
+    /// It came from the process of this id.
+    Process(u32),
+    /// A signal came.
+    Signal(Signal),
+    /// A process ended. How may not be known.
+    ProcessCompletion(Option<ProcessEnd>),
     /// Something of which nothing is known.
     Unknown,
 }
@@ -27,8 +55,20 @@ impl Event {
 }
 
 impl Copies for Tag {
-    fn copy(&self, _alloc: Global) -> Result<Tag, Memory> {
-        Ok(*self)
+    fn copy(&self, alloc: Global) -> Result<Tag, Memory> {
+        Ok(match self {
+            Tag::Path { path, file_type } => Tag::Path {
+                path: path.copy(alloc)?,
+                file_type: *file_type,
+            },
+            Tag::FileEventKind(kind) => Tag::FileEventKind(*kind),
+            Tag::Source(source) => Tag::Source(*source),
+            Tag::Keyboard(keyboard) => Tag::Keyboard(*keyboard),
+            Tag::Process(id) => Tag::Process(*id),
+            Tag::Signal(signal) => Tag::Signal(*signal),
+            Tag::ProcessCompletion(end) => Tag::ProcessCompletion(*end),
+            Tag::Unknown => Tag::Unknown,
+        })
     }
 }
 
@@ -40,7 +80,51 @@ impl Copies for Event {
     }
 }
 
-#[tactic(auto, using(wx_words::specs::LineLaws::behinds), unfolding(crate::specs::Events::tag))]
+impl fmt::Display for Tag {
+    fn fmt<W: fmt::Write>(&self, f: &mut fmt::Formatter<W>) -> fmt::Result {
+        match self {
+            Tag::Path { path, file_type } => {
+                write!(f, "path {} {}", Escaped(path.text()), OrNone(file_type))
+            }
+            Tag::FileEventKind(kind) => write!(f, "kind {kind}"),
+            Tag::Source(source) => write!(f, "source {source}"),
+            Tag::Keyboard(keyboard) => write!(f, "key {keyboard}"),
+            Tag::Process(id) => write!(f, "process {id}"),
+            Tag::Signal(signal) => write!(f, "signal {signal}"),
+            Tag::ProcessCompletion(end) => write!(f, "end {}", OrNone(end)),
+            Tag::Unknown => f.write_str("unknown"),
+        }
+    }
+}
+
+impl fmt::Display for Event {
+    fn fmt<W: fmt::Write>(&self, f: &mut fmt::Formatter<W>) -> fmt::Result {
+        write!(f, "{}", self.tags.len())?;
+        for tag in self.tags.as_slice() {
+            write!(f, " {tag}")?;
+        }
+        Ok(())
+    }
+}
+
+/// Takes the path at the front and what it leads to, or loses the place.
+#[tactic(auto, unfolding(wx_words::specs::Parts::both))]
+fn read_typed_path(
+    alloc: Global,
+    line: &mut Words,
+) -> Result<Option<(TextPath, Option<FileType>)>, Memory>
+    ensures { IfOk result (λ x. Reads line.new x (typed_path.read line.old)) }
+{
+    let Some(path) = TextPath::read(alloc, line)? else {
+        return Ok(None);
+    };
+    let Some(file_type) = read_or_none(alloc, line)? else {
+        return Ok(None);
+    };
+    Ok(Some((path, file_type)))
+}
+
+#[tactic(auto, using(wx_words::specs::LineLaws::behinds), unfolding(crate::specs::Events::tag, wx_words::specs::Parts::both))]
 impl Spelled for Tag {
     ghost use Rattle.wx_events.specs.Events.{tag};
 
@@ -48,12 +132,26 @@ impl Spelled for Tag {
 
     fn put_after(&self, out: &mut Text) -> Result<(), Memory> {
         match self {
+            Tag::Path { path, file_type } => put_row(b"path", &(path, OrNone(file_type)), out),
+            Tag::FileEventKind(kind) => put_row(b"kind", &kind, out),
+            Tag::Source(source) => put_row(b"source", &source, out),
+            Tag::Keyboard(keyboard) => put_row(b"key", &keyboard, out),
+            Tag::Process(id) => put_row(b"process", &id, out),
+            Tag::Signal(signal) => put_row(b"signal", &signal, out),
+            Tag::ProcessCompletion(end) => put_row(b"end", &OrNone(end), out),
             Tag::Unknown => put_word(b"unknown", out),
         }
     }
 
-    fn read(_alloc: Global, line: &mut Words) -> Result<Option<Tag>, Memory> {
-        read_rows!(_alloc, line;
+    fn read(alloc: Global, line: &mut Words) -> Result<Option<Tag>, Memory> {
+        read_rows!(alloc, line;
+            b"path" (path, file_type = read_typed_path) => Tag::Path { path, file_type },
+            b"kind" (kind) => Tag::FileEventKind(kind),
+            b"source" (source) => Tag::Source(source),
+            b"key" (keyboard) => Tag::Keyboard(keyboard),
+            b"process" (id) => Tag::Process(id),
+            b"signal" (signal) => Tag::Signal(signal),
+            b"end" (end = read_or_none) => Tag::ProcessCompletion(end),
             b"unknown" => Tag::Unknown,
         )
     }

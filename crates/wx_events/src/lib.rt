@@ -1,15 +1,27 @@
-//! Events and their priorities, and what they are written with.
+//! Events and their priorities, signals and ends of processes, and what they are written with.
 #![tactic(auto)]
 
 mod event;
+mod file_type;
+mod keyboard;
+mod kind;
+mod or_none;
 mod priority;
 mod process;
+mod source;
 #[cfg(test)]
 mod tests;
 
 pub use event::{Event, Tag};
+pub use file_type::FileType;
+pub use keyboard::{KeyCode, Keyboard, Modifiers};
+pub use kind::{
+    AccessKind, AccessMode, CreateKind, DataChange, FileEventKind, MetadataKind, ModifyKind,
+    RemoveKind, RenameMode,
+};
 pub use priority::Priority;
 pub use process::{ProcessEnd, Signal};
+pub use source::Source;
 pub use wx_words::{
     Copies, Dotted, Escaped, List, Memory, Spelled, Text, TextPath, Words, cut, number_of,
     put_items, read_dotted, take_literal, text_in,

@@ -1,8 +1,10 @@
 // Priorities of events.
 ghost use Rattle.std.specs.Prelude.{◌≡◌};
 ghost use Rattle.wx_events.specs.Priority.{rank, is_urgent};
+ghost use Rattle.wx_events.specs.Events.{priority_word};
 
 use std::alloc::Global;
+use std::fmt;
 use wx_words::{Memory, Spelled, Text, Words, put_word, read_rows};
 
 /// How pressing an event is, rising in this order.
@@ -28,11 +30,29 @@ impl Priority {
         }
     }
 
+    /// The word of this priority.
+    fn word(self) -> &'static str
+        ensures { result.now ≡ priority_word self }
+    {
+        match self {
+            Priority::Low => "low",
+            Priority::Normal => "normal",
+            Priority::High => "high",
+            Priority::Urgent => "urgent",
+        }
+    }
+
     /// Whether this is `Urgent`.
     pub fn is_urgent(self) -> bool
         ensures { result ≡ is_urgent self }
     {
         matches!(self, Priority::Urgent)
+    }
+}
+
+impl fmt::Display for Priority {
+    fn fmt<W: fmt::Write>(&self, f: &mut fmt::Formatter<W>) -> fmt::Result {
+        f.write_str(self.word())
     }
 }
 
@@ -43,12 +63,7 @@ impl Spelled for Priority {
     ghost spelling = { priority };
 
     fn put_after(&self, out: &mut Text) -> Result<(), Memory> {
-        match self {
-            Priority::Low => put_word(b"low", out),
-            Priority::Normal => put_word(b"normal", out),
-            Priority::High => put_word(b"high", out),
-            Priority::Urgent => put_word(b"urgent", out),
-        }
+        put_word(self.word().as_bytes(), out)
     }
 
     fn read(alloc: Global, line: &mut Words) -> Result<Option<Priority>, Memory> {

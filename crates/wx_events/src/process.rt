@@ -1,9 +1,10 @@
 // Signals, and the ends of processes.
 ghost use Rattle.std.specs.Prelude.{◌≡◌, ◌++◌, OnOk};
 ghost use Rattle.wx_words.specs.Dotted.{dotted};
-ghost use Rattle.wx_events.specs.Ends.{signal_parts, end_parts};
+ghost use Rattle.wx_events.specs.Ends.{signal_word, signal_parts, end_parts};
 
 use std::alloc::Global;
+use std::fmt;
 use std::num::{NonZeroI32, NonZeroI64};
 use wx_words::{Copies, Dotted, Memory, Spelled, Text, Words, read_dotted, read_rows};
 
@@ -51,24 +52,58 @@ impl Copies for ProcessEnd {
     }
 }
 
+impl Signal {
+    /// The first part of the word of this signal.
+    fn word(self) -> &'static str
+        ensures { result.now ≡ signal_word self }
+    {
+        match self {
+            Signal::Hangup => "hangup",
+            Signal::ForceStop => "forcestop",
+            Signal::Interrupt => "interrupt",
+            Signal::Quit => "quit",
+            Signal::Terminate => "terminate",
+            Signal::User1 => "user1",
+            Signal::User2 => "user2",
+            Signal::Continue => "continue",
+            Signal::TerminalSuspend => "suspend",
+            Signal::Custom(_) => "custom",
+        }
+    }
+}
+
 /// Appends the parts of a signal with a dot between them.
 fn put_signal(signal: Signal, out: &mut Text) -> Result<(), Memory>
     ensures text { OnOk result (out.new ≡ out.old ++ dotted (signal_parts.words signal)) }
     ensures fits { OnOk result (signal_parts.fits signal) }
 {
     match signal {
-        Signal::Hangup => out.append(b"hangup"),
-        Signal::ForceStop => out.append(b"forcestop"),
-        Signal::Interrupt => out.append(b"interrupt"),
-        Signal::Quit => out.append(b"quit"),
-        Signal::Terminate => out.append(b"terminate"),
-        Signal::User1 => out.append(b"user1"),
-        Signal::User2 => out.append(b"user2"),
-        Signal::Continue => out.append(b"continue"),
-        Signal::TerminalSuspend => out.append(b"suspend"),
         Signal::Custom(n) => {
             out.append(b"custom.")?;
             out.append_signed(n as i64)
+        }
+        _ => out.append(signal.word().as_bytes()),
+    }
+}
+
+impl fmt::Display for Signal {
+    fn fmt<W: fmt::Write>(&self, f: &mut fmt::Formatter<W>) -> fmt::Result {
+        match self {
+            Signal::Custom(n) => write!(f, "custom.{n}"),
+            _ => f.write_str(self.word()),
+        }
+    }
+}
+
+impl fmt::Display for ProcessEnd {
+    fn fmt<W: fmt::Write>(&self, f: &mut fmt::Formatter<W>) -> fmt::Result {
+        match self {
+            ProcessEnd::Success => f.write_str("success"),
+            ProcessEnd::ExitError(n) => write!(f, "error.{}", n.get()),
+            ProcessEnd::ExitSignal(signal) => write!(f, "signal.{signal}"),
+            ProcessEnd::ExitStop(n) => write!(f, "stop.{}", n.get()),
+            ProcessEnd::Exception(n) => write!(f, "exception.{}", n.get()),
+            ProcessEnd::Continued => f.write_str("continued"),
         }
     }
 }

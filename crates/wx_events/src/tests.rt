@@ -1,11 +1,19 @@
-// Priorities, events, signals and ends by the rules of the words: the expected values are worked out by hand.
+// What events are written with, by the rules of the words: the expected values are worked out by hand.
 use crate::event::{Event, Tag};
+use crate::file_type::FileType;
+use crate::keyboard::{KeyCode, Keyboard, Modifiers};
+use crate::kind::{
+    AccessKind, AccessMode, CreateKind, DataChange, FileEventKind, MetadataKind, ModifyKind,
+    RemoveKind, RenameMode,
+};
 use crate::priority::Priority;
 use crate::process::{ProcessEnd, Signal};
+use crate::source::Source;
 use std::alloc::Global;
+use std::fmt;
 use std::num::{NonZeroI32, NonZeroI64};
 use std::test::Fail;
-use wx_words::{Copies, List, Memory, Spelled, Text, Words};
+use wx_words::{Copies, List, Memory, Spelled, Text, TextPath, Words};
 
 /// The words of this value with one space between them.
 fn line_of<T: Spelled>(alloc: Global, value: &T) -> Result<Text, Memory> {
@@ -21,60 +29,329 @@ fn read_line<T: Spelled>(alloc: Global, line: &[u8]) -> Result<Option<T>, Memory
     if words.is_done() { Ok(found) } else { Ok(None) }
 }
 
+/// Whether this value is written and shown by this line, and read from it.
+fn is_line<T: Spelled + fmt::Display + PartialEq>(
+    alloc: Global,
+    value: &T,
+    line: &str,
+) -> Result<bool, Fail> {
+    let written = line_of(alloc, value)?;
+    let shown = format!(in alloc; "{value}")?;
+    let read = match read_line::<T>(alloc, line.as_bytes())? {
+        Some(found) => found == *value,
+        None => false,
+    };
+    Ok(read && written.as_slice() == line.as_bytes() && shown.as_str() == line)
+}
+
 #[test]
 fn priorities(rt: HostRuntime) -> Result<(), Fail> {
     let alloc = rt.alloc();
-    let table: [(Priority, &[u8]); 4] = [
-        (Priority::Low, b"low"),
-        (Priority::Normal, b"normal"),
-        (Priority::High, b"high"),
-        (Priority::Urgent, b"urgent"),
+    assert!(rt; is_line(alloc, &Priority::Low, "low")?);
+    assert!(rt; is_line(alloc, &Priority::Normal, "normal")?);
+    assert!(rt; is_line(alloc, &Priority::High, "high")?);
+    assert!(rt; is_line(alloc, &Priority::Urgent, "urgent")?);
+    Ok(())
+}
+
+/// The path of this text.
+fn path(alloc: Global, text: &[u8]) -> Result<TextPath, Memory> {
+    Ok(TextPath::new(Text::from_slice(alloc, text)?))
+}
+
+#[test]
+fn tags(rt: HostRuntime) -> Result<(), Fail> {
+    let alloc = rt.alloc();
+    let path = Tag::Path {
+        path: path(alloc, b"/a b")?,
+        file_type: None,
+    };
+    assert!(rt; is_line(alloc, &path, "path /a%20b none")?);
+    let kind = Tag::FileEventKind(FileEventKind::Remove(RemoveKind::Folder));
+    assert!(rt; is_line(alloc, &kind, "kind remove.folder")?);
+    assert!(rt; is_line(alloc, &Tag::Source(Source::Os), "source os")?);
+    assert!(rt; is_line(alloc, &Tag::Keyboard(Keyboard::Eof), "key eof")?);
+    assert!(rt; is_line(alloc, &Tag::Process(u32::MAX), "process 4294967295")?);
+    assert!(rt; is_line(alloc, &Tag::Signal(Signal::Custom(-3)), "signal custom.-3")?);
+    assert!(rt; is_line(alloc, &Tag::ProcessCompletion(None), "end none")?);
+    let end = Tag::ProcessCompletion(Some(ProcessEnd::Success));
+    assert!(rt; is_line(alloc, &end, "end success")?);
+    assert!(rt; is_line(alloc, &Tag::Unknown, "unknown")?);
+    Ok(())
+}
+
+#[test]
+fn an_event_of_every_tag(rt: HostRuntime) -> Result<(), Fail> {
+    let alloc = rt.alloc();
+    let line =
+        "8 path /a%20b file kind modify.data.content source filesystem key ctrl.char.a process 7 signal custom.-3 end error.-1 unknown";
+    let event: Event = read_line(alloc, line.as_bytes())?.ok_or("an event")?;
+    assert_eq!(rt; event.tags.len(), 8);
+    assert!(rt; !event.is_empty());
+    assert!(rt; is_line(alloc, &event, line)?);
+    assert!(rt; event.copy(alloc)? == event);
+    let none = Event {
+        tags: List::new(alloc),
+    };
+    assert!(rt; none.is_empty());
+    assert!(rt; is_line(alloc, &none, "0")?);
+    Ok(())
+}
+
+#[test]
+fn file_types_and_sources(rt: HostRuntime) -> Result<(), Fail> {
+    let alloc = rt.alloc();
+    assert!(rt; is_line(alloc, &FileType::File, "file")?);
+    assert!(rt; is_line(alloc, &FileType::Dir, "dir")?);
+    assert!(rt; is_line(alloc, &FileType::Symlink, "symlink")?);
+    assert!(rt; is_line(alloc, &FileType::Other, "other")?);
+    assert!(rt; is_line(alloc, &Source::Filesystem, "filesystem")?);
+    assert!(rt; is_line(alloc, &Source::Keyboard, "keyboard")?);
+    assert!(rt; is_line(alloc, &Source::Mouse, "mouse")?);
+    assert!(rt; is_line(alloc, &Source::Os, "os")?);
+    assert!(rt; is_line(alloc, &Source::Time, "time")?);
+    assert!(rt; is_line(alloc, &Source::Internal, "internal")?);
+    Ok(())
+}
+
+#[test]
+fn accesses_creations_and_removals(rt: HostRuntime) -> Result<(), Fail> {
+    let alloc = rt.alloc();
+    let table: [(FileEventKind, &str); 23] = [
+        (FileEventKind::Any, "any"),
+        (FileEventKind::Other, "other"),
+        (FileEventKind::Access(AccessKind::Any), "access.any"),
+        (FileEventKind::Access(AccessKind::Read), "access.read"),
+        (FileEventKind::Access(AccessKind::Other), "access.other"),
+        (open(AccessMode::Any), "access.open.any"),
+        (open(AccessMode::Execute), "access.open.execute"),
+        (open(AccessMode::Read), "access.open.read"),
+        (open(AccessMode::Write), "access.open.write"),
+        (open(AccessMode::Other), "access.open.other"),
+        (close(AccessMode::Any), "access.close.any"),
+        (close(AccessMode::Execute), "access.close.execute"),
+        (close(AccessMode::Read), "access.close.read"),
+        (close(AccessMode::Write), "access.close.write"),
+        (close(AccessMode::Other), "access.close.other"),
+        (FileEventKind::Create(CreateKind::Any), "create.any"),
+        (FileEventKind::Create(CreateKind::File), "create.file"),
+        (FileEventKind::Create(CreateKind::Folder), "create.folder"),
+        (FileEventKind::Create(CreateKind::Other), "create.other"),
+        (FileEventKind::Remove(RemoveKind::Any), "remove.any"),
+        (FileEventKind::Remove(RemoveKind::File), "remove.file"),
+        (FileEventKind::Remove(RemoveKind::Folder), "remove.folder"),
+        (FileEventKind::Remove(RemoveKind::Other), "remove.other"),
     ];
-    for (priority, word) in table {
-        let line = line_of(alloc, &priority)?;
-        assert_eq!(rt; line.as_slice(), word);
-        let found: Option<Priority> = read_line(alloc, word)?;
-        assert_eq!(rt; found, Some(priority));
+    for (kind, word) in table {
+        assert!(rt; is_line(alloc, &kind, word)?, "at {word}");
     }
-    let unknown: Option<Priority> = read_line(alloc, b"Low")?;
-    assert_eq!(rt; unknown, None);
     Ok(())
 }
 
-#[test]
-fn events_without_tags(rt: HostRuntime) -> Result<(), Fail> {
-    let alloc = rt.alloc();
-    let event = Event {
-        tags: List::new(alloc),
-    };
-    let line = line_of(alloc, &event)?;
-    assert_eq!(rt; line.as_slice(), b"0".as_slice());
-    let again: Event = read_line(alloc, b"0")?.ok_or("an event")?;
-    assert!(rt; again.is_empty());
-    let unknown: Option<Event> = read_line(alloc, b"1 path")?;
-    assert!(rt; unknown.is_none());
-    Ok(())
+/// A file was opened so.
+fn open(mode: AccessMode) -> FileEventKind {
+    FileEventKind::Access(AccessKind::Open(mode))
+}
+
+/// A file was closed so.
+fn close(mode: AccessMode) -> FileEventKind {
+    FileEventKind::Access(AccessKind::Close(mode))
 }
 
 #[test]
-fn events_with_a_tag(rt: HostRuntime) -> Result<(), Fail> {
+fn modifications(rt: HostRuntime) -> Result<(), Fail> {
     let alloc = rt.alloc();
-    let line = line_of(alloc, &Tag::Unknown)?;
-    assert_eq!(rt; line.as_slice(), b"unknown".as_slice());
-    let tag: Option<Tag> = read_line(alloc, b"unknown")?;
-    assert_eq!(rt; tag, Some(Tag::Unknown));
-    let mut event = Event {
-        tags: List::new(alloc),
-    };
-    event.tags.push(Tag::Unknown)?;
-    let line = line_of(alloc, &event)?;
-    assert_eq!(rt; line.as_slice(), b"1 unknown".as_slice());
-    let again: Event = read_line(alloc, b"1 unknown")?.ok_or("an event")?;
-    assert!(rt; again == event);
-    let table: [&[u8]; 4] = [b"1", b"1 Unknown", b"2 unknown", b"0 unknown"];
+    let table: [(ModifyKind, &str); 18] = [
+        (ModifyKind::Any, "modify.any"),
+        (ModifyKind::Other, "modify.other"),
+        (ModifyKind::Data(DataChange::Any), "modify.data.any"),
+        (ModifyKind::Data(DataChange::Size), "modify.data.size"),
+        (ModifyKind::Data(DataChange::Content), "modify.data.content"),
+        (ModifyKind::Data(DataChange::Other), "modify.data.other"),
+        (ModifyKind::Metadata(MetadataKind::Any), "modify.meta.any"),
+        (
+            ModifyKind::Metadata(MetadataKind::AccessTime),
+            "modify.meta.atime",
+        ),
+        (
+            ModifyKind::Metadata(MetadataKind::WriteTime),
+            "modify.meta.mtime",
+        ),
+        (
+            ModifyKind::Metadata(MetadataKind::Permissions),
+            "modify.meta.perm",
+        ),
+        (
+            ModifyKind::Metadata(MetadataKind::Ownership),
+            "modify.meta.owner",
+        ),
+        (
+            ModifyKind::Metadata(MetadataKind::Extended),
+            "modify.meta.extended",
+        ),
+        (
+            ModifyKind::Metadata(MetadataKind::Other),
+            "modify.meta.other",
+        ),
+        (ModifyKind::Name(RenameMode::Any), "modify.name.any"),
+        (ModifyKind::Name(RenameMode::To), "modify.name.to"),
+        (ModifyKind::Name(RenameMode::From), "modify.name.from"),
+        (ModifyKind::Name(RenameMode::Both), "modify.name.both"),
+        (ModifyKind::Name(RenameMode::Other), "modify.name.other"),
+    ];
+    for (kind, word) in table {
+        assert!(rt;
+            is_line(alloc, &FileEventKind::Modify(kind), word)?,
+            "at {word}"
+        );
+    }
+    Ok(())
+}
+
+/// This key was pressed.
+fn pressed(key: KeyCode, ctrl: bool) -> Keyboard {
+    Keyboard::Key {
+        key,
+        modifiers: Modifiers { ctrl },
+    }
+}
+
+#[test]
+fn keys(rt: HostRuntime) -> Result<(), Fail> {
+    let alloc = rt.alloc();
+    let table: [(Keyboard, &str); 12] = [
+        (Keyboard::Eof, "eof"),
+        (pressed(KeyCode::Enter, false), "enter"),
+        (pressed(KeyCode::Enter, true), "ctrl.enter"),
+        (pressed(KeyCode::Escape, false), "escape"),
+        (pressed(KeyCode::Escape, true), "ctrl.escape"),
+        (pressed(KeyCode::Char('q'), false), "char.q"),
+        (pressed(KeyCode::Char('q'), true), "ctrl.char.q"),
+        (pressed(KeyCode::Char('.'), true), "ctrl.char.."),
+        (pressed(KeyCode::Char(' '), false), "char.%20"),
+        (pressed(KeyCode::Char('%'), false), "char.%25"),
+        (pressed(KeyCode::Char('\u{e9}'), false), "char.%C3%A9"),
+        (
+            pressed(KeyCode::Char('\u{10ffff}'), false),
+            "char.%F4%8F%BF%BF",
+        ),
+    ];
+    for (key, word) in table {
+        assert!(rt; is_line(alloc, &key, word)?, "at {word}");
+    }
+    let escaped: Option<Keyboard> = read_line(alloc, b"char.%c3%a9")?;
+    assert_eq!(rt; escaped, Some(pressed(KeyCode::Char('\u{e9}'), false)));
+    let needless: Option<Keyboard> = read_line(alloc, b"ctrl.char.%2E")?;
+    assert_eq!(rt; needless, Some(pressed(KeyCode::Char('.'), true)));
+    assert_eq!(rt; Modifiers::default(), Modifiers { ctrl: false });
+    Ok(())
+}
+
+/// Whether this line is no value of this type.
+fn is_refused<T: Spelled>(alloc: Global, line: &[u8]) -> Result<bool, Memory> {
+    Ok(read_line::<T>(alloc, line)?.is_none())
+}
+
+#[test]
+fn refuses_bad_tags(rt: HostRuntime) -> Result<(), Fail> {
+    let alloc = rt.alloc();
+    let table: [&[u8]; 22] = [
+        b"",
+        b"Unknown",
+        b"unknown unknown",
+        b"path /a",
+        b"path /a fila",
+        b"path /a filee",
+        b"path none",
+        b"path %2 file",
+        b"pathh /a file",
+        b"kind",
+        b"kind anx",
+        b"source so",
+        b"key eoff",
+        b"process 4294967296",
+        b"process -1",
+        b"process 07",
+        b"signal quitt",
+        b"signal none",
+        b"end",
+        b"end nona",
+        b"end none none",
+        b"end error.0",
+    ];
     for line in table {
-        let found: Option<Event> = read_line(alloc, line)?;
-        assert!(rt; found.is_none(), "at {line:?}");
+        assert!(rt; is_refused::<Tag>(alloc, line)?, "at {line:?}");
+    }
+    let table: [&[u8]; 6] = [
+        b"",
+        b"1",
+        b"1 Unknown",
+        b"2 unknown",
+        b"0 unknown",
+        b"01 unknown",
+    ];
+    for line in table {
+        assert!(rt; is_refused::<Event>(alloc, line)?, "at {line:?}");
+    }
+    assert!(rt; is_refused::<Priority>(alloc, b"Low")?);
+    Ok(())
+}
+
+#[test]
+fn refuses_bad_kinds(rt: HostRuntime) -> Result<(), Fail> {
+    let alloc = rt.alloc();
+    let table: [&[u8]; 19] = [
+        b"Any",
+        b"any.",
+        b"any.any",
+        b"other.other",
+        b"access",
+        b"access.",
+        b"access.write",
+        b"access.read.any",
+        b"access.open",
+        b"access.open.",
+        b"access.open.reed",
+        b"access.close.any.any",
+        b"create.dir",
+        b"create..file",
+        b"modify.data",
+        b"modify.meta.ctime",
+        b"modify.name.form",
+        b"modify.metadata.any",
+        b"remove.folders",
+    ];
+    for word in table {
+        assert!(rt; is_refused::<FileEventKind>(alloc, word)?, "at {word:?}");
+    }
+    Ok(())
+}
+
+#[test]
+fn refuses_bad_keys(rt: HostRuntime) -> Result<(), Fail> {
+    let alloc = rt.alloc();
+    let table: [&[u8]; 18] = [
+        b"",
+        b"Eof",
+        b"eof.",
+        b"ctrl.eof",
+        b"ctrl",
+        b"ctrl.",
+        b"ctrl.ctrl.enter",
+        b"ctrlenter",
+        b"%65nter",
+        b"enter.",
+        b"char",
+        b"char.",
+        b"char.%",
+        b"char.ab",
+        b"char.%4",
+        b"char.%C3",
+        b"char.%ED%A0%80",
+        b"char.\xC3\xA9",
+    ];
+    for word in table {
+        assert!(rt; is_refused::<Keyboard>(alloc, word)?, "at {word:?}");
     }
     Ok(())
 }
@@ -82,27 +359,24 @@ fn events_with_a_tag(rt: HostRuntime) -> Result<(), Fail> {
 #[test]
 fn signals(rt: HostRuntime) -> Result<(), Fail> {
     let alloc = rt.alloc();
-    let table: [(Signal, &[u8]); 14] = [
-        (Signal::Hangup, b"hangup"),
-        (Signal::ForceStop, b"forcestop"),
-        (Signal::Interrupt, b"interrupt"),
-        (Signal::Quit, b"quit"),
-        (Signal::Terminate, b"terminate"),
-        (Signal::User1, b"user1"),
-        (Signal::User2, b"user2"),
-        (Signal::Continue, b"continue"),
-        (Signal::TerminalSuspend, b"suspend"),
-        (Signal::Custom(0), b"custom.0"),
-        (Signal::Custom(64), b"custom.64"),
-        (Signal::Custom(-3), b"custom.-3"),
-        (Signal::Custom(2_147_483_647), b"custom.2147483647"),
-        (Signal::Custom(-2_147_483_648), b"custom.-2147483648"),
+    let table: [(Signal, &str); 14] = [
+        (Signal::Hangup, "hangup"),
+        (Signal::ForceStop, "forcestop"),
+        (Signal::Interrupt, "interrupt"),
+        (Signal::Quit, "quit"),
+        (Signal::Terminate, "terminate"),
+        (Signal::User1, "user1"),
+        (Signal::User2, "user2"),
+        (Signal::Continue, "continue"),
+        (Signal::TerminalSuspend, "suspend"),
+        (Signal::Custom(0), "custom.0"),
+        (Signal::Custom(64), "custom.64"),
+        (Signal::Custom(-3), "custom.-3"),
+        (Signal::Custom(2_147_483_647), "custom.2147483647"),
+        (Signal::Custom(-2_147_483_648), "custom.-2147483648"),
     ];
     for (signal, word) in table {
-        let line = line_of(alloc, &signal)?;
-        assert_eq!(rt; line.as_slice(), word);
-        let found: Option<Signal> = read_line(alloc, word)?;
-        assert_eq!(rt; found, Some(signal));
+        assert!(rt; is_line(alloc, &signal, word)?, "at {word}");
         assert_eq!(rt; signal.copy(alloc)?, signal);
     }
     Ok(())
@@ -128,8 +402,7 @@ fn refuses_bad_signals(rt: HostRuntime) -> Result<(), Fail> {
         b"custom.-2147483649",
     ];
     for word in table {
-        let found: Option<Signal> = read_line(alloc, word)?;
-        assert_eq!(rt; found, None, "at {word:?}");
+        assert!(rt; is_refused::<Signal>(alloc, word)?, "at {word:?}");
     }
     Ok(())
 }
@@ -147,47 +420,41 @@ fn short(n: i32) -> Result<NonZeroI32, Fail> {
 #[test]
 fn ends(rt: HostRuntime) -> Result<(), Fail> {
     let alloc = rt.alloc();
-    let table: [(ProcessEnd, &[u8]); 13] = [
-        (ProcessEnd::Success, b"success"),
-        (ProcessEnd::ExitError(long(1)?), b"error.1"),
+    let table: [(ProcessEnd, &str); 13] = [
+        (ProcessEnd::Success, "success"),
+        (ProcessEnd::ExitError(long(1)?), "error.1"),
         (
             ProcessEnd::ExitError(long(i64::MAX)?),
-            b"error.9223372036854775807",
+            "error.9223372036854775807",
         ),
         (
             ProcessEnd::ExitError(long(i64::MIN)?),
-            b"error.-9223372036854775808",
+            "error.-9223372036854775808",
         ),
         (
             ProcessEnd::ExitSignal(Signal::Terminate),
-            b"signal.terminate",
+            "signal.terminate",
         ),
         (
             ProcessEnd::ExitSignal(Signal::TerminalSuspend),
-            b"signal.suspend",
+            "signal.suspend",
         ),
-        (
-            ProcessEnd::ExitSignal(Signal::Custom(0)),
-            b"signal.custom.0",
-        ),
+        (ProcessEnd::ExitSignal(Signal::Custom(0)), "signal.custom.0"),
         (
             ProcessEnd::ExitSignal(Signal::Custom(-3)),
-            b"signal.custom.-3",
+            "signal.custom.-3",
         ),
-        (ProcessEnd::ExitStop(short(19)?), b"stop.19"),
-        (ProcessEnd::ExitStop(short(i32::MAX)?), b"stop.2147483647"),
-        (ProcessEnd::Exception(short(-1)?), b"exception.-1"),
+        (ProcessEnd::ExitStop(short(19)?), "stop.19"),
+        (ProcessEnd::ExitStop(short(i32::MAX)?), "stop.2147483647"),
+        (ProcessEnd::Exception(short(-1)?), "exception.-1"),
         (
             ProcessEnd::Exception(short(i32::MIN)?),
-            b"exception.-2147483648",
+            "exception.-2147483648",
         ),
-        (ProcessEnd::Continued, b"continued"),
+        (ProcessEnd::Continued, "continued"),
     ];
     for (end, word) in table {
-        let line = line_of(alloc, &end)?;
-        assert_eq!(rt; line.as_slice(), word);
-        let found: Option<ProcessEnd> = read_line(alloc, word)?;
-        assert_eq!(rt; found, Some(end));
+        assert!(rt; is_line(alloc, &end, word)?, "at {word}");
         assert_eq!(rt; end.copy(alloc)?, end);
     }
     Ok(())
@@ -219,8 +486,7 @@ fn refuses_bad_ends(rt: HostRuntime) -> Result<(), Fail> {
         b"continued.continued",
     ];
     for word in table {
-        let found: Option<ProcessEnd> = read_line(alloc, word)?;
-        assert_eq!(rt; found, None, "at {word:?}");
+        assert!(rt; is_refused::<ProcessEnd>(alloc, word)?, "at {word:?}");
     }
     Ok(())
 }

@@ -19,6 +19,7 @@ abbrev pub status_of : Answer → Status
 status_of (Ok u) = Done
 status_of (Err (IoError about err)) = Critical
 status_of (Err NoMemory) = Memory
+status_of (Err (_)) = Critical
 
 -- The text is the journal of a run that follows the script, with its answer, and the status is that of this answer. It is
 -- the text of no other journal and answer.

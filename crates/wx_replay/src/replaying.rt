@@ -59,8 +59,8 @@ fn play(alloc: Global, script: &Script) -> Result<(Text, Status), Memory>
     let answer = engine.main(alloc, &mut world, &mut hooks, &mut journal);
     let status = match &answer {
         Ok(()) => Status::Done,
-        Err(CriticalError::IoError { .. }) => Status::Critical,
         Err(CriticalError::Memory) => return Err(Memory),
+        Err(_) => Status::Critical,
     };
     if hooks.short() {
         return Err(Memory);
