@@ -2,16 +2,12 @@
 #![tactic(auto)]
 
 mod answers;
-#[cfg(test)]
-mod own_hooks;
 mod replies;
 mod running;
 mod script;
 mod script_hooks;
 mod script_world;
 mod supply;
-#[cfg(test)]
-mod tests;
 mod watchexec;
 
 pub use answers::Answers;

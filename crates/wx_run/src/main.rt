@@ -2,6 +2,10 @@
 #![tactic(auto)]
 
 #[cfg(test)]
+mod engine_tests;
+#[cfg(test)]
+mod own_hooks;
+#[cfg(test)]
 mod random;
 mod standard;
 #[cfg(test)]

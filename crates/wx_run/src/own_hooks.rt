@@ -1,0 +1,201 @@
+// Hooks as a user writes them, and runs with them: their texts are worked out by hand.
+ghost use Rattle.std.specs.Prelude.{◌≡◌, ◌^◌, [], false, None};
+
+use crate::engine_tests::{engine_with, run_text, script_of};
+use std::alloc::Global;
+use std::test::Fail;
+use wx_action::{ActionHandler, Hooks, JobHooks};
+use wx_command::{Command, Program, SpawnOptions};
+use wx_control::{Id, Job};
+use wx_events::{Copies, List, Memory, Text, cut};
+use wx_journal::put_entry;
+
+/// What hooks do in a call.
+#[derive(Clone, Copy)]
+enum Does {
+    /// Each batch starts one job, which the first creates. A batch that finds its child running quits.
+    Restarts,
+    /// The batch creates two jobs, starts the first and stops the second.
+    AsksTwo,
+    /// The batch creates a job, and looks for it.
+    Looks,
+}
+
+/// Hooks that do this in each call, and whether what they saw in the last one was right.
+#[derive(Drop)]
+struct Own {
+    alloc: Global,
+    does: Does,
+    is_right: bool,
+}
+
+impl JobHooks for Own {
+    ghost Plan = { Unit {0} };
+
+    ghost seen = { λ _. record { plan = tt; told = None; spare = 2 ^ 64; short = false; place = [] } };
+
+    ghost rule = { λ _ _ _. Unit {0} };
+
+    fn reserve(&mut self, _n: u64) -> Result<(), Memory> {
+        Ok(())
+    }
+
+    ghost stands_other = { λ _ _ _ _ _ _. tt };
+}
+
+impl Hooks for Own {
+    fn action(&mut self, _n: u32, handler: &mut ActionHandler<'_>) {
+        self.is_right = act(self.alloc, self.does, handler).unwrap_or(false);
+    }
+}
+
+/// Does this in a call, and answers whether what it saw was right, or nothing where a call failed.
+fn act(alloc: Global, does: Does, handler: &mut ActionHandler<'_>) -> Option<bool>
+    requires open { handler.old.handed ≡ false }
+    ensures past { handler.new.past ≡ handler.old.past }
+    ensures names { handler.new.names ≡ handler.old.names }
+{
+    match does {
+        Does::Restarts => restart(alloc, handler),
+        Does::AsksTwo => is_handed(alloc, handler),
+        Does::Looks => is_not_shown(alloc, handler),
+    }
+}
+
+/// A command that runs this program, with no argument.
+fn command_of(alloc: Global, prog: &[u8]) -> Result<Command, Memory> {
+    Ok(Command {
+        program: Program::Exec {
+            prog: Text::from_slice(alloc, prog)?,
+            args: List::new(alloc),
+        },
+        options: SpawnOptions::default(),
+    })
+}
+
+/// Creates a job that runs this program, and answers the handle on it, where the job has this id and this command.
+fn created(alloc: Global, id: Id, prog: &[u8], handler: &mut ActionHandler<'_>) -> Option<Job>
+    ensures past { handler.new.past ≡ handler.old.past }
+    ensures names { handler.new.names ≡ handler.old.names }
+    ensures handed { handler.new.handed ≡ handler.old.handed }
+{
+    let command = command_of(alloc, prog).ok()?;
+    let want = command.copy(alloc).ok()?;
+    let Ok((made, job)) = handler.create_job(alloc, command) else {
+        return None;
+    };
+    if made == id && job.id() == id && job.command() == &want {
+        Some(job)
+    } else {
+        None
+    }
+}
+
+/// Starts the job, or quits where its child runs.
+fn restart(alloc: Global, handler: &mut ActionHandler<'_>) -> Option<bool>
+    ensures past { handler.new.past ≡ handler.old.past }
+    ensures names { handler.new.names ≡ handler.old.names }
+{
+    let first = handler.list_jobs().next().map(|item| item.0);
+    let job = match first {
+        Some(id) => handler.get_job(alloc, id).ok()??,
+        None => created(alloc, Id(0), b"a", handler)?,
+    };
+    if handler.job_running(job.id()) {
+        handler.quit();
+    } else {
+        let _started = job.start(alloc, handler).ok()?;
+    }
+    Some(true)
+}
+
+/// Creates two jobs, starts the first, stops the second, and quits twice.
+fn ask_two(alloc: Global, handler: &mut ActionHandler<'_>) -> Option<()>
+    ensures past { handler.new.past ≡ handler.old.past }
+    ensures names { handler.new.names ≡ handler.old.names }
+    ensures handed { handler.new.handed ≡ handler.old.handed }
+{
+    let a = created(alloc, Id(0), b"a", handler)?;
+    let b = created(alloc, Id(1), b"b", handler)?;
+    let _started = a.start(alloc, handler).ok()?;
+    let _stopped = b.stop(alloc, handler).ok()?;
+    handler.quit();
+    handler.quit();
+    Some(())
+}
+
+/// The line of the hand that asks for what `ask_two` does.
+const ASKED: &[u8] =
+    b"hand 0 1 0 create 0 exec ---- 1 a create 1 exec ---- 1 b ask 0 start ask 1 stop quit";
+
+/// Whether one event is shown, and `ASKED` tells what is asked for.
+fn is_handed(alloc: Global, handler: &mut ActionHandler<'_>) -> Option<bool>
+    requires open { handler.old.handed ≡ false }
+    ensures past { handler.new.past ≡ handler.old.past }
+    ensures names { handler.new.names ≡ handler.old.names }
+{
+    let events = handler.events().len();
+    ask_two(alloc, handler)?;
+    let mut line = Text::new(alloc);
+    put_entry(&handler.hand(0), &mut line).ok()?;
+    Some(events == 1 && line.as_slice() == ASKED)
+}
+
+/// Creates a job, and answers whether the handler does not show it.
+fn is_not_shown(alloc: Global, handler: &mut ActionHandler<'_>) -> Option<bool>
+    ensures past { handler.new.past ≡ handler.old.past }
+    ensures names { handler.new.names ≡ handler.old.names }
+{
+    let _job = created(alloc, Id(0), b"a", handler)?;
+    let found = handler.get_job(alloc, Id(0)).ok()?;
+    let listed = handler.list_jobs().next();
+    Some(found.is_none() && listed.is_none() && !handler.job_running(Id(0)))
+}
+
+/// The first batch creates the job, the second starts it again after its child ended, the third finds it running.
+const BATCHES: &[u8] =
+    b"turn 0 arrive urgent 0\nturn 0 work\nturn 0 job 0\nturn 1 ended 0\nturn 2 arrive urgent 0\nturn 2 work\nturn 2 job 0\nturn 3 arrive urgent 0\nturn 3 work\n";
+
+const RESTARTED: &[u8] =
+    b"turn 0 arrive urgent 0\noffer 0 - queued urgent 0\nturn 0 work\ntake 0\nhand 0 1 0 create 0 exec ---- 1 a ask 0 start\nmade 0\nasked 0 0 normal start\nturn 0 job 0\npick 0 0\nspawn 0 0 default ---- 1 a ok\nraise 0\nturn 1 ended 0\nwait 0 success\nturn 2 arrive urgent 0\noffer 1 - queued urgent 0\nturn 2 work\ntake 1\nhand 0 1 1 ask 0 start\nasked 1 0 normal start\nturn 2 job 0\npick 0 1\nspawn 1 0 default ---- 1 a ok\nraise 1\nturn 3 arrive urgent 0\noffer 2 - queued urgent 0\nturn 3 work\ntake 2\nhand 0 1 2 quit\ndrop 1\ngone 0\nend ok lost 0\n";
+
+/// One batch.
+const BATCH: &[u8] = b"turn 0 arrive urgent 0\nturn 0 work\n";
+
+const ASKED_TWO: &[u8] =
+    b"turn 0 arrive urgent 0\noffer 0 - queued urgent 0\nturn 0 work\ntake 0\nhand 0 1 0 create 0 exec ---- 1 a create 1 exec ---- 1 b ask 0 start ask 1 stop quit\nmade 0\nmade 1\nasked 0 0 normal start\nasked 1 1 normal stop\ngone 0\ngone 1\nend ok lost 0\n";
+
+const LOOKED: &[u8] =
+    b"turn 0 arrive urgent 0\noffer 0 - queued urgent 0\nturn 0 work\ntake 0\nhand 0 1 0 create 0 exec ---- 1 a\nmade 0\nturn 0 last\ngone 0\nend ok lost 0\n";
+
+/// Whether hooks that do this saw what is right, and the run that follows these lines has this text behind its first line.
+fn runs_so(alloc: Global, does: Does, lines: &[u8], want: &[u8]) -> Result<bool, Fail> {
+    let script = script_of(alloc, lines)?;
+    let mut hooks = Own {
+        alloc,
+        does,
+        is_right: false,
+    };
+    let engine = engine_with(alloc, 50_000_000, 4)?;
+    let text = run_text(alloc, engine, &script, &mut hooks)?;
+    let rest = cut(text.as_slice(), 10).map(|parts| parts.1);
+    Ok(hooks.is_right && rest == Some(want))
+}
+
+#[test]
+fn hooks_of_a_user(rt: HostRuntime) -> Result<(), Fail> {
+    assert!(rt; runs_so(rt.alloc(), Does::Restarts, BATCHES, RESTARTED)?);
+    Ok(())
+}
+
+#[test]
+fn a_handler_lists_acts(rt: HostRuntime) -> Result<(), Fail> {
+    assert!(rt; runs_so(rt.alloc(), Does::AsksTwo, BATCH, ASKED_TWO)?);
+    Ok(())
+}
+
+#[test]
+fn a_handler_shows_no_job_that_it_created(rt: HostRuntime) -> Result<(), Fail> {
+    assert!(rt; runs_so(rt.alloc(), Does::Looks, BATCH, LOOKED)?);
+    Ok(())
+}
