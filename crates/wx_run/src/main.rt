@@ -4,9 +4,13 @@
 #[cfg(test)]
 mod engine_tests;
 #[cfg(test)]
+mod feeding_tests;
+#[cfg(test)]
 mod own_hooks;
 #[cfg(test)]
 mod random;
+#[cfg(test)]
+mod script_tests;
 mod standard;
 #[cfg(test)]
 mod tests;

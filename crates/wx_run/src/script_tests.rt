@@ -1,0 +1,191 @@
+// Tests of reading scripts: what each has is counted by hand.
+use std::alloc::Global;
+use wx_engine::Script;
+use wx_replay::read_script;
+
+/// What the script of these bytes is, if it is one.
+fn script_in(alloc: Global, bytes: &[u8]) -> Option<Script> {
+    read_script(alloc, bytes).ok()?.ok()
+}
+
+/// How many sends, turns and actions the script of these bytes has, and its throttle, its size and the moment of its last turn.
+fn counts(alloc: Global, bytes: &[u8]) -> Option<(usize, usize, usize, u64, u32, u64)> {
+    let script = script_in(alloc, bytes)?;
+    Some((
+        script.sends.len(),
+        script.turns.len(),
+        script.actions.len(),
+        script.throttle,
+        script.size,
+        script.last,
+    ))
+}
+
+/// The number of the bad line of these bytes.
+fn bad_line(alloc: Global, bytes: &[u8]) -> Option<u64> {
+    match read_script(alloc, bytes) {
+        Ok(Err(bad)) => Some(bad.0),
+        _ => None,
+    }
+}
+
+#[test]
+fn reads_scripts(rt: HostRuntime) {
+    let alloc = rt.alloc();
+    let table: [(&[u8], (usize, usize, usize, u64, u32, u64)); 5] = [
+        (b"", (0, 0, 0, 50_000_000, 4096, 0)),
+        (
+            b"# a script\nset size 64\n\nset size 2\nset throttle 7\nsend urgent 0\nsend low 0\naction quit quit\nturn 0 arrive normal 0\nturnfault 5\naction\nturn 10000000 work\nturn 10000000 arrive high 0\n",
+            (2, 4, 2, 7, 2, 10_000_000),
+        ),
+        (b"set size 65536\n", (0, 0, 0, 50_000_000, 65_536, 0)),
+        (
+            b"set throttle 18446744073709551615\nturn 18446744073709551615 work\n",
+            (0, 1, 0, u64::MAX, 4096, u64::MAX),
+        ),
+        (
+            b"action\nset size 1\nturnfault 4294967295\n",
+            (0, 1, 1, 50_000_000, 1, 0),
+        ),
+    ];
+    for (bytes, want) in table {
+        assert!(rt; counts(alloc, bytes) == Some(want), "at {bytes:?}");
+    }
+}
+
+/// How many acts the first action of the script of these bytes has, and how many answers to spawns, kills and waits the script has.
+fn answer_counts(alloc: Global, bytes: &[u8]) -> Option<(usize, usize, usize, usize)> {
+    let script = script_in(alloc, bytes)?;
+    let first = script.actions.as_slice().first();
+    Some((
+        first.map_or(0, |acts| acts.len()),
+        script.answers.spawns.len(),
+        script.answers.kills.len(),
+        script.answers.waits.len(),
+    ))
+}
+
+#[test]
+fn reads_lines_about_jobs(rt: HostRuntime) {
+    let alloc = rt.alloc();
+    let table: [(&[u8], (usize, usize, usize, usize)); 6] = [
+        (
+            b"action create exec ---- 1 a ask 0 start quit\n",
+            (3, 0, 0, 0),
+        ),
+        (
+            b"action ask 4294967295 stop create exec g-r- 2 a %20 create exec ---- 1 b\n",
+            (3, 0, 0, 0),
+        ),
+        (
+            b"spawn ok\nspawn fault 5\nkill ok\nspawn ok\n",
+            (0, 3, 1, 0),
+        ),
+        (
+            b"kill fault 4294967295\nwait success\nwait error.7\nwait fault 2\nwait signal.custom.64\n",
+            (0, 0, 1, 4),
+        ),
+        (
+            b"turn 0 job 0\nspawn ok\nturn 0 ended 18446744073709551615\nturn 1 ask 3 stop\nwait continued\n",
+            (0, 1, 0, 1),
+        ),
+        (
+            b"spawn ok\nset size 2\nkill ok\nsend low 0\nwait success\nturn 0 work\n",
+            (0, 1, 1, 1),
+        ),
+    ];
+    for (bytes, want) in table {
+        assert!(rt; answer_counts(alloc, bytes) == Some(want), "at {bytes:?}");
+    }
+}
+
+#[test]
+fn refuses_lines_about_jobs(rt: HostRuntime) {
+    let alloc = rt.alloc();
+    let table: [&[u8]; 24] = [
+        b"action create\n",
+        b"action create 0 exec ---- 1 a\n",
+        b"action create exec ---- 0\n",
+        b"action create exec ---- 1 a b\n",
+        b"action create exec ---- 2 a\n",
+        b"action ask 0\n",
+        b"action ask start\n",
+        b"action ask 4294967296 start\n",
+        b"action ask 0 start 0\n",
+        b"action quit \n",
+        b"spawn\n",
+        b"spawn success\n",
+        b"spawn fault\n",
+        b"spawn fault 4294967296\n",
+        b"spawn ok ok\n",
+        b"kill error.7\n",
+        b"wait ok\n",
+        b"wait error.0\n",
+        b"wait fault x\n",
+        b"turn 0 job\n",
+        b"turn 0 job 4294967296\n",
+        b"turn 0 ended x\n",
+        b"turn 0 ask 0\n",
+        b"turn 0 ask 0 go\n",
+    ];
+    for bytes in table {
+        assert!(rt; bad_line(alloc, bytes) == Some(1), "at {bytes:?}");
+    }
+}
+
+#[test]
+fn counts_lines_to_the_first_bad_one(rt: HostRuntime) {
+    let alloc = rt.alloc();
+    let table: [(&[u8], u64); 12] = [
+        (b"turn 0 work", 1),
+        (b"# c", 1),
+        (b"turn 0 work\n# c", 2),
+        (b"send low 0\n\nset size 1\n", 3),
+        (b"send low 0\nset throttle 1\nset\n", 2),
+        (b"set size 1\nsend low 0\nsend low 0\n", 3),
+        (b"turn 0 work\nset throttle 1\n", 2),
+        (b"turnfault 5\nset size 1\n", 2),
+        (b"turnfault 5\nsend low 0\n", 2),
+        (b"turn 0 work\nsend low 0\n", 2),
+        (b"turn 5 work\nturnfault 1\nturn 4 work\n", 3),
+        (b"\n\n\nx\nturn 5 work\n", 4),
+    ];
+    for (bytes, want) in table {
+        assert!(rt; bad_line(alloc, bytes) == Some(want), "at {bytes:?}");
+    }
+}
+
+#[test]
+fn refuses_lines(rt: HostRuntime) {
+    let alloc = rt.alloc();
+    let table: [&[u8]; 25] = [
+        b"set size 0\n",
+        b"set size 65537\n",
+        b"set size 4294967296\n",
+        b"set size\n",
+        b"set other 1\n",
+        b"turn 5  work\n",
+        b"turn 05 work\n",
+        b"turn 18446744073709551616 work\n",
+        b"turn 0 last\n",
+        b"turn 0\n",
+        b" turn 0 work\n",
+        b"turn 0 work \n",
+        b"turn 0 work\r\n",
+        b"turn 0 arrive normal\n",
+        b"turn 0 arrive normal 1 unknown\n",
+        b"send normal 1 unknown\n",
+        b"send normal\n",
+        b"send middle 0\n",
+        b"send normal 00\n",
+        b"action stop\n",
+        b"action \n",
+        b"action quit stop\n",
+        b"turnfault 4294967296\n",
+        b"turnfault\n",
+        b" \n",
+    ];
+    for bytes in table {
+        assert!(rt; bad_line(alloc, bytes) == Some(1), "at {bytes:?}");
+    }
+}
