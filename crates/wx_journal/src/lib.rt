@@ -8,8 +8,6 @@ mod entry;
 mod journal;
 mod kinds;
 mod lines;
-#[cfg(test)]
-mod tests;
 mod words;
 
 pub use answers::answers_are_read_again;

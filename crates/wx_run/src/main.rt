@@ -6,6 +6,8 @@ mod engine_tests;
 #[cfg(test)]
 mod feeding_tests;
 #[cfg(test)]
+mod journal_tests;
+#[cfg(test)]
 mod own_hooks;
 #[cfg(test)]
 mod random;

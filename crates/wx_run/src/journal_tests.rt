@@ -1,8 +1,4 @@
 // Lines of entries, what turns bring, answers and the journal: the expected values are worked out by hand.
-use crate::child::{HostFault, SpawnTag};
-use crate::entry::{Act, Entry, Offered, Turn, TurnKind, Word};
-use crate::journal::Journal;
-use crate::words::put_entry;
 use std::alloc::Global;
 use std::num::{NonZeroI32, NonZeroI64};
 use std::process::Abort;
@@ -12,6 +8,9 @@ use wx_config::{WatchedPath, Watcher};
 use wx_control::{Ask, Control, Id, Level};
 use wx_events::{
     Copies, Event, List, Memory, Priority, ProcessEnd, Signal, Spelled, Text, TextPath, Words,
+};
+use wx_journal::{
+    Act, Entry, HostFault, Journal, Offered, SpawnTag, Turn, TurnKind, Word, put_entry,
 };
 use wx_words::{Fields, ResultRef, read_result};
 
@@ -65,10 +64,17 @@ fn expect_turn(rt: &impl Abort, alloc: Global, kind: TurnKind, want: &[u8]) -> R
     expect_line(rt, alloc, Entry::Turn(Turn { at: 7, kind }), want)
 }
 
+/// Two watched paths, the first of which was copied.
+fn watched(alloc: Global) -> Result<List<WatchedPath>, Memory> {
+    let tree = WatchedPath::recursive(path(alloc, b"/a")?).copy(alloc)?;
+    let folder = WatchedPath::non_recursive(path(alloc, b"/b c")?);
+    Ok(List::from_vec(vec![in alloc; tree, folder]?))
+}
+
 /// The first entry of a run that watches two paths.
 fn begin(alloc: Global) -> Result<Entry, Memory> {
-    let tree = WatchedPath::recursive(path(alloc, b"/a")?);
-    let folder = WatchedPath::non_recursive(path(alloc, b"/b c")?);
+    let paths = watched(alloc)?;
+    let cwd = path(alloc, b"/")?;
     Ok(Entry::Begin {
         throttle: 50_000_000,
         size: 4096,
@@ -77,8 +83,8 @@ fn begin(alloc: Global) -> Result<Entry, Memory> {
         follow: true,
         jobsignals: false,
         watcher: Watcher::Poll(5),
-        cwd: path(alloc, b"/")?,
-        paths: List::from_vec(vec![in alloc; tree.copy(alloc)?, folder]?),
+        cwd,
+        paths,
     })
 }
 
@@ -92,20 +98,23 @@ fn asked(ticket: u64) -> Entry {
     }
 }
 
-/// A child that was spawned for job 3 in a group of its own, or was not.
-fn spawn(alloc: Global, child: u64, answer: Result<(), HostFault>) -> Result<Entry, Memory> {
+/// The words sh and a b.
+fn shell(alloc: Global) -> Result<List<Text>, Memory> {
     let program = Text::from_slice(alloc, b"sh")?;
     let argument = Text::from_slice(alloc, b"a b")?;
+    Ok(List::from_vec(vec![in alloc; program, argument]?))
+}
+
+/// A child that was spawned for job 3 in a group of its own, or was not.
+fn spawn(alloc: Global, child: u64, answer: Result<(), HostFault>) -> Result<Entry, Memory> {
+    let words = shell(alloc)?;
     let mut options = SpawnOptions::default();
     options.grouped = true;
     Ok(Entry::Spawn {
         child,
         job: Id(3),
         tag: SpawnTag::Default,
-        what: Spawnable {
-            words: List::from_vec(vec![in alloc; program, argument]?),
-            options,
-        },
+        what: Spawnable { words, options },
         answer,
     })
 }
@@ -198,6 +207,23 @@ fn entries_of_batches(rt: HostRuntime) -> Result<(), Fail> {
     Ok(())
 }
 
+/// Holds the first lines to be values of a type that are written so again, and the others to be none.
+fn expect_words<T: Spelled>(
+    rt: &impl Abort,
+    alloc: Global,
+    lines: &[&[u8]],
+    others: &[&[u8]],
+) -> Result<(), Memory> {
+    for line in lines {
+        assert!(rt; is_read_again::<T>(alloc, line)?, "at {line:?}");
+    }
+    for line in others {
+        let value: Option<T> = read_line(alloc, line)?;
+        assert!(rt; value.is_none(), "at {line:?}");
+    }
+    Ok(())
+}
+
 #[test]
 fn what_handlers_ask(rt: HostRuntime) -> Result<(), Fail> {
     let alloc = rt.alloc();
@@ -209,9 +235,6 @@ fn what_handlers_ask(rt: HostRuntime) -> Result<(), Fail> {
         b"ask 4294967295 stop",
         b"quit",
     ];
-    for line in acts {
-        assert!(rt; is_read_again::<Act>(alloc, line)?, "at {line:?}");
-    }
     let others: [&[u8]; 12] = [
         b"create",
         b"create 0",
@@ -226,10 +249,7 @@ fn what_handlers_ask(rt: HostRuntime) -> Result<(), Fail> {
         b"Quit",
         b"quit 0",
     ];
-    for line in others {
-        let act: Option<Act> = read_line(alloc, line)?;
-        assert!(rt; act.is_none(), "at {line:?}");
-    }
+    expect_words::<Act>(&rt, alloc, &acts, &others)?;
     Ok(())
 }
 
@@ -237,11 +257,11 @@ fn what_handlers_ask(rt: HostRuntime) -> Result<(), Fail> {
 fn entries_of_turns(rt: HostRuntime) -> Result<(), Fail> {
     let alloc = rt.alloc();
     let arrival = TurnKind::Arrive(event(alloc), Priority::Low);
-    let ask = TurnKind::Ask(Id(3), Ask::One(Control::Start));
     expect_turn(&rt, alloc, arrival, b"turn 7 arrive low 0")?;
     expect_turn(&rt, alloc, TurnKind::Work, b"turn 7 work")?;
     expect_turn(&rt, alloc, TurnKind::Job(Id(3)), b"turn 7 job 3")?;
     expect_turn(&rt, alloc, TurnKind::Ended(2), b"turn 7 ended 2")?;
+    let ask = TurnKind::Ask(Id(3), Ask::One(Control::Start));
     expect_turn(&rt, alloc, ask, b"turn 7 ask 3 start")?;
     expect_turn(&rt, alloc, TurnKind::Last, b"turn 7 last")?;
     Ok(())
@@ -250,12 +270,12 @@ fn entries_of_turns(rt: HostRuntime) -> Result<(), Fail> {
 #[test]
 fn entries_of_jobs(rt: HostRuntime) -> Result<(), Fail> {
     let alloc = rt.alloc();
+    expect_line(&rt, alloc, Entry::Made(Id(3)), b"made 3")?;
+    expect_line(&rt, alloc, asked(4), b"asked 4 3 high stop")?;
     let pick = Entry::Pick {
         job: Id(3),
         ticket: 4,
     };
-    expect_line(&rt, alloc, Entry::Made(Id(3)), b"made 3")?;
-    expect_line(&rt, alloc, asked(4), b"asked 4 3 high stop")?;
     expect_line(&rt, alloc, pick, b"pick 3 4")?;
     expect_line(&rt, alloc, Entry::Raise(4), b"raise 4")?;
     expect_line(&rt, alloc, Entry::Gone(Id(3)), b"gone 3")?;
@@ -275,18 +295,23 @@ fn entries_of_spawns(rt: HostRuntime) -> Result<(), Fail> {
 }
 
 #[test]
-fn entries_of_children(rt: HostRuntime) -> Result<(), Fail> {
+fn entries_of_kills(rt: HostRuntime) -> Result<(), Fail> {
     let alloc = rt.alloc();
     expect_line(&rt, alloc, kill(Ok(())), b"kill 2 ok")?;
     expect_line(&rt, alloc, kill(Err(HostFault(3))), b"kill 2 fault 3")?;
-    let seven = NonZeroI64::new(7).ok_or("seven")?;
-    let error = wait(Ok(ProcessEnd::ExitError(seven)));
-    let signal = wait(Ok(ProcessEnd::ExitSignal(Signal::Terminate)));
-    let fault = wait(Err(HostFault(4_294_967_295)));
+    Ok(())
+}
+
+#[test]
+fn entries_of_waits(rt: HostRuntime) -> Result<(), Fail> {
+    let alloc = rt.alloc();
+    let error = ProcessEnd::ExitError(NonZeroI64::new(7).ok_or("seven")?);
+    let signal = ProcessEnd::ExitSignal(Signal::Terminate);
+    let fault = HostFault(4_294_967_295);
     expect_line(&rt, alloc, wait(Ok(ProcessEnd::Success)), b"wait 2 success")?;
-    expect_line(&rt, alloc, error, b"wait 2 error.7")?;
-    expect_line(&rt, alloc, signal, b"wait 2 signal.terminate")?;
-    expect_line(&rt, alloc, fault, b"wait 2 fault 4294967295")?;
+    expect_line(&rt, alloc, wait(Ok(error)), b"wait 2 error.7")?;
+    expect_line(&rt, alloc, wait(Ok(signal)), b"wait 2 signal.terminate")?;
+    expect_line(&rt, alloc, wait(Err(fault)), b"wait 2 fault 4294967295")?;
     Ok(())
 }
 
@@ -302,9 +327,6 @@ fn what_turns_bring(rt: HostRuntime) -> Result<(), Fail> {
         b"ask 1 stop",
         b"last",
     ];
-    for line in kinds {
-        assert!(rt; is_read_again::<TurnKind>(alloc, line)?, "at {line:?}");
-    }
     let others: [&[u8]; 11] = [
         b"arrive 0 high",
         b"work 1",
@@ -318,10 +340,7 @@ fn what_turns_bring(rt: HostRuntime) -> Result<(), Fail> {
         b"ask start 0",
         b"rest",
     ];
-    for line in others {
-        let kind: Option<TurnKind> = read_line(alloc, line)?;
-        assert!(rt; kind.is_none(), "at {line:?}");
-    }
+    expect_words::<TurnKind>(&rt, alloc, &kinds, &others)?;
     Ok(())
 }
 
@@ -337,6 +356,18 @@ fn is_answer<T: Spelled>(alloc: Global, line: &[u8]) -> Result<bool, Memory> {
     Ok(words.is_done() && text.as_slice().strip_prefix(b" ") == Some(line))
 }
 
+/// Holds each line to be an answer, written so again, or none, as the table says.
+fn expect_answers<T: Spelled>(
+    rt: &impl Abort,
+    alloc: Global,
+    table: &[(&[u8], bool)],
+) -> Result<(), Memory> {
+    for (line, is) in table {
+        assert_eq!(rt; is_answer::<T>(alloc, line)?, *is, "at {line:?}");
+    }
+    Ok(())
+}
+
 #[test]
 fn answers_as_words(rt: HostRuntime) -> Result<(), Fail> {
     let alloc = rt.alloc();
@@ -350,9 +381,7 @@ fn answers_as_words(rt: HostRuntime) -> Result<(), Fail> {
         (b"success", false),
         (b"", false),
     ];
-    for (line, is) in done {
-        assert_eq!(rt; is_answer::<()>(alloc, line)?, is, "at {line:?}");
-    }
+    expect_answers::<()>(&rt, alloc, &done)?;
     let ends: [(&[u8], bool); 8] = [
         (b"success", true),
         (b"error.-7", true),
@@ -363,9 +392,7 @@ fn answers_as_words(rt: HostRuntime) -> Result<(), Fail> {
         (b"error.0", false),
         (b"ok", false),
     ];
-    for (line, is) in ends {
-        assert_eq!(rt; is_answer::<ProcessEnd>(alloc, line)?, is, "at {line:?}");
-    }
+    expect_answers::<ProcessEnd>(&rt, alloc, &ends)?;
     Ok(())
 }
 
@@ -395,6 +422,16 @@ fn text_of(alloc: Global, journal: &Journal) -> Result<Text, Memory> {
     Ok(text)
 }
 
+/// How many entries, tickets and children a journal has, and the number of the next job.
+fn counts(journal: &Journal) -> (u64, u64, u64, u64) {
+    (
+        journal.len(),
+        journal.tickets(),
+        journal.children(),
+        journal.next_job(),
+    )
+}
+
 #[test]
 fn a_journal_and_its_counts(rt: HostRuntime) -> Result<(), Fail> {
     let alloc = rt.alloc();
@@ -408,11 +445,8 @@ fn a_journal_and_its_counts(rt: HostRuntime) -> Result<(), Fail> {
     journal.push(asked(1));
     journal.push(spawn(alloc, 0, Ok(()))?);
     assert_eq!(rt; journal.spare(), room - 4);
-    assert_eq!(rt; journal.len(), 4);
     assert!(rt; !journal.is_empty());
-    assert_eq!(rt; journal.tickets(), 2);
-    assert_eq!(rt; journal.children(), 1);
-    assert_eq!(rt; journal.next_job(), 4);
+    assert_eq!(rt; counts(&journal), (4, 2, 1, 4));
     assert_eq!(rt; journal.as_slice().len(), 4);
     assert_eq!(rt;
         text_of(alloc, &journal)?.as_slice(),
