@@ -9,8 +9,6 @@ mod job_list;
 mod job_turns;
 mod outside;
 mod printing;
-#[cfg(test)]
-mod tests;
 mod work_turn;
 mod worker_state;
 

@@ -2,6 +2,8 @@
 #![tactic(auto)]
 
 #[cfg(test)]
+mod action_tests;
+#[cfg(test)]
 mod engine_tests;
 #[cfg(test)]
 mod feeding_tests;
