@@ -112,6 +112,9 @@ const LIFE: &[u8] = b"made 0\n\
 /// What can be asked of a job: its state, the one before, the child that runs, and whether it is gone.
 type Seen = (CommandState, Option<CommandState>, Option<u64>, bool);
 
+/// Whether the state of a job is pending, running and finished.
+type Sort = (bool, bool, bool);
+
 /// What is seen of a job.
 fn seen(task: &JobTask) -> Seen {
     (
@@ -122,8 +125,8 @@ fn seen(task: &JobTask) -> Seen {
     )
 }
 
-/// Whether the state is pending, running and finished.
-fn sort(task: &JobTask) -> (bool, bool, bool) {
+/// The sort of the state.
+fn sort(task: &JobTask) -> Sort {
     let state = task.state();
     (state.is_pending(), state.is_running(), state.is_finished())
 }
@@ -136,7 +139,7 @@ fn expect_seen(
     moves: &[Move],
     last: Option<Stepped>,
     wanted: Seen,
-    sorted: (bool, bool, bool),
+    sorted: Sort,
 ) -> Result<(), Memory> {
     let answer = job.play_all(alloc, moves)?;
     assert_eq!(rt; answer, last, "at {moves:?}");
@@ -159,21 +162,20 @@ fn a_job_starts_and_stops(rt: HostRuntime) -> Result<(), Fail> {
         finished: 3,
     };
     let did = Some(Stepped::Did);
-    let (pending, running, finished) = (
-        (true, false, false),
-        (false, true, false),
-        (false, false, true),
-    );
-    let seen = (CommandState::Pending, None, None, false);
-    expect_seen(&rt, alloc, &mut job, &[START, STOP], None, seen, pending)?;
-    let seen = (RUNS, before, Some(0), false);
-    expect_seen(&rt, alloc, &mut job, &[Move::Step(1)], did, seen, running)?;
-    let seen = (ended, before, None, false);
-    expect_seen(&rt, alloc, &mut job, &[Move::Step(3)], did, seen, finished)?;
-    let seen = (ended, before, None, true);
-    let gone = Some(Stepped::Gone);
-    let moves = [Move::End, START, Move::End, Move::Step(4)];
-    expect_seen(&rt, alloc, &mut job, &moves, gone, seen, finished)?;
+    let waits = (CommandState::Pending, None, None, false);
+    let runs = (RUNS, before, Some(0), false);
+    let stops = (ended, before, None, false);
+    let gone = (ended, before, None, true);
+    let end = [Move::End, START, Move::End, Move::Step(4)];
+    let table: [(&[Move], Option<Stepped>, Seen, Sort); 4] = [
+        (&[START, STOP], None, waits, (true, false, false)),
+        (&[Move::Step(1)], did, runs, (false, true, false)),
+        (&[Move::Step(3)], did, stops, (false, false, true)),
+        (&end, Some(Stepped::Gone), gone, (false, false, true)),
+    ];
+    for (moves, last, wanted, sorted) in table {
+        expect_seen(&rt, alloc, &mut job, moves, last, wanted, sorted)?;
+    }
     assert_eq!(rt; lines_of(alloc, &job.world)?.as_slice(), LIFE);
     Ok(())
 }
@@ -346,13 +348,18 @@ fn calls_that_fail(rt: HostRuntime) -> Result<(), Fail> {
         child: 1,
         started: 3,
     };
-    expect_run(&rt, alloc, None, ALL_WELL, finished(3, 4), before)?;
-    expect_run(&rt, alloc, Some(0), NO_SPAWN, finished(3, 4), pending)?;
-    expect_run(&rt, alloc, Some(1), NO_KILL, finished(1, 4), pending)?;
-    expect_run(&rt, alloc, Some(2), NO_WAIT, finished(1, 4), pending)?;
-    expect_run(&rt, alloc, Some(3), NO_SECOND, pending, before)?;
-    expect_run(&rt, alloc, Some(4), NO_SECOND_KILL, second, before)?;
-    expect_run(&rt, alloc, Some(5), NO_SECOND_WAIT, second, before)?;
+    let table: [(Option<u64>, &[u8], CommandState, CommandState); 7] = [
+        (None, ALL_WELL, finished(3, 4), before),
+        (Some(0), NO_SPAWN, finished(3, 4), pending),
+        (Some(1), NO_KILL, finished(1, 4), pending),
+        (Some(2), NO_WAIT, finished(1, 4), pending),
+        (Some(3), NO_SECOND, pending, before),
+        (Some(4), NO_SECOND_KILL, second, before),
+        (Some(5), NO_SECOND_WAIT, second, before),
+    ];
+    for (bad, lines, state, previous) in table {
+        expect_run(&rt, alloc, bad, lines, state, previous)?;
+    }
     Ok(())
 }
 
@@ -475,23 +482,40 @@ fn play_three(
     play_one(a, b, alloc, moves[2], world)
 }
 
-#[test]
-fn two_jobs(rt: HostRuntime) -> Result<(), Fail> {
-    let alloc = rt.alloc();
-    let mut world = new_world(alloc, host(alloc, None)?)?;
-    let mut a = make_job(alloc, Id(0), b"a", &mut world)?;
-    let mut b = make_job(alloc, Id(1), b"b", &mut world)?;
+/// Both jobs start, the second one first. Then the first one stops and the second one ends.
+fn play_both(
+    rt: &impl Abort,
+    alloc: Global,
+    a: &mut JobTask,
+    b: &mut JobTask,
+    world: &mut World,
+) -> Result<(), Memory>
+    requires stands { Stands a.old world.old.journal.past }
+    requires other { Stands b.old world.old.journal.past }
+    requires names { NamesItsOwn world.old.journal.past }
+    requires apart { id_of b.old ≢ id_of a.old }
+    requires back { id_of a.old ≢ id_of b.old }
+{
     let asked = [(false, START), (true, START), (false, STOP)];
-    play_three(&mut a, &mut b, alloc, asked, &mut world)?;
+    play_three(a, b, alloc, asked, world)?;
     let started = [(true, Move::Step(1)), (false, Move::Step(2)), (true, STOP)];
-    play_three(&mut a, &mut b, alloc, started, &mut world)?;
+    play_three(a, b, alloc, started, world)?;
     assert_eq!(rt; b.state(), &RUNS);
     let ended = [
         (false, Move::Step(3)),
         (true, Move::End),
         (false, Move::Step(4)),
     ];
-    play_three(&mut a, &mut b, alloc, ended, &mut world)?;
+    play_three(a, b, alloc, ended, world)
+}
+
+#[test]
+fn two_jobs(rt: HostRuntime) -> Result<(), Fail> {
+    let alloc = rt.alloc();
+    let mut world = new_world(alloc, host(alloc, None)?)?;
+    let mut a = make_job(alloc, Id(0), b"a", &mut world)?;
+    let mut b = make_job(alloc, Id(1), b"b", &mut world)?;
+    play_both(&rt, alloc, &mut a, &mut b, &mut world)?;
     assert_eq!(rt; a.state(), &finished(2, 3));
     assert_eq!(rt; (a.is_gone(), b.is_gone()), (false, true));
     assert_eq!(rt; lines_of(alloc, &world)?.as_slice(), BOTH);
