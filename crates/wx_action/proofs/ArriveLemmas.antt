@@ -1,5 +1,5 @@
 -- An event is offered to the queue, or listed as sent, or a word is said.
-use Rattle.std.proofs.Common.{◌≡◌, ℕ, ◌+◌, ◌<◌, false, List, ◌∷◌, length, arith, refl, ap, sym, subst, ◌∙◌}
+use Rattle.std.proofs.Common.{◌≡◌, ℕ, ◌+◌, ◌<◌, true, false, List, ◌∷◌, length, arith, refl, ap, sym, subst, ◌∙◌}
 use Rattle.std.specs.Prelude.{None}
 use Rattle.wx_events.specs.declared.event.Event.{Event}
 use Rattle.wx_events.specs.declared.priority.Priority.{Priority}
@@ -11,11 +11,11 @@ use Rattle.wx_journal.specs.declared.entry.Entry.TheVariants.{Sent, Offer, Word 
 use Rattle.wx_journal.specs.declared.entry.Named.{Named}
 use Rattle.wx_journal.specs.declared.entry.Word.{Word}
 use Rattle.wx_journal.specs.declared.entry.Offered.{Offered}
-use Rattle.wx_journal.specs.declared.entry.Offered.TheVariants.{Queued, Full}
+use Rattle.wx_journal.specs.declared.entry.Offered.TheVariants.{Queued, Full, Closed}
 use Rattle.wx_journal.specs.Names.{event_count}
 use Rattle.wx_action.specs.declared.worker_state.Worker.{Worker}
 use Rattle.wx_action.specs.Start.{Start}
-use Rattle.wx_action.specs.Journal.{bag}
+use Rattle.wx_action.specs.Journal.{closed, bag}
 use Rattle.wx_action.specs.Due.{Agenda, agenda, Due, Open, Offers, Says, Sends, rest, settle}
 use Rattle.wx_action.specs.Orderly.{IsGoing, IsOrderly}
 use Rattle.wx_action.proofs.SettleLaws.{settle_calm}
@@ -67,7 +67,7 @@ said_done s w p p' word more stands due grown =
     })
 
 pub offer_done : (s : Start) (w : Worker) (p p' : List Entry) (event : Event) (priority : Priority) (more : Agenda) (new : Channel Named) (result : Offered) → Stands s w p → agenda s p ≡ Offers event priority more
-    → IsOffered w.queue (record { name = w.named; event = event }, priority) new result → new.size ≡ w.queue.size → new.closed ≡ false → p' ≡ Offer w.named None result event priority ∷ p
+    → IsOffered w.queue (record { name = w.named; event = event }, priority) new result → new.size ≡ w.queue.size → new.closed ≡ w.queue.closed → p' ≡ Offer w.named None result event priority ∷ p
     → Steps s (record w { queue = new; named = w.named + 1 }) p p'
 offer_done s w p p' event priority more new result stands due is size closed grown =
     let name : w.named ≡ event_count p = stands.named_kept in
@@ -82,20 +82,21 @@ offer_done s w p p' event priority more new result stands due is size closed gro
     }))
 
 pub send_done : (s : Start) (w : Worker) (p p' : List Entry) (event : Event) (priority : Priority) (more : List (Event × Priority)) (new : Channel Named) (result : Offered) → Stands s w p → agenda s p ≡ Sends event priority more
-    → length (bag p) < s.config.event_channel_size → IsOffered w.queue (record { name = w.named; event = event }, priority) new result → new.size ≡ w.queue.size → new.closed ≡ false → p' ≡ Sent w.named event priority ∷ p
+    → length (bag p) < s.config.event_channel_size → closed p ≡ false → IsOffered w.queue (record { name = w.named; event = event }, priority) new result → new.size ≡ w.queue.size → new.closed ≡ w.queue.closed → p' ≡ Sent w.named event priority ∷ p
     → Steps s (record w { queue = new; named = w.named + 1 }) p p'
-send_done s w p p' event priority more new Queued stands due fits is size closed grown =
+send_done s w p p' event priority more new Queued stands due fits takes is size same_closed grown =
     let name : w.named ≡ event_count p = stands.named_kept in
     let is' : IsOffered w.queue (record { name = event_count p; event = event }, priority) new Queued = subst (λ (n : ℕ). IsOffered w.queue (record { name = n; event = event }, priority) new Queued) name is in
     let d : Due s p (Sent (event_count p) event priority) = rw due refl in
     let P : ℕ → Type 0 = λ n. Steps s (record w { queue = new; named = w.named + 1 }) p (Sent n event priority ∷ p) in
     rw grown (subst P (sym name) (record {
-      stands = stands_sent s w p event priority new stands d is'.0 size closed;
+      stands = stands_sent s w p event priority new stands d is'.0 size same_closed;
       follows = λ world hooks p₀ world₀ hooks₀ l. Then (Sent (event_count p) event priority) p world hooks l d;
       quiet = λ p₀ a. More _ p a refl;
       turns = turns_over _ _ refl;
     }))
-send_done s w p p' event priority more new Full stands due fits is size closed grown =
+send_done s w p p' event priority more new Full stands due fits takes is size same_closed grown =
     let n : length w.queue.items ≡ length (bag p) = same-length w.queue.items (bag p) stands.queue_kept in
     let full : length w.queue.items ≡ w.queue.size = eqb-true _ _ is.1 in
     absurd (omega (arith, stands.size_kept))
+send_done s w p p' event priority more new Closed stands due fits takes is size same_closed grown = let both : true ≡ false = sym is.1 ∙ stands.closed_kept ∙ takes in absurd cc

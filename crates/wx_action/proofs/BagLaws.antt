@@ -11,7 +11,7 @@ use Rattle.prio_channel.specs.SameBag.{SameBag, Takes}
 use Rattle.prio_channel.proofs.BagLaws.{take-bag, same-trans, all-same}
 use Rattle.wx_journal.specs.declared.entry.Entry.{Entry}
 use Rattle.wx_journal.specs.declared.entry.Entry.TheVariants.{Sent, Offer, Take}
-use Rattle.wx_journal.specs.declared.entry.Offered.TheVariants.{Queued, Full}
+use Rattle.wx_journal.specs.declared.entry.Offered.TheVariants.{Queued, Full, Closed}
 use Rattle.wx_journal.specs.declared.entry.Named.{Named}
 use Rattle.wx_journal.specs.Names.{event_count, NamesItsOwn}
 use Rattle.wx_job.proofs.Owners.{either}
@@ -91,6 +91,13 @@ bag_facts (Offer name item Queued event priority ∷ p) own =
 bag_facts (Offer name item Full event priority ∷ p) own =
     let h = bag_facts p own.1 in
     subst (λ (m : ℕ). BagFacts (Offer m item Full event priority ∷ p)) (sym own.0.0) (record {
+      rising = h.rising;
+      below = below-rise _ _ (bag p) (omega arith) h.below;
+      are_listed = listed-rise (event_count p) (Some (event, priority)) (λ m. listed m p) (bag p) h.below h.are_listed;
+    })
+bag_facts (Offer name item Closed event priority ∷ p) own =
+    let h = bag_facts p own.1 in
+    subst (λ (m : ℕ). BagFacts (Offer m item Closed event priority ∷ p)) (sym own.0.0) (record {
       rising = h.rising;
       below = below-rise _ _ (bag p) (omega arith) h.below;
       are_listed = listed-rise (event_count p) (Some (event, priority)) (λ m. listed m p) (bag p) h.below h.are_listed;

@@ -1,6 +1,6 @@
 -- The window is handed.
 use Rattle.std.proofs.Common.{◌≡◌, ℕ, Bool, true, false, cond, List, [], ◌∷◌, ◌++◌, inl, inr, refl, ap, sym, subst, ◌∙◌, append_assoc}
-use Rattle.std.specs.Prelude.{Option, None, Some, map}
+use Rattle.std.specs.Prelude.{Option, None, Some, Result, Ok, Err, OnErr, map}
 use Rattle.std.specs.List.{AllByRecursion, filter}
 use Rattle.wx_command.specs.declared.command.Command.{Command}
 use Rattle.wx_control.specs.declared.id.Id.{Id}
@@ -19,7 +19,8 @@ use Rattle.wx_action.specs.declared.work_turn.Worked.TheVariants.{On, End}
 use Rattle.wx_action.specs.Start.{Start}
 use Rattle.wx_action.specs.Journal.{settings, window}
 use Rattle.wx_action.specs.Jobs.{set, command, creation, or_else, act_plan, AreLawful}
-use Rattle.wx_action.specs.Due.{agenda, Due, Hands, Open, Ends, plans, has_quit, after_acts, is_quitting, settle}
+use Rattle.wx_action.specs.Answer.{NoneIsToGo}
+use Rattle.wx_action.specs.Due.{Agenda, agenda, Due, Hands, Open, Ends, plans, has_quit, after_acts, is_quitting, settle}
 use Rattle.wx_action.specs.Laws.{NoneUrgent, urgent_in, NoneUrgentWaits}
 use Rattle.wx_action.specs.Leads.{FollowsHooks, FollowsAlone, Then}
 use Rattle.wx_action.specs.Perform.{AreCommanded, OwesActs}
@@ -91,7 +92,7 @@ handed s w w' n names acts todos ends p p' stands due lawful todo_is quits field
       config_kept = stands.config_kept;
       queue_kept = stands.queue_kept;
       size_kept = stands.size_kept;
-      open_kept = stands.open_kept;
+      closed_kept = stands.closed_kept;
       named_kept = stands.named_kept;
       names_kept = names_none ∙ sym none;
       events_kept = rw (none, events_none) tt;
@@ -114,6 +115,27 @@ not_hands_ends e = cc
 -- an agenda that is open owes no batch
 pub not_hands : (s : Start) (p : List Entry) → agenda s p ≡ Open → agenda s p ≡ Hands → ⊥
 not_hands s p is e = not_hands_open (sym is ∙ e)
+
+-- one that is to end owes none either
+pub not_hands_at_end : (s : Start) (p : List Entry) → agenda s p ≡ Ends → agenda s p ≡ Hands → ⊥
+not_hands_at_end s p is e = not_hands_ends (sym is ∙ e)
+
+-- what holds whatever is answered holds where the answer is an error
+pub on_err : {T E P : Type 0} (result : Result T E) → P → OnErr result P
+on_err (Ok x) h = tt
+on_err (Err e) h = h
+
+-- where acts are owed no window is to be handed
+none_after : (ends : Bool) → NoneIsToGo (after_acts ends)
+none_after true = tt
+none_after false = tt
+
+none_of_plans : (p : List Entry) (k : Plan) → NoneIsToGo (settle p (plans k Open))
+none_of_plans p Done = none_after (is_quitting p)
+none_of_plans p (k) = tt
+
+pub none_to_go : (s : Start) (p : List Entry) (todo : List Todo) (more : Agenda) → OwesActs s p todo more → NoneIsToGo (agenda s p)
+none_to_go s p todo more owes = rw owes.due (none_of_plans p (act_plan (λ id. lives id p) owes.acts))
 
 -- what is worked by a batch
 pub works_by : (s : Start) (p : List Entry) (quits : Bool) → agenda s p ≡ after_acts quits → Works s (cond quits End On) p

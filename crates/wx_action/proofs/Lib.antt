@@ -7,6 +7,7 @@ pub mod JobLemmas
 pub mod JobListLemmas
 pub mod PerformLemmas
 pub mod PlanLemmas
+pub mod PrintLemmas
 pub mod QuitLemmas
 pub mod StandsLemmas
 pub mod WorkLemmas

@@ -1,16 +1,16 @@
 -- A printed journal is the text of one journal and of one answer.
-use Rattle.std.proofs.Common.{◌≡◌, ℕ, ◌^◌, ◌<◌, ◌≤◌, Bool, true, false, cond, not, List, [], ◌∷◌, length, reverse, sym, ap, subst, ◌∙◌, length-append, arith}
+use Rattle.std.proofs.Common.{◌≡◌, ℕ, ◌+◌, ◌^◌, ◌<◌, ◌≤◌, Bool, true, false, cond, not, List, [], ◌∷◌, length, reverse, sym, ap, subst, ◌∙◌, length-append, arith}
 use Rattle.std.specs.List.{AllByRecursion, filter}
 use Rattle.std.proofs.lemmas.Grind.{reverse_onto}
 use Rattle.std.proofs.lemmas.List.{reverse-reverse}
 use Rattle.wx_words.specs.Line.{parts, joined}
 use Rattle.wx_words.specs.EachLaws.{each_append, each_filter}
 use Rattle.wx_journal.specs.declared.entry.Entry.{Entry}
-use Rattle.wx_journal.specs.declared.entry.Entry.TheVariants.{Take, Hand}
+use Rattle.wx_journal.specs.declared.entry.Entry.TheVariants.{Take, Filter, Hand}
 use Rattle.wx_journal.specs.Entries.{EntryFits}
 use Rattle.wx_journal.specs.Lines.{Answer, NamesFit, JournalFits, AnswerFits, end_words}
-use Rattle.wx_journal.proofs.LineLaws.{decoded, printed_back, same_answer, take_fits}
-use Rattle.wx_action.specs.Journal.{is_among, window}
+use Rattle.wx_journal.proofs.LineLaws.{decoded, printed_back, same_answer, take_fits, filter_fits}
+use Rattle.wx_action.specs.Journal.{passes_unseen, lets_pass, one_if, and_one, is_among, window}
 use Rattle.wx_action.specs.Printed.{printed}
 
 -- ---- what is lost is part of the journal
@@ -23,11 +23,17 @@ fewer : (test : ℕ → Bool) (xs : List ℕ) → length (filter test xs) ≤ le
 fewer test [] = omega arith
 fewer test (x ∷ xs) = fewer_kept (test x) x (filter test xs) xs (fewer test xs)
 
+-- names, and one that may join them
+joined_small : (names : List ℕ) (m : ℕ) (joins : Bool) (name : ℕ) → (length names ≤ m) × AllByRecursion (λ n. n < 2 ^ 64) names → name < 2 ^ 64 → (length (and_one names (one_if joins name)) ≤ m + 1) × AllByRecursion (λ n. n < 2 ^ 64) (and_one names (one_if joins name))
+joined_small names m true name small lt = (omega (arith, length-append names (name ∷ []), small.0), each_append (λ n. n < 2 ^ 64) names (name ∷ []) small.1 (lt, tt))
+joined_small names m false name small lt = (omega (arith, small.0), small.1)
+
 window_small : (j : List Entry) → AllByRecursion EntryFits j → (length (window j) ≤ length j) × AllByRecursion (λ n. n < 2 ^ 64) (window j)
 window_small [] all = (omega arith, tt)
 window_small (Take name ∷ j) all =
-    let rest = window_small j all.1 in
-    (omega (arith, length-append (window j) (name ∷ []), rest.0), each_append (λ n. n < 2 ^ 64) (window j) (name ∷ []) rest.1 (take_fits name all.0, tt))
+    let h = joined_small (window j) (length j) (passes_unseen name j) name (window_small j all.1) (take_fits name all.0) in (omega (arith, h.0), h.1)
+window_small (Filter n name answer ∷ j) all =
+    let h = joined_small (window j) (length j) (lets_pass answer) name (window_small j all.1) (filter_fits n name answer all.0) in (omega (arith, h.0), h.1)
 window_small (Hand n names acts ∷ j) all =
     let rest = window_small j all.1 in
     (omega (arith, fewer (λ name. not (is_among name names)) (window j), rest.0), each_filter (λ n. n < 2 ^ 64) (λ name. not (is_among name names)) (window j) rest.1)

@@ -14,7 +14,7 @@ use Rattle.wx_job.proofs.Sound.{Goes, goes_gone, gone_child}
 use Rattle.wx_config.specs.declared.error.CriticalError.TheVariants.{IoError, Memory}
 use Rattle.wx_action.specs.Start.{Start}
 use Rattle.wx_action.specs.Jobs.{jobs, first_end}
-use Rattle.wx_action.specs.Due.{Agenda, Begins, Sends, Open, Offers, Says, Takes, Hands, Plans, Ends, plans, rest, settle, agenda, Admits, Due, IsRun}
+use Rattle.wx_action.specs.Due.{Agenda, Begins, Sends, Open, Offers, Says, Takes, Filters, Hands, Plans, Ends, plans, rest, settle, agenda, Admits, Due, IsRun}
 use Rattle.wx_journal.specs.Lines.{Answer}
 use Rattle.wx_action.specs.Answer.{Dying, Alive, Dies, IsComplete, IsBroken, MemoryCuts, Answers}
 use Rattle.wx_action.specs.Orderly.{IsFit, GoneRunNone}
@@ -68,6 +68,7 @@ next_dropped s p Open c id e own fit its dropped d = absurd dropped
 next_dropped s p (Offers v q more) c id e own fit its dropped d = absurd cc
 next_dropped s p (Says word more) c id e own fit its dropped d = absurd cc
 next_dropped s p Takes c id e own fit its dropped d = let is = dropped.1 in absurd cc
+next_dropped s p (Filters m) c id e own fit its dropped d = let is = dropped.1 in absurd cc
 next_dropped s p Hands c id e own fit its dropped d = let is = dropped.1 in absurd cc
 next_dropped s p (Plans k more) c id e own fit its dropped d =
     let go = (lawful_now p k (Dropped c) dropped fit.0).lets_go in
@@ -207,4 +208,5 @@ broken_reaps place s p b =
 pub ran_reaps : (s : Start) (p : List Entry) (answer : Answer) → Answers s p answer → HasReaped p
 ran_reaps s p (Ok u) h = complete_reaps s p h.0
 ran_reaps s p (Err (IoError about err)) h = complete_reaps s p h.0
-ran_reaps s p (Err Memory) h = broken_reaps MemoryCuts s p h
+ran_reaps s p (Err Memory) h = broken_reaps (MemoryCuts s) s p h
+ran_reaps s p (Err (_)) h = absurd h

@@ -1,6 +1,6 @@
 -- The laws of every run, proved.
 use Rattle.std.proofs.Common.{◌≡◌, ℕ, ◌+◌, ◌<◌, Bool, true, false, cond, List, [], ◌∷◌, ◌++◌, length, Ok, arith, refl, ap, sym, subst, ◌∙◌, append_assoc, eq-eqb, ne_eqb}
-use Rattle.std.specs.Prelude.{Option, None, Some, ◌==◌, ◌&&◌, ◌||◌, not}
+use Rattle.std.specs.Prelude.{Option, None, Some, Result, ◌==◌, ◌&&◌, ◌||◌, not}
 use Rattle.std.specs.Option.{IsSomeAnd}
 use Rattle.std.specs.List.{AllByRecursion}
 use Rattle.std.proofs.lemmas.Bool.{eqb-true, or_left, or_right}
@@ -9,11 +9,12 @@ use Rattle.wx_words.specs.EachLaws.{each_append, each_weaker, each_filter}
 use Rattle.wx_events.specs.declared.event.Event.{Event}
 use Rattle.wx_events.specs.declared.priority.Priority.{Priority}
 use Rattle.wx_command.specs.declared.command.Command.{Command}
+use Rattle.wx_config.specs.declared.runtime.RuntimeError.{RuntimeError}
 use Rattle.wx_control.specs.declared.id.Id.{Id}
 use Rattle.wx_control.specs.declared.ask.Ask.{Ask as AnAsk}
 use Rattle.wx_control.specs.Asks.{sends_of}
 use Rattle.wx_journal.specs.declared.entry.Entry.{Entry}
-use Rattle.wx_journal.specs.declared.entry.Entry.TheVariants.{Begin, Sent, Turn as Turned, TurnFault, Offer, Take, Hand, Made, Spawn, Wait, Dropped, Gone}
+use Rattle.wx_journal.specs.declared.entry.Entry.TheVariants.{Begin, Sent, Turn as Turned, TurnFault, Offer, Take, Filter, Hand, Made, Spawn, Wait, Dropped, Gone}
 use Rattle.wx_journal.specs.Acts.{JournalAct as Act}
 use Rattle.wx_journal.specs.declared.entry.Named.{Named}
 use Rattle.wx_journal.specs.declared.entry.Offered.{Offered}
@@ -30,8 +31,8 @@ use Rattle.wx_job.proofs.Owners.{either, same-is}
 use Rattle.wx_job.proofs.Always.{always_next}
 use Rattle.wx_action.specs.Start.{Start}
 use Rattle.wx_action.specs.Jobs.{living, parent, jobs, first_end, end, AreLawful, act_plan}
-use Rattle.wx_action.specs.Journal.{listed, named, bag, is_among, unhanded, window, batches, is_over, is_urgent_named, is_urgent_in}
-use Rattle.wx_action.specs.Due.{Agenda, Begins, Sends, Open, Offers, Says, Takes, Hands, Plans, Ends, sends, plans, rest, job_turn, ended_turn, turn_agenda, after_hand, is_quitting, settle, agenda, Admits, Due, IsRun, IsTurn, IsGreatest}
+use Rattle.wx_action.specs.Journal.{listed, passes_unseen, lets_pass, closed, named, bag, one_if, and_one, is_among, unhanded, passed, window, batches, is_over, is_urgent_named, is_urgent_in}
+use Rattle.wx_action.specs.Due.{Agenda, Begins, Sends, Open, Offers, Says, Takes, Filters, Hands, Plans, Ends, sends, plans, rest, job_turn, ended_turn, turn_agenda, after_pass, after_hand, is_quitting, settle, agenda, Admits, Due, IsRun, IsTurn, IsGreatest}
 use Rattle.wx_action.proofs.BagLaws.{AreBelow, bag_facts}
 use Rattle.wx_action.specs.Leads.{Leads, Here, Then, Follows}
 use Rattle.wx_action.specs.Orderly.{IsQuiet, IsFit, IsGoing, GoneRunNone, IsOrderly}
@@ -39,7 +40,7 @@ use Rattle.wx_action.proofs.SettleLaws.{fit_settle, going_calm, going_plans, qui
 use Rattle.wx_action.proofs.PlanLaws.{lawful_now, lawful_step, lawful_ask, lawful_acts, of_end, end_is_plan, end_in_order, names_end}
 use Rattle.wx_action.specs.Lawful.{IsOfPlan, IsOfEnd, IsFree, MadeInOrder, IsLawful, Lawful}
 use Rattle.wx_action.specs.Last.{last_is, last_added}
-use Rattle.wx_action.specs.Laws.{joined, IsBatched, NoneUrgent, UrgentLast, urgent_in, IsBatch, AreBatches, NoneUrgentWaits, AreServed}
+use Rattle.wx_action.specs.Laws.{joined, IsBatched, NoneUrgent, UrgentLast, urgent_in, IsBatch, AreBatches, NoneUrgentWaits, NoneUnseenIsShown, AreServed}
 
 -- ---- what an agenda that admits an entry says of it
 
@@ -50,6 +51,7 @@ admits_sent s p Open name event priority d f = absurd d
 admits_sent s p (Offers e q more) name event priority d f = absurd cc
 admits_sent s p (Says word more) name event priority d f = absurd cc
 admits_sent s p Takes name event priority d f = let h = d.1 in absurd cc
+admits_sent s p (Filters m) name event priority d f = let h = d.1 in absurd cc
 admits_sent s p Hands name event priority d f = let h = d.1 in absurd cc
 admits_sent s p (Plans k more) name event priority d f = absurd (lawful_now p k (Sent name event priority) d f.0).of_plan
 admits_sent s p Ends name event priority d f = absurd (of_end p (Sent name event priority) d)
@@ -61,6 +63,7 @@ admits_offer s p Open name item result event priority d f = absurd d
 admits_offer s p (Offers e q more) name item result event priority d f = (cc, let none : item ≡ None = cc in subst NamesItem (sym none) tt)
 admits_offer s p (Says word more) name item result event priority d f = absurd cc
 admits_offer s p Takes name item result event priority d f = let h = d.1 in absurd cc
+admits_offer s p (Filters m) name item result event priority d f = let h = d.1 in absurd cc
 admits_offer s p Hands name item result event priority d f = let h = d.1 in absurd cc
 admits_offer s p (Plans k more) name item result event priority d f = absurd (lawful_now p k (Offer name item result event priority) d f.0).of_plan
 admits_offer s p Ends name item result event priority d f = absurd (of_end p (Offer name item result event priority) d)
@@ -72,6 +75,7 @@ admits_take s p Open name d f = absurd d
 admits_take s p (Offers e q more) name d f = absurd cc
 admits_take s p (Says word more) name d f = absurd cc
 admits_take s p Takes name d f = let same : d.0 ≡ name = (let h = d.1 in cc) in subst (λ (m : ℕ). IsGreatest m (bag p)) same d.2
+admits_take s p (Filters m) name d f = let h = d.1 in absurd cc
 admits_take s p Hands name d f = let h = d.1 in absurd cc
 admits_take s p (Plans k more) name d f = absurd (lawful_now p k (Take name) d f.0).of_plan
 admits_take s p Ends name d f = absurd (of_end p (Take name) d)
@@ -83,9 +87,22 @@ admits_hand s p Open n names acts d f = absurd d
 admits_hand s p (Offers e q more) n names acts d f = absurd cc
 admits_hand s p (Says word more) n names acts d f = absurd cc
 admits_hand s p Takes n names acts d f = let h = d.1 in absurd cc
+admits_hand s p (Filters m) n names acts d f = let h = d.1 in absurd cc
 admits_hand s p Hands n names acts d f = (let h = d.1 in cc, refl, (let h = d.1 in let same : d.0 ≡ acts = cc in subst (AreLawful (next_job p)) same d.2))
 admits_hand s p (Plans k more) n names acts d f = absurd (lawful_now p k (Hand n names acts) d f.0).of_plan
 admits_hand s p Ends n names acts d f = absurd (of_end p (Hand n names acts) d)
+
+admits_filter : (s : Start) (p : List Entry) (k : Agenda) (n name : ℕ) (answer : Result Bool RuntimeError) → Admits s p k (Filter n name answer) → IsFit p k → k ≡ Filters name
+admits_filter s p Begins n name answer d f = absurd cc
+admits_filter s p (Sends e q more) n name answer d f = absurd cc
+admits_filter s p Open n name answer d f = absurd d
+admits_filter s p (Offers e q more) n name answer d f = absurd cc
+admits_filter s p (Says word more) n name answer d f = absurd cc
+admits_filter s p Takes n name answer d f = let h = d.1 in absurd cc
+admits_filter s p (Filters m) n name answer d f = let same : m ≡ name = (let h = d.1 in cc) in ap (λ (i : ℕ). Filters i) same
+admits_filter s p Hands n name answer d f = let h = d.1 in absurd cc
+admits_filter s p (Plans k more) n name answer d f = absurd (lawful_now p k (Filter n name answer) d f.0).of_plan
+admits_filter s p Ends n name answer d f = absurd (of_end p (Filter n name answer) d)
 
 -- ---- a run names only what its own entries made
 
@@ -100,12 +117,18 @@ named_below n name (x ∷ xs) P b h = below_by_test n name x (named name xs) P (
 below-rise : (n : ℕ) (names : List ℕ) → AllByRecursion (λ name. name < n) names → AllByRecursion (λ name. name < n + 1) names
 below-rise n names h = each_weaker (λ name. name < n) (λ name. name < n + 1) (λ name lt. omega (arith, lt)) names h
 
+-- what holds of these names, and of one that joins them
+each_one_if : (P : ℕ → Type 0) (names : List ℕ) (joins : Bool) (name : ℕ) → AllByRecursion P names → P name → AllByRecursion P (and_one names (one_if joins name))
+each_one_if P names true name all one = each_append P names (name ∷ []) all (one, tt)
+each_one_if P names false name all one = all
+
 -- the names in the window are those of events
 pub window_below : (p : List Entry) → NamesItsOwn p → AllByRecursion (λ name. name < event_count p) (window p)
 window_below [] own = tt
 window_below (Sent name event priority ∷ p) own = below-rise (event_count p) (window p) (window_below p own.1)
 window_below (Offer name item result event priority ∷ p) own = below-rise (event_count p) (window p) (window_below p own.1)
-window_below (Take name ∷ p) own = each_append (λ m. m < event_count p) (window p) (name ∷ []) (window_below p own.1) (own.0, tt)
+window_below (Take name ∷ p) own = each_one_if (λ m. m < event_count p) (window p) (passes_unseen name p) name (window_below p own.1) own.0
+window_below (Filter n name answer ∷ p) own = each_one_if (λ m. m < event_count p) (window p) (lets_pass answer) name (window_below p own.1) own.0
 window_below (Hand n names acts ∷ p) own = each_filter (λ name. name < event_count p) (λ name. not (is_among name names)) (window p) (window_below p own.1)
 window_below (_ ∷ p) own = window_below p own.1
 
@@ -161,14 +184,15 @@ some-append : (names : List ℕ) (name : ℕ) → 0 < length (names ++ name ∷ 
 some-append [] name = omega arith
 some-append (x ∷ names) name = omega (arith, some-append names name)
 
-fit_work : (s : Start) (p : List Entry) (at : ℕ) (over empty : Bool) → is_over s p at ≡ over → IsFit p (cond over Hands (cond empty (Says Idle Open) Takes))
-fit_work s p at true empty o = window_some (window p) _ o
-fit_work s p at false true o = tt
-fit_work s p at false false o = tt
+fit_work : (s : Start) (p : List Entry) (at : ℕ) (shut over empty : Bool) → is_over s p at ≡ over → IsFit p (cond shut Ends (cond over Hands (cond empty (Says Idle Open) Takes)))
+fit_work s p at true over empty o = tt
+fit_work s p at false true empty o = window_some (window p) _ o
+fit_work s p at false false true o = tt
+fit_work s p at false false false o = tt
 
 fit_turn : (s : Start) (p : List Entry) (kind : TurnKind) (at : ℕ) → NamesItsOwn p → IsFit p (turn_agenda s kind at p)
 fit_turn s p (Arrive event priority) at own = tt
-fit_turn s p Work at own = fit_work s p at (is_over s p at) (length (bag p) == 0) refl
+fit_turn s p Work at own = fit_work s p at (closed p) (is_over s p at) (length (bag p) == 0) refl
 fit_turn s p (Job id) at own = fit_job p id (living id p) own
 fit_turn s p (Ended c) at own = fit_ended p (parent c p) own
 fit_turn s p (Ask id ask) at own = fit_ask p id ask (lives id p) refl own
@@ -180,9 +204,22 @@ fit_hand p n names acts lawful =
     (lawful_acts (λ id. lives id p) acts (Hand n names acts ∷ p) (λ id e. or_left (creates id acts) (is_created id p) e) lawful)
     tt
 
-fit_take : (p : List Entry) (name : ℕ) (due : Bool) → IsFit (Take name ∷ p) (cond due Hands Open)
-fit_take p name true = some-append (window p) name
-fit_take p name false = tt
+-- the window, with an event that joins it
+pub joined_if : (p : List Entry) (name : ℕ) (joins : Bool) → joins ≡ true → and_one (window p) (one_if joins name) ≡ window p ++ name ∷ []
+joined_if p name joins is = ap (λ (b : Bool). and_one (window p) (one_if b name)) is
+
+some-joined : (p : List Entry) (name : ℕ) (joins : Bool) → joins ≡ true → 0 < length (and_one (window p) (one_if joins name))
+some-joined p name joins is = rw (joined_if p name joins is) (some-append (window p) name)
+
+fit_take : (p : List Entry) (name : ℕ) (unseen due : Bool) → passes_unseen name p ≡ unseen → name < event_count p → IsFit (Take name ∷ p) (cond unseen (cond due Hands Open) (Filters name))
+fit_take p name true true is below = some-joined p name (passes_unseen name p) is
+fit_take p name true false is below = tt
+fit_take p name false due is below = (below, is)
+
+fit_filter : (p : List Entry) (n name : ℕ) (answer : Result Bool RuntimeError) (passes due : Bool) → lets_pass answer ≡ passes → IsFit (Filter n name answer ∷ p) (cond passes (cond due Hands Open) Open)
+fit_filter p n name answer true true is = some-joined p name (lets_pass answer) is
+fit_filter p n name answer true false is = tt
+fit_filter p n name answer false due is = tt
 
 -- an agenda that admits an entry that hands no batch owes none
 no_batch : (s : Start) (p : List Entry) (k : Agenda) (e : Entry) → is_hand e ≡ false → Admits s p k e → k ≡ Hands → ⊥
@@ -199,6 +236,7 @@ fit_rest s p Open e d other f = tt
 fit_rest s p (Offers v q more) e d other f = fit_quiet (e ∷ p) more f
 fit_rest s p (Says word more) e d other f = fit_quiet (e ∷ p) more f
 fit_rest s p Takes e d other f = tt
+fit_rest s p (Filters m) e d other f = subst (λ (v : Entry). IsFit (v ∷ p) (Filters m)) (sym d.1) f
 fit_rest s p Hands e d other f = absurd (other refl)
 fit_rest s p (Plans k more) e d other f = fit_plans (e ∷ p) (next k e) more (always_next IsLawful p k e d f.0) f.1
 fit_rest s p Ends e d other f = tt
@@ -221,6 +259,7 @@ next_own s p Open e o d f own made = absurd (no_turn e o d)
 next_own s p (Offers v q more) e o d f own made = absurd (subst IsOfPlan d o)
 next_own s p (Says word more) e o d f own made = rw d (record { own = (tt, own); in_order = (tt, made) })
 next_own s p Takes e o d f own made = absurd (subst IsOfPlan d.1 o)
+next_own s p (Filters m) e o d f own made = absurd (subst IsOfPlan d.1 o)
 next_own s p Hands e o d f own made = absurd (subst IsOfPlan d.1 o)
 next_own s p (Plans k more) e o d f own made = let h = lawful_now p k e d f.0 in record { own = (h.names, own); in_order = (h.in_order, made) }
 next_own s p Ends e o d f own made = record { own = (names_end p e own d, own); in_order = (end_in_order e p (of_end p e d), made) }
@@ -254,6 +293,7 @@ free s p Open e d f = free_turn p e d
 free s p (Offers v q more) e d f = subst (IsFree p) (sym d) tt
 free s p (Says word more) e d f = subst (IsFree p) (sym d) tt
 free s p Takes e d f = subst (IsFree p) (sym d.1) tt
+free s p (Filters m) e d f = subst (IsFree p) (sym d.1) tt
 free s p Hands e d f = subst (IsFree p) (sym d.1) tt
 free s p (Plans k more) e d f = (lawful_now p k e d f.0).free
 free s p Ends e d f = free_end p e (of_end p e d) d
@@ -303,6 +343,7 @@ open_at_turn s p Open e i d f = refl
 open_at_turn s p (Offers event priority more) e i d f = absurd (subst IsTurn d i)
 open_at_turn s p (Says word more) e i d f = absurd (subst IsTurn d i)
 open_at_turn s p Takes e i d f = absurd (subst IsTurn d.1 i)
+open_at_turn s p (Filters m) e i d f = absurd (subst IsTurn d.1 i)
 open_at_turn s p Hands e i d f = absurd (subst IsTurn d.1 i)
 open_at_turn s p (Plans k more) e i d f = absurd (no_turn e (lawful_now p k e d f.0).of_plan i)
 open_at_turn s p Ends e i d f = absurd (no_turn e (end_is_plan e (of_end p e d)) i)
@@ -333,13 +374,22 @@ orderly_more s (Offer name item result event priority) p d h = record {
   fit = fit_settle (Offer name item result event priority ∷ p) _ (fit_rest s p (agenda s p) (Offer name item result event priority) d (no_batch s p (agenda s p) (Offer name item result event priority) refl d) h.fit);
   going = going_calm (Offer name item result event priority ∷ p) _ (unquit s p (agenda s p) (Offer name item result event priority) (λ o. o) d h.fit h.going);
 }
-orderly_more s (Take name) p d h = record {
-  own = (named_below (event_count p) name (bag p) _ (bag_facts p h.own).below (admits_take s p (agenda s p) name d h.fit), h.own);
-  in_order = (tt, h.in_order);
-  idle = h.idle;
-  fit = fit_settle (Take name ∷ p) _ (fit_take p name (is_urgent_named name p || is_over s (Take name ∷ p) (moment p)));
-  going = going_calm (Take name ∷ p) _ (unquit s p (agenda s p) (Take name) (λ o. o) d h.fit h.going);
-}
+orderly_more s (Take name) p d h =
+    let below : name < event_count p = named_below (event_count p) name (bag p) _ (bag_facts p h.own).below (admits_take s p (agenda s p) name d h.fit) in record {
+      own = (below, h.own);
+      in_order = (tt, h.in_order);
+      idle = h.idle;
+      fit = fit_settle (Take name ∷ p) _ (fit_take p name (passes_unseen name p) (is_urgent_named name p || is_over s (Take name ∷ p) (moment p)) refl below);
+      going = going_calm (Take name ∷ p) _ (unquit s p (agenda s p) (Take name) (λ o. o) d h.fit h.going);
+    }
+orderly_more s (Filter n name answer) p d h =
+    let shown : IsFit p (Filters name) = subst (IsFit p) (admits_filter s p (agenda s p) n name answer d h.fit) h.fit in record {
+      own = (shown.0, h.own);
+      in_order = (tt, h.in_order);
+      idle = h.idle;
+      fit = fit_settle (Filter n name answer ∷ p) _ (fit_filter p n name answer (lets_pass answer) (is_urgent_named name p || is_over s (Filter n name answer ∷ p) (moment p)) refl);
+      going = going_calm (Filter n name answer ∷ p) _ (unquit s p (agenda s p) (Filter n name answer) (λ o. o) d h.fit h.going);
+    }
 orderly_more s (Hand n names acts) p d h =
     let a = admits_hand s p (agenda s p) n names acts d h.fit in record {
       own = (subst (AllByRecursion (λ name. name < event_count p)) (sym a.0) (window_below p h.own), h.own);
@@ -376,10 +426,15 @@ joined-append : (xs : List (List ℕ)) (names : List ℕ) → joined (xs ++ name
 joined-append [] names = append-nil names
 joined-append (x ∷ xs) names = ap (λ (t : List ℕ). x ++ t) (joined-append xs names) ∙ sym (append_assoc x (joined xs) names)
 
+-- one that joins is passed, and waits in the window
+batched_if : (p : List Entry) (joins : Bool) (name : ℕ) → IsBatched p → and_one (passed p) (one_if joins name) ≡ joined (batches p) ++ and_one (window p) (one_if joins name)
+batched_if p true name h = ap (λ (names : List ℕ). names ++ name ∷ []) h ∙ append_assoc (joined (batches p)) (window p) (name ∷ [])
+batched_if p false name h = h
+
 pub run_is_batched : (s : Start) (p : List Entry) → IsRun s p → IsBatched p
 run_is_batched s [] r = refl
-run_is_batched s (Take name ∷ p) r =
-    ap (λ (names : List ℕ). names ++ name ∷ []) (run_is_batched s p r.1) ∙ append_assoc (joined (batches p)) (window p) (name ∷ [])
+run_is_batched s (Take name ∷ p) r = batched_if p (passes_unseen name p) name (run_is_batched s p r.1)
+run_is_batched s (Filter n name answer ∷ p) r = batched_if p (lets_pass answer) name (run_is_batched s p r.1)
 run_is_batched s (Hand n names acts ∷ p) r =
     let d = hand_is s p n names acts (orderly s p r.1) r.0 in
     run_is_batched s p r.1 ∙ ap (λ (t : List ℕ). joined (batches p) ++ t) (sym d.0) ∙ sym (joined-append (batches p) names) ∙ sym (append-nil (joined (batches p ++ names ∷ [])))
@@ -445,18 +500,20 @@ waits_rest s p p' Open e f other h = h
 waits_rest s p p' (Offers v q more) e f other h = waits_quiet s p' more f h
 waits_rest s p p' (Says word more) e f other h = waits_quiet s p' more f h
 waits_rest s p p' Takes e f other h = h
+waits_rest s p p' (Filters m) e f other h = h
 waits_rest s p p' Hands e f other h = absurd (other refl)
 waits_rest s p p' (Plans k more) e f other h = waits_plans s p' (next k e) more f.1 h
 waits_rest s p p' Ends e f other h = h
 
-waits_work : (s : Start) (p : List Entry) (at : ℕ) (over empty : Bool) → moment p ≡ at → is_over s p at ≡ over → NoneUrgentWaits p → Waits s p (cond over Hands (cond empty (Says Idle Open) Takes))
-waits_work s p at true empty now e h = record {
+waits_work : (s : Start) (p : List Entry) (at : ℕ) (shut over empty : Bool) → moment p ≡ at → is_over s p at ≡ over → NoneUrgentWaits p → Waits s p (cond shut Ends (cond over Hands (cond empty (Says Idle Open) Takes)))
+waits_work s p at true over empty now e h = h
+waits_work s p at false true empty now e h = record {
   some = window_some (window p) _ e;
   urgent_last = last-calm (urgent_in p) (window p) h;
   in_time = λ _. rw now e;
 }
-waits_work s p at false true now e h = h
-waits_work s p at false false now e h = h
+waits_work s p at false false true now e h = h
+waits_work s p at false false false now e h = h
 
 waits_job : (s : Start) (p : List Entry) (id : Id) (command : Option Command) → NoneUrgentWaits p → Waits s p (job_turn id command p)
 waits_job s p id None h = h
@@ -468,24 +525,40 @@ waits_ended s p (Some id) h = waits_job s p id (living id p) h
 
 waits_turn : (s : Start) (p : List Entry) (kind : TurnKind) (at : ℕ) → moment p ≡ at → NoneUrgentWaits p → Waits s p (turn_agenda s kind at p)
 waits_turn s p (Arrive event priority) at now h = h
-waits_turn s p Work at now h = waits_work s p at (is_over s p at) (length (bag p) == 0) now refl h
+waits_turn s p Work at now h = waits_work s p at (closed p) (is_over s p at) (length (bag p) == 0) now refl h
 waits_turn s p (Job id) at now h = waits_job s p id (living id p) h
 waits_turn s p (Ended c) at now h = waits_ended s p (parent c p) h
 waits_turn s p (Ask id ask) at now h = either (Waits s p) (lives id p) _ _ (waits_plans s p (ask_plan id (sends_of ask) Done) Open tt h) h
 waits_turn s p Last at now h = h
 
-waits_take : (s : Start) (p : List Entry) (name : ℕ) (urgent over : Bool) → is_urgent_named name p ≡ urgent → is_over s (Take name ∷ p) (moment p) ≡ over → NoneUrgentWaits p → Waits s (Take name ∷ p) (cond (urgent || over) Hands Open)
-waits_take s p name true over u o h = record {
-  some = some-append (window p) name;
-  urgent_last = urgent-append (urgent_in p) (window p) name h;
-  in_time = λ calm_last. (let other : last_is (urgent_in p) (window p ++ name ∷ []) ≡ true = last_added (urgent_in p) (window p) name ∙ u in absurd cc);
+-- an event that passed is a batch with the window, or waits there and isn't urgent
+waits_pass : (s : Start) (p p' : List Entry) (name : ℕ) (urgent over : Bool) → window p' ≡ window p ++ name ∷ [] → urgent_in p' ≡ urgent_in p → is_urgent_named name p ≡ urgent → is_over s p' (moment p') ≡ over → NoneUrgentWaits p → Waits s p' (cond (urgent || over) Hands Open)
+waits_pass s p p' name true over is same_urgent u o h = record {
+  some = rw is (some-append (window p) name);
+  urgent_last = subst (λ (f : ℕ → Bool). UrgentLast f (window p')) (sym same_urgent) (rw is (urgent-append (urgent_in p) (window p) name h));
+  in_time = λ calm_last. (
+      let other : last_is (urgent_in p') (window p') ≡ true = subst (λ (f : ℕ → Bool). last_is f (window p') ≡ true) (sym same_urgent) (rw is (last_added (urgent_in p) (window p) name ∙ u)) in
+      let both : true ≡ false = sym other ∙ calm_last in absurd cc
+      );
 }
-waits_take s p name false true u o h = record {
-  some = some-append (window p) name;
-  urgent_last = urgent-append (urgent_in p) (window p) name h;
+waits_pass s p p' name false true is same_urgent u o h = record {
+  some = rw is (some-append (window p) name);
+  urgent_last = subst (λ (f : ℕ → Bool). UrgentLast f (window p')) (sym same_urgent) (rw is (urgent-append (urgent_in p) (window p) name h));
   in_time = λ calm_last. o;
 }
-waits_take s p name false false u o h = each_append (λ m. urgent_in p m ≡ false) (window p) (name ∷ []) h (u, tt)
+waits_pass s p p' name false false is same_urgent u o h = subst (λ (f : ℕ → Bool). NoneUrgent f (window p')) (sym same_urgent) (rw is (each_append (λ m. urgent_in p m ≡ false) (window p) (name ∷ []) h (u, tt)))
+
+-- the window without an event that doesn't join it
+stays_if : (p : List Entry) (name : ℕ) (joins : Bool) → joins ≡ false → NoneUrgentWaits p → NoneUrgent (urgent_in p) (and_one (window p) (one_if joins name))
+stays_if p name joins is h = subst (NoneUrgent (urgent_in p)) (ap (λ (b : Bool). and_one (window p) (one_if b name)) (sym is)) h
+
+waits_take : (s : Start) (p : List Entry) (name : ℕ) (unseen : Bool) → passes_unseen name p ≡ unseen → NoneUrgentWaits p → Waits s (Take name ∷ p) (cond unseen (after_pass s name (Take name ∷ p)) (Filters name))
+waits_take s p name true is h = waits_pass s p (Take name ∷ p) name (is_urgent_named name p) (is_over s (Take name ∷ p) (moment p)) (joined_if p name (passes_unseen name p) is) refl refl refl h
+waits_take s p name false is h = stays_if p name (passes_unseen name p) is h
+
+waits_filter : (s : Start) (p : List Entry) (n name : ℕ) (answer : Result Bool RuntimeError) (passes : Bool) → lets_pass answer ≡ passes → NoneUrgentWaits p → Waits s (Filter n name answer ∷ p) (cond passes (after_pass s name (Filter n name answer ∷ p)) Open)
+waits_filter s p n name answer true is h = waits_pass s p (Filter n name answer ∷ p) name (is_urgent_named name p) (is_over s (Filter n name answer ∷ p) (moment p)) (joined_if p name (lets_pass answer) is) refl refl refl h
+waits_filter s p n name answer false is h = stays_if p name (lets_pass answer) is h
 
 -- no urgent event waits before an entry that hands no batch
 calm_before : (s : Start) (p : List Entry) (e : Entry) → Waits s p (agenda s p) → is_hand e ≡ false → Admits s p (agenda s p) e → NoneUrgentWaits p
@@ -504,7 +577,8 @@ waits_more s (Offer name item result event priority) p d o h =
     let new = (admits_offer s p (agenda s p) name item result event priority d o.fit).0 in
     waits_settle s (Offer name item result event priority ∷ p) _ (waits_rest s p (Offer name item result event priority ∷ p) (agenda s p) (Offer name item result event priority) o.fit (no_batch s p (agenda s p) (Offer name item result event priority) refl d)
     (subst (λ (m : ℕ). NoneUrgentWaits (Offer m item result event priority ∷ p)) (sym new) (calm-rise (event_count p) (Some (event, priority)) p (window p) (window_below p o.own) (calm_before s p (Offer name item result event priority) h refl d))))
-waits_more s (Take name) p d o h = waits_settle s (Take name ∷ p) _ (waits_take s p name (is_urgent_named name p) (is_over s (Take name ∷ p) (moment p)) refl refl (calm_before s p (Take name) h refl d))
+waits_more s (Take name) p d o h = waits_settle s (Take name ∷ p) _ (waits_take s p name (passes_unseen name p) refl (calm_before s p (Take name) h refl d))
+waits_more s (Filter n name answer) p d o h = waits_settle s (Filter n name answer ∷ p) _ (waits_filter s p n name answer (lets_pass answer) refl (calm_before s p (Filter n name answer) h refl d))
 waits_more s (Hand n names acts) p d o h =
     let none : window (Hand n names acts ∷ p) ≡ [] = window_handed n names acts p (hand_is s p n names acts o d).0 in
     waits_settle s (Hand n names acts ∷ p) _ (waits_plans s (Hand n names acts ∷ p) (act_plan (λ id. lives id p) acts) Open tt (subst (NoneUrgent (urgent_in (Hand n names acts ∷ p))) (sym none) tt))
@@ -522,6 +596,15 @@ run_has_batches s (Hand n names acts ∷ p) r =
     let w : Waits s p Hands = subst (Waits s p) d.1 (waits s p r.1) in
     (subst (IsBatch s p) (sym d.0) w, run_has_batches s p r.1)
 run_has_batches s (_ ∷ p) r = run_has_batches s p r.1
+
+-- no event of a run that passes unseen was shown to a filter
+pub run_shows : (s : Start) (p : List Entry) → IsRun s p → NoneUnseenIsShown p
+run_shows s [] r = tt
+run_shows s (Filter n name answer ∷ p) r =
+    let fit = (orderly s p r.1).fit in
+    let shown : IsFit p (Filters name) = subst (IsFit p) (admits_filter s p (agenda s p) n name answer r.0 fit) fit in
+    (shown.1, run_shows s p r.1)
+run_shows s (_ ∷ p) r = run_shows s p r.1
 
 -- each turn of a run came where nothing was owed
 pub run_is_served : (s : Start) (p : List Entry) → IsRun s p → AreServed s p

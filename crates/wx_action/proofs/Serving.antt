@@ -81,3 +81,33 @@ continues_hand seen rule holds s p q r a b x y z v w g h = record {
   serves = serves_then s p q r a a b (seen x).told (seen y).told (seen z).told h.serves (serves_hand s p q a (seen x).told (seen y).told g.adds);
   keeps = λ x₀ p₀ k. h.keeps x₀ p₀ (g.keeps x₀ p₀ k);
 }
+
+-- ---- where the world isn't called
+
+-- what grows where neither is called grows where hooks may be
+pub hand_grows : {K Fixed : Type 0} (seen : K → Hooked Fixed) (rule : Fixed → List Entry → Entry → Type 0) (holds : K → List Entry → Type 0) (s : Start) (w : Worker) (p : List Entry) (x : K) (w' : Worker) (p' : List Entry) → Grows s w p w' p' → GrowsHand seen rule holds s p x w' p' x
+hand_grows seen rule holds s w p x w' p' g = record {
+  stands = g.stands;
+  adds = record { follows = λ world. g.adds.follows world (seen x).told; turns = g.adds.turns; counts = g.adds.counts };
+  keeps = keeps_adds seen rule holds x s p p' g.adds;
+}
+
+-- only room was taken in the hooks
+pub hand_room : {K Fixed : Type 0} (seen : K → Hooked Fixed) (rule : Fixed → List Entry → Entry → Type 0) (holds : K → List Entry → Type 0) (s : Start) (p p' : List Entry) (x x' : K) (w : Worker) → Stands s w p → p' ≡ p → OnlyHooksRoom seen holds x x' → GrowsHand seen rule holds s p x w p' x'
+hand_room seen rule holds s p p' x x' w stands same only = record {
+  stands = rw same stands;
+  adds = record { follows = rw (same, only.told_kept) (λ world p₀ world₀ hooks₀ l. l); turns = rw same (λ p₀ t. t); counts = rw same (λ n p₀ n₀ c. c) };
+  keeps = λ x₀ p₀ k. rw same (Roomy x x' p k only);
+}
+
+-- it grows, once it did
+pub hand_then : {K Fixed : Type 0} (seen : K → Hooked Fixed) (rule : Fixed → List Entry → Entry → Type 0) (holds : K → List Entry → Type 0) (s : Start) (p q r : List Entry) (x y z : K) (v w : Worker) → GrowsHand seen rule holds s p x v q y → GrowsHand seen rule holds s q y w r z → GrowsHand seen rule holds s p x w r z
+hand_then seen rule holds s p q r x y z v w g h = record {
+  stands = h.stands;
+  adds = record {
+    follows = λ world p₀ world₀ hooks₀ l. h.adds.follows world p₀ world₀ hooks₀ (g.adds.follows world p₀ world₀ hooks₀ l);
+    turns = λ p₀ t. h.adds.turns p₀ (g.adds.turns p₀ t);
+    counts = λ n p₀ n₀ c. h.adds.counts n p₀ n₀ (g.adds.counts n p₀ n₀ c);
+  };
+  keeps = λ x₀ p₀ k. h.keeps x₀ p₀ (g.keeps x₀ p₀ k);
+}

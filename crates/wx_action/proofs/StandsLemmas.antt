@@ -12,7 +12,7 @@ use Rattle.wx_journal.specs.declared.entry.Entry.{Entry}
 use Rattle.wx_journal.specs.declared.entry.Entry.TheVariants.{Sent, Offer, Turn as Turned, TurnFault, Word as Said, Hand, Made, Asked, Pick, Spawn, Wait, Dropped, Gone}
 use Rattle.wx_journal.specs.declared.entry.Named.{Named}
 use Rattle.wx_journal.specs.declared.entry.Offered.{Offered}
-use Rattle.wx_journal.specs.declared.entry.Offered.TheVariants.{Queued, Full}
+use Rattle.wx_journal.specs.declared.entry.Offered.TheVariants.{Queued, Full, Closed}
 use Rattle.wx_journal.specs.Acts.{JournalAct as Act}
 use Rattle.wx_journal.specs.Names.{event_count}
 use Rattle.wx_job.specs.History.{child, SameHistory}
@@ -20,7 +20,7 @@ use Rattle.wx_job.proofs.StandsLemmas.{stands_history}
 use Rattle.wx_action.specs.declared.worker_state.Held.{Held}
 use Rattle.wx_action.specs.declared.worker_state.Worker.{Worker}
 use Rattle.wx_action.specs.Start.{Start}
-use Rattle.wx_action.specs.Journal.{settings, bag, offered, window, first}
+use Rattle.wx_action.specs.Journal.{settings, closed, bag, offered, window, first}
 use Rattle.wx_action.specs.Jobs.{set, command}
 use Rattle.wx_action.specs.Due.{Due}
 use Rattle.wx_action.specs.Handled.{AreEvents, lookup}
@@ -110,6 +110,7 @@ tasks_put p p' (x ∷ hs) (suc n) h h' apart lt is frame s new =
 -- what a worker keeps besides its tasks is the same in both journals
 pub record Quiet (p p' : List Entry) : Type 0 where
   pub bag_same : bag p' ≡ bag p
+  pub closed_same : closed p' ≡ closed p
   pub count_same : event_count p' ≡ event_count p
   pub window_same : window p' ≡ window p
   pub lookup_same : lookup p' ≡ lookup p
@@ -118,7 +119,7 @@ pub record Quiet (p p' : List Entry) : Type 0 where
   pub commands_same : (i : Id) → command i p' ≡ command i p
 
 pub quiet : (p : List Entry) → Quiet p p
-quiet p = record { bag_same = refl; count_same = refl; window_same = refl; lookup_same = refl; first_same = refl; set_same = refl; commands_same = λ i. refl }
+quiet p = record { bag_same = refl; closed_same = refl; count_same = refl; window_same = refl; lookup_same = refl; first_same = refl; set_same = refl; commands_same = λ i. refl }
 
 -- a word, a turn and the fault of one change nothing of it
 abbrev pub IsStill : Entry → Type 0
@@ -128,14 +129,15 @@ IsStill (Said word) = Unit {0}
 IsStill (_) = ⊥
 
 pub quiet_over : (e : Entry) (p : List Entry) → IsStill e → Quiet p (e ∷ p)
-quiet_over (Turned t) p h = record { bag_same = refl; count_same = refl; window_same = refl; lookup_same = refl; first_same = refl; set_same = refl; commands_same = λ i. refl }
-quiet_over (TurnFault code) p h = record { bag_same = refl; count_same = refl; window_same = refl; lookup_same = refl; first_same = refl; set_same = refl; commands_same = λ i. refl }
-quiet_over (Said word) p h = record { bag_same = refl; count_same = refl; window_same = refl; lookup_same = refl; first_same = refl; set_same = refl; commands_same = λ i. refl }
+quiet_over (Turned t) p h = record { bag_same = refl; closed_same = refl; count_same = refl; window_same = refl; lookup_same = refl; first_same = refl; set_same = refl; commands_same = λ i. refl }
+quiet_over (TurnFault code) p h = record { bag_same = refl; closed_same = refl; count_same = refl; window_same = refl; lookup_same = refl; first_same = refl; set_same = refl; commands_same = λ i. refl }
+quiet_over (Said word) p h = record { bag_same = refl; closed_same = refl; count_same = refl; window_same = refl; lookup_same = refl; first_same = refl; set_same = refl; commands_same = λ i. refl }
 quiet_over (_) p h = absurd h
 
 pub quiet_then : (p q r : List Entry) → Quiet p q → Quiet q r → Quiet p r
 quiet_then p q r a b = record {
   bag_same = b.bag_same ∙ a.bag_same;
+  closed_same = b.closed_same ∙ a.closed_same;
   count_same = b.count_same ∙ a.count_same;
   window_same = b.window_same ∙ a.window_same;
   lookup_same = b.lookup_same ∙ a.lookup_same;
@@ -152,7 +154,7 @@ stands_quiet s w w' p p' stands orderly q fields ids tasks =
       config_kept = stands.config_kept;
       queue_kept = rw q.bag_same stands.queue_kept;
       size_kept = stands.size_kept;
-      open_kept = stands.open_kept;
+      closed_kept = stands.closed_kept ∙ sym q.closed_same;
       named_kept = stands.named_kept ∙ sym q.count_same;
       names_kept = stands.names_kept ∙ sym q.window_same;
       events_kept = rw (q.lookup_same, q.window_same) stands.events_kept;
@@ -189,22 +191,27 @@ pub offered_is : (s : Start) (w : Worker) (p : List Entry) (item : Named × Prio
 offered_is s w p item new Queued stands is =
     let n : length w.queue.items ≡ length (bag p) = same-length w.queue.items (bag p) stands.queue_kept in
     let test : (length (bag p) == (settings s p).event_channel_size) ≡ false = rw (← n, ← stands.size_kept) is.1 in
-    sym (ap (λ (t : Bool). cond t Full Queued) test)
+    let takes : closed p ≡ false = sym stands.closed_kept ∙ is.2 in
+    rw (takes, test) refl
 offered_is s w p item new Full stands is =
     let n : length w.queue.items ≡ length (bag p) = same-length w.queue.items (bag p) stands.queue_kept in
     let test : (length (bag p) == (settings s p).event_channel_size) ≡ true = rw (← n, ← stands.size_kept) is.1 in
-    sym (ap (λ (t : Bool). cond t Full Queued) test)
+    let takes : closed p ≡ false = sym stands.closed_kept ∙ is.2 in
+    rw (takes, test) refl
+offered_is s w p item new Closed stands is =
+    let shut : closed p ≡ true = sym stands.closed_kept ∙ is.1 in
+    rw shut refl
 
 -- the worker after an offer
 pub stands_offered : (s : Start) (w : Worker) (p : List Entry) (event : Event) (priority : Priority) (new : Channel Named) (result : Offered) → Stands s w p → Due s p (Offer (event_count p) None result event priority)
-    → IsOffered w.queue (record { name = event_count p; event = event }, priority) new result → new.size ≡ w.queue.size → new.closed ≡ false
+    → IsOffered w.queue (record { name = event_count p; event = event }, priority) new result → new.size ≡ w.queue.size → new.closed ≡ w.queue.closed
     → Stands s (record w { queue = new; named = w.named + 1 }) (Offer (event_count p) None result event priority ∷ p)
-stands_offered s w p event priority new Queued stands due is size closed = record {
+stands_offered s w p event priority new Queued stands due is size same_closed = record {
   orderly = orderly_more s (Offer (event_count p) None Queued event priority) p due stands.orderly;
   config_kept = stands.config_kept;
   queue_kept = same-trans _ _ _ is.0 (add-bag w.queue.items (bag p) _ stands.queue_kept);
   size_kept = size ∙ stands.size_kept;
-  open_kept = closed;
+  closed_kept = same_closed ∙ stands.closed_kept;
   named_kept = omega (arith, stands.named_kept);
   names_kept = stands.names_kept;
   events_kept = events-rise (event_count p) (Some (event, priority)) (lookup p) (window p) w.batch.events (window_below p stands.orderly.own) stands.events_kept;
@@ -212,12 +219,12 @@ stands_offered s w p event priority new Queued stands due is size closed = recor
   jobs_kept = stands.jobs_kept;
   tasks_kept = tasks_same p _ w.jobs (over_none (Offer (event_count p) None Queued event priority) p tt) stands.tasks_kept;
 }
-stands_offered s w p event priority new Full stands due is size closed = record {
+stands_offered s w p event priority new Full stands due is size same_closed = record {
   orderly = orderly_more s (Offer (event_count p) None Full event priority) p due stands.orderly;
   config_kept = stands.config_kept;
   queue_kept = rw is.0 stands.queue_kept;
   size_kept = size ∙ stands.size_kept;
-  open_kept = closed;
+  closed_kept = same_closed ∙ stands.closed_kept;
   named_kept = omega (arith, stands.named_kept);
   names_kept = stands.names_kept;
   events_kept = events-rise (event_count p) (Some (event, priority)) (lookup p) (window p) w.batch.events (window_below p stands.orderly.own) stands.events_kept;
@@ -225,17 +232,30 @@ stands_offered s w p event priority new Full stands due is size closed = record 
   jobs_kept = stands.jobs_kept;
   tasks_kept = tasks_same p _ w.jobs (over_none (Offer (event_count p) None Full event priority) p tt) stands.tasks_kept;
 }
+stands_offered s w p event priority new Closed stands due is size same_closed = record {
+  orderly = orderly_more s (Offer (event_count p) None Closed event priority) p due stands.orderly;
+  config_kept = stands.config_kept;
+  queue_kept = rw is.0 stands.queue_kept;
+  size_kept = size ∙ stands.size_kept;
+  closed_kept = same_closed ∙ stands.closed_kept;
+  named_kept = omega (arith, stands.named_kept);
+  names_kept = stands.names_kept;
+  events_kept = events-rise (event_count p) (Some (event, priority)) (lookup p) (window p) w.batch.events (window_below p stands.orderly.own) stands.events_kept;
+  first_kept = stands.first_kept;
+  jobs_kept = stands.jobs_kept;
+  tasks_kept = tasks_same p _ w.jobs (over_none (Offer (event_count p) None Closed event priority) p tt) stands.tasks_kept;
+}
 
 -- the worker after an event was listed as sent
 pub stands_sent : (s : Start) (w : Worker) (p : List Entry) (event : Event) (priority : Priority) (new : Channel Named) → Stands s w p → Due s p (Sent (event_count p) event priority)
-    → SameBag new.items (w.queue.items ++ (record { name = event_count p; event = event }, priority) ∷ []) → new.size ≡ w.queue.size → new.closed ≡ false
+    → SameBag new.items (w.queue.items ++ (record { name = event_count p; event = event }, priority) ∷ []) → new.size ≡ w.queue.size → new.closed ≡ w.queue.closed
     → Stands s (record w { queue = new; named = w.named + 1 }) (Sent (event_count p) event priority ∷ p)
-stands_sent s w p event priority new stands due is size closed = record {
+stands_sent s w p event priority new stands due is size same_closed = record {
   orderly = orderly_more s (Sent (event_count p) event priority) p due stands.orderly;
   config_kept = stands.config_kept;
   queue_kept = same-trans _ _ _ is (add-bag w.queue.items (bag p) _ stands.queue_kept);
   size_kept = size ∙ stands.size_kept;
-  open_kept = closed;
+  closed_kept = same_closed ∙ stands.closed_kept;
   named_kept = omega (arith, stands.named_kept);
   names_kept = stands.names_kept;
   events_kept = events-rise (event_count p) (Some (event, priority)) (lookup p) (window p) w.batch.events (window_below p stands.orderly.own) stands.events_kept;

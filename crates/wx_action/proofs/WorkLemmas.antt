@@ -1,16 +1,19 @@
 -- A Work turn.
 use Rattle.std.proofs.Common.{◌≡◌, ℕ, Bool, true, false, cond, List, [], ◌∷◌, ◌++◌, length, refl, arith, ap, sym, subst, ◌∙◌}
 use Rattle.std.proofs.lemmas.Bool.{eqb-true}
-use Rattle.std.specs.Prelude.{None, Some, is_some, ◌==◌, ◌||◌}
+use Rattle.std.specs.Prelude.{Option, None, Some, Result, Ok, Err, is_some, ◌==◌, ◌||◌}
+use Rattle.wx_events.specs.declared.event.Event.{Event}
 use Rattle.wx_events.specs.declared.priority.Priority.{Priority}
 use Rattle.wx_events.specs.Priority.{is_urgent}
+use Rattle.wx_config.specs.declared.runtime.RuntimeError.{RuntimeError}
 use Rattle.prio_channel.specs.Channel.{Channel, AllAtMost}
 use Rattle.prio_channel.specs.SameBag.{Takes}
 use Rattle.prio_channel.proofs.BagLaws.{same-length}
 use Rattle.wx_journal.specs.declared.entry.Entry.{Entry}
-use Rattle.wx_journal.specs.declared.entry.Entry.TheVariants.{Word as Said, Take}
+use Rattle.wx_journal.specs.declared.entry.Entry.TheVariants.{Word as Said, Take, Filter}
 use Rattle.wx_journal.specs.declared.entry.Named.{Named}
 use Rattle.wx_journal.specs.Names.{moment}
+use Rattle.wx_journal.specs.Told.{tell}
 use Rattle.wx_action.specs.declared.worker_state.Worker.{Worker}
 use Rattle.wx_action.specs.declared.work_turn.Collected.{Collected}
 use Rattle.wx_action.specs.declared.work_turn.Collected.TheVariants.{Hand, Kept}
@@ -18,17 +21,21 @@ use Rattle.wx_action.specs.declared.work_turn.Collected.TheVariants as collected
 use Rattle.wx_journal.specs.declared.entry.Word.TheVariants.{Idle}
 use Rattle.wx_action.specs.Batch.{Waiting}
 use Rattle.wx_action.specs.Start.{Start}
-use Rattle.wx_action.specs.Journal.{named, without, bag, window, first, is_over, is_over_of}
-use Rattle.wx_action.specs.Due.{agenda, Due, Open, Says, Takes as TakesNext, Hands, work}
+use Rattle.wx_action.specs.Journal.{settings, listed, is_urgent_in, is_urgent_named, is_unseen, is_unseen_in, passes_unseen, lets_pass, is_exit, closed, one_if, and_one, begun, named, without, bag, window, first, is_over, is_over_of}
+use Rattle.wx_action.specs.Due.{agenda, Due, Open, Says, Takes as TakesNext, Filters, Hands, work, after_pass, after_filter}
 use Rattle.wx_action.specs.Handled.{lookup}
-use Rattle.wx_job.specs.Kept.{More}
-use Rattle.wx_action.specs.Leads.{Then}
-use Rattle.wx_action.specs.Stands.{Stands, HasPassed, Collects}
-use Rattle.wx_action.proofs.BagLaws.{is_taken}
-use Rattle.wx_action.proofs.RunLaws.{orderly_more}
+use Rattle.wx_job.specs.Kept.{More, Keeps, Called}
+use Rattle.wx_job.specs.Seen.{Hooked}
+use Rattle.wx_action.specs.Serves.{GrowsHand}
+use Rattle.wx_action.proofs.ServesLaws.{adds_hand}
+use Rattle.wx_action.specs.Leads.{FollowsHooks, Then}
+use Rattle.wx_action.specs.Turns.{StaysInTurn}
+use Rattle.wx_action.specs.Stands.{Stands, Shows, HasTaken, HasPassed, Collects, Judges, IsJudged}
+use Rattle.wx_action.proofs.BagLaws.{IsTaken, is_taken}
+use Rattle.wx_action.proofs.RunLaws.{joined_if, orderly_more}
 use Rattle.wx_action.proofs.JobLaws.{turns_over}
 use Rattle.wx_action.proofs.ArriveLemmas.{Steps, said_done, said_then}
-use Rattle.wx_action.specs.Orderly.{IsGoing}
+use Rattle.wx_action.specs.Orderly.{IsGoing, IsOrderly}
 use Rattle.wx_action.proofs.SettleLaws.{settle_calm}
 use Rattle.wx_action.proofs.StandsLemmas.{events-append, tasks_same, over_none}
 
@@ -39,30 +46,33 @@ not_empty s w p stands none some =
     let z : length (bag p) ≡ 0 = sym n ∙ ap (λ (xs : List (Named × Priority)). length xs) none in
     (let t : (length (bag p) == 0) ≡ true = ap (λ (m : ℕ). m == 0) z in cc)
 
--- what is collected by a take
-pub collects_take : (s : Start) (p p' : List Entry) (due : Bool) → HasPassed p p' → agenda s p' ≡ cond due Hands Open → Collects s p (cond due Hand Kept) p'
-collects_take s p p' true passed e = e
-collects_take s p p' false passed e = (passed, e)
+-- ---- an event was taken
 
-has_passed : (p p' : List Entry) (name : ℕ) (x : Named × Priority) → p' ≡ Take name ∷ p → named name (bag p) ≡ Some x → named name (without name (bag p)) ≡ None → HasPassed p p'
-has_passed p p' name x grown was gone = record { name = name; taken = grown; was = ap is_some was; left = rw grown gone; joined = rw grown refl }
-
+-- where it passed unseen
 pub record TakeDone (s : Start) (w : Worker) (p p' : List Entry) (found : Collected) : Type 0 where
   pub steps : Steps s w p p'
   pub collected : Collects s p found p'
 
+collects_take : (s : Start) (p p' : List Entry) (due : Bool) → HasPassed p p' → agenda s p' ≡ cond due Hands Open → Collects s p (cond due Hand Kept) p'
+collects_take s p p' true passed e = e
+collects_take s p p' false passed e = (passed, e)
+
+has_taken : (p p' : List Entry) (x : Named × Priority) (rest : List (Named × Priority)) (unseen : Bool) → passes_unseen x.0.name p ≡ unseen → IsTaken p x rest → Shows unseen x.0.name p p' → bag p' ≡ without x.0.name (bag p) → HasTaken x.0.name p p'
+has_taken p p' x rest unseen is t shows left = record { taken = rw is shows; was = ap is_some t.is_named; left = rw left t.is_gone }
+
 pub take_done : (s : Start) (w : Worker) (p p' : List Entry) (at start : ℕ) (x : Named × Priority) (queue : Channel Named) (batch : Waiting) (found : Collected) → Stands s w p → agenda s p ≡ TakesNext → moment p ≡ at
-    → Takes w.queue.items x queue.items → AllAtMost x.1 w.queue.items → queue.size ≡ w.queue.size → queue.closed ≡ w.queue.closed → start ≡ cond (length w.batch.names == 0) at w.first
+    → Takes w.queue.items x queue.items → AllAtMost x.1 w.queue.items → queue.size ≡ w.queue.size → queue.closed ≡ w.queue.closed → is_unseen x.0.event x.1 ≡ true → start ≡ cond (length w.batch.names == 0) at w.first
     → batch.names ≡ w.batch.names ++ x.0.name ∷ [] → batch.events ≡ w.batch.events ++ x.0.event ∷ [] → found ≡ cond (is_urgent x.1 || is_over_of w.config.throttle batch.names start at) Hand Kept → p' ≡ Take x.0.name ∷ p
     → TakeDone s (record w { queue = queue; batch = batch; first = start }) p p' found
-take_done s w p p' at start x queue batch found stands due now takes most size closed began names events is_found grown =
-    let own = stands.orderly.own in
-    let t = is_taken p w.queue.items queue.items x own stands.queue_kept takes most in
+take_done s w p p' at start x queue batch found stands due now takes most size same_closed seen began names events is_found grown =
+    let t = is_taken p w.queue.items queue.items x stands.orderly.own stands.queue_kept takes most in
     let d : Due s p (Take x.0.name) = rw due (x.0.name, refl, t.is_greatest) in
-    let first_is : first (Take x.0.name ∷ p) ≡ start = rw (began, stands.names_kept, stands.first_kept, now) refl in
-    let names_are : batch.names ≡ window p ++ x.0.name ∷ [] = names ∙ ap (λ (ns : List ℕ). ns ++ x.0.name ∷ []) stands.names_kept in
+    let unseen : passes_unseen x.0.name p ≡ true = ap is_unseen_in t.is_listed ∙ seen in
+    let window_is : window (Take x.0.name ∷ p) ≡ window p ++ x.0.name ∷ [] = joined_if p x.0.name (passes_unseen x.0.name p) unseen in
+    let first_is : first (Take x.0.name ∷ p) ≡ start = rw (unseen, began, stands.names_kept, stands.first_kept, now) refl in
+    let names_are : batch.names ≡ window (Take x.0.name ∷ p) = names ∙ ap (λ (ns : List ℕ). ns ++ x.0.name ∷ []) stands.names_kept ∙ sym window_is in
     let over : is_over s (Take x.0.name ∷ p) (moment p) ≡ is_over_of w.config.throttle batch.names start at = rw (first_is, names_are, stands.config_kept, now) refl in
-    let after : agenda s (Take x.0.name ∷ p) ≡ cond (is_urgent x.1 || is_over_of w.config.throttle batch.names start at) Hands Open = settle_calm (Take x.0.name ∷ p) _ (subst (IsGoing p) due stands.orderly.going) ∙ rw (← over, ← t.urgency) refl in
+    let after : agenda s (Take x.0.name ∷ p) ≡ cond (is_urgent x.1 || is_over_of w.config.throttle batch.names start at) Hands Open = settle_calm (Take x.0.name ∷ p) _ (subst (IsGoing p) due stands.orderly.going) ∙ ap (λ (b : Bool). cond b (after_pass s x.0.name (Take x.0.name ∷ p)) (Filters x.0.name)) unseen ∙ rw (← over, ← t.urgency) refl in
     record {
       steps = rw grown (record {
         stands = record {
@@ -70,10 +80,10 @@ take_done s w p p' at start x queue batch found stands due now takes most size c
           config_kept = stands.config_kept;
           queue_kept = t.is_rest;
           size_kept = size ∙ stands.size_kept;
-          open_kept = closed ∙ stands.open_kept;
+          closed_kept = same_closed ∙ stands.closed_kept;
           named_kept = stands.named_kept;
           names_kept = names_are;
-          events_kept = rw events (events-append (lookup p) (window p) w.batch.events x.0.name x.0.event x.1 stands.events_kept t.is_listed);
+          events_kept = rw (events, window_is) (events-append (lookup p) (window p) w.batch.events x.0.name x.0.event x.1 stands.events_kept t.is_listed);
           first_kept = sym first_is;
           jobs_kept = stands.jobs_kept;
           tasks_kept = tasks_same p _ w.jobs (over_none (Take x.0.name) p tt) stands.tasks_kept;
@@ -82,18 +92,215 @@ take_done s w p p' at start x queue batch found stands due now takes most size c
         quiet = λ p₀ a. More _ p a refl;
         turns = turns_over _ _ refl;
       });
-      collected = rw is_found (collects_take s p p' _ (has_passed p p' x.0.name x grown t.is_named t.is_gone) (ap (agenda s) grown ∙ after));
+      collected = rw is_found (collects_take s p p' _ (record { name = x.0.name; taken = has_taken p p' x queue.items true unseen t grown (ap (λ q. bag q) grown); joined = ap (λ q. window q) grown ∙ window_is }) (ap (agenda s) grown ∙ after));
     }
+
+-- where it is to be shown to the filter
+pub record IsToShow (s : Start) (w : Worker) (p p' : List Entry) (at : ℕ) (x : Named × Priority) : Type 0 where
+  pub steps : Steps s w p p'
+  pub due : agenda s p' ≡ Filters x.0.name
+  pub is_listed : listed x.0.name p' ≡ Some (x.0.event, x.1)
+  pub now : moment p' ≡ at
+  pub same_window : window p' ≡ window p
+  pub collects : (found : Collected) (p'' : List Entry) → IsJudged s p' x.0.name found p'' → Collects s p found p''
+
+collects_judged : (s : Start) (p q p'' : List Entry) (x : Named × Priority) (rest : List (Named × Priority)) (found : Collected) → passes_unseen x.0.name p ≡ false → IsTaken p x rest → q ≡ Take x.0.name ∷ p → window q ≡ window p → IsJudged s q x.0.name found p'' → Collects s p found p''
+collects_judged s p q p'' x rest found is t grown same j = go found j.judged
+  where
+    shows : Shows false x.0.name p p''
+    shows = (j.n, j.answer, j.shown ∙ ap (λ r. Filter j.n x.0.name j.answer ∷ r) grown)
+
+    taken : HasTaken x.0.name p p''
+    taken = has_taken p p'' x rest false is t shows (ap (λ r. bag r) shows.2)
+
+    go : (found : Collected) → Judges s q x.0.name found p'' → Collects s p found p''
+    go collected.Hand h = h
+    go collected.Kept h = (record { name = x.0.name; taken = taken; joined = h.0 ∙ ap (λ ns. ns ++ x.0.name ∷ []) same }, h.1)
+    go collected.Dropped h = (record { name = x.0.name; taken = taken; stays = h.0 ∙ same }, h.1)
+    go collected.Stop h = absurd h
+    go collected.Idle h = absurd h
+
+pub to_show : (s : Start) (w : Worker) (p p' : List Entry) (at : ℕ) (x : Named × Priority) (queue : Channel Named) → Stands s w p → agenda s p ≡ TakesNext → moment p ≡ at
+    → Takes w.queue.items x queue.items → AllAtMost x.1 w.queue.items → queue.size ≡ w.queue.size → queue.closed ≡ w.queue.closed → is_unseen x.0.event x.1 ≡ false → p' ≡ Take x.0.name ∷ p
+    → IsToShow s (record w { queue = queue }) p p' at x
+to_show s w p p' at x queue stands due now takes most size same_closed seen grown =
+    let t = is_taken p w.queue.items queue.items x stands.orderly.own stands.queue_kept takes most in
+    let d : Due s p (Take x.0.name) = rw due (x.0.name, refl, t.is_greatest) in
+    let unseen : passes_unseen x.0.name p ≡ false = ap is_unseen_in t.is_listed ∙ seen in
+    let same : window (Take x.0.name ∷ p) ≡ window p = ap (λ (b : Bool). and_one (window p) (one_if b x.0.name)) unseen in
+    let first_is : first (Take x.0.name ∷ p) ≡ first p = ap (λ (b : Bool). begun (one_if b x.0.name) (window p) (moment p) (first p)) unseen in
+    let after : agenda s (Take x.0.name ∷ p) ≡ Filters x.0.name = settle_calm (Take x.0.name ∷ p) _ (subst (IsGoing p) due stands.orderly.going) ∙ rw unseen refl in
+    record {
+      steps = rw grown (record {
+        stands = record {
+          orderly = orderly_more s (Take x.0.name) p d stands.orderly;
+          config_kept = stands.config_kept;
+          queue_kept = t.is_rest;
+          size_kept = size ∙ stands.size_kept;
+          closed_kept = same_closed ∙ stands.closed_kept;
+          named_kept = stands.named_kept;
+          names_kept = stands.names_kept ∙ sym same;
+          events_kept = rw same stands.events_kept;
+          first_kept = stands.first_kept ∙ sym first_is;
+          jobs_kept = stands.jobs_kept;
+          tasks_kept = tasks_same p _ w.jobs (over_none (Take x.0.name) p tt) stands.tasks_kept;
+        };
+        follows = λ world hooks p₀ world₀ hooks₀ l. Then (Take x.0.name) p world hooks l d;
+        quiet = λ p₀ a. More _ p a refl;
+        turns = turns_over _ _ refl;
+      });
+      due = ap (agenda s) grown ∙ after;
+      is_listed = rw grown t.is_listed;
+      now = rw grown now;
+      same_window = ap (λ q. window q) grown ∙ same;
+      collects = λ found p'' j. collects_judged s p p' p'' x queue.items found unseen t grown (ap (λ q. window q) grown ∙ same) j;
+    }
+
+-- ---- an event was shown to the filter
+
+-- the entry of an event that was to be shown
+pub filter_due : (s : Start) (p : List Entry) (n name : ℕ) (answer : Result Bool RuntimeError) → agenda s p ≡ Filters name → n ≡ (settings s p).filterer → Due s p (Filter n name answer)
+filter_due s p n name answer due number = rw (due, number) (answer, refl)
+
+filter_follows : (s : Start) (p p' : List Entry) (n name : ℕ) (answer : Result Bool RuntimeError) (hooks hooks' : Option (List Entry)) → Due s p (Filter n name answer) → p' ≡ Filter n name answer ∷ p → hooks' ≡ tell (Filter n name answer) hooks → FollowsHooks s p hooks p' hooks'
+filter_follows s p p' n name answer hooks hooks' due grown told = rw (grown, told) (λ world p₀ world₀ hooks₀ l. Then (Filter n name answer) p world hooks l due)
+
+turns_filter : (n name : ℕ) (answer : Result Bool RuntimeError) (p p' : List Entry) → p' ≡ Filter n name answer ∷ p → StaysInTurn p p'
+turns_filter n name answer p p' grown = rw grown (turns_over (Filter n name answer) p refl)
+
+-- the call was told, and kept what it promises
+pub filter_grows : {K Fixed : Type 0} (seen : K → Hooked Fixed) (rule : Fixed → List Entry → Entry → Type 0) (holds : K → List Entry → Type 0) (s : Start) (p p' : List Entry) (x x' : K) (w' : Worker) (n name : ℕ) (answer : Result Bool RuntimeError) → Due s p (Filter n name answer) → p' ≡ Filter n name answer ∷ p
+    → (seen x').told ≡ tell (Filter n name answer) (seen x).told → Keeps seen rule holds x p (Filter n name answer) x' → Stands s w' p' → GrowsHand seen rule holds s p x w' p' x'
+filter_grows seen rule holds s p p' x x' w' n name answer due grown told keeps stands = record {
+  stands = stands;
+  adds = adds_hand s p p' (seen x).told (seen x').told (filter_follows s p p' n name answer (seen x).told (seen x').told due grown told) (turns_filter n name answer p p' grown);
+  keeps = λ x₀ p₀ k. rw grown (Called x x' (Filter n name answer) p k keeps);
+}
+
+-- what was due, what the worker is, and what became of the event
+pub record FilterDone (s : Start) (w : Worker) (p : List Entry) (n name : ℕ) (answer : Result Bool RuntimeError) (found : Collected) (p' : List Entry) : Type 0 where
+  pub due : Due s p (Filter n name answer)
+  pub stands : Stands s w p'
+  pub judged : IsJudged s p name found p'
+
+after_filter_is : (s : Start) (p : List Entry) (n name : ℕ) (answer : Result Bool RuntimeError) → IsOrderly s p → agenda s p ≡ Filters name → agenda s (Filter n name answer ∷ p) ≡ after_filter s name answer (Filter n name answer ∷ p)
+after_filter_is s p n name answer o due = settle_calm (Filter n name answer ∷ p) _ (subst (IsGoing p) due o.going)
+
+judges_passed : (s : Start) (p p' : List Entry) (name : ℕ) (due : Bool) → window p' ≡ window p ++ name ∷ [] → agenda s p' ≡ cond due Hands Open → Judges s p name (cond due Hand Kept) p'
+judges_passed s p p' name true joined e = e
+judges_passed s p p' name false joined e = (joined, e)
+
+-- it passed
+pub filter_passed : (s : Start) (w w' : Worker) (p p' : List Entry) (at n name : ℕ) (event : Event) (priority : Priority) (answer : Result Bool RuntimeError) (found : Collected) → Stands s w p → agenda s p ≡ Filters name → moment p ≡ at
+    → listed name p ≡ Some (event, priority) → n ≡ w.config.filterer → lets_pass answer ≡ true → is_exit answer ≡ false → w' ≡ record w { batch = w'.batch; first = w'.first } → w'.first ≡ cond (length w.batch.names == 0) at w.first
+    → w'.batch.names ≡ w.batch.names ++ name ∷ [] → w'.batch.events ≡ w.batch.events ++ event ∷ [] → found ≡ cond (is_urgent priority || is_over_of w.config.throttle w'.batch.names w'.first at) Hand Kept → p' ≡ Filter n name answer ∷ p
+    → FilterDone s w' p n name answer found p'
+filter_passed s w w' p p' at n name event priority answer found stands due now is_listed number passes stays fields began names events is_found grown =
+    let d : Due s p (Filter n name answer) = filter_due s p n name answer due (number ∙ ap (λ c. c.filterer) stands.config_kept) in
+    let window_is : window (Filter n name answer ∷ p) ≡ window p ++ name ∷ [] = joined_if p name (lets_pass answer) passes in
+    let first_is : first (Filter n name answer ∷ p) ≡ w'.first = rw (passes, began, stands.names_kept, stands.first_kept, now) refl in
+    let names_are : w'.batch.names ≡ window (Filter n name answer ∷ p) = names ∙ ap (λ (ns : List ℕ). ns ++ name ∷ []) stands.names_kept ∙ sym window_is in
+    let over : is_over s (Filter n name answer ∷ p) (moment p) ≡ is_over_of w.config.throttle w'.batch.names w'.first at = rw (first_is, names_are, stands.config_kept, now) refl in
+    let urgency : is_urgent_named name p ≡ is_urgent priority = ap is_urgent_in is_listed in
+    let after : agenda s (Filter n name answer ∷ p) ≡ cond (is_urgent priority || is_over_of w.config.throttle w'.batch.names w'.first at) Hands Open = after_filter_is s p n name answer stands.orderly due ∙ ap (λ (b : Bool). cond b (after_pass s name (Filter n name answer ∷ p)) Open) passes ∙ rw (← over, ← urgency) refl in
+    let stood : Stands s (record w { batch = w'.batch; first = w'.first }) (Filter n name answer ∷ p) = record {
+      orderly = orderly_more s (Filter n name answer) p d stands.orderly;
+      config_kept = stands.config_kept;
+      queue_kept = stands.queue_kept;
+      size_kept = stands.size_kept;
+      closed_kept = rw stays stands.closed_kept;
+      named_kept = stands.named_kept;
+      names_kept = names_are;
+      events_kept = rw (events, window_is) (events-append (lookup p) (window p) w.batch.events name event priority stands.events_kept is_listed);
+      first_kept = sym first_is;
+      jobs_kept = stands.jobs_kept;
+      tasks_kept = tasks_same p _ w.jobs (over_none (Filter n name answer) p tt) stands.tasks_kept;
+    } in
+    record {
+      due = d;
+      stands = rw grown (rw fields stood);
+      judged = record { n = n; answer = answer; shown = grown; judged = rw is_found (judges_passed s p p' name _ (ap (λ q. window q) grown ∙ window_is) (ap (agenda s) grown ∙ after)) };
+    }
+
+-- it didn't pass
+pub filter_dropped : (s : Start) (w : Worker) (p p' : List Entry) (n name : ℕ) (answer : Result Bool RuntimeError) (queue : Channel Named) → Stands s w p → agenda s p ≡ Filters name → n ≡ w.config.filterer → lets_pass answer ≡ false
+    → queue.items ≡ w.queue.items → queue.size ≡ w.queue.size → queue.closed ≡ (is_exit answer || w.queue.closed) → p' ≡ Filter n name answer ∷ p
+    → FilterDone s (record w { queue = queue }) p n name answer collected.Dropped p'
+filter_dropped s w p p' n name answer queue stands due number passes items size shut grown =
+    let d : Due s p (Filter n name answer) = filter_due s p n name answer due (number ∙ ap (λ c. c.filterer) stands.config_kept) in
+    let same : window (Filter n name answer ∷ p) ≡ window p = ap (λ (b : Bool). and_one (window p) (one_if b name)) passes in
+    let first_is : first (Filter n name answer ∷ p) ≡ first p = ap (λ (b : Bool). begun (one_if b name) (window p) (moment p) (first p)) passes in
+    let after : agenda s (Filter n name answer ∷ p) ≡ Open = after_filter_is s p n name answer stands.orderly due ∙ rw passes refl in
+    record {
+      due = d;
+      stands = rw grown (record {
+        orderly = orderly_more s (Filter n name answer) p d stands.orderly;
+        config_kept = stands.config_kept;
+        queue_kept = rw items stands.queue_kept;
+        size_kept = size ∙ stands.size_kept;
+        closed_kept = shut ∙ ap (λ (b : Bool). is_exit answer || b) stands.closed_kept;
+        named_kept = stands.named_kept;
+        names_kept = stands.names_kept ∙ sym same;
+        events_kept = rw same stands.events_kept;
+        first_kept = stands.first_kept ∙ sym first_is;
+        jobs_kept = stands.jobs_kept;
+        tasks_kept = tasks_same p _ w.jobs (over_none (Filter n name answer) p tt) stands.tasks_kept;
+      });
+      judged = record { n = n; answer = answer; shown = grown; judged = (ap (λ q. window q) grown ∙ same, ap (agenda s) grown ∙ after) };
+    }
+
+-- one that passes doesn't ask for the end
+pub no_exit : (answer : Result Bool RuntimeError) → lets_pass answer ≡ true → is_exit answer ≡ false
+no_exit (Ok passes) is = refl
+no_exit (Err error) is = absurd cc
+
+-- ---- nothing was taken
 
 empty_is : (xs : List (Named × Priority)) → (length xs == 0) ≡ true → xs ≡ []
 empty_is [] e = refl
 empty_is (x ∷ xs) e = let none : length (x ∷ xs) ≡ 0 = eqb-true _ _ e in absurd (omega arith)
 
 -- there was nothing to take
-pub idle_done : (s : Start) (w : Worker) (p p' : List Entry) (at : ℕ) → Stands s w p → agenda s p ≡ work s p at → moment p ≡ at → is_over_of w.config.throttle w.batch.names w.first at ≡ false → (length w.queue.items == 0) ≡ true → p' ≡ Said Idle ∷ p
+pub idle_done : (s : Start) (w : Worker) (p p' : List Entry) (at : ℕ) → Stands s w p → agenda s p ≡ work s p at → moment p ≡ at → w.queue.closed ≡ false → is_over_of w.config.throttle w.batch.names w.first at ≡ false → (length w.queue.items == 0) ≡ true → p' ≡ Said Idle ∷ p
     → TakeDone s w p p' collected.Idle
-idle_done s w p p' at stands due now over empty grown =
+idle_done s w p p' at stands due now is_open over empty grown =
     let later : is_over s p at ≡ false = rw (← stands.config_kept, ← stands.names_kept, ← stands.first_kept) over in
+    let takes : closed p ≡ false = sym stands.closed_kept ∙ is_open in
     let none : (length (bag p) == 0) ≡ true = rw (← same-length w.queue.items (bag p) stands.queue_kept) empty in
-    let owed : agenda s p ≡ Says Idle Open = due ∙ rw (later, none) refl in
+    let owed : agenda s p ≡ Says Idle Open = due ∙ rw (takes, later, none) refl in
     record { steps = said_done s w p p' Idle Open stands owed grown; collected = (record { early = rw now later; none = empty_is (bag p) none; said = grown }, said_then s p p' Idle stands.orderly owed grown) }
+
+-- the queue was closed
+pub stop_done : (s : Start) (w : Worker) (p : List Entry) (at : ℕ) → Stands s w p → agenda s p ≡ work s p at → w.queue.closed ≡ true → Collects s p collected.Stop p
+stop_done s w p at stands due shut = let is : closed p ≡ true = sym stands.closed_kept ∙ shut in (record { is_closed = is; same = refl }, due ∙ rw is refl)
+
+-- the window is due
+pub over_done : (s : Start) (w : Worker) (p : List Entry) (at : ℕ) → Stands s w p → agenda s p ≡ work s p at → w.queue.closed ≡ false → is_over_of w.config.throttle w.batch.names w.first at ≡ true → agenda s p ≡ Hands
+over_done s w p at stands due is_open over =
+    let takes : closed p ≡ false = sym stands.closed_kept ∙ is_open in
+    let later : is_over s p at ≡ true = rw (← stands.config_kept, ← stands.names_kept, ← stands.first_kept) over in
+    due ∙ rw (takes, later) refl
+
+-- an event is to be taken
+pub takes_due : (s : Start) (w : Worker) (p : List Entry) (at : ℕ) → Stands s w p → agenda s p ≡ work s p at → w.queue.closed ≡ false → is_over_of w.config.throttle w.batch.names w.first at ≡ false → (length w.queue.items == 0) ≡ false → (agenda s p ≡ TakesNext) × ((length (bag p) == 0) ≡ false)
+takes_due s w p at stands due is_open over some =
+    let takes : closed p ≡ false = sym stands.closed_kept ∙ is_open in
+    let later : is_over s p at ≡ false = rw (← stands.config_kept, ← stands.names_kept, ← stands.first_kept) over in
+    let more : (length (bag p) == 0) ≡ false = rw (← same-length w.queue.items (bag p) stands.queue_kept) some in
+    (due ∙ rw (takes, later, more) refl, more)
+
+-- the worker with more room
+pub stands_room : (s : Start) (w : Worker) (p : List Entry) (batch : Waiting) → Stands s w p → batch.names ≡ w.batch.names → batch.events ≡ w.batch.events → Stands s (record w { batch = batch }) p
+stands_room s w p batch stands names events = record {
+  orderly = stands.orderly;
+  config_kept = stands.config_kept;
+  queue_kept = stands.queue_kept;
+  size_kept = stands.size_kept;
+  closed_kept = stands.closed_kept;
+  named_kept = stands.named_kept;
+  names_kept = names ∙ stands.names_kept;
+  events_kept = rw events stands.events_kept;
+  first_kept = stands.first_kept;
+  jobs_kept = stands.jobs_kept;
+  tasks_kept = stands.tasks_kept;
+}

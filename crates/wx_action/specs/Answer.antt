@@ -1,12 +1,12 @@
 -- What an answer of the engine says of its journal.
-use Rattle.std.specs.Prelude.{◌≡◌, None, Some, Ok, Err, List, [], ◌∷◌, codes}
+use Rattle.std.specs.Prelude.{◌≡◌, ◌⊎◌, None, Some, Ok, Err, List, [], ◌∷◌, codes}
 use Rattle.wx_journal.specs.declared.entry.Entry.{Entry}
 use Rattle.wx_job.specs.Case.{Admits as Follows}
 use Rattle.wx_config.specs.declared.error.CriticalError.TheVariants.{IoError, Memory}
 use Rattle.wx_action.specs.Start.{Start}
 use Rattle.wx_action.specs.Journal.{turn_fault}
 use Rattle.wx_action.specs.Jobs.{jobs, end}
-use Rattle.wx_action.specs.Due.{agenda, Ends, IsRun}
+use Rattle.wx_action.specs.Due.{Agenda, Begins, Sends, Open, Offers, Says, Takes, Filters, Hands, Plans, Ends, agenda, IsTurn, IsRun}
 use Rattle.wx_journal.specs.Lines.{Answer}
 
 -- a run whose end is done: no job lives
@@ -32,13 +32,33 @@ pub record IsBroken (place : List Entry → Type 0) (s : Start) (p : List Entry)
 abbrev pub AtAnyPlace : List Entry → Type 0
 AtAnyPlace p = Unit {0}
 
--- the places at which want of memory may cut a run
-abbrev pub MemoryCuts : List Entry → Type 0
-MemoryCuts p = AtAnyPlace p
+-- the newest entry is a turn, or the fault of one
+abbrev pub IsBehindTurn : List Entry → Type 0
+IsBehindTurn [] = ⊥
+IsBehindTurn (e ∷ p) = IsTurn e
+
+-- no event is to be shown, and no window is to be handed
+abbrev pub NoneIsToGo : Agenda → Type 0
+NoneIsToGo (Filters name) = ⊥
+NoneIsToGo Hands = ⊥
+NoneIsToGo Begins = Unit {0}
+NoneIsToGo (Sends event priority more) = Unit {0}
+NoneIsToGo Open = Unit {0}
+NoneIsToGo (Offers event priority more) = Unit {0}
+NoneIsToGo (Says word more) = Unit {0}
+NoneIsToGo Takes = Unit {0}
+NoneIsToGo (Plans k more) = Unit {0}
+NoneIsToGo Ends = Unit {0}
+
+-- The places at which want of memory may cut a run: behind a turn, and where no event is to be shown and no window is to be
+-- handed. So there is no cut between a Take and its Filter, nor between an event that passed and a Hand that is due.
+abbrev pub MemoryCuts : Start → List Entry → Type 0
+MemoryCuts s p = IsBehindTurn p ⊎ NoneIsToGo (agenda s p)
 
 -- Ok comes only of a complete run without the fault of a turn, an error about a turn only of one with this fault, and
--- want of memory of a run that was cut where memory may be wanted.
+-- want of memory of a run that was cut where memory may be wanted. No other error comes.
 abbrev pub Answers : Start → List Entry → Answer → Type 0
 Answers s p (Ok u) = IsComplete s p × (turn_fault p ≡ None)
 Answers s p (Err (IoError about err)) = IsComplete s p × (about ≡ codes "turn") × (turn_fault p ≡ Some err)
-Answers s p (Err Memory) = IsBroken MemoryCuts s p
+Answers s p (Err Memory) = IsBroken (MemoryCuts s) s p
+Answers s p (Err (_)) = ⊥

@@ -1,12 +1,12 @@
 -- The written machine: which entries may come next.
-use Rattle.std.specs.Prelude.{◌≡◌, ℕ, Bool, true, false, T, ◌||◌, ◌==◌, if◌then◌else◌, Option, None, Some, List, [], ◌∷◌, length}
+use Rattle.std.specs.Prelude.{◌≡◌, ℕ, Bool, true, false, T, ◌||◌, ◌==◌, if◌then◌else◌, Option, None, Some, Result, Ok, Err, List, [], ◌∷◌, length}
 use Rattle.std.specs.Option.{IsSomeAnd}
 use Rattle.std.specs.List.{list_any}
 use Rattle.wx_events.specs.declared.event.Event.{Event}
 use Rattle.wx_events.specs.declared.priority.Priority.{Priority}
 use Rattle.prio_channel.specs.Channel.{AllAtMost}
 use Rattle.wx_journal.specs.declared.entry.Entry.{Entry}
-use Rattle.wx_journal.specs.declared.entry.Entry.TheVariants.{Begin, Sent, Turn as Turned, TurnFault, Offer, Word as Said, Take, Hand, Made, Asked, Pick, Spawn, Kill, Wait, Dropped, Raise, Gone}
+use Rattle.wx_journal.specs.declared.entry.Entry.TheVariants.{Begin, Sent, Turn as Turned, TurnFault, Offer, Word as Said, Take, Filter, Hand, Made, Asked, Pick, Spawn, Kill, Wait, Dropped, Raise, Gone}
 use Rattle.wx_journal.specs.Acts.{JournalAct as Act}
 use Rattle.wx_journal.specs.declared.entry.Act.TheVariants.{Create, Ask as Asks, Quit}
 use Rattle.wx_journal.specs.declared.entry.Named.{Named}
@@ -17,6 +17,7 @@ use Rattle.wx_journal.specs.declared.entry.Word.TheVariants.{Idle, Ignored}
 use Rattle.wx_journal.specs.Told.{is_turn}
 use Rattle.wx_journal.specs.Names.{moment, event_count, next_job}
 use Rattle.wx_command.specs.declared.command.Command.{Command}
+use Rattle.wx_config.specs.declared.runtime.RuntimeError.{RuntimeError}
 use Rattle.wx_control.specs.declared.id.Id.{Id}
 use Rattle.wx_control.specs.declared.ask.Ask.{Ask as AnAsk}
 use Rattle.wx_control.specs.Asks.{sends_of}
@@ -25,7 +26,7 @@ use Rattle.wx_job.specs.Table.{Plan, Done, step_plan, ask_plan}
 use Rattle.wx_job.specs.Case.{Admits as Follows, next}
 use Rattle.wx_action.specs.Start.{Start}
 use Rattle.wx_action.specs.Jobs.{living, parent, AreLawful, act_plan, end}
-use Rattle.wx_action.specs.Journal.{settings, is_urgent_named, named, bag, offered, window, is_over}
+use Rattle.wx_action.specs.Journal.{settings, is_urgent_named, passes_unseen, lets_pass, closed, named, bag, offered, window, is_over}
 
 -- What a turn still owes. An answer or an event that was taken decides how it goes on.
 pub data Agenda : Type 0 where
@@ -41,6 +42,8 @@ pub data Agenda : Type 0 where
   Says : Word → Agenda → Agenda
   -- an event is taken
   Takes : Agenda
+  -- the event of this name is shown to the filter
+  Filters : ℕ → Agenda
   -- the window is handed
   Hands : Agenda
   -- this plan of jobs is followed
@@ -66,12 +69,17 @@ rest e (Plans k more) = plans (next k e) more
 rest e Begins = Begins
 rest e Open = Open
 rest e Takes = Takes
+rest e (Filters name) = Filters name
 rest e Hands = Hands
 rest e Ends = Ends
 
--- A Work turn: hand the window where the throttle is over, else say idle where the queue is empty, else take an event.
+-- A Work turn: the end, where the queue is closed; else hand the window where the throttle is over, else say idle where the
+-- queue is empty, else take an event.
+abbrev pub work_open : Start → List Entry → ℕ → Agenda
+work_open s p at = if is_over s p at then Hands else (if length (bag p) == 0 then Says Idle Open else Takes)
+
 abbrev pub work : Start → List Entry → ℕ → Agenda
-work s p at = if is_over s p at then Hands else (if length (bag p) == 0 then Says Idle Open else Takes)
+work s p at = if closed p then Ends else work_open s p at
 
 -- a turn about a job or a child that isn't there is ignored
 abbrev pub job_turn : Id → Option Command → List Entry → Agenda
@@ -94,9 +102,17 @@ turn_agenda s (Ended c) at p = ended_turn (parent c p) p
 turn_agenda s (Ask id ask) at p = ask_turn id ask p
 turn_agenda s Last at p = Ends
 
--- An event that was taken is handed at once, with the window, where it is urgent or the throttle is over.
+-- An event that passed is handed at once, with the window, where it is urgent or the throttle is over.
+abbrev pub after_pass : Start → ℕ → List Entry → Agenda
+after_pass s name p = if is_urgent_named name p || is_over s p (moment p) then Hands else Open
+
+-- One that was taken passes unseen, or is shown to the filter.
 abbrev pub after_take : Start → ℕ → List Entry → Agenda
-after_take s name p = if is_urgent_named name p || is_over s (Take name ∷ p) (moment p) then Hands else Open
+after_take s name p = if passes_unseen name p then after_pass s name (Take name ∷ p) else Filters name
+
+-- What the filter doesn't let pass is dropped.
+abbrev pub after_filter : Start → ℕ → Result Bool RuntimeError → List Entry → Agenda
+after_filter s name answer p = if lets_pass answer then after_pass s name p else Open
 
 abbrev pub is_quit : Act → Bool
 is_quit (Create id command) = false
@@ -123,6 +139,7 @@ owed s (TurnFault code) p before = Ends
 owed s (Offer name item result event priority) p before = rest (Offer name item result event priority) before
 owed s (Said word) p before = rest (Said word) before
 owed s (Take name) p before = after_take s name p
+owed s (Filter n name answer) p before = after_filter s name answer (Filter n name answer ∷ p)
 owed s (Hand n names acts) p before = after_hand acts p
 owed s (Made id) p before = rest (Made id) before
 owed s (Asked ticket id level control) p before = rest (Asked ticket id level control) before
@@ -170,6 +187,7 @@ Admits s p Open e = IsTurn e
 Admits s p (Offers event priority more) e = e ≡ Offer (event_count p) None (offered s p) event priority
 Admits s p (Says word more) e = e ≡ Said word
 Admits s p Takes e = (name : ℕ) × (e ≡ Take name) × IsGreatest name (bag p)
+Admits s p (Filters name) e = (answer : Result Bool RuntimeError) × (e ≡ Filter (settings s p).filterer name answer)
 Admits s p Hands e = (acts : List Act) × (e ≡ Hand (settings s p).action_handler (window p) acts) × AreLawful (next_job p) acts
 Admits s p (Plans k more) e = Follows p k e
 Admits s p Ends e = Follows p (end p) e

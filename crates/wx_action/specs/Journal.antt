@@ -1,5 +1,5 @@
 -- What a journal says. It is a list of entries, the newest first, so each definition goes by the newest entry.
-use Rattle.std.specs.Prelude.{ℕ, ◌+◌, Bool, false, not, ◌&&◌, ◌==◌, nat_le, if◌then◌else◌, Option, None, Some, List, [], ◌∷◌, ◌++◌, length}
+use Rattle.std.specs.Prelude.{ℕ, ◌+◌, Bool, true, false, not, ◌&&◌, ◌||◌, ◌==◌, nat_le, if◌then◌else◌, Option, None, Some, Result, Ok, Err, List, [], ◌∷◌, ◌++◌, length}
 use Rattle.std.specs.List.{filter, list_any}
 use Rattle.wx_events.specs.declared.event.Event.{Event}
 use Rattle.wx_events.specs.declared.priority.Priority.{Priority}
@@ -7,11 +7,13 @@ use Rattle.wx_events.specs.Priority.{is_urgent}
 use Rattle.wx_journal.specs.Names.{moment, count}
 use Rattle.wx_journal.specs.Told.{is_turn}
 use Rattle.wx_journal.specs.declared.entry.Entry.{Entry}
-use Rattle.wx_journal.specs.declared.entry.Entry.TheVariants.{Begin, Sent, Turn as Turned, TurnFault, Offer, Word as Said, Take, Hand, Made, Asked, Pick, Spawn, Kill, Wait, Dropped, Raise, Gone}
+use Rattle.wx_journal.specs.declared.entry.Entry.TheVariants.{Begin, Sent, Turn as Turned, TurnFault, Offer, Word as Said, Take, Filter, Hand, Made, Asked, Pick, Spawn, Kill, Wait, Dropped, Raise, Gone}
 use Rattle.wx_journal.specs.declared.entry.Named.{Named}
 use Rattle.wx_journal.specs.declared.entry.Offered.{Offered}
-use Rattle.wx_journal.specs.declared.entry.Offered.TheVariants.{Queued, Full}
+use Rattle.wx_journal.specs.declared.entry.Offered.TheVariants.{Queued, Full, Closed}
 use Rattle.wx_config.specs.declared.config.Config.{Config}
+use Rattle.wx_config.specs.declared.runtime.RuntimeError.{RuntimeError}
+use Rattle.wx_config.specs.declared.runtime.RuntimeError.TheVariants.{Exit}
 use Rattle.wx_action.specs.Start.{Start}
 use Rattle.wx_action.specs.Told.{is_last}
 
@@ -34,6 +36,32 @@ is_urgent_in (Some x) = is_urgent x.1
 abbrev pub is_urgent_named : ℕ → List Entry → Bool
 is_urgent_named name p = is_urgent_in (listed name p)
 
+-- an event passes unseen where it is urgent, and where it has no tags
+abbrev pub is_unseen : Event → Priority → Bool
+is_unseen event priority = is_urgent priority || length event.tags == 0
+
+abbrev pub is_unseen_in : Option (Event × Priority) → Bool
+is_unseen_in None = false
+is_unseen_in (Some x) = is_unseen x.0 x.1
+
+abbrev pub passes_unseen : ℕ → List Entry → Bool
+passes_unseen name p = is_unseen_in (listed name p)
+
+-- a filter let an event pass, and it asked for the end
+abbrev pub lets_pass : Result Bool RuntimeError → Bool
+lets_pass (Ok passes) = passes
+lets_pass (Err error) = false
+
+abbrev pub is_exit : Result Bool RuntimeError → Bool
+is_exit (Err Exit) = true
+is_exit (_) = false
+
+-- the queue is closed: a filter asked for the end
+abbrev pub closed : List Entry → Bool
+closed [] = false
+closed (Filter n name answer ∷ p) = is_exit answer || closed p
+closed (_ ∷ p) = closed p
+
 -- the item of this name, and the items without it
 abbrev pub named : ℕ → List (Named × Priority) → Option (Named × Priority)
 named name [] = None
@@ -51,12 +79,16 @@ bag (Offer name item Queued event priority ∷ p) = bag p ++ (record { name = na
 bag (Take name ∷ p) = without name (bag p)
 bag (_ ∷ p) = bag p
 
--- an offer finds the queue full where the bag has as many events as the size
+-- an offer finds the queue full where it isn't closed and the bag has as many events as the size
 abbrev pub offered : Start → List Entry → Offered
-offered s p = if length (bag p) == (settings s p).event_channel_size then Full else Queued
+offered s p = if closed p then Closed else (if length (bag p) == (settings s p).event_channel_size then Full else Queued)
 
--- The event that an entry behind these lets join the window, where it lets one: with no tag and no filter an event that is
--- taken passes unseen.
+-- an event that joins, where this is so
+abbrev pub one_if : Bool → ℕ → Option ℕ
+one_if so name = if so then Some name else None
+
+-- The event that an entry behind these lets join the window, where it lets one: one that passes unseen joins when it is
+-- taken, and any other when the filter lets it pass.
 abbrev pub joins : List Entry → Entry → Option ℕ
 joins p (Begin throttle size errors keyboard follow jobsignals watcher cwd paths) = None
 joins p (Sent name event priority) = None
@@ -64,7 +96,8 @@ joins p (Turned t) = None
 joins p (TurnFault code) = None
 joins p (Offer name item result event priority) = None
 joins p (Said word) = None
-joins p (Take name) = Some name
+joins p (Take name) = one_if (passes_unseen name p) name
+joins p (Filter n name answer) = one_if (lets_pass answer) name
 joins p (Hand n names acts) = None
 joins p (Made id) = None
 joins p (Asked ticket id level control) = None

@@ -2,11 +2,11 @@
 use Rattle.std.specs.Prelude.{◌≡◌, ◌<◌, false, None, List, length}
 use Rattle.wx_control.specs.declared.id.Id.{Id}
 use Rattle.wx_journal.specs.declared.entry.Entry.{Entry}
-use Rattle.wx_journal.specs.Names.{NamesItsOwn}
+use Rattle.wx_journal.specs.Names.{event_count, NamesItsOwn}
 use Rattle.wx_job.specs.History.{lives, child}
 use Rattle.wx_action.specs.Start.{Start}
-use Rattle.wx_action.specs.Journal.{window}
-use Rattle.wx_action.specs.Due.{Agenda, Begins, Sends, Open, Offers, Says, Takes, Hands, Plans, Ends, agenda, is_quitting}
+use Rattle.wx_action.specs.Journal.{passes_unseen, window}
+use Rattle.wx_action.specs.Due.{Agenda, Begins, Sends, Open, Offers, Says, Takes, Filters, Hands, Plans, Ends, agenda, is_quitting}
 use Rattle.wx_action.specs.Lawful.{MadeInOrder, Lawful}
 
 -- nothing, or the end
@@ -15,7 +15,8 @@ IsQuiet Open = Unit {0}
 IsQuiet Ends = Unit {0}
 IsQuiet (_) = ⊥
 
--- Behind an offer, a word and a plan is nothing, or the end. A plan is lawful. A window that is to be handed isn't empty.
+-- Behind an offer, a word and a plan is nothing, or the end. A plan is lawful. A window that is to be handed isn't empty. An
+-- event that is to be shown has a name, and doesn't pass unseen.
 abbrev pub IsFit : List Entry → Agenda → Type 0
 IsFit p (Offers event priority more) = IsQuiet more
 IsFit p (Says word more) = IsQuiet more
@@ -25,6 +26,7 @@ IsFit p Begins = Unit {0}
 IsFit p (Sends event priority more) = Unit {0}
 IsFit p Open = Unit {0}
 IsFit p Takes = Unit {0}
+IsFit p (Filters name) = (name < event_count p) × (passes_unseen name p ≡ false)
 IsFit p Ends = Unit {0}
 
 -- Where something else than a plan or the end is owed the end wasn't asked for.

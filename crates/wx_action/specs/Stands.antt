@@ -1,19 +1,20 @@
 -- A worker stands for a journal.
-use Rattle.std.specs.Prelude.{◌≡◌, ◌≢◌, ◌≤◌, ℕ, ◌*◌, ◌==◌, true, false, None, Some, is_some, List, [], ◌∷◌, ◌++◌, length, map}
+use Rattle.std.specs.Prelude.{◌≡◌, ◌≢◌, ◌≤◌, ℕ, ◌*◌, ◌==◌, Bool, true, false, None, Some, is_some, Result, List, [], ◌∷◌, ◌++◌, length, map}
 use Rattle.std.specs.List.{AllByRecursion}
 use Rattle.wx_events.specs.declared.priority.Priority.{Priority}
 use Rattle.prio_channel.specs.Channel.{Channel}
 use Rattle.prio_channel.specs.SameBag.{SameBag}
 use Rattle.wx_journal.specs.declared.entry.Entry.{Entry}
-use Rattle.wx_journal.specs.declared.entry.Entry.TheVariants.{Turn as Turned, Word as Said, Take}
+use Rattle.wx_journal.specs.declared.entry.Entry.TheVariants.{Turn as Turned, Word as Said, Take, Filter}
 use Rattle.wx_journal.specs.declared.entry.Named.{Named}
 use Rattle.wx_journal.specs.declared.entry.Offered.{Offered}
-use Rattle.wx_journal.specs.declared.entry.Offered.TheVariants.{Queued, Full}
+use Rattle.wx_journal.specs.declared.entry.Offered.TheVariants.{Queued, Full, Closed}
 use Rattle.wx_journal.specs.declared.entry.TurnKind.{TurnKind}
 use Rattle.wx_journal.specs.declared.entry.TurnKind.TheVariants.{Work}
 use Rattle.wx_journal.specs.declared.entry.Word.TheVariants.{Idle}
 use Rattle.wx_journal.specs.Names.{event_count, moment}
 use Rattle.wx_journal.specs.Written.{Written}
+use Rattle.wx_config.specs.declared.runtime.RuntimeError.{RuntimeError}
 use Rattle.wx_control.specs.declared.id.Id.{Id}
 use Rattle.wx_command.specs.declared.command.Command.{Command}
 use Rattle.wx_job.specs.History.{lives}
@@ -28,7 +29,7 @@ use Rattle.wx_action.specs.declared.work_turn.Collected.TheVariants as collected
 use Rattle.wx_action.specs.declared.work_turn.Worked.{Worked}
 use Rattle.wx_action.specs.declared.work_turn.Worked.TheVariants as worked
 use Rattle.wx_action.specs.Start.{Start}
-use Rattle.wx_action.specs.Journal.{settings, named, bag, window, first, is_over}
+use Rattle.wx_action.specs.Journal.{settings, passes_unseen, closed, named, bag, window, first, is_over}
 use Rattle.wx_action.specs.Due.{is_quitting, agenda, plans, Open, Hands, Ends}
 use Rattle.wx_action.specs.Handled.{AreEvents, lookup}
 use Rattle.wx_action.specs.Orderly.{IsOrderly}
@@ -60,7 +61,7 @@ pub record Stands (s : Start) (w : Worker) (p : List Entry) : Type 0 where
   pub config_kept : w.config ≡ settings s p
   pub queue_kept : SameBag w.queue.items (bag p)
   pub size_kept : w.queue.size ≡ (settings s p).event_channel_size
-  pub open_kept : w.queue.closed ≡ false
+  pub closed_kept : w.queue.closed ≡ closed p
   pub named_kept : w.named ≡ event_count p
   pub names_kept : w.batch.names ≡ window p
   pub events_kept : AreEvents (lookup p) (window p) w.batch.events
@@ -99,18 +100,39 @@ pub record IsStepOf (s : Start) (id : Id) (at : ℕ) (p : List Entry) : Type 0 w
   pub going : is_quitting p ≡ false
   pub now : moment p ≡ at
 
--- a queue took an item, or was full
+-- a queue took an item, or was full, or closed
 abbrev pub IsOffered : Channel Named → Named × Priority → Channel Named → Offered → Type 0
-IsOffered old item new Queued = SameBag new.items (old.items ++ item ∷ []) × ((length old.items == old.size) ≡ false)
-IsOffered old item new Full = (new.items ≡ old.items) × ((length old.items == old.size) ≡ true)
+IsOffered old item new Queued = SameBag new.items (old.items ++ item ∷ []) × ((length old.items == old.size) ≡ false) × (old.closed ≡ false)
+IsOffered old item new Full = (new.items ≡ old.items) × ((length old.items == old.size) ≡ true) × (old.closed ≡ false)
+IsOffered old item new Closed = (new.items ≡ old.items) × (old.closed ≡ true)
 
--- an event was taken and passed: it was in the bag, is there no more, and stands last in the window
-pub record HasPassed (p p' : List Entry) : Type 0 where
-  pub name : ℕ
-  pub taken : p' ≡ Take name ∷ p
+-- what the taking of an event adds: its Take, and where it doesn't pass unseen its Filter behind that
+abbrev pub Shows : Bool → ℕ → List Entry → List Entry → Type 0
+Shows true name p p' = p' ≡ Take name ∷ p
+Shows false name p p' = (n : ℕ) × (answer : Result Bool RuntimeError) × (p' ≡ Filter n name answer ∷ Take name ∷ p)
+
+-- an event was taken: it was in the bag, and is there no more
+pub record HasTaken (name : ℕ) (p p' : List Entry) : Type 0 where
+  pub taken : Shows (passes_unseen name p) name p p'
   pub was : is_some (named name (bag p)) ≡ true
   pub left : named name (bag p') ≡ None
+
+-- one was taken and passed: it stands last in the window
+pub record HasPassed (p p' : List Entry) : Type 0 where
+  pub name : ℕ
+  pub taken : HasTaken name p p'
   pub joined : window p' ≡ window p ++ name ∷ []
+
+-- one was taken and didn't pass: the window is as it was
+pub record HasDropped (p p' : List Entry) : Type 0 where
+  pub name : ℕ
+  pub taken : HasTaken name p p'
+  pub stays : window p' ≡ window p
+
+-- the queue was closed, and nothing was done
+pub record HasStopped (p p' : List Entry) : Type 0 where
+  pub is_closed : closed p ≡ true
+  pub same : p' ≡ p
 
 -- the window isn't due, and there was nothing to take
 pub record HasNone (s : Start) (p p' : List Entry) : Type 0 where
@@ -118,12 +140,29 @@ pub record HasNone (s : Start) (p p' : List Entry) : Type 0 where
   pub none : bag p ≡ []
   pub said : p' ≡ Said Idle ∷ p
 
--- What a Work turn collected: the window is due; or it isn't, and there was nothing to take, or an event passed, which
--- waits.
+-- What a Work turn collected: the end is due, since the queue was closed; the window is due; or neither is, and there was
+-- nothing to take, or an event passed, which waits, or didn't pass.
 abbrev pub Collects : Start → List Entry → Collected → List Entry → Type 0
+Collects s p collected.Stop p' = HasStopped p p' × (agenda s p' ≡ Ends)
 Collects s p collected.Hand p' = agenda s p' ≡ Hands
 Collects s p collected.Idle p' = HasNone s p p' × (agenda s p' ≡ Open)
 Collects s p collected.Kept p' = HasPassed p p' × (agenda s p' ≡ Open)
+Collects s p collected.Dropped p' = HasDropped p p' × (agenda s p' ≡ Open)
+
+-- What became of an event that was shown to the filter, behind its Filter: the window is due with it, or it waits there, or
+-- it was dropped.
+abbrev pub Judges : Start → List Entry → ℕ → Collected → List Entry → Type 0
+Judges s p name collected.Hand p' = agenda s p' ≡ Hands
+Judges s p name collected.Kept p' = (window p' ≡ window p ++ name ∷ []) × (agenda s p' ≡ Open)
+Judges s p name collected.Dropped p' = (window p' ≡ window p) × (agenda s p' ≡ Open)
+Judges s p name collected.Stop p' = ⊥
+Judges s p name collected.Idle p' = ⊥
+
+pub record IsJudged (s : Start) (p : List Entry) (name : ℕ) (found : Collected) (p' : List Entry) : Type 0 where
+  pub n : ℕ
+  pub answer : Result Bool RuntimeError
+  pub shown : p' ≡ Filter n name answer ∷ p
+  pub judged : Judges s p name found p'
 
 -- whether the run goes on
 abbrev pub Works : Start → Worked → List Entry → Type 0

@@ -1,11 +1,14 @@
 // The traits of the outside: what the engine asks of its world, and of the hooks that its user hands in.
-ghost use Rattle.std.specs.Prelude.{◌≡◌, ◌∷◌, [], ◌≤◌, ◌<◌, ◌+◌, IfOk, true, false};
-ghost use Rattle.wx_journal.specs.declared.entry.Entry.{Entry};
+ghost use Rattle.std.specs.Prelude.{◌≡◌, ◌∷◌, [], ◌≤◌, ◌<◌, ◌+◌, IfOk, true, false, Some, List};
+ghost use Rattle.wx_journal.specs.declared.entry.Entry.{Entry, Entry as AnEntry};
 ghost use Rattle.wx_journal.specs.Told.{tell};
 ghost use Rattle.wx_job.specs.Kept.{Keeps};
+ghost use Rattle.wx_action.specs.Journal.{listed};
 ghost use Rattle.wx_action.specs.Told.{gives_last, GivesTurn};
 
 use crate::handler::ActionHandler;
+use wx_config::RuntimeError;
+use wx_events::{Event, Priority};
 use wx_job::{Host, JobHooks};
 use wx_journal::{Entry, Turn};
 
@@ -34,6 +37,20 @@ pub trait World: Host {
 
 /// What the engine calls.
 pub trait Hooks: JobHooks {
+    /// Shows an event, which has this name and this priority, to the filter of this number. It answers whether the event
+    /// passes, or why that isn't known. The error `Exit` asks for the end of the run.
+    fn check_event(
+        &mut self,
+        n: u32,
+        name: u64,
+        event: &Event,
+        priority: Priority,
+    ) -> Result<bool, RuntimeError>
+        requires room { 1 ≤ (Self.seen self.old).spare }
+        ensures told { (Self.seen self.new).told ≡ tell (Entry.Filter n name result) (Self.seen self.old).told }
+        ensures spare { (Self.seen self.old).spare ≤ (Self.seen self.new).spare + 1 }
+        ensures keeps { (p : List AnEntry) → listed name p ≡ Some (event.now, priority) → Keeps Self.seen Self.rule Self.stands self.old p (Entry.Filter n name result) self.new };
+
     /// Hands a batch to the action handler of this number. The handler collects what is asked for.
     fn action(&mut self, n: u32, handler: &mut ActionHandler<'_>)
         requires room { 1 ≤ (Self.seen self.old).spare }

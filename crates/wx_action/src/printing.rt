@@ -1,10 +1,11 @@
 // A journal as text.
-ghost use Rattle.std.specs.Prelude.{◌≡◌, ◌∷◌, ◌++◌, not, List as Listed, OnOk, IfOk};
-ghost use Rattle.wx_action.specs.Journal.{is_among, unhanded, window};
-ghost use Rattle.wx_action.specs.Printed.{printed};
+ghost use Rattle.std.specs.Prelude.{◌≡◌, ◌∷◌, ◌++◌, not, reverse, List as Listed, OnOk, IfOk};
+ghost use Rattle.wx_action.specs.Journal.{passes_unseen, is_among, unhanded, window};
+ghost use Rattle.wx_action.specs.Printed.{or_before, printed};
 ghost use Rattle.wx_journal.specs.Lines.{Answer, JournalFits, AnswerFits};
 ghost use Rattle.wx_journal.specs.declared.entry.Entry.{Entry as AnEntry};
 
+use crate::work_turn::is_unseen;
 use std::alloc::Global;
 use wx_config::CriticalError;
 use wx_events::{List, Memory, Text};
@@ -24,12 +25,54 @@ fn leave_handed(names: &mut Vec<u64>, batch: &[u64])
     names.retain(|name| is_left(*name, batch));
 }
 
-/// Adds an event that joins the window, and drops those that are handed.
-fn follow(entry: &Entry, names: &mut Vec<u64>) -> Result<(), Memory>
-    ensures { OnOk result ((p : Listed AnEntry) → names.old.items ≡ window p → names.new.items ≡ window (entry.now ∷ p)) }
+/// Whether an entry lists the event of this name, and that passes unseen. Where it lists it not, the answer is none.
+fn lists_unseen(entry: &Entry, name: u64) -> Option<bool>
+    ensures { (p : Listed AnEntry) → passes_unseen name (entry.now ∷ p) ≡ or_before result (passes_unseen name p) }
 {
     match entry {
-        Entry::Take(name) => names.push(*name)?,
+        Entry::Sent {
+            name: listed,
+            event,
+            priority,
+        } if *listed == name => Some(is_unseen(event, *priority)),
+        Entry::Offer {
+            name: listed,
+            event,
+            priority,
+            ..
+        } if *listed == name => Some(is_unseen(event, *priority)),
+        _ => None,
+    }
+}
+
+/// Whether the event of this name, which these entries list, passes unseen.
+fn passes_unseen(entries: &[Entry], name: u64) -> bool
+    ensures { result ≡ passes_unseen name (reverse entries.now) }
+{
+    for back in 0..entries.len() {
+        let entry = &entries[entries.len() - 1 - back];
+        if let Some(unseen) = lists_unseen(entry, name) {
+            return unseen;
+        }
+    }
+    false
+}
+
+/// Adds an event that joins the window, and drops those that are handed, by an entry and those before it.
+fn follow(before: &[Entry], entry: &Entry, names: &mut Vec<u64>) -> Result<(), Memory>
+    ensures { OnOk result (names.old.items ≡ window (reverse before.now) → names.new.items ≡ window (entry.now ∷ reverse before.now)) }
+{
+    match entry {
+        Entry::Take(name) => {
+            if passes_unseen(before, *name) {
+                names.push(*name)?;
+            }
+        }
+        Entry::Filter {
+            name,
+            answer: Ok(true),
+            ..
+        } => names.push(*name)?,
         Entry::Hand { names: batch, .. } => leave_handed(names, batch.as_slice()),
         _ => {}
     }
@@ -41,8 +84,9 @@ pub fn lost(alloc: Global, journal: &Journal) -> Result<List<u64>, Memory>
     ensures { IfOk result (λ names. names ≡ window journal.now.past) }
 {
     let mut names = Vec::new(alloc);
-    for entry in journal.as_slice() {
-        follow(entry, &mut names)?;
+    let entries = journal.as_slice();
+    for i in 0..entries.len() {
+        follow(&entries[..i], &entries[i], &mut names)?;
     }
     Ok(List::from_vec(names))
 }

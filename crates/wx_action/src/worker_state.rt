@@ -9,14 +9,14 @@ ghost use Rattle.wx_journal.specs.Names.{event_count};
 ghost use Rattle.wx_job.specs.Steady.{OnlyRoom};
 ghost use Rattle.wx_action.specs.Serves.{Grows, Settles};
 ghost use Rattle.wx_action.specs.Start.{Start, IsSize};
-ghost use Rattle.wx_action.specs.Journal.{bag};
+ghost use Rattle.wx_action.specs.Journal.{closed, bag};
 ghost use Rattle.wx_action.specs.Due.{agenda, Open, Sends, rest, Offers, Says, begin_of};
 ghost use Rattle.wx_action.specs.Stands.{Stands, IsOffered, end_room};
 ghost use Rattle.wx_action.specs.HeldJobs.{is_here, runs_child};
 
 use crate::batch::Batch;
 use crate::job_list::JobList;
-use prio_channel::PrioQueue;
+use prio_channel::{PrioQueue, TrySendError};
 use std::alloc::Global;
 use wx_config::Config;
 use wx_control::Job;
@@ -126,9 +126,11 @@ impl Worker {
         requires due { (more : List (AnEvent × APriority)) × (agenda start journal.old.past ≡ Sends event priority more) }
         requires stands { Stands start self.old journal.old.past }
         requires fits { length (bag journal.old.past) < start.config.event_channel_size }
+        requires takes { closed journal.old.past ≡ false }
         ensures grows { Grows start self.old journal.old.past self.new journal.new.past }
         ensures done { OnOk result (agenda start journal.new.past ≡ rest (Entry.Sent self.old.named event priority) (agenda start journal.old.past)) }
         ensures bag { OnOk result (length (bag journal.new.past) ≡ length (bag journal.old.past) + 1) }
+        ensures takes { closed journal.new.past ≡ false }
         ensures err { OnErr result (journal.new.past ≡ journal.old.past) }
         ensures same { OnErr result (self.new ≡ self.old) }
         ensures room { end_room self.old ≤ journal.old.spare → end_room self.new ≤ journal.new.spare }
@@ -193,15 +195,15 @@ impl Worker {
     }
 }
 
-/// Offers an item to a queue, which drops it where it is full.
+/// Offers an item to a queue, which drops it where it is closed or full.
 fn offer_to(queue: &mut PrioQueue<Named>, item: Named, priority: Priority) -> Offered
-    requires { queue.old.closed ≡ false }
     ensures offered { IsOffered queue.old (item, priority) queue.new result }
     ensures size { queue.new.size ≡ queue.old.size }
-    ensures closed { queue.new.closed ≡ false }
+    ensures closed { queue.new.closed ≡ queue.old.closed }
 {
     match queue.try_send(item, priority) {
         Ok(()) => Offered::Queued,
-        Err(_) => Offered::Full,
+        Err(TrySendError::Full(_, _)) => Offered::Full,
+        Err(TrySendError::Closed(_, _)) => Offered::Closed,
     }
 }

@@ -1,5 +1,5 @@
 -- The beginning of a run.
-use Rattle.std.proofs.Common.{◌≡◌, ℕ, suc, ◌+◌, ◌*◌, ◌<◌, List, [], ◌∷◌, length, drop, get_or, drop-cons, add-one, arith, refl, ap, sym, ◌∙◌}
+use Rattle.std.proofs.Common.{◌≡◌, ℕ, false, suc, ◌+◌, ◌*◌, ◌<◌, List, [], ◌∷◌, length, drop, get_or, drop-cons, add-one, arith, refl, ap, sym, ◌∙◌}
 use Rattle.std.specs.Prelude.{None, map}
 use Rattle.std.specs.List.{filter}
 use Rattle.wx_events.specs.declared.event.Event.{Event}
@@ -9,7 +9,7 @@ use Rattle.wx_job.specs.History.{lives}
 use Rattle.wx_action.specs.declared.worker_state.Held.{Held}
 use Rattle.wx_action.specs.declared.worker_state.Worker.{Worker}
 use Rattle.wx_action.specs.Start.{Start}
-use Rattle.wx_action.specs.Journal.{bag}
+use Rattle.wx_action.specs.Journal.{closed, bag}
 use Rattle.wx_action.proofs.SettleLaws.{settle_calm}
 use Rattle.wx_action.specs.Due.{Sends, Hands, agenda, sends, begin_of, IsRun}
 use Rattle.wx_action.specs.Laws.{NoneUrgentWaits}
@@ -27,6 +27,7 @@ pub record Begun (s : Start) (w : Worker) (p p' : List Entry) : Type 0 where
   pub stands : Stands s w p'
   pub due : agenda s p' ≡ sends s.events
   pub count : length (bag p') ≡ 0
+  pub takes : closed p' ≡ false
   pub follows : FollowsAlone s p p'
   pub quiet : StaysQuiet p p'
   pub turns : StaysInTurn p p'
@@ -36,6 +37,7 @@ begun s w e p p' empty is grown stands = rw (grown, is, empty) (record {
   stands = stands;
   due = settle_calm (begin_of s ∷ []) (sends s.events) refl;
   count = refl;
+  takes = refl;
   follows = λ world hooks p₀ world₀ hooks₀ l. Then (begin_of s) [] world hooks l refl;
   quiet = λ p₀ a. More (begin_of s) [] a refl;
   turns = turns_over _ _ refl;

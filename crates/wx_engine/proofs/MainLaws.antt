@@ -7,10 +7,10 @@ use Rattle.wx_action.specs.Start.{Start}
 use Rattle.wx_config.specs.declared.error.CriticalError.TheVariants.{IoError, Memory}
 use Rattle.wx_action.specs.Answer.{Dying, Alive, Dies, Answers}
 use Rattle.wx_journal.specs.Lines.{Answer}
-use Rattle.wx_action.specs.Laws.{IsBatched, AreBatches, AreMadeOnce, AreServed}
+use Rattle.wx_action.specs.Laws.{IsBatched, AreBatches, NoneUnseenIsShown, AreMadeOnce, AreServed}
 use Rattle.wx_action.specs.Leads.{Leads, Here, Then}
 use Rattle.wx_action.proofs.JobLaws.{run_makes_once}
-use Rattle.wx_action.proofs.RunLaws.{orderly, run_is_batched, run_has_batches, run_is_served}
+use Rattle.wx_action.proofs.RunLaws.{orderly, run_is_batched, run_has_batches, run_shows, run_is_served}
 use Rattle.wx_action.proofs.PlanLaws.{of_end}
 use Rattle.wx_action.specs.Lawful.{IsOfEnd}
 use Rattle.wx_action.proofs.EndLaws.{dying_keeps}
@@ -41,6 +41,7 @@ pub answered_ran : (s : Start) (p : List Entry) (answer : Answer) → Answers s 
 answered_ran s p (Ok u) a = inl a.0
 answered_ran s p (Err (IoError about err)) a = inl a.0
 answered_ran s p (Err Memory) a = inr (record { before = a.before; run = a.run; cut = tt; dying = a.dying; none = a.none })
+answered_ran s p (Err (_)) a = absurd a
 
 -- the laws of batches, with the end
 pub ran_is_batched : (s : Start) (p : List Entry) → Ran s p → IsBatched p
@@ -50,6 +51,11 @@ ran_is_batched s p (inr broken) = (dying_keeps s broken.before p broken.dying).b
 pub ran_has_batches : (s : Start) (p : List Entry) → Ran s p → AreBatches s p
 ran_has_batches s p (inl complete) = run_has_batches s p complete.run
 ran_has_batches s p (inr broken) = (dying_keeps s broken.before p broken.dying).batches (run_has_batches s broken.before broken.run)
+
+-- no event that passes unseen was shown to a filter
+pub ran_shows : (s : Start) (p : List Entry) → Ran s p → NoneUnseenIsShown p
+ran_shows s p (inl complete) = run_shows s p complete.run
+ran_shows s p (inr broken) = (dying_keeps s broken.before p broken.dying).shows (run_shows s broken.before broken.run)
 
 -- ids made are distinct
 pub ran_makes_once : (s : Start) (p : List Entry) → Ran s p → AreMadeOnce p

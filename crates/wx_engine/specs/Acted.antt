@@ -1,19 +1,20 @@
--- The acts of a script, and the rule of hooks that follow it.
-use Rattle.std.specs.Prelude.{◌≡◌, ℕ, ◌-◌, ◌^◌, Bool, nat_lt, ◌||◌, if◌then◌else◌, Option, None, Some, List, [], ◌∷◌, ◌++◌}
+-- The acts of a script and the answers of its filter, and the rule of hooks that follow it.
+use Rattle.std.specs.Prelude.{◌≡◌, ℕ, ◌-◌, ◌^◌, Bool, true, nat_lt, ◌||◌, if◌then◌else◌, Option, None, Some, Result, Ok, List, [], ◌∷◌, ◌++◌}
 use Rattle.std.specs.List.{list_any}
 use Rattle.wx_command.specs.declared.command.Command.{Command}
+use Rattle.wx_config.specs.declared.runtime.RuntimeError.{RuntimeError}
 use Rattle.wx_control.specs.declared.ask.Ask.{Ask as AnAsk}
 use Rattle.wx_control.specs.declared.id.Id.{Id}
 use Rattle.wx_control.specs.declared.job.Job.{Job}
 use Rattle.wx_journal.specs.Acts.{JournalAct as Act}
 use Rattle.wx_journal.specs.declared.entry.Act.TheVariants.{Create, Ask as Asks, Quit}
 use Rattle.wx_journal.specs.declared.entry.Entry.{Entry}
-use Rattle.wx_journal.specs.declared.entry.Entry.TheVariants.{Hand}
+use Rattle.wx_journal.specs.declared.entry.Entry.TheVariants.{Filter, Hand}
 use Rattle.wx_journal.specs.Names.{creates, next_job}
 use Rattle.wx_job.specs.History.{same}
 use Rattle.wx_action.specs.Handled.{with_quit}
 use Rattle.wx_action.specs.Jobs.{is_seen, next_created}
-use Rattle.wx_engine.specs.Answered.{Calls}
+use Rattle.wx_engine.specs.Answered.{Calls, IsAnswered, answered_by}
 use Rattle.wx_engine.specs.Wishes.{ScriptAct}
 use Rattle.wx_engine.specs.declared.script.Wanted.TheVariants.{New}
 
@@ -50,6 +51,28 @@ hand_acts (_) = None
 
 abbrev pub hands : Calls (List ScriptAct) (List Act)
 hands = record { pick = hand_acts; usual = []; says = λ p acts. performed p [] acts }
+
+-- what the filter answers
+abbrev pub Verdict : Type 0
+Verdict = Result Bool RuntimeError
+
+-- the calls of the filter: each is answered by its line, and those for which none is left let the event pass
+abbrev pub verdict_of : Entry → Option Verdict
+verdict_of (Filter n name answer) = Some answer
+verdict_of (_) = None
+
+abbrev pub filters : Calls Verdict Verdict
+filters = answered_by verdict_of (Ok true)
+
+-- what hooks that follow a script are to do
+pub record Wished : Type 0 where
+  pub actions : List (List ScriptAct)
+  pub filters : List Verdict
+
+-- their rule: each call of either kind is answered what is due
+pub record IsWished (plan : Wished) (p : List Entry) (e : Entry) : Type 0 where
+  pub acts : IsAnswered hands plan.actions p e
+  pub verdict : IsAnswered filters plan.filters p e
 
 -- a handle is on the job of this id
 abbrev pub is_made : Id → Job → Bool

@@ -3,7 +3,7 @@ use Rattle.std.proofs.Common.{◌≡◌, ℕ, Bool, true, false, cond, if◌then
 use Rattle.std.proofs.lemmas.List.{append-nil}
 use Rattle.std.specs.List.{list_all}
 use Rattle.wx_journal.specs.declared.entry.Entry.{Entry}
-use Rattle.wx_journal.specs.declared.entry.Entry.TheVariants.{Hand, Spawn, Kill, Wait}
+use Rattle.wx_journal.specs.declared.entry.Entry.TheVariants.{Filter, Hand, Spawn, Kill, Wait}
 use Rattle.wx_journal.specs.declared.entry.Turn.{Turn as Timed}
 use Rattle.wx_journal.specs.Told.{tell_if, tells, anywhere, is_world, is_hooks, is_turn, Obeys, Same, More}
 use Rattle.wx_engine.specs.declared.script.Script.{Script}
@@ -11,7 +11,8 @@ use Rattle.wx_engine.specs.declared.script.ScriptTurn.{ScriptTurn}
 use Rattle.wx_engine.specs.declared.script.ScriptTurn.TheVariants.{Turn, Fault}
 use Rattle.wx_engine.specs.Answered.{Calls, with_answer, answers_of, due_answer, due_answers, IsAnswered, AreAnswered, AreUsed, AreAmong, answered_by}
 use Rattle.wx_engine.specs.HostCalls.{HostCall, row, reply, calls, FollowsAnswers}
-use Rattle.wx_engine.specs.Acted.{hands}
+use Rattle.wx_engine.specs.Acted.{Verdict, hands, filters, IsWished}
+use Rattle.wx_engine.specs.Wishes.{ScriptAct}
 use Rattle.wx_engine.specs.Turns.{comes, risen, Rises, Given, given, newest, turns_of, FollowsGiven}
 use Rattle.wx_engine.specs.Follows.{given_of, FollowsTurns}
 
@@ -103,6 +104,10 @@ pub hands_among : AreAmong hands (anywhere is_hooks)
 hands_among p (Hand n names acts) other = absurd cc
 hands_among p (_) other = refl
 
+pub filters_among : AreAmong filters (anywhere is_hooks)
+filters_among p (Filter n name answer) other = absurd cc
+filters_among p (_) other = refl
+
 calls_among : (k : HostCall) → AreAmong (calls k) is_world
 calls_among k p (Spawn child job tag what answer) other = absurd cc
 calls_among k p (Kill child answer) other = absurd cc
@@ -146,3 +151,10 @@ come_more (y ∷ turns) x all one = go (comes y) all (λ e. come_more turns x e 
     go : (b : Bool) → (b && list_all comes turns) ≡ true → (list_all comes turns ≡ true → list_all comes (turns ++ x ∷ []) ≡ true) → (b && list_all comes (turns ++ x ∷ [])) ≡ true
     go true e more = more e
     go false e more = cc
+
+-- what hooks that follow a script keep, by their rule
+pub wished_follows : (mine actions : List (List ScriptAct)) (answers verdicts : List Verdict) (p : List Entry) → mine ≡ actions → answers ≡ verdicts → Obeys (λ q e. IsWished (record { actions = mine; filters = answers }) q e) [] p → AreAnswered hands actions p × AreAnswered filters verdicts p
+wished_follows mine actions answers verdicts p same_actions same_verdicts obeys = (
+  subst (λ lines. AreAnswered hands lines p) same_actions (obeys_answered hands hands_among mine _ (λ q e due. due.acts) p obeys),
+  subst (λ lines. AreAnswered filters lines p) same_verdicts (obeys_answered filters filters_among answers _ (λ q e due. due.verdict) p obeys),
+)

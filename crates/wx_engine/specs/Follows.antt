@@ -8,7 +8,7 @@ use Rattle.wx_engine.specs.declared.script.Script.{Script}
 use Rattle.wx_engine.specs.Turns.{comes, Rises, Given, FollowsGiven}
 use Rattle.wx_engine.specs.Answered.{AreAnswered}
 use Rattle.wx_engine.specs.HostCalls.{FollowsAnswers}
-use Rattle.wx_engine.specs.Acted.{hands}
+use Rattle.wx_engine.specs.Acted.{hands, filters}
 
 -- what holds of each script that is read
 pub record IsScript (s : Script) : Type 0 where
@@ -34,8 +34,9 @@ abbrev pub FollowsTurns : Script → List Entry → Type 0
 FollowsTurns s p = FollowsGiven s.turns s.last p
 
 -- the run follows the script: in its turns, in what is asked for in each call of the action handler, and in what the calls
--- on the host are answered
+-- of the filter and those on the host are answered
 pub record Follows (s : Script) (p : List Entry) : Type 0 where
   pub turns : FollowsTurns s p
   pub acts : AreAnswered hands s.actions p
+  pub filtered : AreAnswered filters s.filters p
   pub answers : FollowsAnswers s.answers p

@@ -22,17 +22,19 @@ use Rattle.wx_journal.specs.Lines.{Answer}
 abbrev pub TellsTurns : List Entry → Option (List Entry) → List Entry → Option (List Entry) → Type 0
 TellsTurns p told p' told' = (before : Option (List Entry)) → told ≡ tells (anywhere is_turn) p before → told' ≡ tells (anywhere is_turn) p' before
 
--- an error about a turn comes only where the count of turn faults rose
+-- an error about a turn comes only where the count of turn faults rose, and no other comes but want of memory
 abbrev pub HasCause : CriticalError → ℕ → ℕ → Type 0
 HasCause (IoError about err) old new = Rose old new
 HasCause Memory old new = Unit {0}
+HasCause (_) old new = ⊥
 
 -- Turns are served until the end is owed, with the fault of a turn where that is the error, or until memory is wanted
 -- where it may be.
 abbrev pub Stops : Start → List Entry → Answer → Type 0
 Stops s p (Ok u) = (agenda s p ≡ Ends) × (turn_fault p ≡ None)
 Stops s p (Err (IoError about err)) = (agenda s p ≡ Ends) × (about ≡ codes "turn") × (turn_fault p ≡ Some err)
-Stops s p (Err Memory) = MemoryCuts p
+Stops s p (Err Memory) = MemoryCuts s p
+Stops s p (Err (_)) = ⊥
 
 -- a run whose end is done, or one that was cut, with its end behind it
 abbrev pub Ran : Start → List Entry → Type 0

@@ -13,7 +13,7 @@ ghost use Rattle.wx_action.specs.Jobs.{jobs};
 ghost use Rattle.wx_action.specs.Due.{agenda, begin_of, Open};
 ghost use Rattle.wx_action.specs.Told.{is_last, TellsNoEnd};
 ghost use Rattle.wx_action.specs.Laws.{IsBatched, AreBatches, NoneUrgentWaits, MomentsRise};
-ghost use Rattle.wx_action.specs.Answer.{Answers};
+ghost use Rattle.wx_action.specs.Answer.{NoneIsToGo, MemoryCuts, Answers};
 ghost use Rattle.wx_job.specs.Faults.{Counted, CountsOn};
 ghost use Rattle.wx_action.specs.Leads.{Follows};
 ghost use Rattle.wx_action.specs.Stands.{Stands, AtTurn, HasRoom, Works, end_room};
@@ -59,6 +59,7 @@ pub(crate) fn begin(
     ensures none { jobs journal.new.past ≡ [] }
     ensures room { IfOk result (λ worker. end_room worker ≡ 0) }
     ensures calm { NoneUrgentWaits journal.new.past }
+    ensures cut { OnErr result (NoneIsToGo (agenda start journal.new.past)) }
     ensures adds { Adds start journal.old.past journal.new.past }
 {
     let Watchexec {
@@ -96,6 +97,7 @@ fn serve<W: World, H: Hooks>(
     ensures works { IfOk result (λ worked. Works start worked journal.new.past) }
     ensures last { IfOk result (λ worked. worked ≡ Worked.On → is_last kind ≡ false) }
     ensures error { IfErr result (λ error. error ≡ WantOfMemory) }
+    ensures cut { OnErr result (MemoryCuts start journal.new.past) }
     ensures calm { NoneUrgentWaits journal.old.past → NoneUrgentWaits journal.new.past }
 {
     match kind {

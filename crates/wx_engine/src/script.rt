@@ -1,6 +1,7 @@
 // What is written down for a run.
 use crate::answers::Answers;
 use std::alloc::Global;
+use wx_config::RuntimeError;
 use wx_events::{Copies, Event, List, Memory, Priority, Spelled, Text, Words};
 use wx_journal::{Act, Turn};
 
@@ -57,6 +58,8 @@ pub struct Script {
     pub turns: List<ScriptTurn>,
     /// What the action handler asks for: the acts of its first call, of its second, and so on.
     pub actions: List<List<Act<Wanted>>>,
+    /// What the filter answers: to its first call, to its second, and so on.
+    pub filters: List<Result<bool, RuntimeError>>,
     /// What the host answers.
     pub answers: Answers,
     /// The moment of the last turn that is written down, in nanoseconds, 0 where there is none.

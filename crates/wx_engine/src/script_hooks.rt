@@ -1,29 +1,34 @@
 // Hooks in memory, which follow a script.
-ghost use Rattle.std.specs.Prelude.{◌≡◌, ◌++◌, ◌∷◌, [], false, Some, List, IfOk, OnOk, option_map};
+ghost use Rattle.std.specs.Prelude.{◌≡◌, ◌++◌, ◌∷◌, [], ◌+◌, min, length, get_or, Bool, true, false, Some, Ok as Well, List, IfOk, OnOk, option_map};
 ghost use Rattle.std.specs.List.{find};
 ghost use Rattle.wx_journal.specs.declared.entry.Act.TheVariants.{Ask as Asks};
 ghost use Rattle.wx_engine.specs.Wishes.{ScriptAct as AnAct};
 ghost use Rattle.wx_journal.specs.Told.{anywhere, is_hooks};
-ghost use Rattle.wx_engine.specs.Answered.{IsAnswered, AreUsed};
-ghost use Rattle.wx_engine.specs.Acted.{is_made, AreMade, performed, with_create, with_ask, with_act, hands};
-ghost use Rattle.wx_engine.specs.FollowLaws.{uses_over, hands_among};
+ghost use Rattle.wx_engine.specs.Answered.{AreUsed};
+ghost use Rattle.wx_engine.specs.Acted.{is_made, AreMade, performed, with_create, with_ask, with_act, hands, filters, Wished, IsWished};
+ghost use Rattle.wx_engine.specs.FollowLaws.{uses_over, hands_among, filters_among};
 
 use crate::replies::{line, passed};
 use crate::script::{Script, Wanted};
 use std::alloc::Global;
 use wx_action::{ActionHandler, CreateRefused, Hooks, JobHooks};
 use wx_command::Command;
+use wx_config::RuntimeError;
 use wx_control::{Ask, Controls, Id, Job};
-use wx_events::{Copies, List, Memory};
+use wx_events::{Copies, Event, List, Memory, Priority};
 use wx_journal::{Act, Entry, Journal};
 
-/// Hooks that ask in each call of the action handler for the next acts of a script, and for nothing after them. Where
-/// memory is wanted for an act they are short, quit, and leave out the acts behind it. They tell their entries.
+/// Hooks that ask in each call of the action handler for the next acts of a script, and for nothing after them, and answer
+/// each call of the filter by the next answer of the script, and let every event after them pass. Where memory is wanted for
+/// an act they are short, quit, and leave out the acts behind it. Where it is wanted for an answer they are short, and answer
+/// the error `Memory`. They tell their entries.
 #[derive(Drop, Debug)]
 pub struct ScriptHooks {
     alloc: Global,
     actions: List<List<Act<Wanted>>>,
     used: usize,
+    filters: List<Result<bool, RuntimeError>>,
+    asked: usize,
     told: Journal,
     is_short: bool,
 }
@@ -32,7 +37,8 @@ impl ScriptHooks {
     /// Hooks that follow this script, before the first call. It fails only for want of memory.
     pub fn new(alloc: Global, script: &Script) -> Result<ScriptHooks, Memory>
         ensures plan { IfOk result (λ hooks. hooks.actions ≡ script.now.actions) }
-        ensures stands { IfOk result (λ hooks. AreUsed hands hooks.actions hooks.used []) }
+        ensures filters { IfOk result (λ hooks. hooks.filters ≡ script.now.filters) }
+        ensures stands { IfOk result (λ hooks. AreUsed hands hooks.actions hooks.used [] × AreUsed filters hooks.filters hooks.asked []) }
         ensures told { IfOk result (λ hooks. hooks.told.past ≡ []) }
         ensures short { IfOk result (λ hooks. hooks.is_short ≡ false) }
     {
@@ -40,6 +46,8 @@ impl ScriptHooks {
             alloc,
             actions: script.actions.copy(alloc)?,
             used: 0,
+            filters: copy_answers(alloc, &script.filters)?,
+            asked: 0,
             told: Journal::new(alloc)?,
             is_short: false,
         })
@@ -54,22 +62,42 @@ impl ScriptHooks {
 }
 
 impl JobHooks for ScriptHooks {
-    ghost Plan = { List (List AnAct) };
+    ghost Plan = { Wished };
 
-    ghost seen = { λ s. record { plan = s.actions; told = Some s.told.past; spare = s.told.spare; short = s.is_short; place = [] } };
+    ghost seen = { λ s. record { plan = record { actions = s.actions; filters = s.filters }; told = Some s.told.past; spare = s.told.spare; short = s.is_short; place = [] } };
 
-    ghost rule = { λ lines p e. IsAnswered hands lines p e };
+    ghost rule = { λ plan p e. IsWished plan p e };
 
-    ghost stands = { λ s p. AreUsed hands s.actions s.used p };
+    ghost stands = { λ s p. AreUsed hands s.actions s.used p × AreUsed filters s.filters s.asked p };
 
     fn reserve(&mut self, n: u64) -> Result<(), Memory> {
         self.told.reserve(n)
     }
 
-    ghost stands_other = { λ s p e _ other. uses_over hands (anywhere is_hooks) hands_among s.actions s.used p e other };
+    ghost stands_other = { λ s p e _ other stands. (uses_over hands (anywhere is_hooks) hands_among s.actions s.used p e other stands.0, uses_over filters (anywhere is_hooks) filters_among s.filters s.asked p e other stands.1) };
 }
 
 impl Hooks for ScriptHooks {
+    fn check_event(
+        &mut self,
+        n: u32,
+        name: u64,
+        _event: &Event,
+        _priority: Priority,
+    ) -> Result<bool, RuntimeError> {
+        let usual = Ok(true);
+        let due = line(&self.filters, self.asked, &usual);
+        let (answer, told, short) = answer_and_told(self.alloc, due);
+        self.is_short = self.is_short || short;
+        self.asked = passed(&self.filters, self.asked);
+        self.told.push(Entry::Filter {
+            n,
+            name,
+            answer: told,
+        });
+        answer
+    }
+
     fn action(&mut self, n: u32, handler: &mut ActionHandler<'_>) {
         let none = List::new(self.alloc);
         let acts = line(&self.actions, self.used, &none).as_slice();
@@ -80,6 +108,58 @@ impl Hooks for ScriptHooks {
         self.used = passed(&self.actions, self.used);
         let entry = handler.hand(n);
         self.told.push(entry);
+    }
+}
+
+/// The answer of a filter once more. It fails only for want of memory.
+fn copy_answer(
+    alloc: Global,
+    answer: &Result<bool, RuntimeError>,
+) -> Result<Result<bool, RuntimeError>, Memory>
+    ensures { IfOk result (λ again. again ≡ answer.now) }
+{
+    match answer {
+        Ok(passes) => Ok(Ok(*passes)),
+        Err(error) => Ok(Err(error.copy(alloc)?)),
+    }
+}
+
+/// These answers once more. It fails only for want of memory.
+fn copy_answers(
+    alloc: Global,
+    answers: &List<Result<bool, RuntimeError>>,
+) -> Result<List<Result<bool, RuntimeError>>, Memory>
+    ensures { IfOk result (λ again. again ≡ answers.now) }
+{
+    let mut again = Vec::new(alloc);
+    for answer in answers.as_slice() {
+        again.push(copy_answer(alloc, answer)?)?;
+    }
+    Ok(List::from_vec(again))
+}
+
+/// The answer of a filter twice. It fails only for want of memory.
+fn copy_twice(
+    alloc: Global,
+    answer: &Result<bool, RuntimeError>,
+) -> Result<(Result<bool, RuntimeError>, Result<bool, RuntimeError>), Memory>
+    ensures { IfOk result (λ both. (both.0 ≡ answer.now) × (both.1 ≡ answer.now)) }
+{
+    let first = copy_answer(alloc, answer)?;
+    Ok((first, copy_answer(alloc, answer)?))
+}
+
+/// The answer of a filter twice, to be given and to be told, or that there was no memory, and that this was so.
+fn answer_and_told(
+    alloc: Global,
+    answer: &Result<bool, RuntimeError>,
+) -> (Result<bool, RuntimeError>, Result<bool, RuntimeError>, bool)
+    ensures told { result.1 ≡ result.0 }
+    ensures answer { result.2 ≡ false → result.0 ≡ answer.now }
+{
+    match copy_twice(alloc, answer) {
+        Ok((given, told)) => (given, told, false),
+        Err(_) => (Err(RuntimeError::Memory), Err(RuntimeError::Memory), true),
     }
 }
 

@@ -9,7 +9,7 @@ ghost use Rattle.wx_job.specs.Laws.{IsReaping, AfterFaults};
 ghost use Rattle.wx_config.specs.Defaults.{default_config};
 ghost use Rattle.wx_action.specs.Start.{Start, IsSize, IsStart, is_absolute};
 ghost use Rattle.wx_action.specs.Journal.{turn_count, early_count};
-ghost use Rattle.wx_action.specs.Laws.{IsBatched, AreBatches, NoneUrgentWaits, MomentsRise, AreMadeOnce, AreServed};
+ghost use Rattle.wx_action.specs.Laws.{IsBatched, AreBatches, NoneUrgentWaits, NoneUnseenIsShown, MomentsRise, AreMadeOnce, AreServed};
 ghost use Rattle.wx_action.specs.Answer.{Answers};
 ghost use Rattle.wx_job.specs.Faults.{Counted};
 ghost use Rattle.wx_engine.specs.Sent.{Refuses};
@@ -139,6 +139,7 @@ impl Watchexec {
         ensures batches { AreBatches self journal.new.past }
         ensures never_lost { NoneUrgentWaits journal.new.past }
         ensures moments { MomentsRise journal.new.past }
+        ensures shown { NoneUnseenIsShown journal.new.past }
         ensures ids { AreMadeOnce journal.new.past }
         ensures served { AreServed self journal.new.past }
 

@@ -1,5 +1,5 @@
 -- Printed entries and an end line are the text of these entries and of this answer alone.
-use Rattle.std.proofs.Common.{◌≡◌, ℕ, ◌^◌, ◌<◌, Option, None, Some, List, [], ◌∷◌, ◌++◌, sym, ap, ◌∙◌, append_assoc, refl}
+use Rattle.std.proofs.Common.{◌≡◌, ℕ, ◌^◌, ◌<◌, Bool, Option, None, Some, Result, List, [], ◌∷◌, ◌++◌, sym, ap, ◌∙◌, append_assoc, refl}
 use Rattle.std.specs.Prelude.{codes}
 use Rattle.std.specs.List.{flat_map, AllByRecursion}
 use Rattle.std.proofs.lemmas.List.{append-nil}
@@ -13,7 +13,8 @@ use Rattle.wx_words.specs.CleanLaws.{items_clean, words_back, line_back}
 use Rattle.wx_words.specs.EachLaws.{each_append}
 use Rattle.wx_words.specs.ToEndLaws.{all_again}
 use Rattle.wx_journal.specs.declared.entry.Entry.{Entry}
-use Rattle.wx_journal.specs.declared.entry.Entry.TheVariants.{Take, Hand}
+use Rattle.wx_journal.specs.declared.entry.Entry.TheVariants.{Take, Filter, Hand}
+use Rattle.wx_config.specs.declared.runtime.RuntimeError.{RuntimeError}
 use Rattle.wx_control.specs.Ids.{id}
 use Rattle.wx_journal.specs.Acts.{act, act_has_word}
 use Rattle.wx_journal.specs.Entries.{entry, hand, entry_words, read_entry, EntryFits}
@@ -112,3 +113,7 @@ same_answer a b lost gone fa fb fl fg e =
 pub take_fits : (name : ℕ) → EntryFits (Take name) → name < 2 ^ 64
 unfolding entry
 take_fits name fits = fits
+
+pub filter_fits : (n name : ℕ) (answer : Result Bool RuntimeError) → EntryFits (Filter n name answer) → name < 2 ^ 64
+unfolding entry both
+filter_fits n name answer fits = fits.1.0

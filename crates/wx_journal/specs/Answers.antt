@@ -1,12 +1,16 @@
--- What a call on a child answers, as words.
+-- What a call on a child answers, and what a filter does, as words.
 use Rattle.std.proofs.Common.{ℕ, Result, refl}
-use Rattle.std.specs.Prelude.{codes}
+use Rattle.std.specs.Prelude.{Bool, true, false, Ok, Err, List, [], ◌∷◌, codes}
 use Rattle.wx_words.specs.Spellings.{Spelling}
-use Rattle.wx_words.specs.Parts.{line, named, renamed, u32}
+use Rattle.wx_words.specs.Choices.{Row, row, Behind, fields}
+use Rattle.wx_words.specs.ChoiceLaws.{MadeAgain, SpeltSo, choice}
+use Rattle.wx_words.specs.Parts.{line, nothing, named, renamed, u32}
 use Rattle.wx_words.specs.Results.{AreApart, result_of}
 use Rattle.wx_words.specs.Done.{ok}
 use Rattle.wx_events.specs.Ends.{end}
 use Rattle.wx_events.specs.declared.process.ProcessEnd.{ProcessEnd}
+use Rattle.wx_config.specs.Runtime.{runtime}
+use Rattle.wx_config.specs.declared.runtime.RuntimeError.{RuntimeError}
 use Rattle.wx_journal.specs.declared.child.HostFault.{HostFault}
 
 abbrev pub make_fault : ℕ → HostFault
@@ -35,3 +39,29 @@ done = answer_of ok ok_apart
 
 abbrev pub waited : Spelling line (Result ProcessEnd HostFault)
 waited = answer_of end end_apart
+
+-- ---- the answer of a filter: whether the event passes, or why that isn't known
+
+abbrev pub verdict_rows : List (Row line (Result Bool RuntimeError))
+verdict_rows = row (codes "pass") nothing (λ u. Ok true) ∷ row (codes "reject") nothing (λ u. Ok false) ∷ row (codes "fail") runtime Err ∷ []
+
+abbrev pub verdict_word : Result Bool RuntimeError → List ℕ
+verdict_word (Ok true) = codes "pass"
+verdict_word (Ok false) = codes "reject"
+verdict_word (Err error) = codes "fail"
+
+abbrev pub verdict_behind : Result Bool RuntimeError → Behind line
+verdict_behind (Ok true) = fields nothing tt
+verdict_behind (Ok false) = fields nothing tt
+verdict_behind (Err error) = fields runtime error
+
+pub verdict_made : MadeAgain verdict_rows verdict_word verdict_behind
+verdict_made (Ok true) = (_, refl, refl)
+verdict_made (Ok false) = (_, refl, refl)
+verdict_made (Err error) = (_, refl, refl)
+
+pub verdict_so : SpeltSo verdict_rows verdict_word verdict_behind
+verdict_so = search
+
+unfoldable pub verdict : Spelling line (Result Bool RuntimeError)
+verdict = choice verdict_rows verdict_word verdict_behind verdict_made verdict_so refl

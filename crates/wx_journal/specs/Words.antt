@@ -6,22 +6,24 @@ use Rattle.wx_words.specs.Parts.{line, HasWords, keyword}
 use Rattle.wx_journal.specs.declared.child.SpawnTag.{SpawnTag}
 use Rattle.wx_journal.specs.declared.child.SpawnTag.TheVariants.{Default}
 use Rattle.wx_journal.specs.declared.entry.Offered.{Offered}
-use Rattle.wx_journal.specs.declared.entry.Offered.TheVariants.{Queued, Full}
+use Rattle.wx_journal.specs.declared.entry.Offered.TheVariants.{Queued, Full, Closed}
 use Rattle.wx_journal.specs.declared.entry.Entry.{Entry}
-use Rattle.wx_journal.specs.declared.entry.Entry.TheVariants.{Begin, Sent, Turn as Turned, TurnFault, Offer, Word as Said, Take, Hand, Made, Asked, Pick, Spawn, Kill, Wait, Dropped, Raise, Gone}
+use Rattle.wx_journal.specs.declared.entry.Entry.TheVariants.{Begin, Sent, Turn as Turned, TurnFault, Offer, Word as Said, Take, Filter, Hand, Made, Asked, Pick, Spawn, Kill, Wait, Dropped, Raise, Gone}
 use Rattle.wx_journal.specs.declared.entry.Word.{Word}
 use Rattle.wx_journal.specs.declared.entry.Word.TheVariants.{Idle, Ignored}
 
 abbrev pub offered_word : Offered → List ℕ
 offered_word Queued = codes "queued"
 offered_word Full = codes "full"
+offered_word Closed = codes "closed"
 
 abbrev pub offered_all : List Offered
-offered_all = Queued ∷ Full ∷ []
+offered_all = Queued ∷ Full ∷ Closed ∷ []
 
 pub offered_found : HasWords offered_word offered_all
 offered_found Queued = refl
 offered_found Full = refl
+offered_found Closed = refl
 
 unfoldable pub offered : Spelling line Offered
 offered = keyword offered_word offered_all offered_found refl
@@ -67,6 +69,7 @@ is_of_job (TurnFault code) = false
 is_of_job (Offer name item result event priority) = false
 is_of_job (Said word) = false
 is_of_job (Take name) = false
+is_of_job (Filter n name answer) = false
 is_of_job (Hand n names acts) = false
 is_of_job (Made job) = true
 is_of_job (Asked ticket job at c) = true

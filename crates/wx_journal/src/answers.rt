@@ -1,16 +1,19 @@
-// What a call on a child answers, as words.
-ghost use Rattle.std.specs.Prelude.{Result as AResult};
+// What a call on a child answers, and what a filter does, as words.
+ghost use Rattle.std.specs.Prelude.{Result as AResult, Bool, IfOk};
+ghost use Rattle.wx_words.specs.Line.{Reads};
 ghost use Rattle.wx_words.specs.Texts.{text_in};
 ghost use Rattle.wx_words.specs.Forms.{IsForm};
 ghost use Rattle.wx_words.specs.Clean.{AllClean};
 ghost use Rattle.wx_events.specs.declared.process.ProcessEnd.{ProcessEnd as AnEnd};
 ghost use Rattle.wx_journal.specs.declared.child.HostFault.{HostFault as AFault};
-ghost use Rattle.wx_journal.specs.Answers.{done, waited};
+ghost use Rattle.wx_config.specs.declared.runtime.RuntimeError.{RuntimeError as AnError};
+ghost use Rattle.wx_journal.specs.Answers.{done, waited, verdict};
 
 use crate::child::HostFault;
 use std::alloc::Global;
+use wx_config::RuntimeError;
 use wx_events::{Memory, Spelled, Text, Words};
-use wx_words::{put_row, read_rows};
+use wx_words::{Fields, put_row, put_word, read_rows};
 
 #[tactic(auto, unfolding(crate::specs::Answers::fault))]
 impl Spelled for HostFault {
@@ -29,10 +32,50 @@ impl Spelled for HostFault {
     }
 }
 
+/// What a filter answered, lent to be written.
+#[derive(Clone, Copy)]
+pub struct VerdictRef<'a> {
+    pub answer: &'a Result<bool, RuntimeError>,
+}
+
+#[tactic(auto, unfolding(crate::specs::Answers::verdict))]
+impl<'a> Fields for VerdictRef<'a> {
+    ghost use Rattle.wx_journal.specs.Answers.{verdict};
+
+    ghost fits = { λ lent. verdict.fits lent.answer.now };
+
+    ghost words = { λ lent. verdict.words lent.answer.now };
+
+    fn put_fields(&self, out: &mut Text) -> Result<(), Memory> {
+        match self.answer {
+            Ok(true) => put_word(b"pass", out),
+            Ok(false) => put_word(b"reject", out),
+            Err(error) => put_row(b"fail", &error, out),
+        }
+    }
+}
+
+/// Takes the answer of a filter at the front, or loses the place.
+#[tactic(auto, unfolding(crate::specs::Answers::verdict))]
+pub fn read_verdict(
+    alloc: Global,
+    line: &mut Words,
+) -> Result<Option<Result<bool, RuntimeError>>, Memory>
+    ensures { IfOk result (λ x. Reads line.new x (verdict.read line.old)) }
+{
+    read_rows!(alloc, line;
+        b"pass" => Ok(true),
+        b"reject" => Ok(false),
+        b"fail" (error) => Err(error),
+    )
+}
+
 /// Answers are read again from their words, what is read was spelled so, and no word has a space.
 pub fn answers_are_read_again()
     ensures done { IsForm text_in done.fits done.words done.read }
     ensures waited { IsForm text_in waited.fits waited.words waited.read }
+    ensures verdict { IsForm text_in verdict.fits verdict.words verdict.read }
     ensures done_clean { (x : AResult (Unit {0}) AFault) → done.fits x → AllClean (done.words x) }
     ensures waited_clean { (x : AResult AnEnd AFault) → waited.fits x → AllClean (waited.words x) }
+    ensures verdict_clean { (x : AResult Bool AnError) → verdict.fits x → AllClean (verdict.words x) }
 {}

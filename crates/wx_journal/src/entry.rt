@@ -4,7 +4,7 @@ ghost use Rattle.std.specs.Prelude.{◌≡◌, IfOk};
 use crate::child::{HostFault, SpawnTag};
 use std::alloc::Global;
 use wx_command::{Command, Spawnable};
-use wx_config::{WatchedPath, Watcher};
+use wx_config::{RuntimeError, WatchedPath, Watcher};
 use wx_control::{Ask, Control, Id, Level};
 use wx_events::{Copies, Event, List, Memory, Priority, ProcessEnd, TextPath};
 
@@ -37,6 +37,7 @@ pub struct Turn {
 pub enum Offered {
     Queued,
     Full,
+    Closed,
 }
 
 /// What the engine says of a turn, or of an act that a handler asked for, that does nothing else.
@@ -103,6 +104,12 @@ pub enum Entry {
     Word(Word),
     /// An event was taken from the queue.
     Take(u64),
+    /// The event of this name was shown to the filter of this number: whether it passes, or why that isn't known.
+    Filter {
+        n: u32,
+        name: u64,
+        answer: Result<bool, RuntimeError>,
+    },
     /// A batch was handed to the action handler of this number, which asked for these acts.
     Hand {
         n: u32,

@@ -10,7 +10,7 @@ mod kinds;
 mod lines;
 mod words;
 
-pub use answers::answers_are_read_again;
+pub use answers::{VerdictRef, answers_are_read_again, read_verdict};
 pub use child::{HostFault, SpawnTag};
 pub use entry::{Act, Entry, Named, Offered, Turn, TurnKind, Word};
 pub use journal::{Entries, Journal};

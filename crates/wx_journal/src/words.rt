@@ -5,6 +5,7 @@ ghost use Rattle.wx_journal.specs.Entries.{entry_words, EntryFits};
 ghost use Rattle.wx_journal.specs.Words.{is_begin, is_of_job};
 ghost use Rattle.wx_journal.specs.declared.entry.Entry.TheVariants.{Hand};
 
+use crate::answers::VerdictRef;
 use crate::entry::{Act, Entry, Offered, Word};
 use std::alloc::Global;
 use wx_events::{List, Memory, Spelled, Text, Words, put_items};
@@ -20,6 +21,7 @@ impl Spelled for Offered {
         match self {
             Offered::Queued => put_word(b"queued", out),
             Offered::Full => put_word(b"full", out),
+            Offered::Closed => put_word(b"closed", out),
         }
     }
 
@@ -27,6 +29,7 @@ impl Spelled for Offered {
         read_rows!(_alloc, line;
             b"queued" => Offered::Queued,
             b"full" => Offered::Full,
+            b"closed" => Offered::Closed,
         )
     }
 }
@@ -176,6 +179,9 @@ pub fn append_entry(entry: &Entry, out: &mut Text) -> Result<(), Memory>
         } => begin_row(b"offer", &(name, (item, (outcome, (priority, event)))), out),
         Entry::Word(word) => begin_row(b"word", &word, out),
         Entry::Take(name) => begin_row(b"take", &name, out),
+        Entry::Filter { n, name, answer } => {
+            begin_row(b"filter", &(n, (name, VerdictRef { answer })), out)
+        }
         Entry::Hand { n, names, acts } => put_hand(*n, names, acts, out),
         Entry::Made(_)
         | Entry::Asked { .. }

@@ -14,7 +14,7 @@ use Rattle.wx_engine.specs.declared.script.ScriptTurn.TheVariants.{Turn, Fault}
 use Rattle.wx_engine.specs.Follows.{IsScript}
 use Rattle.wx_engine.specs.FollowLaws.{rises_turn, rises_fault, come_more}
 use Rattle.wx_replay.specs.declared.lines.Line.{Line}
-use Rattle.wx_replay.specs.declared.lines.Line.TheVariants.{Nothing, Throttle, Size, Send, Turn as Turned, Fault as Failed, Acts, Spawn, Kill, Wait}
+use Rattle.wx_replay.specs.declared.lines.Line.TheVariants.{Nothing, Throttle, Size, Send, Turn as Turned, Fault as Failed, Acts, Filter, Spawn, Kill, Wait}
 use Rattle.wx_replay.specs.Lines.{can_bring, is_scripted, if_scripted, read_form, line_in}
 use Rattle.wx_replay.specs.Scripts.{start, accepts, step, begun_by, IsScriptOf}
 
@@ -75,6 +75,7 @@ accepts_lawful s t (Failed code) is come e =
     let same : record s { turns = s.turns ++ Fault code ∷ [] } ≡ t = some_same e in
     subst IsScript same (record { size = is.size; sends = is.sends; comes = come_more s.turns (Fault code) is.comes refl; rises = rises_fault s.turns s.last code is.rises })
 accepts_lawful s t (Acts acts) is come e = subst IsScript (some_same e) (record { size = is.size; sends = is.sends; comes = is.comes; rises = is.rises })
+accepts_lawful s t (Filter answer) is come e = subst IsScript (some_same e) (record { size = is.size; sends = is.sends; comes = is.comes; rises = is.rises })
 accepts_lawful s t (Spawn answer) is come e = subst IsScript (some_same e) (record { size = is.size; sends = is.sends; comes = is.comes; rises = is.rises })
 accepts_lawful s t (Kill answer) is come e = subst IsScript (some_same e) (record { size = is.size; sends = is.sends; comes = is.comes; rises = is.rises })
 accepts_lawful s t (Wait answer) is come e = subst IsScript (some_same e) (record { size = is.size; sends = is.sends; comes = is.comes; rises = is.rises })

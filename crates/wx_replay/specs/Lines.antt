@@ -4,23 +4,21 @@ use Rattle.wx_words.specs.Line.{words_of, ◌>>=◌}
 use Rattle.wx_words.specs.Combine.{Reader, read_as, read_rows, whole}
 use Rattle.wx_words.specs.Parts.{number, u32}
 use Rattle.wx_words.specs.ToEnd.{read_to_end}
-use Rattle.wx_journal.specs.Answers.{done, waited}
+use Rattle.wx_journal.specs.Answers.{done, waited, verdict}
 use Rattle.wx_journal.specs.Kinds.{ranked, turn}
 use Rattle.wx_journal.specs.declared.entry.TurnKind.{TurnKind}
-use Rattle.wx_journal.specs.declared.entry.TurnKind.TheVariants.{Arrive, Last}
+use Rattle.wx_journal.specs.declared.entry.TurnKind.TheVariants.{Last}
 use Rattle.wx_engine.specs.Wishes.{script_act}
 use Rattle.wx_replay.specs.declared.lines.Line.{Line}
-use Rattle.wx_replay.specs.declared.lines.Line.TheVariants.{Nothing, Throttle, Size, Send, Turn as Turned, Fault, Acts, Spawn, Kill, Wait}
+use Rattle.wx_replay.specs.declared.lines.Line.TheVariants.{Nothing, Throttle, Size, Send, Turn as Turned, Fault, Acts, Filter, Spawn, Kill, Wait}
 
--- what a script can say that a turn brings: all but an event with tags, and a last turn
+-- what a script can say that a turn brings: all but a last turn
 abbrev pub can_bring : TurnKind → Bool
-can_bring (Arrive event priority) = length event.tags == 0
 can_bring Last = false
 can_bring (_) = true
 
 -- what a script can say
 abbrev pub is_scripted : Line → Bool
-is_scripted (Send event priority) = length event.tags == 0
 is_scripted (Turned turn) = can_bring turn.kind
 is_scripted (_) = true
 
@@ -37,11 +35,12 @@ read_set ws = read_rows set_rows ws
 -- each first word of a line, and how the rest is read
 abbrev pub form_rows : List (List ℕ × Reader Line)
 form_rows =
-    (codes "set", read_set)
+    (codes "action", read_as Acts (read_to_end script_act.read))
+    ∷ (codes "set", read_set)
     ∷ (codes "send", read_as (λ p. Send p.1 p.0) ranked.read)
     ∷ (codes "turn", read_as Turned turn.read)
     ∷ (codes "turnfault", read_as Fault u32.read)
-    ∷ (codes "action", read_as Acts (read_to_end script_act.read))
+    ∷ (codes "filter", read_as Filter verdict.read)
     ∷ (codes "spawn", read_as Spawn done.read)
     ∷ (codes "kill", read_as Kill done.read)
     ∷ (codes "wait", read_as Wait waited.read)

@@ -21,6 +21,23 @@ status_of (Err (IoError about err)) = Critical
 status_of (Err NoMemory) = Memory
 status_of (Err (_)) = Critical
 
+-- a text was written whole
+abbrev pub IsWritten : Status → Type 0
+IsWritten Done = ⊤
+IsWritten Critical = ⊤
+IsWritten NoScript = ⊤
+IsWritten Usage = ⊥
+IsWritten ReadFault = ⊥
+IsWritten WriteFault = ⊥
+IsWritten Memory = ⊥
+
+-- the text is this journal with this answer, which fit, and the status is that of the answer
+pub record IsShown (journal : List Entry) (answer : Answer) (text : List ℕ) (status : Status) : Type 0 where
+  pub fits : JournalFits journal × AnswerFits answer
+  pub text_is : text ≡ printed journal answer
+  pub status_is : status ≡ status_of answer
+  pub written : IsWritten status
+
 -- The text is the journal of a run that follows the script, with its answer, and the status is that of this answer. It is
 -- the text of no other journal and answer.
 pub record IsReplay (s : Script) (text : List ℕ) (status : Status) : Type 0 where
@@ -42,16 +59,6 @@ pub data ReplaysRead (bytes text : List ℕ) (status : Status) : Type 0 where
 pub record Replays (limit : ℕ) (bytes : List ℕ) (text : List ℕ) (status : Status) : Type 0 where
   pub too_long : limit < length bytes → (text ≡ codes "too long\n") × (status ≡ NoScript)
   pub script : length bytes ≤ limit → ReplaysRead bytes text status
-
--- a text was written whole
-abbrev pub IsWritten : Status → Type 0
-IsWritten Done = ⊤
-IsWritten Critical = ⊤
-IsWritten NoScript = ⊤
-IsWritten Usage = ⊥
-IsWritten ReadFault = ⊥
-IsWritten WriteFault = ⊥
-IsWritten Memory = ⊥
 
 -- What a replay did with its source, by its status. Where it wrote a text whole it read these bytes, to their end if they
 -- are within the limit.

@@ -7,11 +7,11 @@ use Rattle.wx_engine.specs.declared.script.ScriptTurn.TheVariants.{Turn, Fault}
 use Rattle.wx_engine.specs.HostCalls.{no_answers}
 use Rattle.wx_replay.specs.Lines.{line_in}
 use Rattle.wx_replay.specs.declared.lines.Line.{Line}
-use Rattle.wx_replay.specs.declared.lines.Line.TheVariants.{Nothing, Throttle, Size, Send, Turn as Turned, Fault as Failed, Acts, Spawn, Kill, Wait}
+use Rattle.wx_replay.specs.declared.lines.Line.TheVariants.{Nothing, Throttle, Size, Send, Turn as Turned, Fault as Failed, Acts, Filter, Spawn, Kill, Wait}
 
 -- the script of no lines
 abbrev pub start : Script
-start = record { throttle = default_config.throttle; size = default_config.event_channel_size; sends = []; turns = []; actions = []; answers = no_answers; last = 0 }
+start = record { throttle = default_config.throttle; size = default_config.event_channel_size; sends = []; turns = []; actions = []; filters = []; answers = no_answers; last = 0 }
 
 -- the script with what one more line says, where that can stand there
 abbrev pub accepts : Script → Line → Option Script
@@ -22,6 +22,7 @@ accepts s (Send event priority) = if length s.turns == 0 && nat_lt (length s.sen
 accepts s (Turned turn) = if nat_le s.last turn.at then Some (record s { turns = s.turns ++ Turn turn ∷ []; last = turn.at }) else None
 accepts s (Failed code) = Some (record s { turns = s.turns ++ Fault code ∷ [] })
 accepts s (Acts acts) = Some (record s { actions = s.actions ++ acts ∷ [] })
+accepts s (Filter answer) = Some (record s { filters = s.filters ++ answer ∷ [] })
 accepts s (Spawn answer) = Some (record s { answers = record s.answers { spawns = s.answers.spawns ++ answer ∷ [] } })
 accepts s (Kill answer) = Some (record s { answers = record s.answers { kills = s.answers.kills ++ answer ∷ [] } })
 accepts s (Wait answer) = Some (record s { answers = record s.answers { waits = s.answers.waits ++ answer ∷ [] } })

@@ -4,9 +4,10 @@ ghost use Rattle.wx_words.specs.Line.{Reads};
 ghost use Rattle.wx_replay.specs.Lines.{can_bring, is_scripted, read_set, read_form, line_in};
 
 use std::alloc::Global;
+use wx_config::RuntimeError;
 use wx_engine::Wanted;
 use wx_events::{Event, List, Memory, Priority, ProcessEnd, Spelled, Words};
-use wx_journal::{Act, HostFault, Turn, TurnKind};
+use wx_journal::{Act, HostFault, Turn, TurnKind, read_verdict};
 use wx_words::{read_result, read_rows, read_to_end};
 
 /// What a line of a script says.
@@ -26,6 +27,8 @@ pub enum Line {
     Fault(u32),
     /// The action handler asks for this in one call.
     Acts(List<Act<Wanted>>),
+    /// The filter answers this.
+    Filter(Result<bool, RuntimeError>),
     /// The host answers this to a spawn.
     Spawn(Result<(), HostFault>),
     /// The host answers this to a kill.
@@ -34,12 +37,11 @@ pub enum Line {
     Wait(Result<ProcessEnd, HostFault>),
 }
 
-/// Whether a script can say that a turn brings this: all but an event with tags, and a last turn.
+/// Whether a script can say that a turn brings this: all but a last turn.
 fn can_bring(kind: &TurnKind) -> bool
     ensures { result ≡ can_bring kind.now }
 {
     match kind {
-        TurnKind::Arrive(event, _) => event.is_empty(),
         TurnKind::Last => false,
         _ => true,
     }
@@ -50,7 +52,6 @@ fn is_scripted(said: &Line) -> bool
     ensures { result ≡ is_scripted said.now }
 {
     match said {
-        Line::Send(event, _) => event.is_empty(),
         Line::Turn(turn) => can_bring(&turn.kind),
         _ => true,
     }
@@ -73,11 +74,12 @@ fn take_form(alloc: Global, line: &mut Words) -> Result<Option<Line>, Memory>
     ensures { IfOk result (λ said. Reads line.new said (read_form line.old)) }
 {
     read_rows!(alloc, line;
+        b"action" (acts = read_to_end) => Line::Acts(acts),
         b"set" (said = take_set) => said,
         b"send" (priority, event) => Line::Send(event, priority),
         b"turn" (turn) => Line::Turn(turn),
         b"turnfault" (code) => Line::Fault(code),
-        b"action" (acts = read_to_end) => Line::Acts(acts),
+        b"filter" (answer = read_verdict) => Line::Filter(answer),
         b"spawn" (answer = read_result) => Line::Spawn(answer),
         b"kill" (answer = read_result) => Line::Kill(answer),
         b"wait" (answer = read_result) => Line::Wait(answer),
@@ -92,8 +94,11 @@ pub fn line_in(alloc: Global, line: &[u8]) -> Result<Option<Line>, Memory>
         return Ok(Some(Line::Nothing));
     }
     let mut words = Words::new(line);
-    match take_form(alloc, &mut words)? {
-        Some(said) if words.is_done() && is_scripted(&said) => Ok(Some(said)),
-        _ => Ok(None),
+    let Some(said) = take_form(alloc, &mut words)? else {
+        return Ok(None);
+    };
+    if words.is_done() && is_scripted(&said) {
+        return Ok(Some(said));
     }
+    Ok(None)
 }

@@ -1,11 +1,11 @@
 // A script from its bytes to the journal of its run.
-ghost use Rattle.std.specs.Prelude.{◌≡◌, ◌≢◌, ◌⊎◌, ◌++◌, ◌∷◌, [], IfOk, codes, decimal};
+ghost use Rattle.std.specs.Prelude.{◌≡◌, ◌≢◌, ◌⊎◌, ◌++◌, ◌∷◌, [], false, IfOk, codes, decimal};
 ghost use Rattle.std.specs.Io.KnownBytes.{Appends};
 ghost use Rattle.wx_journal.specs.Told.{Rose};
 ghost use Rattle.wx_config.specs.Defaults.{default_config};
 ghost use Rattle.wx_engine.specs.Follows.{IsScript, start_of};
 ghost use Rattle.wx_replay.specs.Causes.{AddsFront};
-ghost use Rattle.wx_replay.specs.Replays.{IsReplay, ReplaysRead, IsWritten, HasRead, HasWritten};
+ghost use Rattle.wx_replay.specs.Replays.{status_of, IsShown, IsReplay, ReplaysRead, IsWritten, HasRead, HasWritten};
 
 use crate::feeding::{LIMIT, Unread, read_all, write_all};
 use crate::script::read_script;
@@ -46,6 +46,45 @@ fn engine_of(alloc: Global, script: &Script) -> Result<Watchexec, Memory>
     Ok(engine)
 }
 
+/// The status of a run that answered this. It fails where memory was wanted.
+fn status_of(answer: &Result<(), CriticalError>) -> Result<Status, Memory>
+    ensures status { IfOk result (λ status. status ≡ status_of answer.now) }
+    ensures written { IfOk result (λ status. IsWritten status) }
+{
+    match answer {
+        Ok(()) => Ok(Status::Done),
+        Err(CriticalError::Memory) => Err(Memory),
+        Err(_) => Ok(Status::Critical),
+    }
+}
+
+/// The text of the journal of a run with its end line, and the status of the run.
+fn shown(
+    alloc: Global,
+    journal: &Journal,
+    answer: &Result<(), CriticalError>,
+) -> Result<(Text, Status), Memory>
+    ensures { IfOk result (λ r. IsShown journal.now.past answer.now r.0 r.1) }
+{
+    let status = status_of(answer)?;
+    Ok((print_journal(alloc, journal, answer)?, status))
+}
+
+/// The same, where no memory was wanted for an act or an answer of the script.
+fn shown_if_whole(
+    alloc: Global,
+    short: bool,
+    journal: &Journal,
+    answer: Result<(), CriticalError>,
+) -> Result<(Text, Status), Memory>
+    ensures { IfOk result (λ r. (short ≡ false) × IsShown journal.now.past answer r.0 r.1) }
+{
+    if short {
+        return Err(Memory);
+    }
+    shown(alloc, journal, &answer)
+}
+
 /// Runs a script. The text is the journal of the run with its end line.
 fn play(alloc: Global, script: &Script) -> Result<(Text, Status), Memory>
     requires { IsScript script.now }
@@ -57,16 +96,7 @@ fn play(alloc: Global, script: &Script) -> Result<(Text, Status), Memory>
     let mut hooks = ScriptHooks::new(alloc, script)?;
     let mut journal = Journal::new(alloc)?;
     let answer = engine.main(alloc, &mut world, &mut hooks, &mut journal);
-    let status = match &answer {
-        Ok(()) => Status::Done,
-        Err(CriticalError::Memory) => return Err(Memory),
-        Err(_) => Status::Critical,
-    };
-    if hooks.short() {
-        return Err(Memory);
-    }
-    let text = print_journal(alloc, &journal, &answer)?;
-    Ok((text, status))
+    shown_if_whole(alloc, hooks.short(), &journal, answer)
 }
 
 /// The text about a bad line.

@@ -25,6 +25,7 @@ fn start(alloc: Global) -> Script
         sends: List::new(alloc),
         turns: List::new(alloc),
         actions: List::new(alloc),
+        filters: List::new(alloc),
         answers: Answers::new(alloc),
         last: 0,
     }
@@ -93,6 +94,10 @@ fn add(script: &mut Script, said: Line) -> Result<bool, Memory>
         }
         Line::Acts(acts) => {
             script.actions.push(acts)?;
+            Ok(true)
+        }
+        Line::Filter(answer) => {
+            script.filters.push(answer)?;
             Ok(true)
         }
         Line::Spawn(answer) => {

@@ -4,13 +4,14 @@ use std::num::{NonZeroI32, NonZeroI64};
 use std::process::Abort;
 use std::test::Fail;
 use wx_command::{Command, Program, SpawnOptions, Spawnable};
-use wx_config::{WatchedPath, Watcher};
+use wx_config::{RuntimeError, WatchedPath, Watcher};
 use wx_control::{Ask, Control, Id, Level};
 use wx_events::{
     Copies, Event, List, Memory, Priority, ProcessEnd, Signal, Spelled, Text, TextPath, Words,
 };
 use wx_journal::{
-    Act, Entry, HostFault, Journal, Offered, SpawnTag, Turn, TurnKind, Word, put_entry,
+    Act, Entry, HostFault, Journal, Offered, SpawnTag, Turn, TurnKind, VerdictRef, Word, put_entry,
+    read_verdict,
 };
 use wx_words::{Fields, ResultRef, read_result};
 
@@ -184,12 +185,98 @@ fn entries_of_events(rt: HostRuntime) -> Result<(), Fail> {
         priority: Priority::Low,
     };
     expect_line(&rt, alloc, offer, b"offer 1 - full low 0")?;
+    let late = Entry::Offer {
+        name: 2,
+        item: None,
+        result: Offered::Closed,
+        event: event(alloc),
+        priority: Priority::High,
+    };
+    expect_line(&rt, alloc, late, b"offer 2 - closed high 0")?;
     let hand = Entry::Hand {
         n: 0,
         names: List::from_vec(vec![in alloc; 0, 1]?),
         acts: List::from_vec(vec![in alloc; Act::Quit]?),
     };
     expect_line(&rt, alloc, hand, b"hand 0 2 0 1 quit")?;
+    Ok(())
+}
+
+/// Event 3 was shown to filter 1, which answered so.
+fn filter(answer: Result<bool, RuntimeError>) -> Entry {
+    Entry::Filter {
+        n: 1,
+        name: 3,
+        answer,
+    }
+}
+
+#[test]
+fn entries_of_filters(rt: HostRuntime) -> Result<(), Fail> {
+    let alloc = rt.alloc();
+    let kind = Text::from_slice(alloc, b"glob")?;
+    let err = Text::from_slice(alloc, b"bad rule")?;
+    let bad = RuntimeError::Filterer { kind, err };
+    expect_line(&rt, alloc, filter(Ok(true)), b"filter 1 3 pass")?;
+    expect_line(&rt, alloc, filter(Ok(false)), b"filter 1 3 reject")?;
+    expect_line(
+        &rt,
+        alloc,
+        filter(Err(RuntimeError::Exit)),
+        b"filter 1 3 fail exit",
+    )?;
+    let line = b"filter 1 3 fail filterer glob bad%20rule";
+    expect_line(&rt, alloc, filter(Err(bad)), line)?;
+    Ok(())
+}
+
+/// The words of an answer of a filter, each behind a space.
+fn verdict_words(alloc: Global, answer: &Result<bool, RuntimeError>) -> Result<Text, Memory> {
+    let mut text = Text::new(alloc);
+    VerdictRef { answer }.put_fields(&mut text)?;
+    Ok(text)
+}
+
+/// Whether this whole line is the answer of a filter, and is written so again. The answer is dropped by generic code, which
+/// is quicker to prove.
+fn is_verdict(alloc: Global, line: &[u8]) -> Result<bool, Memory> {
+    let mut words = Words::new(line);
+    let found = read_verdict(alloc, &mut words)?;
+    let written = match &found {
+        Some(answer) => verdict_words(alloc, answer),
+        None => Ok(Text::new(alloc)),
+    };
+    drop(found);
+    let written = written?;
+    let mut behind = Text::from_slice(alloc, b" ")?;
+    behind.append(line)?;
+    Ok(words.is_done() && written == behind)
+}
+
+#[test]
+fn what_filters_answer(rt: HostRuntime) -> Result<(), Fail> {
+    let alloc = rt.alloc();
+    let answers: [&[u8]; 5] = [
+        b"pass",
+        b"reject",
+        b"fail exit",
+        b"fail filterer glob bad%20rule",
+        b"fail memory",
+    ];
+    for line in answers {
+        assert!(rt; is_verdict(alloc, line)?, "at {line:?}");
+    }
+    let others: [&[u8]; 6] = [
+        b"",
+        b"passes",
+        b"pass 0",
+        b"reject exit",
+        b"fail",
+        b"fail no",
+    ];
+    for line in others {
+        assert!(rt; !is_verdict(alloc, line)?, "at {line:?}");
+    }
     Ok(())
 }
 

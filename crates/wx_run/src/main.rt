@@ -2,15 +2,9 @@
 #![tactic(auto)]
 
 #[cfg(test)]
-mod action_tests;
-#[cfg(test)]
-mod engine_tests;
-#[cfg(test)]
 mod feeding_tests;
 #[cfg(test)]
 mod journal_tests;
-#[cfg(test)]
-mod own_hooks;
 #[cfg(test)]
 mod random;
 #[cfg(test)]

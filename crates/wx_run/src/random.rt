@@ -19,9 +19,11 @@ struct Counts {
     faults: u32,
     queued: u32,
     full: u32,
+    closed: u32,
     idle: u32,
     ignored: u32,
     takes: u32,
+    filters: u32,
     hands: u32,
     made: u32,
     gone: u32,
@@ -56,6 +58,7 @@ impl Counts {
             Some(b"offer") => self.add_offer(&mut words),
             Some(b"word") => self.add_word(&mut words),
             Some(b"take") => up(&mut self.takes),
+            Some(b"filter") => up(&mut self.filters),
             Some(b"hand") => up(&mut self.hands),
             Some(b"made") => up(&mut self.made),
             Some(b"gone") => up(&mut self.gone),
@@ -71,6 +74,7 @@ impl Counts {
         match words.next() {
             Some(b"queued") => up(&mut self.queued),
             Some(b"full") => up(&mut self.full),
+            Some(b"closed") => up(&mut self.closed),
             _ => up(&mut self.others),
         }
     }
@@ -93,11 +97,37 @@ struct Action {
     quits: bool,
 }
 
-/// What is due where each event that is taken is handed at once, and no job is asked anything.
+/// What a filter answers.
+#[derive(Clone, Copy)]
+enum Verdict {
+    Pass,
+    Reject,
+    Fail,
+    Exit,
+}
+
+impl Verdict {
+    /// The line of this answer.
+    fn line(self) -> &'static [u8] {
+        match self {
+            Verdict::Pass => b"filter pass\n",
+            Verdict::Reject => b"filter reject\n",
+            Verdict::Fail => b"filter fail filterer a b\n",
+            Verdict::Exit => b"filter fail exit\n",
+        }
+    }
+}
+
+/// What is due where each event that passes is handed at once, and no job is asked anything. Of the events that wait some are
+/// urgent. Either each other event has a tag, or none has.
 #[derive(Drop)]
 struct Rules {
     size: u32,
     waiting: u32,
+    urgent: u32,
+    is_tagged: bool,
+    verdicts: Vec<Verdict>,
+    is_closed: bool,
     actions: Vec<Action>,
     fault: Option<u32>,
     is_over: bool,
@@ -106,9 +136,17 @@ struct Rules {
 
 impl Rules {
     /// An event is sent before the run.
-    fn send(&mut self) {
+    fn send(&mut self, is_urgent: bool) {
         up(&mut self.counts.sent);
+        self.wait(is_urgent);
+    }
+
+    /// An event waits.
+    fn wait(&mut self, is_urgent: bool) {
         up(&mut self.waiting);
+        if is_urgent {
+            up(&mut self.urgent);
+        }
     }
 
     /// Gives a turn, and says whether there was one to give.
@@ -120,12 +158,14 @@ impl Rules {
     }
 
     /// A turn that brings an event.
-    fn arrive(&mut self) {
+    fn arrive(&mut self, is_urgent: bool) {
         if !self.turn() {
             return;
         }
-        if self.waiting < self.size {
-            up(&mut self.waiting);
+        if self.is_closed {
+            up(&mut self.counts.closed);
+        } else if self.waiting < self.size {
+            self.wait(is_urgent);
             up(&mut self.counts.queued);
         } else {
             up(&mut self.counts.full);
@@ -137,16 +177,42 @@ impl Rules {
         if !self.turn() {
             return;
         }
-        if self.waiting == 0 {
+        if self.is_closed {
+            self.is_over = true;
+        } else if self.waiting == 0 {
             up(&mut self.counts.idle);
-            return;
+        } else {
+            self.waiting -= 1;
+            self.take();
         }
-        self.waiting -= 1;
+    }
+
+    /// An event is taken, an urgent one where there is one, and handed where it passes.
+    fn take(&mut self) {
+        up(&mut self.counts.takes);
+        if self.urgent > 0 {
+            self.urgent -= 1;
+            self.hand();
+        } else if !self.is_tagged || self.passes() {
+            self.hand();
+        }
+    }
+
+    /// Whether the filter lets an event pass.
+    fn passes(&mut self) -> bool {
+        let next = self.verdicts.get(self.counts.filters as usize).copied();
+        let verdict = next.unwrap_or(Verdict::Pass);
+        up(&mut self.counts.filters);
+        self.is_closed = matches!(verdict, Verdict::Exit);
+        matches!(verdict, Verdict::Pass)
+    }
+
+    /// An event is handed.
+    fn hand(&mut self) {
         if let Some(action) = self.actions.get(self.counts.hands as usize) {
             self.counts.made = self.counts.made.saturating_add(action.creates);
             self.is_over = action.quits;
         }
-        up(&mut self.counts.takes);
         up(&mut self.counts.hands);
     }
 
@@ -216,6 +282,7 @@ struct Draft {
     moment: u64,
     is_urgent: bool,
     written: usize,
+    answered: usize,
     rules: Rules,
 }
 
@@ -228,16 +295,26 @@ impl Draft {
             moment: 0,
             is_urgent: false,
             written: 0,
+            answered: 0,
             rules: Rules {
                 size: 0,
                 waiting: 0,
+                urgent: 0,
+                is_tagged: false,
+                verdicts: Vec::new(alloc),
+                is_closed: false,
                 actions: Vec::new(alloc),
                 fault: None,
                 is_over: false,
                 counts: Counts::default(),
             },
         };
+        draft.rules.is_tagged = draft.draw(3) > 0;
         draft.put_head()?;
+        for _ in 0..draft.draw(6) {
+            let verdict = draft.draw_verdict();
+            draft.rules.verdicts.push(verdict)?;
+        }
         for _ in 0..draft.draw(6) {
             let action = draft.draw_action(alloc)?;
             draft.rules.actions.push(action)?;
@@ -281,17 +358,31 @@ impl Draft {
         Ok(action)
     }
 
-    /// The priority of an event.
-    fn draw_priority(&mut self) -> &'static [u8] {
-        if self.is_urgent {
-            return b"urgent 0\n";
+    /// What the filter answers to a call. It asks for the end less often.
+    fn draw_verdict(&mut self) -> Verdict {
+        match self.draw(9) {
+            0..=3 => Verdict::Pass,
+            4 | 5 => Verdict::Reject,
+            6 | 7 => Verdict::Fail,
+            _ => Verdict::Exit,
         }
-        match self.draw(4) {
-            0 => b"low 0\n",
-            1 => b"normal 0\n",
-            2 => b"high 0\n",
-            _ => b"urgent 0\n",
-        }
+    }
+
+    /// An event with its priority. It answers whether it is urgent.
+    fn put_event(&mut self) -> Result<bool, Memory> {
+        let rank = if self.is_urgent { 3 } else { self.draw(4) };
+        self.text.append(match rank {
+            0 => b"low ",
+            1 => b"normal ",
+            2 => b"high ",
+            _ => b"urgent ",
+        })?;
+        self.text.append(if self.rules.is_tagged {
+            b"1 unknown\n"
+        } else {
+            b"0\n"
+        })?;
+        Ok(rank == 3)
     }
 
     /// A line with a number between its words.
@@ -323,9 +414,8 @@ impl Draft {
         self.put(b"set size ", u64::from(self.rules.size), b"\n")?;
         for _ in 0..self.draw(5).min(self.rules.size) {
             self.text.append(b"send ")?;
-            let priority = self.draw_priority();
-            self.text.append(priority)?;
-            self.rules.send();
+            let is_urgent = self.put_event()?;
+            self.rules.send(is_urgent);
         }
         Ok(())
     }
@@ -343,16 +433,17 @@ impl Draft {
             15 => self.put_ask(),
             16 => self.put_unread(),
             17 => self.put_answer(),
+            18 => self.put_verdict(),
             _ => self.put_action(),
         }
     }
 
     /// An event arrives.
     fn put_arrival(&mut self) -> Result<(), Memory> {
-        self.rules.arrive();
         self.put_turn(b" arrive ")?;
-        let priority = self.draw_priority();
-        self.text.append(priority)
+        let is_urgent = self.put_event()?;
+        self.rules.arrive(is_urgent);
+        Ok(())
     }
 
     /// A job takes a step, which was made or was not.
@@ -410,7 +501,16 @@ impl Draft {
         Ok(())
     }
 
-    /// The actions that are left, and at times a fault with lines behind it.
+    /// The next answer of the filter, where one is left.
+    fn put_verdict(&mut self) -> Result<(), Memory> {
+        if let Some(verdict) = self.rules.verdicts.get(self.answered) {
+            self.text.append(verdict.line())?;
+            self.answered = self.answered.saturating_add(1);
+        }
+        Ok(())
+    }
+
+    /// The actions and answers of the filter that are left, and at times a fault with lines behind it.
     fn put_tail(&mut self) -> Result<(), Memory> {
         if self.draw(4) == 0 {
             let code = self.rng.next_u32();
@@ -422,6 +522,9 @@ impl Draft {
         }
         for _ in 0..self.rules.actions.len() {
             self.put_action()?;
+        }
+        for _ in 0..self.rules.verdicts.len() {
+            self.put_verdict()?;
         }
         self.rules.end();
         Ok(())

@@ -99,6 +99,35 @@ fn reads_lines_about_jobs(rt: HostRuntime) {
     }
 }
 
+/// How many sends, turns and answers of the filter the script of these bytes has.
+fn filter_counts(alloc: Global, bytes: &[u8]) -> Option<(usize, usize, usize)> {
+    let script = script_in(alloc, bytes)?;
+    Some((script.sends.len(), script.turns.len(), script.filters.len()))
+}
+
+#[test]
+fn reads_lines_about_filters(rt: HostRuntime) {
+    let alloc = rt.alloc();
+    let table: [(&[u8], (usize, usize, usize)); 4] = [
+        (b"filter pass\nfilter reject\n", (0, 0, 2)),
+        (
+            b"filter fail exit\nfilter fail filterer glob bad%20rule\nfilter fail memory\n",
+            (0, 0, 3),
+        ),
+        (
+            b"send normal 2 process 7 signal quit\nfilter pass\nturn 0 arrive low 1 path /a%20b dir\n",
+            (1, 1, 1),
+        ),
+        (
+            b"turn 0 arrive urgent 3 kind create.file source os key ctrl.char.a\nfilter pass\n",
+            (0, 1, 1),
+        ),
+    ];
+    for (bytes, want) in table {
+        assert!(rt; filter_counts(alloc, bytes) == Some(want), "at {bytes:?}");
+    }
+}
+
 #[test]
 fn refuses_lines_about_jobs(rt: HostRuntime) {
     let alloc = rt.alloc();
@@ -158,7 +187,7 @@ fn counts_lines_to_the_first_bad_one(rt: HostRuntime) {
 #[test]
 fn refuses_lines(rt: HostRuntime) {
     let alloc = rt.alloc();
-    let table: [&[u8]; 25] = [
+    let table: [&[u8]; 32] = [
         b"set size 0\n",
         b"set size 65537\n",
         b"set size 4294967296\n",
@@ -173,8 +202,15 @@ fn refuses_lines(rt: HostRuntime) {
         b"turn 0 work \n",
         b"turn 0 work\r\n",
         b"turn 0 arrive normal\n",
-        b"turn 0 arrive normal 1 unknown\n",
-        b"send normal 1 unknown\n",
+        b"turn 0 arrive normal 1\n",
+        b"turn 0 arrive normal 0 unknown\n",
+        b"send normal 1 process\n",
+        b"send normal 2 unknown\n",
+        b"filter\n",
+        b"filter passes\n",
+        b"filter pass 0\n",
+        b"filter fail\n",
+        b"filter fail filterer glob\n",
         b"send normal\n",
         b"send middle 0\n",
         b"send normal 00\n",

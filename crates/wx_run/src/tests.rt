@@ -169,7 +169,7 @@ fn what_is_no_script(rt: HostRuntime) -> Result<(), Fail> {
         (b"# c\nturn 0 work\nturn 0 last\n", b"bad line 3\n"),
         (b"turn 00 work\n", b"bad line 1\n"),
         (b"turn 1 work\nturn 0 work\n", b"bad line 2\n"),
-        (b"turn 0 arrive normal 1 process 1\n", b"bad line 1\n"),
+        (b"turn 0 arrive normal 1 process\n", b"bad line 1\n"),
         (b"turn 0 arrive Normal 0\n", b"bad line 1\n"),
         (b"set size 0\n", b"bad line 1\n"),
         (b"set size 65537\n", b"bad line 1\n"),

@@ -2,7 +2,7 @@ use Rattle.std.proofs.Common.{arith}
 use Rattle.wx_action.specs.Laws.{NoneUrgentWaits}
 use Rattle.wx_action.specs.Due.{after_acts}
 use Rattle.wx_action.specs.Serves.{Continues}
-use Rattle.wx_action.proofs.HandLemmas.{works_by, calm_acts}
+use Rattle.wx_action.proofs.HandLemmas.{works_by, calm_acts, on_err, none_to_go}
 use Rattle.wx_action.proofs.work_turn.hand.Goals.{After-perform}
 use Rattle.wx_action.proofs.Serving.{serves_both, keeps_adds}
 use Rattle.wx_action.proofs.work_turn.hand.Goals as goal
@@ -29,6 +29,9 @@ returns-clause-calm g c = calm g (goal.at.returns-clause-calm g c).After-perform
 
 pub returns-in_err-perform-clause-calm : goal.returns-in_err-perform-clause-calm
 returns-in_err-perform-clause-calm g c = calm g (goal.at.returns-in_err-perform-clause-calm g c).After-perform
+
+pub returns-in_err-perform-clause-cut : goal.returns-in_err-perform-clause-cut
+returns-in_err-perform-clause-cut g c = on_err c.from_residual.result (none_to_go g.start c.perform.new.journal.past _ (after_acts c.hand_batch-ends.result.0) (c.perform.ensures.owes (after_acts c.hand_batch-ends.result.0) c.hand_batch-ends.ensures.owes).1)
 
 pub returns-clause-works : goal.returns-clause-works
 returns-clause-works g c =

@@ -21,6 +21,7 @@ loop-item-init g c =
       room = c.in_ok-worker.ensures.room;
       due = b.due ∙ ap sends (sym all);
       count = b.count;
+      takes = b.takes;
       adds = adds _ _ _ b.follows b.quiet b.turns;
     }
 
@@ -33,7 +34,7 @@ send-requires g c =
     let rest_is : List (Event × Priority) = drop (c.loop-item.item-index + 1) c.as_slice-item-items.result.now in
     let lt : length (bag c.loop-item.journal.past) < g.start.config.event_channel_size =
     omega (arith, c.loop-item.invariant.count, ap (λ (xs : List (Event × Priority)). length xs) c.loop-item.invariant.all, c.loop-item.invariant.is_start.events, c.loop-item-test.true) in
-    ((rest_is, n ∙ ap (λ (e : Event). Sends e c.item-item.result.1 rest_is) (sym c.in_ok-event.ensures)), (c.loop-item.invariant.stands, lt))
+    ((rest_is, n ∙ ap (λ (e : Event). Sends e c.item-item.result.1 rest_is) (sym c.in_ok-event.ensures)), (c.loop-item.invariant.stands, (lt, c.loop-item.invariant.takes)))
 
 pub returns-in_err-send-clause-calm : goal.returns-in_err-send-clause-calm
 returns-in_err-send-clause-calm g c = rw c.in_err-send.ensures.err (calm_begun g.start c.args.journal.now.past _ _ c.requires.1 c.loop-item.invariant.adds c.loop-item.invariant.due)
@@ -48,6 +49,7 @@ loop-item-preserved g c =
       room = c.send.ensures.grows.end_kept ∙ c.loop-item.invariant.room;
       due = c.in_ok-send.ensures.done ∙ ap (rest _) n;
       count = c.in_ok-send.ensures.bag ∙ ap (λ n. n + 1) c.loop-item.invariant.count;
+      takes = c.send.ensures.takes;
       adds = adds_then _ _ _ _ c.loop-item.invariant.adds c.send.ensures.grows.adds;
     }
 

@@ -1,5 +1,5 @@
-use Rattle.std.proofs.Common.{◌≡◌, length, drop}
-use Rattle.wx_action.specs.Journal.{bag}
+use Rattle.std.proofs.Common.{◌≡◌, false, length, drop}
+use Rattle.wx_action.specs.Journal.{closed, bag}
 use Rattle.wx_action.specs.Due.{agenda, sends}
 use Rattle.wx_action.specs.Serves.{Adds}
 use Rattle.wx_action.specs.Stands.{Stands, end_room}
@@ -17,5 +17,6 @@ invariant-loop-item g l = record {
   room : end_room l.worker ≡ 0;
   due : agenda g.start l.journal.past ≡ sends (drop l.item-index l.item-items);
   count : length (bag l.journal.past) ≡ l.item-index;
+  takes : closed l.journal.past ≡ false;
   adds : Adds g.start l.fn.journal.past l.journal.past;
 }

@@ -12,7 +12,7 @@ use Rattle.wx_engine.proofs.RunLemmas.{stopped, broken, wants}
 use Rattle.wx_engine.proofs.running.run.Goals as goal
 
 pub returns-in_err-about-clause-answers : goal.returns-in_err-about-clause-answers
-returns-in_err-about-clause-answers g c = wants g.start c.args.journal.now.past c.from_residual.result c.from_residual.ensures.1 (rw c.requires.1.1.1 (broken g.start [] tt refl))
+returns-in_err-about-clause-answers g c = wants g.start c.args.journal.now.past c.from_residual.result c.from_residual.ensures.1 (rw c.requires.1.1.1 (broken g.start [] tt refl tt))
 
 pub returns-in_err-about-clause-lists : goal.returns-in_err-about-clause-lists
 returns-in_err-about-clause-lists g c = rw c.requires.1.1.1 (record { world_told = refl; hooks_told = refl; turns_told = refl; count = omega arith; early = omega arith; host_faults = counted_from [] _ [] _ (λ p n before. before) })
@@ -26,7 +26,7 @@ returns-in_err-about-clause-promised g c = rw c.requires.1.1.1 (promised (λ h. 
 -- ---- the beginning alone
 
 pub returns-in_err-state-clause-answers : goal.returns-in_err-state-clause-answers
-returns-in_err-state-clause-answers g c = wants g.start c.begin.new.journal.past c.from_residual-in_err-state.result c.from_residual-in_err-state.ensures.1 (broken g.start c.begin.new.journal.past (begun_run g.start _ _ c.requires.1.1.1 c.begin.ensures.adds) c.begin.ensures.none)
+returns-in_err-state-clause-answers g c = wants g.start c.begin.new.journal.past c.from_residual-in_err-state.result c.from_residual-in_err-state.ensures.1 (broken g.start c.begin.new.journal.past (begun_run g.start _ _ c.requires.1.1.1 c.begin.ensures.adds) c.begin.ensures.none c.in_err-state.ensures.cut)
 
 pub returns-in_err-state-clause-lists : goal.returns-in_err-state-clause-lists
 returns-in_err-state-clause-lists g c =

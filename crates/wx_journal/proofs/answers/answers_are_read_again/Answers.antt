@@ -1,4 +1,4 @@
-use Rattle.wx_journal.specs.Answers.{done, waited}
+use Rattle.wx_journal.specs.Answers.{done, waited, verdict}
 use Rattle.wx_journal.proofs.answers.answers_are_read_again.Goals as goal
 
 pub returns-clause-done : goal.returns-clause-done
@@ -12,3 +12,9 @@ returns-clause-done_clean c = done.clean
 
 pub returns-clause-waited_clean : goal.returns-clause-waited_clean
 returns-clause-waited_clean c = waited.clean
+
+pub returns-clause-verdict : goal.returns-clause-verdict
+returns-clause-verdict c = verdict.form
+
+pub returns-clause-verdict_clean : goal.returns-clause-verdict_clean
+returns-clause-verdict_clean c = verdict.clean

@@ -9,7 +9,7 @@ overflow_add-self g c =
 
 done : (g : _) (c : goal.After-push g) → Steps g.start (record c.args.self.now { queue = c.offer_to.new.queue; named = c.args.self.now.named + 1 }) c.args.journal.now.past c.push.new.self.past
 done g c =
-    send_done g.start c.args.self.now c.args.journal.now.past c.push.new.self.past c.args.event c.args.priority _ c.offer_to.new.queue c.offer_to.result c.requires.1.0 c.requires.0.1 c.requires.1.1
+    send_done g.start c.args.self.now c.args.journal.now.past c.push.new.self.past c.args.event c.args.priority _ c.offer_to.new.queue c.offer_to.result c.requires.1.0 c.requires.0.1 c.requires.1.1.0 c.requires.1.1.1
     (rw c.in_ok-twice.ensures at c.offer_to.ensures.offered) c.offer_to.ensures.size c.offer_to.ensures.closed (rw c.in_ok-reserve.ensures.same at c.push.ensures.past)
 
 pub returns-clause-grows : goal.returns-clause-grows

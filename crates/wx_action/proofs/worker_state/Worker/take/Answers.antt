@@ -1,19 +1,44 @@
-use Rattle.std.proofs.Common.{refl}
+use Rattle.std.proofs.Common.{refl, ap, arith}
+use Rattle.wx_action.specs.Stands.{end_room}
 use Rattle.wx_action.proofs.ArriveLemmas.{grows}
-use Rattle.wx_action.proofs.WorkLemmas.{not_empty, TakeDone, take_done}
+use Rattle.wx_action.proofs.Serving.{hand_grows, hand_then}
+use Rattle.wx_action.proofs.WorkLemmas.{not_empty, TakeDone, take_done, IsToShow, to_show}
+use Rattle.wx_action.proofs.worker_state.Worker.take.Goals.{Else-is_unseen, After-join}
 use Rattle.wx_action.proofs.worker_state.Worker.take.Goals as goal
 
 pub unreachable-requires : goal.unreachable-requires
-unreachable-requires g c = not_empty g.start c.args.self.now c.args.journal.now.past c.requires.1.1.1.0 c.in_default.ensures.none c.requires.1.0
+unreachable-requires g c = not_empty g.start c.args.self.now c.args.journal.now.past c.requires.1.1.1.1.0 c.in_default.ensures.none c.requires.1.1.0
 
-done : (g : _) (c : goal.After-due_or_kept g) → TakeDone g.start (record c.args.self.now { queue = c.try_recv.new.self; batch = c.push.new.self; first = c.begun-self.result }) c.args.journal.now.past c.push-2.new.self.past c.due_or_kept.result
+-- ---- it passes unseen
+
+done : (g : _) (c : After-join g) → TakeDone g.start c.join.new.self c.args.journal.now.past c.push.new.self.past c.join.result
 done g c =
-    take_done g.start c.args.self.now c.args.journal.now.past c.push-2.new.self.past c.args.at c.begun-self.result (c.in-Some.item, c.in-Some.priority) c.try_recv.new.self c.push.new.self c.due_or_kept.result
-    c.requires.1.1.1.0 c.requires.0 c.requires.1.1.0 c.in-Some.ensures.taken c.in-Some.ensures.greatest c.try_recv.ensures.size c.try_recv.ensures.closed
-    (rw c.is_empty.ensures at c.begun-self.ensures) c.push.ensures.names c.push.ensures.events (rw (c.is_urgent.ensures, c.is_over.ensures) at c.due_or_kept.ensures) c.push-2.ensures.past
+    rw c.join.ensures.same
+    (take_done g.start c.args.self.now c.args.journal.now.past c.push.new.self.past c.args.at c.join.new.self.first (c.in-Some.item, c.in-Some.priority) c.try_recv.new.self c.join.new.self.batch c.join.result
+    c.requires.1.1.1.1.0 c.requires.1.0 c.requires.1.1.1.0 c.in-Some.ensures.taken c.in-Some.ensures.greatest c.try_recv.ensures.size c.try_recv.ensures.closed
+    (rw c.is_unseen.ensures at c.if-is_unseen.true) c.join.ensures.first c.join.ensures.names c.join.ensures.events c.join.ensures.found c.push.ensures.past)
+
+pub returns-then-is_unseen-clause-grows : goal.returns-then-is_unseen-clause-grows
+returns-then-is_unseen-clause-grows g c = hand_grows _ _ _ _ c.args.self.now _ _ _ _ (grows g.start c.args.self.now _ _ _ (done g c).steps (ap (λ w. end_room w) c.join.ensures.same))
+
+pub returns-then-is_unseen-clause-collected : goal.returns-then-is_unseen-clause-collected
+returns-then-is_unseen-clause-collected g c = (done g c).collected
+
+-- ---- it is shown to the filter
+
+shows : (g : _) (c : Else-is_unseen g) → IsToShow g.start (record c.args.self.now { queue = c.try_recv.new.self }) c.args.journal.now.past c.push.new.self.past c.args.at (c.in-Some.item, c.in-Some.priority)
+shows g c =
+    to_show g.start c.args.self.now c.args.journal.now.past c.push.new.self.past c.args.at (c.in-Some.item, c.in-Some.priority) c.try_recv.new.self
+    c.requires.1.1.1.1.0 c.requires.1.0 c.requires.1.1.1.0 c.in-Some.ensures.taken c.in-Some.ensures.greatest c.try_recv.ensures.size c.try_recv.ensures.closed
+    (rw c.is_unseen.ensures at c.if-is_unseen.false) c.push.ensures.past
+
+pub judge-requires : goal.judge-requires
+judge-requires g c = λ κs lives.
+    let s = shows g (goal.at.judge-requires g c).Else-is_unseen in
+    (lives, (s.due, (s.is_listed, (s.now, (s.steps.stands, (omega (arith, c.requires.1.1.1.1.1.0, c.push.ensures.room), (c.requires.1.1.1.1.1.1.0, c.requires.1.1.1.1.1.1.1)))))))
 
 pub returns-clause-grows : goal.returns-clause-grows
-returns-clause-grows g c = grows _ _ _ _ _ (done g c).steps refl
+returns-clause-grows g c = hand_then _ _ _ _ _ _ _ _ _ _ _ _ (hand_grows _ _ _ _ c.args.self.now _ _ _ _ (grows g.start c.args.self.now _ _ _ (shows g (goal.at.returns-clause-grows g c).Else-is_unseen).steps refl)) c.judge.ensures.grows
 
 pub returns-clause-collected : goal.returns-clause-collected
-returns-clause-collected g c = (done g c).collected
+returns-clause-collected g c = (shows g (goal.at.returns-clause-collected g c).Else-is_unseen).collects _ _ c.judge.ensures.judged

@@ -1,5 +1,5 @@
 use Rattle.wx_action.proofs.ReapLaws.{ran_reaps}
-use Rattle.wx_engine.proofs.MainLaws.{answered_ran, ran_makes_once, ran_is_served}
+use Rattle.wx_engine.proofs.MainLaws.{answered_ran, ran_shows, ran_makes_once, ran_is_served}
 use Rattle.wx_engine.proofs.watchexec.Watchexec.main.Goals as goal
 
 pub returns-clause-ran : goal.returns-clause-ran
@@ -13,6 +13,9 @@ returns-clause-none_runs g c = (ran_reaps c.args.self _ c.run.result c.run.ensur
 
 pub returns-clause-after_faults : goal.returns-clause-after_faults
 returns-clause-after_faults g c = (ran_reaps c.args.self _ c.run.result c.run.ensures.answers).failed
+
+pub returns-clause-shown : goal.returns-clause-shown
+returns-clause-shown g c = ran_shows c.args.self _ (answered_ran c.args.self _ c.run.result c.run.ensures.answers)
 
 pub returns-clause-ids : goal.returns-clause-ids
 returns-clause-ids g c = ran_makes_once c.args.self _ (answered_ran c.args.self _ c.run.result c.run.ensures.answers)

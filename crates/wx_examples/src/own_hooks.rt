@@ -6,8 +6,9 @@ use std::alloc::Global;
 use std::test::Fail;
 use wx_action::{ActionHandler, Hooks, JobHooks};
 use wx_command::{Command, Program, SpawnOptions};
+use wx_config::RuntimeError;
 use wx_control::{Id, Job};
-use wx_events::{Copies, List, Memory, Text, cut};
+use wx_events::{Copies, Event, List, Memory, Priority, Text, cut};
 use wx_journal::put_entry;
 
 /// What hooks do in a call.
@@ -44,6 +45,16 @@ impl JobHooks for Own {
 }
 
 impl Hooks for Own {
+    fn check_event(
+        &mut self,
+        _n: u32,
+        _name: u64,
+        _event: &Event,
+        _priority: Priority,
+    ) -> Result<bool, RuntimeError> {
+        Ok(true)
+    }
+
     fn action(&mut self, _n: u32, handler: &mut ActionHandler<'_>) {
         self.is_right = act(self.alloc, self.does, handler).unwrap_or(false);
     }

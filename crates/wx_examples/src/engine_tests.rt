@@ -7,7 +7,7 @@ use std::alloc::Global;
 use std::test::Fail;
 use wx_action::{Hooks, Host, JobHooks, World, print_journal};
 use wx_command::{SpawnOptions, Spawnable};
-use wx_config::Config;
+use wx_config::{Config, RuntimeError};
 use wx_control::{Flag, Id};
 use wx_engine::{Script, ScriptHooks, ScriptWorld, SendRefused, Watchexec};
 use wx_events::{Event, List, Memory, Priority, ProcessEnd, Tag, Text, TextPath, cut};
@@ -69,6 +69,23 @@ fn hooks_are_made(rt: HostRuntime) -> Result<(), Fail> {
     let mut hooks = ScriptHooks::new(rt.alloc(), &script)?;
     hooks.reserve(2)?;
     assert!(rt; !hooks.short());
+    Ok(())
+}
+
+#[test]
+fn the_filter_answers_in_order(rt: HostRuntime) -> Result<(), Fail> {
+    let script = script_of(rt.alloc(), b"filter reject\nfilter fail exit\n")?;
+    let mut hooks = ScriptHooks::new(rt.alloc(), &script)?;
+    let event = Event {
+        tags: List::new(rt.alloc()),
+    };
+    hooks.reserve(3)?;
+    let first = hooks.check_event(0, 0, &event, Priority::Low);
+    assert!(rt; matches!(first, Ok(false)));
+    let second = hooks.check_event(0, 1, &event, Priority::Low);
+    assert!(rt; matches!(second, Err(RuntimeError::Exit)));
+    let third = hooks.check_event(0, 2, &event, Priority::Low);
+    assert!(rt; matches!(third, Ok(true)));
     Ok(())
 }
 
