@@ -18,7 +18,7 @@ use Rattle.wx_action.specs.Journal.{window}
 use Rattle.wx_action.specs.Jobs.{set, jobs, command, first_end, end}
 use Rattle.wx_action.specs.Due.{Agenda, Ends, settle, agenda, Admits, Due, rest, IsRun}
 use Rattle.wx_action.specs.Answer.{Dying, Alive, Dies}
-use Rattle.wx_action.specs.Laws.{IsBatched, AreBatches, NoneUrgentWaits, NoneUnseenIsShown, AreMadeOnce, AreServed}
+use Rattle.wx_action.specs.Laws.{IsBatched, AreBatches, NoneUrgentWaits, NoneUnseenIsShown, NoneIsShownClosed, AreMadeOnce, AreServed}
 use Rattle.wx_job.specs.Kept.{StaysQuiet, More}
 use Rattle.wx_action.specs.Leads.{Follows as LeadsOn, Then}
 use Rattle.wx_action.specs.Turns.{SameTurns, StaysInTurn}
@@ -36,6 +36,7 @@ pub record KeepsAll (s : Start) (q p : List Entry) : Type 0 where
   pub batches : AreBatches s q → AreBatches s p
   pub calm : NoneUrgentWaits q → NoneUrgentWaits p
   pub shows : NoneUnseenIsShown q → NoneUnseenIsShown p
+  pub shows_open : NoneIsShownClosed q → NoneIsShownClosed p
   pub made_once : AreMadeOnce q → AreMadeOnce p
   pub served : AreServed s q → AreServed s p
   pub same_window : window p ≡ window q
@@ -52,6 +53,7 @@ keeps_one s p (Dropped c) o own = record {
   batches = λ h. h;
   calm = λ h. h;
   shows = λ h. h;
+  shows_open = λ h. h;
   made_once = λ h. h;
   served = λ h. h;
   same_window = refl;
@@ -67,6 +69,7 @@ keeps_one s p (Gone job) o own = record {
   batches = λ h. h;
   calm = λ h. h;
   shows = λ h. h;
+  shows_open = λ h. h;
   made_once = λ h. h;
   served = λ h. h;
   same_window = refl;
@@ -85,6 +88,7 @@ keeps_then s q p r a b = record {
   batches = λ h. b.batches (a.batches h);
   calm = λ h. b.calm (a.calm h);
   shows = λ h. b.shows (a.shows h);
+  shows_open = λ h. b.shows_open (a.shows_open h);
   made_once = λ h. b.made_once (a.made_once h);
   served = λ h. b.served (a.served h);
   same_window = b.same_window ∙ a.same_window;
@@ -98,7 +102,7 @@ keeps_then s q p r a b = record {
 
 pub dying_keeps : (s : Start) (q p : List Entry) → Dying q p → KeepsAll s q p
 dying_keeps s q p l = elim l as (λ p _. KeepsAll s q p) [
-  | Alive ↦ record { batched = λ h. h; batches = λ h. h; calm = λ h. h; shows = λ h. h; made_once = λ h. h; served = λ h. h; same_window = refl; turns = λ p₀ h. h; own = λ h. h; quiet = λ p₀ a. a; same_set = refl; commands = λ id. refl; gone = λ id h. h }
+  | Alive ↦ record { batched = λ h. h; batches = λ h. h; calm = λ h. h; shows = λ h. h; shows_open = λ h. h; made_once = λ h. h; served = λ h. h; same_window = refl; turns = λ p₀ h. h; own = λ h. h; quiet = λ p₀ a. a; same_set = refl; commands = λ id. refl; gone = λ id h. h }
   | Dies e p (l → h) d ↦ keeps_then s q p (e ∷ p) h (keeps_one s p e (of_end p e d) (λ own. (names_end p e own d, own)))
 ]
 

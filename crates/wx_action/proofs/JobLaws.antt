@@ -13,7 +13,7 @@ use Rattle.wx_control.specs.Asks.{sends_of}
 use Rattle.wx_journal.specs.Acts.{JournalAct as Act}
 use Rattle.wx_journal.specs.declared.entry.Act.TheVariants.{Create}
 use Rattle.wx_journal.specs.declared.entry.Entry.{Entry}
-use Rattle.wx_journal.specs.declared.entry.Entry.TheVariants.{Begin, Turn as Turned, TurnFault, Take, Filter, Hand, Made, Gone}
+use Rattle.wx_journal.specs.declared.entry.Entry.TheVariants.{Begin, Turn as Turned, TurnFault, Take, Filter, Show, Hand, Made, Gone}
 use Rattle.wx_journal.specs.Names.{creates, is_created, above, next_job, NamesItsOwn}
 use Rattle.wx_journal.specs.Told.{tell_if, is_world, is_hooks, is_turn}
 use Rattle.wx_job.specs.History.{same, lives, child, is_child}
@@ -271,12 +271,14 @@ agenda_plan s p (Turned t) o = absurd o
 agenda_plan s p (TurnFault code) o = absurd o
 agenda_plan s p (Take name) o = absurd o
 agenda_plan s p (Filter n name answer) o = absurd o
+agenda_plan s p (Show n error wish) o = absurd o
 agenda_plan s p (Hand n names acts) o = absurd o
 agenda_plan s p (_) o = refl
 
 pub calm_plan : (e : Entry) → IsOfPlan e → is_hooks e ≡ false
 calm_plan (Hand n names acts) o = absurd o
 calm_plan (Filter n name answer) o = absurd o
+calm_plan (Show n error wish) o = absurd o
 calm_plan (_) o = refl
 
 -- a journal has its own turns

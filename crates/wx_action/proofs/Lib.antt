@@ -1,5 +1,6 @@
 pub mod ArriveLemmas
 pub mod EndLemmas
+pub mod BreakLemmas
 pub mod HandLemmas
 pub mod HandlerLemmas
 pub mod HeldLemmas

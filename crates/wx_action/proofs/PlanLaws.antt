@@ -10,7 +10,7 @@ use Rattle.wx_control.specs.Asks.{sends_of}
 use Rattle.wx_journal.specs.Acts.{JournalAct as Act}
 use Rattle.wx_journal.specs.declared.entry.Act.TheVariants.{Create, Ask, Quit}
 use Rattle.wx_journal.specs.declared.entry.Entry.{Entry}
-use Rattle.wx_journal.specs.declared.entry.Entry.TheVariants.{Begin, Sent, Turn as Turned, TurnFault, Offer, Take, Filter, Hand, Made, Spawn, Kill, Wait, Dropped, Gone}
+use Rattle.wx_journal.specs.declared.entry.Entry.TheVariants.{Begin, Sent, Turn as Turned, TurnFault, Offer, Take, Filter, Show, Hand, Made, Spawn, Kill, Wait, Dropped, Gone}
 use Rattle.wx_journal.specs.Names.{Names, NamesItsOwn, creates, is_created, next_job}
 use Rattle.wx_job.specs.History.{same, lives, child}
 use Rattle.wx_job.specs.Table.{Plan, Done, adds, step_plan, ask_plan, drop_plan, end_plan}
@@ -38,6 +38,7 @@ plan_fit id (TurnFault code) p s = absurd s
 plan_fit id (Offer name item result event priority) p s = absurd s
 plan_fit id (Take name) p s = absurd s
 plan_fit id (Filter n name answer) p s = absurd s
+plan_fit id (Show n error wish) p s = absurd s
 plan_fit id (Hand n names acts) p s = absurd s
 plan_fit id (_) p s = tt
 

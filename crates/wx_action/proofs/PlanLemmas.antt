@@ -5,7 +5,7 @@ use Rattle.std.specs.List.{AllByRecursion}
 use Rattle.wx_words.specs.EachLaws.{each_weaker}
 use Rattle.wx_control.specs.declared.id.Id.{Id}
 use Rattle.wx_journal.specs.declared.entry.Entry.{Entry}
-use Rattle.wx_journal.specs.declared.entry.Entry.TheVariants.{Begin, Sent, Turn as Turned, TurnFault, Offer, Take, Filter, Hand, Made}
+use Rattle.wx_journal.specs.declared.entry.Entry.TheVariants.{Begin, Sent, Turn as Turned, TurnFault, Offer, Take, Filter, Show, Hand, Made}
 use Rattle.wx_job.specs.Table.{Plan, Done}
 use Rattle.wx_job.specs.Case.{Leads as LeadsOn, Here as Stays, Then as Goes_on}
 use Rattle.wx_job.specs.Laws.{LeavesOthers}
@@ -37,6 +37,7 @@ quiet_entry (TurnFault code) p h = absurd h
 quiet_entry (Offer name item result event priority) p h = absurd h
 quiet_entry (Take name) p h = absurd h
 quiet_entry (Filter n name answer) p h = absurd h
+quiet_entry (Show n error wish) p h = absurd h
 quiet_entry (Hand n names acts) p h = absurd h
 quiet_entry (Made job) p h = absurd h
 quiet_entry (_) p h = record { bag_same = refl; closed_same = refl; count_same = refl; window_same = refl; lookup_same = refl; first_same = refl; set_same = refl; commands_same = λ i. refl }

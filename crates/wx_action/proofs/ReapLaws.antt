@@ -1,5 +1,5 @@
 -- In a run each child of a job is reaped before the next spawn, save a last one, and after the end no child runs.
-use Rattle.std.proofs.Common.{◌≡◌, ℕ, Bool, true, false, cond, List, [], ◌∷◌, Ok, Err, refl, ap, sym, subst, ◌∙◌}
+use Rattle.std.proofs.Common.{◌≡◌, ℕ, Bool, true, false, cond, List, [], ◌∷◌, Ok, Err, inl, inr, refl, ap, sym, subst, ◌∙◌}
 use Rattle.std.specs.Prelude.{Option, None, Some, ◌&&◌, ◌||◌, not}
 use Rattle.wx_control.specs.declared.id.Id.{Id}
 use Rattle.wx_journal.specs.declared.entry.Entry.{Entry}
@@ -14,9 +14,9 @@ use Rattle.wx_job.proofs.Sound.{Goes, goes_gone, gone_child}
 use Rattle.wx_config.specs.declared.error.CriticalError.TheVariants.{IoError, Memory}
 use Rattle.wx_action.specs.Start.{Start}
 use Rattle.wx_action.specs.Jobs.{jobs, first_end}
-use Rattle.wx_action.specs.Due.{Agenda, Begins, Sends, Open, Offers, Says, Takes, Filters, Hands, Plans, Ends, plans, rest, settle, agenda, Admits, Due, IsRun}
+use Rattle.wx_action.specs.Due.{Agenda, Begins, Sends, Open, Offers, Says, Takes, Filters, Shows, Hands, Plans, Ends, Breaks, plans, rest, settle, agenda, Admits, Due, IsRun}
 use Rattle.wx_journal.specs.Lines.{Answer}
-use Rattle.wx_action.specs.Answer.{Dying, Alive, Dies, IsComplete, IsBroken, MemoryCuts, Answers}
+use Rattle.wx_action.specs.Answer.{Dying, Alive, Dies, IsComplete, IsBroken, Wishes, MemoryCuts, Answers}
 use Rattle.wx_action.specs.Orderly.{IsFit, GoneRunNone}
 use Rattle.wx_action.proofs.RunLaws.{orderly, free, free_end}
 use Rattle.wx_action.proofs.JobLaws.{IsIn, in_jobs, is_child_some, one_parent}
@@ -69,6 +69,8 @@ next_dropped s p (Offers v q more) c id e own fit its dropped d = absurd cc
 next_dropped s p (Says word more) c id e own fit its dropped d = absurd cc
 next_dropped s p Takes c id e own fit its dropped d = let is = dropped.1 in absurd cc
 next_dropped s p (Filters m) c id e own fit its dropped d = let is = dropped.1 in absurd cc
+next_dropped s p (Shows m) c id e own fit its dropped d = let is = dropped.1 in absurd cc
+next_dropped s p Breaks c id e own fit its dropped d = absurd dropped
 next_dropped s p Hands c id e own fit its dropped d = let is = dropped.1 in absurd cc
 next_dropped s p (Plans k more) c id e own fit its dropped d =
     let go = (lawful_now p k (Dropped c) dropped fit.0).lets_go in
@@ -207,6 +209,7 @@ broken_reaps place s p b =
 -- whatever a run answers
 pub ran_reaps : (s : Start) (p : List Entry) (answer : Answer) → Answers s p answer → HasReaped p
 ran_reaps s p (Ok u) h = complete_reaps s p h.0
-ran_reaps s p (Err (IoError about err)) h = complete_reaps s p h.0
+ran_reaps s p (Err (IoError about err)) (inl failed) = complete_reaps s p failed.complete
+ran_reaps s p (Err (IoError about err)) (inr broken) = broken_reaps (Wishes (IoError about err)) s p broken
 ran_reaps s p (Err Memory) h = broken_reaps (MemoryCuts s) s p h
-ran_reaps s p (Err (_)) h = absurd h
+ran_reaps s p (Err error) h = broken_reaps (Wishes error) s p h

@@ -1,6 +1,6 @@
 -- The laws of every run, proved.
 use Rattle.std.proofs.Common.{◌≡◌, ℕ, ◌+◌, ◌<◌, Bool, true, false, cond, List, [], ◌∷◌, ◌++◌, length, Ok, arith, refl, ap, sym, subst, ◌∙◌, append_assoc, eq-eqb, ne_eqb}
-use Rattle.std.specs.Prelude.{Option, None, Some, Result, ◌==◌, ◌&&◌, ◌||◌, not}
+use Rattle.std.specs.Prelude.{Option, None, Some, Result, Ok, Err, ◌==◌, ◌&&◌, ◌||◌, not}
 use Rattle.std.specs.Option.{IsSomeAnd}
 use Rattle.std.specs.List.{AllByRecursion}
 use Rattle.std.proofs.lemmas.Bool.{eqb-true, or_left, or_right}
@@ -10,11 +10,14 @@ use Rattle.wx_events.specs.declared.event.Event.{Event}
 use Rattle.wx_events.specs.declared.priority.Priority.{Priority}
 use Rattle.wx_command.specs.declared.command.Command.{Command}
 use Rattle.wx_config.specs.declared.runtime.RuntimeError.{RuntimeError}
+use Rattle.wx_config.specs.declared.runtime.RuntimeError.TheVariants.{Exit}
+use Rattle.wx_config.specs.declared.error.CriticalError.{CriticalError}
+use Rattle.wx_journal.specs.declared.wish.Wish.{Wish}
 use Rattle.wx_control.specs.declared.id.Id.{Id}
 use Rattle.wx_control.specs.declared.ask.Ask.{Ask as AnAsk}
 use Rattle.wx_control.specs.Asks.{sends_of}
 use Rattle.wx_journal.specs.declared.entry.Entry.{Entry}
-use Rattle.wx_journal.specs.declared.entry.Entry.TheVariants.{Begin, Sent, Turn as Turned, TurnFault, Offer, Take, Filter, Hand, Made, Spawn, Wait, Dropped, Gone}
+use Rattle.wx_journal.specs.declared.entry.Entry.TheVariants.{Begin, Sent, Turn as Turned, TurnFault, Offer, Take, Filter, Show, Hand, Made, Spawn, Wait, Dropped, Gone}
 use Rattle.wx_journal.specs.Acts.{JournalAct as Act}
 use Rattle.wx_journal.specs.declared.entry.Named.{Named}
 use Rattle.wx_journal.specs.declared.entry.Offered.{Offered}
@@ -31,8 +34,8 @@ use Rattle.wx_job.proofs.Owners.{either, same-is}
 use Rattle.wx_job.proofs.Always.{always_next}
 use Rattle.wx_action.specs.Start.{Start}
 use Rattle.wx_action.specs.Jobs.{living, parent, jobs, first_end, end, AreLawful, act_plan}
-use Rattle.wx_action.specs.Journal.{listed, passes_unseen, lets_pass, closed, named, bag, one_if, and_one, is_among, unhanded, passed, window, batches, is_over, is_urgent_named, is_urgent_in}
-use Rattle.wx_action.specs.Due.{Agenda, Begins, Sends, Open, Offers, Says, Takes, Filters, Hands, Plans, Ends, sends, plans, rest, job_turn, ended_turn, turn_agenda, after_pass, after_hand, is_quitting, settle, agenda, Admits, Due, IsRun, IsTurn, IsGreatest}
+use Rattle.wx_action.specs.Journal.{listed, passes_unseen, lets_pass, closed, ending, named, bag, one_if, and_one, is_among, unhanded, passed, window, batches, is_over, is_urgent_named, is_urgent_in}
+use Rattle.wx_action.specs.Due.{Agenda, Begins, Sends, Open, Offers, Says, Takes, Filters, Shows, Hands, Plans, Ends, Breaks, sends, plans, rest, job_turn, ended_turn, turn_agenda, after_pass, after_drop, after_show, after_hand, is_quitting, settle, agenda, Admits, Due, IsRun, IsTurn, IsGreatest}
 use Rattle.wx_action.proofs.BagLaws.{AreBelow, bag_facts}
 use Rattle.wx_action.specs.Leads.{Leads, Here, Then, Follows}
 use Rattle.wx_action.specs.Orderly.{IsQuiet, IsFit, IsGoing, GoneRunNone, IsOrderly}
@@ -40,7 +43,7 @@ use Rattle.wx_action.proofs.SettleLaws.{fit_settle, going_calm, going_plans, qui
 use Rattle.wx_action.proofs.PlanLaws.{lawful_now, lawful_step, lawful_ask, lawful_acts, of_end, end_is_plan, end_in_order, names_end}
 use Rattle.wx_action.specs.Lawful.{IsOfPlan, IsOfEnd, IsFree, MadeInOrder, IsLawful, Lawful}
 use Rattle.wx_action.specs.Last.{last_is, last_added}
-use Rattle.wx_action.specs.Laws.{joined, IsBatched, NoneUrgent, UrgentLast, urgent_in, IsBatch, AreBatches, NoneUrgentWaits, NoneUnseenIsShown, AreServed}
+use Rattle.wx_action.specs.Laws.{joined, IsBatched, NoneUrgent, UrgentLast, urgent_in, IsBatch, AreBatches, NoneUrgentWaits, NoneUnseenIsShown, NoneIsShownClosed, AreServed}
 
 -- ---- what an agenda that admits an entry says of it
 
@@ -52,6 +55,8 @@ admits_sent s p (Offers e q more) name event priority d f = absurd cc
 admits_sent s p (Says word more) name event priority d f = absurd cc
 admits_sent s p Takes name event priority d f = let h = d.1 in absurd cc
 admits_sent s p (Filters m) name event priority d f = let h = d.1 in absurd cc
+admits_sent s p (Shows m) name event priority d f = let h = d.1 in absurd cc
+admits_sent s p Breaks name event priority d f = absurd d
 admits_sent s p Hands name event priority d f = let h = d.1 in absurd cc
 admits_sent s p (Plans k more) name event priority d f = absurd (lawful_now p k (Sent name event priority) d f.0).of_plan
 admits_sent s p Ends name event priority d f = absurd (of_end p (Sent name event priority) d)
@@ -64,18 +69,22 @@ admits_offer s p (Offers e q more) name item result event priority d f = (cc, le
 admits_offer s p (Says word more) name item result event priority d f = absurd cc
 admits_offer s p Takes name item result event priority d f = let h = d.1 in absurd cc
 admits_offer s p (Filters m) name item result event priority d f = let h = d.1 in absurd cc
+admits_offer s p (Shows m) name item result event priority d f = let h = d.1 in absurd cc
+admits_offer s p Breaks name item result event priority d f = absurd d
 admits_offer s p Hands name item result event priority d f = let h = d.1 in absurd cc
 admits_offer s p (Plans k more) name item result event priority d f = absurd (lawful_now p k (Offer name item result event priority) d f.0).of_plan
 admits_offer s p Ends name item result event priority d f = absurd (of_end p (Offer name item result event priority) d)
 
-admits_take : (s : Start) (p : List Entry) (k : Agenda) (name : ℕ) → Admits s p k (Take name) → IsFit p k → IsGreatest name (bag p)
+admits_take : (s : Start) (p : List Entry) (k : Agenda) (name : ℕ) → Admits s p k (Take name) → IsFit p k → IsGreatest name (bag p) × (closed p ≡ false)
 admits_take s p Begins name d f = absurd cc
 admits_take s p (Sends e q more) name d f = absurd cc
 admits_take s p Open name d f = absurd d
 admits_take s p (Offers e q more) name d f = absurd cc
 admits_take s p (Says word more) name d f = absurd cc
-admits_take s p Takes name d f = let same : d.0 ≡ name = (let h = d.1 in cc) in subst (λ (m : ℕ). IsGreatest m (bag p)) same d.2
+admits_take s p Takes name d f = let same : d.0 ≡ name = (let h = d.1 in cc) in (subst (λ (m : ℕ). IsGreatest m (bag p)) same d.2, f)
 admits_take s p (Filters m) name d f = let h = d.1 in absurd cc
+admits_take s p (Shows m) name d f = let h = d.1 in absurd cc
+admits_take s p Breaks name d f = absurd d
 admits_take s p Hands name d f = let h = d.1 in absurd cc
 admits_take s p (Plans k more) name d f = absurd (lawful_now p k (Take name) d f.0).of_plan
 admits_take s p Ends name d f = absurd (of_end p (Take name) d)
@@ -88,6 +97,8 @@ admits_hand s p (Offers e q more) n names acts d f = absurd cc
 admits_hand s p (Says word more) n names acts d f = absurd cc
 admits_hand s p Takes n names acts d f = let h = d.1 in absurd cc
 admits_hand s p (Filters m) n names acts d f = let h = d.1 in absurd cc
+admits_hand s p (Shows m) n names acts d f = let h = d.1 in absurd cc
+admits_hand s p Breaks n names acts d f = absurd d
 admits_hand s p Hands n names acts d f = (let h = d.1 in cc, refl, (let h = d.1 in let same : d.0 ≡ acts = cc in subst (AreLawful (next_job p)) same d.2))
 admits_hand s p (Plans k more) n names acts d f = absurd (lawful_now p k (Hand n names acts) d f.0).of_plan
 admits_hand s p Ends n names acts d f = absurd (of_end p (Hand n names acts) d)
@@ -100,9 +111,25 @@ admits_filter s p (Offers e q more) n name answer d f = absurd cc
 admits_filter s p (Says word more) n name answer d f = absurd cc
 admits_filter s p Takes n name answer d f = let h = d.1 in absurd cc
 admits_filter s p (Filters m) n name answer d f = let same : m ≡ name = (let h = d.1 in cc) in ap (λ (i : ℕ). Filters i) same
+admits_filter s p (Shows m) n name answer d f = let h = d.1 in absurd cc
+admits_filter s p Breaks n name answer d f = absurd d
 admits_filter s p Hands n name answer d f = let h = d.1 in absurd cc
 admits_filter s p (Plans k more) n name answer d f = absurd (lawful_now p k (Filter n name answer) d f.0).of_plan
 admits_filter s p Ends n name answer d f = absurd (of_end p (Filter n name answer) d)
+
+admits_show : (s : Start) (p : List Entry) (k : Agenda) (n : ℕ) (error : RuntimeError) (wish : Wish) → Admits s p k (Show n error wish) → IsFit p k → k ≡ Shows error
+admits_show s p Begins n error wish d f = absurd cc
+admits_show s p (Sends e q more) n error wish d f = absurd cc
+admits_show s p Open n error wish d f = absurd d
+admits_show s p (Offers e q more) n error wish d f = absurd cc
+admits_show s p (Says word more) n error wish d f = absurd cc
+admits_show s p Takes n error wish d f = let h = d.1 in absurd cc
+admits_show s p (Filters m) n error wish d f = let h = d.1 in absurd cc
+admits_show s p (Shows m) n error wish d f = let same : m ≡ error = (let h = d.1 in cc) in ap (λ (e : RuntimeError). Shows e) same
+admits_show s p Breaks n error wish d f = absurd d
+admits_show s p Hands n error wish d f = let h = d.1 in absurd cc
+admits_show s p (Plans k more) n error wish d f = absurd (lawful_now p k (Show n error wish) d f.0).of_plan
+admits_show s p Ends n error wish d f = absurd (of_end p (Show n error wish) d)
 
 -- ---- a run names only what its own entries made
 
@@ -184,15 +211,15 @@ some-append : (names : List ℕ) (name : ℕ) → 0 < length (names ++ name ∷ 
 some-append [] name = omega arith
 some-append (x ∷ names) name = omega (arith, some-append names name)
 
-fit_work : (s : Start) (p : List Entry) (at : ℕ) (shut over empty : Bool) → is_over s p at ≡ over → IsFit p (cond shut Ends (cond over Hands (cond empty (Says Idle Open) Takes)))
-fit_work s p at true over empty o = tt
-fit_work s p at false true empty o = window_some (window p) _ o
-fit_work s p at false false true o = tt
-fit_work s p at false false false o = tt
+fit_work : (s : Start) (p : List Entry) (at : ℕ) (shut over empty : Bool) → closed p ≡ shut → is_over s p at ≡ over → IsFit p (cond shut Ends (cond over Hands (cond empty (Says Idle Open) Takes)))
+fit_work s p at true over empty c o = tt
+fit_work s p at false true empty c o = window_some (window p) _ o
+fit_work s p at false false true c o = tt
+fit_work s p at false false false c o = c
 
 fit_turn : (s : Start) (p : List Entry) (kind : TurnKind) (at : ℕ) → NamesItsOwn p → IsFit p (turn_agenda s kind at p)
 fit_turn s p (Arrive event priority) at own = tt
-fit_turn s p Work at own = fit_work s p at (closed p) (is_over s p at) (length (bag p) == 0) refl
+fit_turn s p Work at own = fit_work s p at (closed p) (is_over s p at) (length (bag p) == 0) refl refl
 fit_turn s p (Job id) at own = fit_job p id (living id p) own
 fit_turn s p (Ended c) at own = fit_ended p (parent c p) own
 fit_turn s p (Ask id ask) at own = fit_ask p id ask (lives id p) refl own
@@ -211,15 +238,24 @@ joined_if p name joins is = ap (λ (b : Bool). and_one (window p) (one_if b name
 some-joined : (p : List Entry) (name : ℕ) (joins : Bool) → joins ≡ true → 0 < length (and_one (window p) (one_if joins name))
 some-joined p name joins is = rw (joined_if p name joins is) (some-append (window p) name)
 
-fit_take : (p : List Entry) (name : ℕ) (unseen due : Bool) → passes_unseen name p ≡ unseen → name < event_count p → IsFit (Take name ∷ p) (cond unseen (cond due Hands Open) (Filters name))
-fit_take p name true true is below = some-joined p name (passes_unseen name p) is
-fit_take p name true false is below = tt
-fit_take p name false due is below = (below, is)
+fit_take : (p : List Entry) (name : ℕ) (unseen due : Bool) → passes_unseen name p ≡ unseen → name < event_count p → closed p ≡ false → IsFit (Take name ∷ p) (cond unseen (cond due Hands Open) (Filters name))
+fit_take p name true true is below takes = some-joined p name (passes_unseen name p) is
+fit_take p name true false is below takes = tt
+fit_take p name false due is below takes = (below, is, takes)
 
-fit_filter : (p : List Entry) (n name : ℕ) (answer : Result Bool RuntimeError) (passes due : Bool) → lets_pass answer ≡ passes → IsFit (Filter n name answer ∷ p) (cond passes (cond due Hands Open) Open)
-fit_filter p n name answer true true is = some-joined p name (lets_pass answer) is
-fit_filter p n name answer true false is = tt
-fit_filter p n name answer false due is = tt
+fit_drop : (p : List Entry) (n name : ℕ) (answer : Result Bool RuntimeError) → closed p ≡ false → IsFit (Filter n name answer ∷ p) (after_drop answer)
+fit_drop p n name (Ok passes) takes = tt
+fit_drop p n name (Err Exit) takes = tt
+fit_drop p n name (Err error) takes = takes
+
+fit_filter : (p : List Entry) (n name : ℕ) (answer : Result Bool RuntimeError) (passes due : Bool) → lets_pass answer ≡ passes → closed p ≡ false → IsFit (Filter n name answer ∷ p) (cond passes (cond due Hands Open) (after_drop answer))
+fit_filter p n name answer true true is takes = some-joined p name (lets_pass answer) is
+fit_filter p n name answer true false is takes = tt
+fit_filter p n name answer false due is takes = fit_drop p n name answer takes
+
+fit_show : (p : List Entry) (o : Option CriticalError) → IsFit p (after_show o)
+fit_show p None = tt
+fit_show p (Some error) = tt
 
 -- an agenda that admits an entry that hands no batch owes none
 no_batch : (s : Start) (p : List Entry) (k : Agenda) (e : Entry) → is_hand e ≡ false → Admits s p k e → k ≡ Hands → ⊥
@@ -236,7 +272,9 @@ fit_rest s p Open e d other f = tt
 fit_rest s p (Offers v q more) e d other f = fit_quiet (e ∷ p) more f
 fit_rest s p (Says word more) e d other f = fit_quiet (e ∷ p) more f
 fit_rest s p Takes e d other f = tt
-fit_rest s p (Filters m) e d other f = subst (λ (v : Entry). IsFit (v ∷ p) (Filters m)) (sym d.1) f
+fit_rest s p (Filters m) e d other f = tt
+fit_rest s p (Shows m) e d other f = tt
+fit_rest s p Breaks e d other f = absurd d
 fit_rest s p Hands e d other f = absurd (other refl)
 fit_rest s p (Plans k more) e d other f = fit_plans (e ∷ p) (next k e) more (always_next IsLawful p k e d f.0) f.1
 fit_rest s p Ends e d other f = tt
@@ -260,6 +298,8 @@ next_own s p (Offers v q more) e o d f own made = absurd (subst IsOfPlan d o)
 next_own s p (Says word more) e o d f own made = rw d (record { own = (tt, own); in_order = (tt, made) })
 next_own s p Takes e o d f own made = absurd (subst IsOfPlan d.1 o)
 next_own s p (Filters m) e o d f own made = absurd (subst IsOfPlan d.1 o)
+next_own s p (Shows m) e o d f own made = absurd (subst IsOfPlan d.1 o)
+next_own s p Breaks e o d f own made = absurd d
 next_own s p Hands e o d f own made = absurd (subst IsOfPlan d.1 o)
 next_own s p (Plans k more) e o d f own made = let h = lawful_now p k e d f.0 in record { own = (h.names, own); in_order = (h.in_order, made) }
 next_own s p Ends e o d f own made = record { own = (names_end p e own d, own); in_order = (end_in_order e p (of_end p e d), made) }
@@ -294,6 +334,8 @@ free s p (Offers v q more) e d f = subst (IsFree p) (sym d) tt
 free s p (Says word more) e d f = subst (IsFree p) (sym d) tt
 free s p Takes e d f = subst (IsFree p) (sym d.1) tt
 free s p (Filters m) e d f = subst (IsFree p) (sym d.1) tt
+free s p (Shows m) e d f = subst (IsFree p) (sym d.1) tt
+free s p Breaks e d f = absurd d
 free s p Hands e d f = subst (IsFree p) (sym d.1) tt
 free s p (Plans k more) e d f = (lawful_now p k e d f.0).free
 free s p Ends e d f = free_end p e (of_end p e d) d
@@ -344,6 +386,8 @@ open_at_turn s p (Offers event priority more) e i d f = absurd (subst IsTurn d i
 open_at_turn s p (Says word more) e i d f = absurd (subst IsTurn d i)
 open_at_turn s p Takes e i d f = absurd (subst IsTurn d.1 i)
 open_at_turn s p (Filters m) e i d f = absurd (subst IsTurn d.1 i)
+open_at_turn s p (Shows m) e i d f = absurd (subst IsTurn d.1 i)
+open_at_turn s p Breaks e i d f = absurd d
 open_at_turn s p Hands e i d f = absurd (subst IsTurn d.1 i)
 open_at_turn s p (Plans k more) e i d f = absurd (no_turn e (lawful_now p k e d f.0).of_plan i)
 open_at_turn s p Ends e i d f = absurd (no_turn e (end_is_plan e (of_end p e d)) i)
@@ -375,11 +419,11 @@ orderly_more s (Offer name item result event priority) p d h = record {
   going = going_calm (Offer name item result event priority ∷ p) _ (unquit s p (agenda s p) (Offer name item result event priority) (λ o. o) d h.fit h.going);
 }
 orderly_more s (Take name) p d h =
-    let below : name < event_count p = named_below (event_count p) name (bag p) _ (bag_facts p h.own).below (admits_take s p (agenda s p) name d h.fit) in record {
+    let below : name < event_count p = named_below (event_count p) name (bag p) _ (bag_facts p h.own).below (admits_take s p (agenda s p) name d h.fit).0 in record {
       own = (below, h.own);
       in_order = (tt, h.in_order);
       idle = h.idle;
-      fit = fit_settle (Take name ∷ p) _ (fit_take p name (passes_unseen name p) (is_urgent_named name p || is_over s (Take name ∷ p) (moment p)) refl below);
+      fit = fit_settle (Take name ∷ p) _ (fit_take p name (passes_unseen name p) (is_urgent_named name p || is_over s (Take name ∷ p) (moment p)) refl below (admits_take s p (agenda s p) name d h.fit).1);
       going = going_calm (Take name ∷ p) _ (unquit s p (agenda s p) (Take name) (λ o. o) d h.fit h.going);
     }
 orderly_more s (Filter n name answer) p d h =
@@ -387,9 +431,16 @@ orderly_more s (Filter n name answer) p d h =
       own = (shown.0, h.own);
       in_order = (tt, h.in_order);
       idle = h.idle;
-      fit = fit_settle (Filter n name answer ∷ p) _ (fit_filter p n name answer (lets_pass answer) (is_urgent_named name p || is_over s (Filter n name answer ∷ p) (moment p)) refl);
+      fit = fit_settle (Filter n name answer ∷ p) _ (fit_filter p n name answer (lets_pass answer) (is_urgent_named name p || is_over s (Filter n name answer ∷ p) (moment p)) refl shown.2);
       going = going_calm (Filter n name answer ∷ p) _ (unquit s p (agenda s p) (Filter n name answer) (λ o. o) d h.fit h.going);
     }
+orderly_more s (Show n error wish) p d h = record {
+  own = (tt, h.own);
+  in_order = (tt, h.in_order);
+  idle = h.idle;
+  fit = fit_settle (Show n error wish ∷ p) _ (fit_show (Show n error wish ∷ p) (ending error wish));
+  going = going_calm (Show n error wish ∷ p) _ (unquit s p (agenda s p) (Show n error wish) (λ o. o) d h.fit h.going);
+}
 orderly_more s (Hand n names acts) p d h =
     let a = admits_hand s p (agenda s p) n names acts d h.fit in record {
       own = (subst (AllByRecursion (λ name. name < event_count p)) (sym a.0) (window_below p h.own), h.own);
@@ -501,6 +552,8 @@ waits_rest s p p' (Offers v q more) e f other h = waits_quiet s p' more f h
 waits_rest s p p' (Says word more) e f other h = waits_quiet s p' more f h
 waits_rest s p p' Takes e f other h = h
 waits_rest s p p' (Filters m) e f other h = h
+waits_rest s p p' (Shows m) e f other h = h
+waits_rest s p p' Breaks e f other h = h
 waits_rest s p p' Hands e f other h = absurd (other refl)
 waits_rest s p p' (Plans k more) e f other h = waits_plans s p' (next k e) more f.1 h
 waits_rest s p p' Ends e f other h = h
@@ -537,9 +590,9 @@ waits_pass s p p' name true over is same_urgent u o h = record {
   some = rw is (some-append (window p) name);
   urgent_last = subst (λ (f : ℕ → Bool). UrgentLast f (window p')) (sym same_urgent) (rw is (urgent-append (urgent_in p) (window p) name h));
   in_time = λ calm_last. (
-      let other : last_is (urgent_in p') (window p') ≡ true = subst (λ (f : ℕ → Bool). last_is f (window p') ≡ true) (sym same_urgent) (rw is (last_added (urgent_in p) (window p) name ∙ u)) in
-      let both : true ≡ false = sym other ∙ calm_last in absurd cc
-      );
+    let other : last_is (urgent_in p') (window p') ≡ true = subst (λ (f : ℕ → Bool). last_is f (window p') ≡ true) (sym same_urgent) (rw is (last_added (urgent_in p) (window p) name ∙ u)) in
+    let both : true ≡ false = sym other ∙ calm_last in absurd cc
+  );
 }
 waits_pass s p p' name false true is same_urgent u o h = record {
   some = rw is (some-append (window p) name);
@@ -556,9 +609,18 @@ waits_take : (s : Start) (p : List Entry) (name : ℕ) (unseen : Bool) → passe
 waits_take s p name true is h = waits_pass s p (Take name ∷ p) name (is_urgent_named name p) (is_over s (Take name ∷ p) (moment p)) (joined_if p name (passes_unseen name p) is) refl refl refl h
 waits_take s p name false is h = stays_if p name (passes_unseen name p) is h
 
-waits_filter : (s : Start) (p : List Entry) (n name : ℕ) (answer : Result Bool RuntimeError) (passes : Bool) → lets_pass answer ≡ passes → NoneUrgentWaits p → Waits s (Filter n name answer ∷ p) (cond passes (after_pass s name (Filter n name answer ∷ p)) Open)
+waits_drop : (s : Start) (p : List Entry) (answer : Result Bool RuntimeError) → NoneUrgentWaits p → Waits s p (after_drop answer)
+waits_drop s p (Ok passes) h = h
+waits_drop s p (Err Exit) h = h
+waits_drop s p (Err error) h = h
+
+waits_show : (s : Start) (p : List Entry) (o : Option CriticalError) → NoneUrgentWaits p → Waits s p (after_show o)
+waits_show s p None h = h
+waits_show s p (Some error) h = h
+
+waits_filter : (s : Start) (p : List Entry) (n name : ℕ) (answer : Result Bool RuntimeError) (passes : Bool) → lets_pass answer ≡ passes → NoneUrgentWaits p → Waits s (Filter n name answer ∷ p) (cond passes (after_pass s name (Filter n name answer ∷ p)) (after_drop answer))
 waits_filter s p n name answer true is h = waits_pass s p (Filter n name answer ∷ p) name (is_urgent_named name p) (is_over s (Filter n name answer ∷ p) (moment p)) (joined_if p name (lets_pass answer) is) refl refl refl h
-waits_filter s p n name answer false is h = stays_if p name (lets_pass answer) is h
+waits_filter s p n name answer false is h = waits_drop s (Filter n name answer ∷ p) answer (stays_if p name (lets_pass answer) is h)
 
 -- no urgent event waits before an entry that hands no batch
 calm_before : (s : Start) (p : List Entry) (e : Entry) → Waits s p (agenda s p) → is_hand e ≡ false → Admits s p (agenda s p) e → NoneUrgentWaits p
@@ -579,6 +641,7 @@ waits_more s (Offer name item result event priority) p d o h =
     (subst (λ (m : ℕ). NoneUrgentWaits (Offer m item result event priority ∷ p)) (sym new) (calm-rise (event_count p) (Some (event, priority)) p (window p) (window_below p o.own) (calm_before s p (Offer name item result event priority) h refl d))))
 waits_more s (Take name) p d o h = waits_settle s (Take name ∷ p) _ (waits_take s p name (passes_unseen name p) refl (calm_before s p (Take name) h refl d))
 waits_more s (Filter n name answer) p d o h = waits_settle s (Filter n name answer ∷ p) _ (waits_filter s p n name answer (lets_pass answer) refl (calm_before s p (Filter n name answer) h refl d))
+waits_more s (Show n error wish) p d o h = waits_settle s (Show n error wish ∷ p) _ (waits_show s (Show n error wish ∷ p) (ending error wish) (calm_before s p (Show n error wish) h refl d))
 waits_more s (Hand n names acts) p d o h =
     let none : window (Hand n names acts ∷ p) ≡ [] = window_handed n names acts p (hand_is s p n names acts o d).0 in
     waits_settle s (Hand n names acts ∷ p) _ (waits_plans s (Hand n names acts ∷ p) (act_plan (λ id. lives id p) acts) Open tt (subst (NoneUrgent (urgent_in (Hand n names acts ∷ p))) (sym none) tt))
@@ -605,6 +668,19 @@ run_shows s (Filter n name answer ∷ p) r =
     let shown : IsFit p (Filters name) = subst (IsFit p) (admits_filter s p (agenda s p) n name answer r.0 fit) fit in
     (shown.1, run_shows s p r.1)
 run_shows s (_ ∷ p) r = run_shows s p r.1
+
+-- nothing was shown once the queue was closed
+pub run_shows_open : (s : Start) (p : List Entry) → IsRun s p → NoneIsShownClosed p
+run_shows_open s [] r = tt
+run_shows_open s (Filter n name answer ∷ p) r =
+    let fit = (orderly s p r.1).fit in
+    let shown : IsFit p (Filters name) = subst (IsFit p) (admits_filter s p (agenda s p) n name answer r.0 fit) fit in
+    (shown.2, run_shows_open s p r.1)
+run_shows_open s (Show n error wish ∷ p) r =
+    let fit = (orderly s p r.1).fit in
+    let shown : IsFit p (Shows error) = subst (IsFit p) (admits_show s p (agenda s p) n error wish r.0 fit) fit in
+    (shown, run_shows_open s p r.1)
+run_shows_open s (_ ∷ p) r = run_shows_open s p r.1
 
 -- each turn of a run came where nothing was owed
 pub run_is_served : (s : Start) (p : List Entry) → IsRun s p → AreServed s p

@@ -74,6 +74,10 @@ continues_after seen rule holds s p q r a b c x y z w same only hooks_only h = r
   keeps = λ x₀ p₀ k. h.keeps x₀ p₀ (rw same (Roomy x y p k hooks_only));
 }
 
+-- it continues where only hooks were called
+pub continues_grown : {K Fixed Plan : Type 0} (seen : K → Hooked Fixed) (rule : Fixed → List Entry → Entry → Type 0) (holds : K → List Entry → Type 0) (s : Start) (p p' : List Entry) (a : Seen Plan) (x x' : K) (w : Worker) → GrowsHand seen rule holds s p x w p' x' → Continues seen rule holds s p a x w p' a x'
+continues_grown seen rule holds s p p' a x x' w g = record { stands = g.stands; serves = serves_hand s p p' a (seen x).told (seen x').told g.adds; keeps = g.keeps }
+
 -- and once hooks may have been called
 pub continues_hand : {K Fixed Plan : Type 0} (seen : K → Hooked Fixed) (rule : Fixed → List Entry → Entry → Type 0) (holds : K → List Entry → Type 0) (s : Start) (p q r : List Entry) (a b : Seen Plan) (x y z : K) (v w : Worker) → GrowsHand seen rule holds s p x v q y → Continues seen rule holds s q a y w r b z → Continues seen rule holds s p a x w r b z
 continues_hand seen rule holds s p q r a b x y z v w g h = record {

@@ -1,28 +1,33 @@
 -- A Work turn.
-use Rattle.std.proofs.Common.{◌≡◌, ℕ, Bool, true, false, cond, List, [], ◌∷◌, ◌++◌, length, refl, arith, ap, sym, subst, ◌∙◌}
+use Rattle.std.proofs.Common.{◌≡◌, ◌≤◌, ℕ, ◌+◌, Bool, true, false, cond, List, [], ◌∷◌, ◌++◌, length, inl, inr, refl, arith, ap, sym, subst, ◌∙◌}
 use Rattle.std.proofs.lemmas.Bool.{eqb-true}
 use Rattle.std.specs.Prelude.{Option, None, Some, Result, Ok, Err, is_some, ◌==◌, ◌||◌}
 use Rattle.wx_events.specs.declared.event.Event.{Event}
 use Rattle.wx_events.specs.declared.priority.Priority.{Priority}
 use Rattle.wx_events.specs.Priority.{is_urgent}
 use Rattle.wx_config.specs.declared.runtime.RuntimeError.{RuntimeError}
+use Rattle.wx_config.specs.declared.runtime.RuntimeError.TheVariants.{Exit}
+use Rattle.wx_config.specs.declared.error.CriticalError.{CriticalError}
+use Rattle.wx_config.specs.declared.error.CriticalError.TheVariants.{Memory as WantOfMemory}
+use Rattle.wx_journal.specs.declared.wish.Wish.{Wish}
 use Rattle.prio_channel.specs.Channel.{Channel, AllAtMost}
 use Rattle.prio_channel.specs.SameBag.{Takes}
 use Rattle.prio_channel.proofs.BagLaws.{same-length}
 use Rattle.wx_journal.specs.declared.entry.Entry.{Entry}
-use Rattle.wx_journal.specs.declared.entry.Entry.TheVariants.{Word as Said, Take, Filter}
+use Rattle.wx_journal.specs.declared.entry.Entry.TheVariants.{Word as Said, Take, Filter, Show}
 use Rattle.wx_journal.specs.declared.entry.Named.{Named}
 use Rattle.wx_journal.specs.Names.{moment}
-use Rattle.wx_journal.specs.Told.{tell}
+use Rattle.wx_journal.specs.Told.{is_turn, tell}
 use Rattle.wx_action.specs.declared.worker_state.Worker.{Worker}
-use Rattle.wx_action.specs.declared.work_turn.Collected.{Collected}
-use Rattle.wx_action.specs.declared.work_turn.Collected.TheVariants.{Hand, Kept}
-use Rattle.wx_action.specs.declared.work_turn.Collected.TheVariants as collected
+use Rattle.wx_action.specs.declared.work_turn.Found.{Found}
+use Rattle.wx_action.specs.declared.work_turn.Found.TheVariants.{Hand, Kept}
+use Rattle.wx_action.specs.declared.work_turn.Found.TheVariants as outcome
 use Rattle.wx_journal.specs.declared.entry.Word.TheVariants.{Idle}
 use Rattle.wx_action.specs.Batch.{Waiting}
 use Rattle.wx_action.specs.Start.{Start}
-use Rattle.wx_action.specs.Journal.{settings, listed, is_urgent_in, is_urgent_named, is_unseen, is_unseen_in, passes_unseen, lets_pass, is_exit, closed, one_if, and_one, begun, named, without, bag, window, first, is_over, is_over_of}
-use Rattle.wx_action.specs.Due.{agenda, Due, Open, Says, Takes as TakesNext, Filters, Hands, work, after_pass, after_filter}
+use Rattle.wx_action.specs.Journal.{settings, listed, is_urgent_in, is_urgent_named, is_unseen, is_unseen_in, passes_unseen, lets_pass, is_exit, is_close, closed, ending, wished, one_if, and_one, begun, named, without, bag, window, first, is_over, is_over_of}
+use Rattle.wx_action.specs.Due.{agenda, Due, Open, Says, Takes as TakesNext, Filters, Shows as ShowsNext, Hands, Breaks, work, after_pass, after_drop, after_show, after_filter}
+use Rattle.wx_action.specs.Answer.{NoneIsToGo, BreaksOff, BreaksHere}
 use Rattle.wx_action.specs.Handled.{lookup}
 use Rattle.wx_job.specs.Kept.{More, Keeps, Called}
 use Rattle.wx_job.specs.Seen.{Hooked}
@@ -30,7 +35,7 @@ use Rattle.wx_action.specs.Serves.{GrowsHand}
 use Rattle.wx_action.proofs.ServesLaws.{adds_hand}
 use Rattle.wx_action.specs.Leads.{FollowsHooks, Then}
 use Rattle.wx_action.specs.Turns.{StaysInTurn}
-use Rattle.wx_action.specs.Stands.{Stands, Shows, HasTaken, HasPassed, Collects, Judges, IsJudged}
+use Rattle.wx_action.specs.Stands.{Stands, AddsTake, MayShow, HasTaken, HasPassed, HasDropped, IsToShow as IsErrorToShow, HasFailed, IsDropped, LeavesRoom, Finds, Judges, IsJudged}
 use Rattle.wx_action.proofs.BagLaws.{IsTaken, is_taken}
 use Rattle.wx_action.proofs.RunLaws.{joined_if, orderly_more}
 use Rattle.wx_action.proofs.JobLaws.{turns_over}
@@ -49,18 +54,18 @@ not_empty s w p stands none some =
 -- ---- an event was taken
 
 -- where it passed unseen
-pub record TakeDone (s : Start) (w : Worker) (p p' : List Entry) (found : Collected) : Type 0 where
+pub record TakeDone (s : Start) (w : Worker) (p p' : List Entry) (found : Found) : Type 0 where
   pub steps : Steps s w p p'
-  pub collected : Collects s p found p'
+  pub collected : Finds s p found p'
 
-collects_take : (s : Start) (p p' : List Entry) (due : Bool) → HasPassed p p' → agenda s p' ≡ cond due Hands Open → Collects s p (cond due Hand Kept) p'
+collects_take : (s : Start) (p p' : List Entry) (due : Bool) → HasPassed p p' → agenda s p' ≡ cond due Hands Open → Finds s p (cond due Hand Kept) p'
 collects_take s p p' true passed e = e
 collects_take s p p' false passed e = (passed, e)
 
-has_taken : (p p' : List Entry) (x : Named × Priority) (rest : List (Named × Priority)) (unseen : Bool) → passes_unseen x.0.name p ≡ unseen → IsTaken p x rest → Shows unseen x.0.name p p' → bag p' ≡ without x.0.name (bag p) → HasTaken x.0.name p p'
+has_taken : (p p' : List Entry) (x : Named × Priority) (rest : List (Named × Priority)) (unseen : Bool) → passes_unseen x.0.name p ≡ unseen → IsTaken p x rest → AddsTake unseen x.0.name p p' → bag p' ≡ without x.0.name (bag p) → HasTaken x.0.name p p'
 has_taken p p' x rest unseen is t shows left = record { taken = rw is shows; was = ap is_some t.is_named; left = rw left t.is_gone }
 
-pub take_done : (s : Start) (w : Worker) (p p' : List Entry) (at start : ℕ) (x : Named × Priority) (queue : Channel Named) (batch : Waiting) (found : Collected) → Stands s w p → agenda s p ≡ TakesNext → moment p ≡ at
+pub take_done : (s : Start) (w : Worker) (p p' : List Entry) (at start : ℕ) (x : Named × Priority) (queue : Channel Named) (batch : Waiting) (found : Found) → Stands s w p → agenda s p ≡ TakesNext → moment p ≡ at
     → Takes w.queue.items x queue.items → AllAtMost x.1 w.queue.items → queue.size ≡ w.queue.size → queue.closed ≡ w.queue.closed → is_unseen x.0.event x.1 ≡ true → start ≡ cond (length w.batch.names == 0) at w.first
     → batch.names ≡ w.batch.names ++ x.0.name ∷ [] → batch.events ≡ w.batch.events ++ x.0.event ∷ [] → found ≡ cond (is_urgent x.1 || is_over_of w.config.throttle batch.names start at) Hand Kept → p' ≡ Take x.0.name ∷ p
     → TakeDone s (record w { queue = queue; batch = batch; first = start }) p p' found
@@ -102,23 +107,24 @@ pub record IsToShow (s : Start) (w : Worker) (p p' : List Entry) (at : ℕ) (x :
   pub is_listed : listed x.0.name p' ≡ Some (x.0.event, x.1)
   pub now : moment p' ≡ at
   pub same_window : window p' ≡ window p
-  pub collects : (found : Collected) (p'' : List Entry) → IsJudged s p' x.0.name found p'' → Collects s p found p''
+  pub collects : (found : Found) (p'' : List Entry) → IsJudged s p' x.0.name found p'' → Finds s p found p''
 
-collects_judged : (s : Start) (p q p'' : List Entry) (x : Named × Priority) (rest : List (Named × Priority)) (found : Collected) → passes_unseen x.0.name p ≡ false → IsTaken p x rest → q ≡ Take x.0.name ∷ p → window q ≡ window p → IsJudged s q x.0.name found p'' → Collects s p found p''
+collects_judged : (s : Start) (p q p'' : List Entry) (x : Named × Priority) (rest : List (Named × Priority)) (found : Found) → passes_unseen x.0.name p ≡ false → IsTaken p x rest → q ≡ Take x.0.name ∷ p → window q ≡ window p → IsJudged s q x.0.name found p'' → Finds s p found p''
 collects_judged s p q p'' x rest found is t grown same j = go found j.judged
   where
-    shows : Shows false x.0.name p p''
-    shows = (j.n, j.answer, j.shown ∙ ap (λ r. Filter j.n x.0.name j.answer ∷ r) grown)
+    whole : p'' ≡ Filter j.n x.0.name j.answer ∷ Take x.0.name ∷ p
+    whole = j.shown ∙ ap (λ r. Filter j.n x.0.name j.answer ∷ r) grown
 
     taken : HasTaken x.0.name p p''
-    taken = has_taken p p'' x rest false is t shows (ap (λ r. bag r) shows.2)
+    taken = has_taken p p'' x rest false is t (j.n, j.answer, inl whole) (ap (λ r. bag r) whole)
 
-    go : (found : Collected) → Judges s q x.0.name found p'' → Collects s p found p''
-    go collected.Hand h = h
-    go collected.Kept h = (record { name = x.0.name; taken = taken; joined = h.0 ∙ ap (λ ns. ns ++ x.0.name ∷ []) same }, h.1)
-    go collected.Dropped h = (record { name = x.0.name; taken = taken; stays = h.0 ∙ same }, h.1)
-    go collected.Stop h = absurd h
-    go collected.Idle h = absurd h
+    go : (found : Found) → Judges s q x.0.name found p'' → Finds s p found p''
+    go outcome.Hand h = h
+    go outcome.Kept h = (record { name = x.0.name; taken = taken; joined = h.0 ∙ ap (λ ns. ns ++ x.0.name ∷ []) same }, h.1)
+    go outcome.Dropped h = (record { name = x.0.name; taken = taken; stays = h.0 ∙ same }, h.1)
+    go (outcome.Failed error) h = (record { name = x.0.name; taken = taken; stays = h.0 ∙ same }, h.1)
+    go outcome.Stop h = absurd h
+    go outcome.Idle h = absurd h
 
 pub to_show : (s : Start) (w : Worker) (p p' : List Entry) (at : ℕ) (x : Named × Priority) (queue : Channel Named) → Stands s w p → agenda s p ≡ TakesNext → moment p ≡ at
     → Takes w.queue.items x queue.items → AllAtMost x.1 w.queue.items → queue.size ≡ w.queue.size → queue.closed ≡ w.queue.closed → is_unseen x.0.event x.1 ≡ false → p' ≡ Take x.0.name ∷ p
@@ -162,23 +168,23 @@ to_show s w p p' at x queue stands due now takes most size same_closed seen grow
 pub filter_due : (s : Start) (p : List Entry) (n name : ℕ) (answer : Result Bool RuntimeError) → agenda s p ≡ Filters name → n ≡ (settings s p).filterer → Due s p (Filter n name answer)
 filter_due s p n name answer due number = rw (due, number) (answer, refl)
 
-filter_follows : (s : Start) (p p' : List Entry) (n name : ℕ) (answer : Result Bool RuntimeError) (hooks hooks' : Option (List Entry)) → Due s p (Filter n name answer) → p' ≡ Filter n name answer ∷ p → hooks' ≡ tell (Filter n name answer) hooks → FollowsHooks s p hooks p' hooks'
-filter_follows s p p' n name answer hooks hooks' due grown told = rw (grown, told) (λ world p₀ world₀ hooks₀ l. Then (Filter n name answer) p world hooks l due)
-
-turns_filter : (n name : ℕ) (answer : Result Bool RuntimeError) (p p' : List Entry) → p' ≡ Filter n name answer ∷ p → StaysInTurn p p'
-turns_filter n name answer p p' grown = rw grown (turns_over (Filter n name answer) p refl)
-
--- the call was told, and kept what it promises
-pub filter_grows : {K Fixed : Type 0} (seen : K → Hooked Fixed) (rule : Fixed → List Entry → Entry → Type 0) (holds : K → List Entry → Type 0) (s : Start) (p p' : List Entry) (x x' : K) (w' : Worker) (n name : ℕ) (answer : Result Bool RuntimeError) → Due s p (Filter n name answer) → p' ≡ Filter n name answer ∷ p
-    → (seen x').told ≡ tell (Filter n name answer) (seen x).told → Keeps seen rule holds x p (Filter n name answer) x' → Stands s w' p' → GrowsHand seen rule holds s p x w' p' x'
-filter_grows seen rule holds s p p' x x' w' n name answer due grown told keeps stands = record {
+-- a call on hooks was told, and kept what it promises
+pub called_grows : {K Fixed : Type 0} (seen : K → Hooked Fixed) (rule : Fixed → List Entry → Entry → Type 0) (holds : K → List Entry → Type 0) (s : Start) (p p' : List Entry) (x x' : K) (w' : Worker) (e : Entry) → is_turn e ≡ false → FollowsHooks s p (seen x).told p' (seen x').told → p' ≡ e ∷ p
+    → Keeps seen rule holds x p e x' → Stands s w' p' → GrowsHand seen rule holds s p x w' p' x'
+called_grows seen rule holds s p p' x x' w' e other follows grown keeps stands = record {
   stands = stands;
-  adds = adds_hand s p p' (seen x).told (seen x').told (filter_follows s p p' n name answer (seen x).told (seen x').told due grown told) (turns_filter n name answer p p' grown);
-  keeps = λ x₀ p₀ k. rw grown (Called x x' (Filter n name answer) p k keeps);
+  adds = adds_hand s p p' (seen x).told (seen x').told follows (rw grown (turns_over e p other));
+  keeps = λ x₀ p₀ k. rw grown (Called x x' e p k keeps);
 }
 
+pub filter_follows : (s : Start) (p p' : List Entry) (n name : ℕ) (answer : Result Bool RuntimeError) (hooks hooks' : Option (List Entry)) → Due s p (Filter n name answer) → p' ≡ Filter n name answer ∷ p → hooks' ≡ tell (Filter n name answer) hooks → FollowsHooks s p hooks p' hooks'
+filter_follows s p p' n name answer hooks hooks' due grown told = rw (grown, told) (λ world p₀ world₀ hooks₀ l. Then (Filter n name answer) p world hooks l due)
+
+pub show_follows : (s : Start) (p p' : List Entry) (n : ℕ) (error : RuntimeError) (wish : Wish) (hooks hooks' : Option (List Entry)) → Due s p (Show n error wish) → p' ≡ Show n error wish ∷ p → hooks' ≡ tell (Show n error wish) hooks → FollowsHooks s p hooks p' hooks'
+show_follows s p p' n error wish hooks hooks' due grown told = rw (grown, told) (λ world p₀ world₀ hooks₀ l. Then (Show n error wish) p world hooks l due)
+
 -- what was due, what the worker is, and what became of the event
-pub record FilterDone (s : Start) (w : Worker) (p : List Entry) (n name : ℕ) (answer : Result Bool RuntimeError) (found : Collected) (p' : List Entry) : Type 0 where
+pub record FilterDone (s : Start) (w : Worker) (p : List Entry) (n name : ℕ) (answer : Result Bool RuntimeError) (found : Found) (p' : List Entry) : Type 0 where
   pub due : Due s p (Filter n name answer)
   pub stands : Stands s w p'
   pub judged : IsJudged s p name found p'
@@ -191,7 +197,7 @@ judges_passed s p p' name true joined e = e
 judges_passed s p p' name false joined e = (joined, e)
 
 -- it passed
-pub filter_passed : (s : Start) (w w' : Worker) (p p' : List Entry) (at n name : ℕ) (event : Event) (priority : Priority) (answer : Result Bool RuntimeError) (found : Collected) → Stands s w p → agenda s p ≡ Filters name → moment p ≡ at
+pub filter_passed : (s : Start) (w w' : Worker) (p p' : List Entry) (at n name : ℕ) (event : Event) (priority : Priority) (answer : Result Bool RuntimeError) (found : Found) → Stands s w p → agenda s p ≡ Filters name → moment p ≡ at
     → listed name p ≡ Some (event, priority) → n ≡ w.config.filterer → lets_pass answer ≡ true → is_exit answer ≡ false → w' ≡ record w { batch = w'.batch; first = w'.first } → w'.first ≡ cond (length w.batch.names == 0) at w.first
     → w'.batch.names ≡ w.batch.names ++ name ∷ [] → w'.batch.events ≡ w.batch.events ++ event ∷ [] → found ≡ cond (is_urgent priority || is_over_of w.config.throttle w'.batch.names w'.first at) Hand Kept → p' ≡ Filter n name answer ∷ p
     → FilterDone s w' p n name answer found p'
@@ -202,7 +208,7 @@ filter_passed s w w' p p' at n name event priority answer found stands due now i
     let names_are : w'.batch.names ≡ window (Filter n name answer ∷ p) = names ∙ ap (λ (ns : List ℕ). ns ++ name ∷ []) stands.names_kept ∙ sym window_is in
     let over : is_over s (Filter n name answer ∷ p) (moment p) ≡ is_over_of w.config.throttle w'.batch.names w'.first at = rw (first_is, names_are, stands.config_kept, now) refl in
     let urgency : is_urgent_named name p ≡ is_urgent priority = ap is_urgent_in is_listed in
-    let after : agenda s (Filter n name answer ∷ p) ≡ cond (is_urgent priority || is_over_of w.config.throttle w'.batch.names w'.first at) Hands Open = after_filter_is s p n name answer stands.orderly due ∙ ap (λ (b : Bool). cond b (after_pass s name (Filter n name answer ∷ p)) Open) passes ∙ rw (← over, ← urgency) refl in
+    let after : agenda s (Filter n name answer ∷ p) ≡ cond (is_urgent priority || is_over_of w.config.throttle w'.batch.names w'.first at) Hands Open = after_filter_is s p n name answer stands.orderly due ∙ ap (λ (b : Bool). cond b (after_pass s name (Filter n name answer ∷ p)) (after_drop answer)) passes ∙ rw (← over, ← urgency) refl in
     let stood : Stands s (record w { batch = w'.batch; first = w'.first }) (Filter n name answer ∷ p) = record {
       orderly = orderly_more s (Filter n name answer) p d stands.orderly;
       config_kept = stands.config_kept;
@@ -222,32 +228,103 @@ filter_passed s w w' p p' at n name event priority answer found stands due now i
       judged = record { n = n; answer = answer; shown = grown; judged = rw is_found (judges_passed s p p' name _ (ap (λ q. window q) grown ∙ window_is) (ap (agenda s) grown ∙ after)) };
     }
 
+judges_dropped : (s : Start) (p p' : List Entry) (name : ℕ) (answer : Result Bool RuntimeError) (found : Found) → IsDropped answer found → window p' ≡ window p → agenda s p' ≡ after_drop answer → Judges s p name found p'
+judges_dropped s p p' name (Ok passes) found is same e = rw is (same, e)
+judges_dropped s p p' name (Err Exit) found is same e = rw is (same, e)
+judges_dropped s p p' name (Err error) (outcome.Failed (Ok copy)) is same e = (same, e ∙ ap (λ (x : RuntimeError). ShowsNext x) (sym is))
+judges_dropped s p p' name (Err error) (outcome.Failed (Err want)) is same e = (same, (error, e))
+judges_dropped s p p' name (Err error) (_) is same e = absurd is
+
 -- it didn't pass
-pub filter_dropped : (s : Start) (w : Worker) (p p' : List Entry) (n name : ℕ) (answer : Result Bool RuntimeError) (queue : Channel Named) → Stands s w p → agenda s p ≡ Filters name → n ≡ w.config.filterer → lets_pass answer ≡ false
-    → queue.items ≡ w.queue.items → queue.size ≡ w.queue.size → queue.closed ≡ (is_exit answer || w.queue.closed) → p' ≡ Filter n name answer ∷ p
-    → FilterDone s (record w { queue = queue }) p n name answer collected.Dropped p'
-filter_dropped s w p p' n name answer queue stands due number passes items size shut grown =
+pub filter_dropped : (s : Start) (w w' : Worker) (p p' : List Entry) (n name : ℕ) (answer : Result Bool RuntimeError) (found : Found) → Stands s w p → agenda s p ≡ Filters name → n ≡ w.config.filterer → lets_pass answer ≡ false → IsDropped answer found
+    → w' ≡ record w { queue = w'.queue } → w'.queue.items ≡ w.queue.items → w'.queue.size ≡ w.queue.size → w'.queue.closed ≡ (is_exit answer || w.queue.closed) → p' ≡ Filter n name answer ∷ p
+    → FilterDone s w' p n name answer found p'
+filter_dropped s w w' p p' n name answer found stands due number passes is_dropped fields items size shut grown =
     let d : Due s p (Filter n name answer) = filter_due s p n name answer due (number ∙ ap (λ c. c.filterer) stands.config_kept) in
     let same : window (Filter n name answer ∷ p) ≡ window p = ap (λ (b : Bool). and_one (window p) (one_if b name)) passes in
     let first_is : first (Filter n name answer ∷ p) ≡ first p = ap (λ (b : Bool). begun (one_if b name) (window p) (moment p) (first p)) passes in
-    let after : agenda s (Filter n name answer ∷ p) ≡ Open = after_filter_is s p n name answer stands.orderly due ∙ rw passes refl in
+    let after : agenda s (Filter n name answer ∷ p) ≡ after_drop answer = after_filter_is s p n name answer stands.orderly due ∙ ap (λ (b : Bool). cond b (after_pass s name (Filter n name answer ∷ p)) (after_drop answer)) passes in
+    let stood : Stands s (record w { queue = w'.queue }) (Filter n name answer ∷ p) = record {
+      orderly = orderly_more s (Filter n name answer) p d stands.orderly;
+      config_kept = stands.config_kept;
+      queue_kept = rw items stands.queue_kept;
+      size_kept = size ∙ stands.size_kept;
+      closed_kept = shut ∙ ap (λ (b : Bool). is_exit answer || b) stands.closed_kept;
+      named_kept = stands.named_kept;
+      names_kept = stands.names_kept ∙ sym same;
+      events_kept = rw same stands.events_kept;
+      first_kept = stands.first_kept ∙ sym first_is;
+      jobs_kept = stands.jobs_kept;
+      tasks_kept = tasks_same p _ w.jobs (over_none (Filter n name answer) p tt) stands.tasks_kept;
+    } in
+    record {
+      due = d;
+      stands = rw grown (rw fields stood);
+      judged = record { n = n; answer = answer; shown = grown; judged = judges_dropped s p p' name answer found is_dropped (ap (λ q. window q) grown ∙ same) (ap (agenda s) grown ∙ after) };
+    }
+
+-- ---- an error was shown
+
+-- what was due, what the worker is, and what is owed
+pub record ShowDone (s : Start) (w : Worker) (p : List Entry) (n : ℕ) (error : RuntimeError) (wish : Wish) (p' : List Entry) : Type 0 where
+  pub due : Due s p (Show n error wish)
+  pub stands : Stands s w p'
+  pub after : agenda s p' ≡ after_show (ending error wish)
+  pub newest : wished p' ≡ ending error wish
+
+pub show_done : (s : Start) (w : Worker) (p p' : List Entry) (n : ℕ) (error : RuntimeError) (wish : Wish) (queue : Channel Named) → Stands s w p → agenda s p ≡ ShowsNext error → n ≡ w.config.error_handler
+    → queue.items ≡ w.queue.items → queue.size ≡ w.queue.size → queue.closed ≡ (is_close wish || w.queue.closed) → p' ≡ Show n error wish ∷ p
+    → ShowDone s (record w { queue = queue }) p n error wish p'
+show_done s w p p' n error wish queue stands due number items size shut grown =
+    let d : Due s p (Show n error wish) = rw (due, number, stands.config_kept) (wish, refl) in
+    let after : agenda s (Show n error wish ∷ p) ≡ after_show (ending error wish) = settle_calm (Show n error wish ∷ p) _ (subst (IsGoing p) due stands.orderly.going) in
     record {
       due = d;
       stands = rw grown (record {
-        orderly = orderly_more s (Filter n name answer) p d stands.orderly;
+        orderly = orderly_more s (Show n error wish) p d stands.orderly;
         config_kept = stands.config_kept;
         queue_kept = rw items stands.queue_kept;
         size_kept = size ∙ stands.size_kept;
-        closed_kept = shut ∙ ap (λ (b : Bool). is_exit answer || b) stands.closed_kept;
+        closed_kept = shut ∙ ap (λ (b : Bool). is_close wish || b) stands.closed_kept;
         named_kept = stands.named_kept;
-        names_kept = stands.names_kept ∙ sym same;
-        events_kept = rw same stands.events_kept;
-        first_kept = stands.first_kept ∙ sym first_is;
+        names_kept = stands.names_kept;
+        events_kept = stands.events_kept;
+        first_kept = stands.first_kept;
         jobs_kept = stands.jobs_kept;
-        tasks_kept = tasks_same p _ w.jobs (over_none (Filter n name answer) p tt) stands.tasks_kept;
+        tasks_kept = tasks_same p _ w.jobs (over_none (Show n error wish) p tt) stands.tasks_kept;
       });
-      judged = record { n = n; answer = answer; shown = grown; judged = (ap (λ q. window q) grown ∙ same, ap (agenda s) grown ∙ after) };
+      after = ap (agenda s) grown ∙ after;
+      newest = ap (λ q. wished q) grown;
     }
+
+-- the call that showed it
+pub show_grows : {K Fixed : Type 0} (seen : K → Hooked Fixed) (rule : Fixed → List Entry → Entry → Type 0) (holds : K → List Entry → Type 0) (s : Start) (w : Worker) (p p' : List Entry) (x x' : K) (n : ℕ) (error lent pushed : RuntimeError) (wish asked : Wish) (queue : Channel Named) → Stands s w p → agenda s p ≡ ShowsNext error → n ≡ w.config.error_handler
+    → lent ≡ error → pushed ≡ lent → asked ≡ wish → queue.items ≡ w.queue.items → queue.size ≡ w.queue.size → queue.closed ≡ (is_close asked || w.queue.closed) → p' ≡ Show n pushed asked ∷ p → (seen x').told ≡ tell (Show n lent wish) (seen x).told → Keeps seen rule holds x p (Show n lent wish) x'
+    → GrowsHand seen rule holds s p x (record w { queue = queue }) p' x'
+show_grows seen rule holds s w p p' x x' n error lent pushed wish asked queue stands due number same_error same_pushed same_wish items size shut grown told keeps =
+    let grew : p' ≡ Show n lent wish ∷ p = grown ∙ ap (λ (e : RuntimeError). Show n e asked ∷ p) same_pushed ∙ ap (λ (m : Wish). Show n lent m ∷ p) same_wish in
+    let owed : agenda s p ≡ ShowsNext lent = due ∙ ap (λ (e : RuntimeError). ShowsNext e) (sym same_error) in
+    let done = show_done s w p p' n lent wish queue stands owed number items size (shut ∙ ap (λ (m : Wish). is_close m || w.queue.closed) same_wish) grew in
+    called_grows seen rule holds s p p' x x' (record w { queue = queue }) (Show n lent wish) refl (show_follows s p p' n lent wish (seen x).told (seen x').told done.due grew told) grew keeps done.stands
+
+-- the run breaks off where the wish ends it
+pub breaks_here : (s : Start) (p : List Entry) (o : Option CriticalError) (error : CriticalError) → agenda s p ≡ after_show o → wished p ≡ o → o ≡ Some error → BreaksHere s p error
+breaks_here s p o error after newest is =
+    let breaks : agenda s p ≡ Breaks = after ∙ ap after_show is in
+    let go : NoneIsToGo (agenda s p) = rw breaks tt in
+    (go, breaks_off error (newest ∙ is) go)
+  where
+    breaks_off : (error : CriticalError) → wished p ≡ Some error → NoneIsToGo (agenda s p) → BreaksOff s p error
+    breaks_off WantOfMemory is go = inr go
+    breaks_off (_) is go = is
+
+-- want of memory behind an error that was shown, or before
+pub wants_here : (s : Start) (p : List Entry) → NoneIsToGo (agenda s p) → BreaksHere s p WantOfMemory
+wants_here s p go = (go, inr go)
+
+pub none_after_show : (s : Start) (p : List Entry) (o : Option CriticalError) → agenda s p ≡ after_show o → NoneIsToGo (agenda s p)
+none_after_show s p None after = rw after tt
+none_after_show s p (Some error) after = rw after tt
 
 -- one that passes doesn't ask for the end
 pub no_exit : (answer : Result Bool RuntimeError) → lets_pass answer ≡ true → is_exit answer ≡ false
@@ -262,7 +339,7 @@ empty_is (x ∷ xs) e = let none : length (x ∷ xs) ≡ 0 = eqb-true _ _ e in a
 
 -- there was nothing to take
 pub idle_done : (s : Start) (w : Worker) (p p' : List Entry) (at : ℕ) → Stands s w p → agenda s p ≡ work s p at → moment p ≡ at → w.queue.closed ≡ false → is_over_of w.config.throttle w.batch.names w.first at ≡ false → (length w.queue.items == 0) ≡ true → p' ≡ Said Idle ∷ p
-    → TakeDone s w p p' collected.Idle
+    → TakeDone s w p p' outcome.Idle
 idle_done s w p p' at stands due now is_open over empty grown =
     let later : is_over s p at ≡ false = rw (← stands.config_kept, ← stands.names_kept, ← stands.first_kept) over in
     let takes : closed p ≡ false = sym stands.closed_kept ∙ is_open in
@@ -271,7 +348,7 @@ idle_done s w p p' at stands due now is_open over empty grown =
     record { steps = said_done s w p p' Idle Open stands owed grown; collected = (record { early = rw now later; none = empty_is (bag p) none; said = grown }, said_then s p p' Idle stands.orderly owed grown) }
 
 -- the queue was closed
-pub stop_done : (s : Start) (w : Worker) (p : List Entry) (at : ℕ) → Stands s w p → agenda s p ≡ work s p at → w.queue.closed ≡ true → Collects s p collected.Stop p
+pub stop_done : (s : Start) (w : Worker) (p : List Entry) (at : ℕ) → Stands s w p → agenda s p ≡ work s p at → w.queue.closed ≡ true → Finds s p outcome.Stop p
 stop_done s w p at stands due shut = let is : closed p ≡ true = sym stands.closed_kept ∙ shut in (record { is_closed = is; same = refl }, due ∙ rw is refl)
 
 -- the window is due
@@ -304,3 +381,8 @@ stands_room s w p batch stands names events = record {
   jobs_kept = stands.jobs_kept;
   tasks_kept = stands.tasks_kept;
 }
+
+-- there is room for an error that is to be shown
+pub leaves_room : (found : Found) (ends journal hooks : ℕ) → 1 + ends ≤ journal → 1 ≤ hooks → LeavesRoom found ends journal hooks
+leaves_room (outcome.Failed error) ends journal hooks a b = (a, b)
+leaves_room (_) ends journal hooks a b = tt

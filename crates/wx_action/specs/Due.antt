@@ -6,7 +6,7 @@ use Rattle.wx_events.specs.declared.event.Event.{Event}
 use Rattle.wx_events.specs.declared.priority.Priority.{Priority}
 use Rattle.prio_channel.specs.Channel.{AllAtMost}
 use Rattle.wx_journal.specs.declared.entry.Entry.{Entry}
-use Rattle.wx_journal.specs.declared.entry.Entry.TheVariants.{Begin, Sent, Turn as Turned, TurnFault, Offer, Word as Said, Take, Filter, Hand, Made, Asked, Pick, Spawn, Kill, Wait, Dropped, Raise, Gone}
+use Rattle.wx_journal.specs.declared.entry.Entry.TheVariants.{Begin, Sent, Turn as Turned, TurnFault, Offer, Word as Said, Take, Filter, Show, Hand, Made, Asked, Pick, Spawn, Kill, Wait, Dropped, Raise, Gone}
 use Rattle.wx_journal.specs.Acts.{JournalAct as Act}
 use Rattle.wx_journal.specs.declared.entry.Act.TheVariants.{Create, Ask as Asks, Quit}
 use Rattle.wx_journal.specs.declared.entry.Named.{Named}
@@ -18,6 +18,9 @@ use Rattle.wx_journal.specs.Told.{is_turn}
 use Rattle.wx_journal.specs.Names.{moment, event_count, next_job}
 use Rattle.wx_command.specs.declared.command.Command.{Command}
 use Rattle.wx_config.specs.declared.runtime.RuntimeError.{RuntimeError}
+use Rattle.wx_config.specs.declared.runtime.RuntimeError.TheVariants.{Exit}
+use Rattle.wx_config.specs.declared.error.CriticalError.{CriticalError}
+use Rattle.wx_journal.specs.declared.wish.Wish.{Wish}
 use Rattle.wx_control.specs.declared.id.Id.{Id}
 use Rattle.wx_control.specs.declared.ask.Ask.{Ask as AnAsk}
 use Rattle.wx_control.specs.Asks.{sends_of}
@@ -26,7 +29,7 @@ use Rattle.wx_job.specs.Table.{Plan, Done, step_plan, ask_plan}
 use Rattle.wx_job.specs.Case.{Admits as Follows, next}
 use Rattle.wx_action.specs.Start.{Start}
 use Rattle.wx_action.specs.Jobs.{living, parent, AreLawful, act_plan, end}
-use Rattle.wx_action.specs.Journal.{settings, is_urgent_named, passes_unseen, lets_pass, closed, named, bag, offered, window, is_over}
+use Rattle.wx_action.specs.Journal.{settings, is_urgent_named, passes_unseen, lets_pass, closed, ending, named, bag, offered, window, is_over}
 
 -- What a turn still owes. An answer or an event that was taken decides how it goes on.
 pub data Agenda : Type 0 where
@@ -44,12 +47,16 @@ pub data Agenda : Type 0 where
   Takes : Agenda
   -- the event of this name is shown to the filter
   Filters : ℕ → Agenda
+  -- this error is shown to the error handler
+  Shows : RuntimeError → Agenda
   -- the window is handed
   Hands : Agenda
   -- this plan of jobs is followed
   Plans : Plan → Agenda → Agenda
   -- the end: each job that lives ends, and then nothing may come
   Ends : Agenda
+  -- nothing may come: the run breaks off
+  Breaks : Agenda
 
 abbrev pub sends : List (Event × Priority) → Agenda
 sends [] = Open
@@ -68,10 +75,12 @@ rest e (Says word more) = more
 rest e (Plans k more) = plans (next k e) more
 rest e Begins = Begins
 rest e Open = Open
-rest e Takes = Takes
-rest e (Filters name) = Filters name
+rest e Takes = Open
+rest e (Filters name) = Open
+rest e (Shows error) = Open
 rest e Hands = Hands
 rest e Ends = Ends
+rest e Breaks = Breaks
 
 -- A Work turn: the end, where the queue is closed; else hand the window where the throttle is over, else say idle where the
 -- queue is empty, else take an event.
@@ -110,9 +119,19 @@ after_pass s name p = if is_urgent_named name p || is_over s p (moment p) then H
 abbrev pub after_take : Start → ℕ → List Entry → Agenda
 after_take s name p = if passes_unseen name p then after_pass s name (Take name ∷ p) else Filters name
 
--- What the filter doesn't let pass is dropped.
+-- What the filter doesn't let pass is dropped. An error but an exit is shown.
+abbrev pub after_drop : Result Bool RuntimeError → Agenda
+after_drop (Ok passes) = Open
+after_drop (Err Exit) = Open
+after_drop (Err error) = Shows error
+
 abbrev pub after_filter : Start → ℕ → Result Bool RuntimeError → List Entry → Agenda
-after_filter s name answer p = if lets_pass answer then after_pass s name p else Open
+after_filter s name answer p = if lets_pass answer then after_pass s name p else after_drop answer
+
+-- After an error was shown the run goes on, or breaks off with the error that was wished.
+abbrev pub after_show : Option CriticalError → Agenda
+after_show None = Open
+after_show (Some error) = Breaks
 
 abbrev pub is_quit : Act → Bool
 is_quit (Create id command) = false
@@ -140,6 +159,7 @@ owed s (Offer name item result event priority) p before = rest (Offer name item 
 owed s (Said word) p before = rest (Said word) before
 owed s (Take name) p before = after_take s name p
 owed s (Filter n name answer) p before = after_filter s name answer (Filter n name answer ∷ p)
+owed s (Show n error wish) p before = after_show (ending error wish)
 owed s (Hand n names acts) p before = after_hand acts p
 owed s (Made id) p before = rest (Made id) before
 owed s (Asked ticket id level control) p before = rest (Asked ticket id level control) before
@@ -188,9 +208,11 @@ Admits s p (Offers event priority more) e = e ≡ Offer (event_count p) None (of
 Admits s p (Says word more) e = e ≡ Said word
 Admits s p Takes e = (name : ℕ) × (e ≡ Take name) × IsGreatest name (bag p)
 Admits s p (Filters name) e = (answer : Result Bool RuntimeError) × (e ≡ Filter (settings s p).filterer name answer)
+Admits s p (Shows error) e = (wish : Wish) × (e ≡ Show (settings s p).error_handler error wish)
 Admits s p Hands e = (acts : List Act) × (e ≡ Hand (settings s p).action_handler (window p) acts) × AreLawful (next_job p) acts
 Admits s p (Plans k more) e = Follows p k e
 Admits s p Ends e = Follows p (end p) e
+Admits s p Breaks e = ⊥
 
 -- the entries that may come next
 abbrev pub Due : Start → List Entry → Entry → Type 0

@@ -7,13 +7,17 @@ use Rattle.wx_events.specs.Priority.{is_urgent}
 use Rattle.wx_journal.specs.Names.{moment, count}
 use Rattle.wx_journal.specs.Told.{is_turn}
 use Rattle.wx_journal.specs.declared.entry.Entry.{Entry}
-use Rattle.wx_journal.specs.declared.entry.Entry.TheVariants.{Begin, Sent, Turn as Turned, TurnFault, Offer, Word as Said, Take, Filter, Hand, Made, Asked, Pick, Spawn, Kill, Wait, Dropped, Raise, Gone}
+use Rattle.wx_journal.specs.declared.entry.Entry.TheVariants.{Begin, Sent, Turn as Turned, TurnFault, Offer, Word as Said, Take, Filter, Show, Hand, Made, Asked, Pick, Spawn, Kill, Wait, Dropped, Raise, Gone}
 use Rattle.wx_journal.specs.declared.entry.Named.{Named}
 use Rattle.wx_journal.specs.declared.entry.Offered.{Offered}
 use Rattle.wx_journal.specs.declared.entry.Offered.TheVariants.{Queued, Full, Closed}
 use Rattle.wx_config.specs.declared.config.Config.{Config}
 use Rattle.wx_config.specs.declared.runtime.RuntimeError.{RuntimeError}
 use Rattle.wx_config.specs.declared.runtime.RuntimeError.TheVariants.{Exit}
+use Rattle.wx_config.specs.declared.error.CriticalError.{CriticalError}
+use Rattle.wx_config.specs.declared.error.CriticalError.TheVariants.{Exit as CriticalExit, Elevated}
+use Rattle.wx_journal.specs.declared.wish.Wish.{Wish}
+use Rattle.wx_journal.specs.declared.wish.Wish.TheVariants.{Nothing, Elevate, Critical}
 use Rattle.wx_action.specs.Start.{Start}
 use Rattle.wx_action.specs.Told.{is_last}
 
@@ -56,11 +60,30 @@ abbrev pub is_exit : Result Bool RuntimeError → Bool
 is_exit (Err Exit) = true
 is_exit (_) = false
 
--- the queue is closed: a filter asked for the end
+-- an error handler asked for the end without an error
+abbrev pub is_close : Wish → Bool
+is_close (Critical CriticalExit) = true
+is_close (_) = false
+
+-- the queue is closed: a filter or an error handler asked for the end
 abbrev pub closed : List Entry → Bool
 closed [] = false
 closed (Filter n name answer ∷ p) = is_exit answer || closed p
+closed (Show n error wish ∷ p) = is_close wish || closed p
 closed (_ ∷ p) = closed p
+
+-- the error that a wish ends the run with, of an error that was shown: an exit only closes the queue
+abbrev pub ending : RuntimeError → Wish → Option CriticalError
+ending error Nothing = None
+ending error Elevate = Some (Elevated error None)
+ending error (Critical CriticalExit) = None
+ending error (Critical wished) = Some wished
+
+-- the error that the newest entry ends the run with
+abbrev pub wished : List Entry → Option CriticalError
+wished [] = None
+wished (Show n error wish ∷ p) = ending error wish
+wished (_ ∷ p) = None
 
 -- the item of this name, and the items without it
 abbrev pub named : ℕ → List (Named × Priority) → Option (Named × Priority)
@@ -98,6 +121,7 @@ joins p (Offer name item result event priority) = None
 joins p (Said word) = None
 joins p (Take name) = one_if (passes_unseen name p) name
 joins p (Filter n name answer) = one_if (lets_pass answer) name
+joins p (Show n error wish) = None
 joins p (Hand n names acts) = None
 joins p (Made id) = None
 joins p (Asked ticket id level control) = None

@@ -2,7 +2,7 @@
 use Rattle.std.specs.Prelude.{◌≡◌, true, List, [], ◌∷◌, None, Some}
 use Rattle.wx_control.specs.declared.id.Id.{Id}
 use Rattle.wx_journal.specs.declared.entry.Entry.{Entry}
-use Rattle.wx_journal.specs.declared.entry.Entry.TheVariants.{Begin, Sent, Turn as Turned, TurnFault, Offer, Word as Said, Take, Filter, Hand, Made, Asked, Pick, Spawn, Kill, Wait, Dropped, Raise, Gone}
+use Rattle.wx_journal.specs.declared.entry.Entry.TheVariants.{Begin, Sent, Turn as Turned, TurnFault, Offer, Word as Said, Take, Filter, Show, Hand, Made, Asked, Pick, Spawn, Kill, Wait, Dropped, Raise, Gone}
 use Rattle.wx_journal.specs.Names.{Names, next_job, IsNextJob}
 use Rattle.wx_job.specs.History.{lives, child}
 use Rattle.wx_job.specs.Table.{Plan}
@@ -20,6 +20,7 @@ IsOfPlan (Offer name item result event priority) = ⊥
 IsOfPlan (Said word) = Unit {0}
 IsOfPlan (Take name) = ⊥
 IsOfPlan (Filter n name answer) = ⊥
+IsOfPlan (Show n error wish) = ⊥
 IsOfPlan (Hand n names acts) = ⊥
 IsOfPlan (Made job) = Unit {0}
 IsOfPlan (Asked ticket job level control) = Unit {0}
@@ -41,6 +42,7 @@ IsOfEnd (Offer name item result event priority) = ⊥
 IsOfEnd (Said word) = ⊥
 IsOfEnd (Take name) = ⊥
 IsOfEnd (Filter n name answer) = ⊥
+IsOfEnd (Show n error wish) = ⊥
 IsOfEnd (Hand n names acts) = ⊥
 IsOfEnd (Made job) = ⊥
 IsOfEnd (Asked ticket job level control) = ⊥
@@ -63,6 +65,7 @@ IsFree p (Offer name item result event priority) = Unit {0}
 IsFree p (Said word) = Unit {0}
 IsFree p (Take name) = Unit {0}
 IsFree p (Filter n name answer) = Unit {0}
+IsFree p (Show n error wish) = Unit {0}
 IsFree p (Hand n names acts) = Unit {0}
 IsFree p (Made job) = Unit {0}
 IsFree p (Asked ticket job level control) = Unit {0}
@@ -89,6 +92,7 @@ InOrder p (Offer name item result event priority) = Unit {0}
 InOrder p (Said word) = Unit {0}
 InOrder p (Take name) = Unit {0}
 InOrder p (Filter n name answer) = Unit {0}
+InOrder p (Show n error wish) = Unit {0}
 InOrder p (Hand n names acts) = Unit {0}
 InOrder p (Made job) = IsNextJob (next_job p) job
 InOrder p (Asked ticket job level control) = Unit {0}

@@ -2,12 +2,12 @@
 use Rattle.std.specs.Prelude.{◌≡◌, ℕ, ◌<◌, ◌≤◌, Bool, true, false, ◌||◌, List, [], ◌∷◌, ◌++◌, length}
 use Rattle.std.specs.List.{AllByRecursion, flat_map}
 use Rattle.wx_journal.specs.declared.entry.Entry.{Entry}
-use Rattle.wx_journal.specs.declared.entry.Entry.TheVariants.{Turn as Turned, TurnFault, Filter, Hand, Made}
+use Rattle.wx_journal.specs.declared.entry.Entry.TheVariants.{Turn as Turned, TurnFault, Filter, Show, Hand, Made}
 use Rattle.wx_control.specs.declared.id.Id.{Id}
 use Rattle.wx_journal.specs.Names.{moment}
 use Rattle.wx_job.specs.History.{same}
 use Rattle.wx_action.specs.Start.{Start}
-use Rattle.wx_action.specs.Journal.{is_urgent_named, passes_unseen, passed, batches, window, is_over}
+use Rattle.wx_action.specs.Journal.{is_urgent_named, passes_unseen, closed, passed, batches, window, is_over}
 use Rattle.wx_action.specs.Due.{Open, agenda}
 use Rattle.wx_action.specs.Last.{last_is}
 
@@ -54,6 +54,13 @@ abbrev pub NoneUnseenIsShown : List Entry → Type 0
 NoneUnseenIsShown [] = Unit {0}
 NoneUnseenIsShown (Filter n name answer ∷ p) = (passes_unseen name p ≡ false) × NoneUnseenIsShown p
 NoneUnseenIsShown (_ ∷ p) = NoneUnseenIsShown p
+
+-- nothing was shown, no event and no error, once the queue was closed
+abbrev pub NoneIsShownClosed : List Entry → Type 0
+NoneIsShownClosed [] = Unit {0}
+NoneIsShownClosed (Filter n name answer ∷ p) = (closed p ≡ false) × NoneIsShownClosed p
+NoneIsShownClosed (Show n error wish ∷ p) = (closed p ≡ false) × NoneIsShownClosed p
+NoneIsShownClosed (_ ∷ p) = NoneIsShownClosed p
 
 -- a job of this id was made
 abbrev pub was_made : Id → List Entry → Bool

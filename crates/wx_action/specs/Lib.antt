@@ -1,6 +1,7 @@
 pub mod Answer
 pub mod Batch
 pub mod Due
+pub mod ErrorHooks
 pub mod Handled
 pub mod HeldJobs
 pub mod Jobs

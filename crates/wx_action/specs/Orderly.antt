@@ -5,8 +5,8 @@ use Rattle.wx_journal.specs.declared.entry.Entry.{Entry}
 use Rattle.wx_journal.specs.Names.{event_count, NamesItsOwn}
 use Rattle.wx_job.specs.History.{lives, child}
 use Rattle.wx_action.specs.Start.{Start}
-use Rattle.wx_action.specs.Journal.{passes_unseen, window}
-use Rattle.wx_action.specs.Due.{Agenda, Begins, Sends, Open, Offers, Says, Takes, Filters, Hands, Plans, Ends, agenda, is_quitting}
+use Rattle.wx_action.specs.Journal.{passes_unseen, closed, window}
+use Rattle.wx_action.specs.Due.{Agenda, Begins, Sends, Open, Offers, Says, Takes, Filters, Shows, Hands, Plans, Ends, Breaks, agenda, is_quitting}
 use Rattle.wx_action.specs.Lawful.{MadeInOrder, Lawful}
 
 -- nothing, or the end
@@ -25,9 +25,11 @@ IsFit p Hands = 0 < length (window p)
 IsFit p Begins = Unit {0}
 IsFit p (Sends event priority more) = Unit {0}
 IsFit p Open = Unit {0}
-IsFit p Takes = Unit {0}
-IsFit p (Filters name) = (name < event_count p) × (passes_unseen name p ≡ false)
+IsFit p Takes = closed p ≡ false
+IsFit p (Filters name) = (name < event_count p) × (passes_unseen name p ≡ false) × (closed p ≡ false)
+IsFit p (Shows error) = closed p ≡ false
 IsFit p Ends = Unit {0}
+IsFit p Breaks = Unit {0}
 
 -- Where something else than a plan or the end is owed the end wasn't asked for.
 abbrev pub IsGoing : List Entry → Agenda → Type 0

@@ -1,11 +1,11 @@
 -- A worker stands for a journal.
-use Rattle.std.specs.Prelude.{◌≡◌, ◌≢◌, ◌≤◌, ℕ, ◌*◌, ◌==◌, Bool, true, false, None, Some, is_some, Result, List, [], ◌∷◌, ◌++◌, length, map}
+use Rattle.std.specs.Prelude.{◌≡◌, ◌≢◌, ◌≤◌, ◌⊎◌, ℕ, ◌+◌, ◌*◌, ◌==◌, Bool, true, false, None, Some, is_some, Result, Ok, Err, List, [], ◌∷◌, ◌++◌, length, map}
 use Rattle.std.specs.List.{AllByRecursion}
 use Rattle.wx_events.specs.declared.priority.Priority.{Priority}
 use Rattle.prio_channel.specs.Channel.{Channel}
 use Rattle.prio_channel.specs.SameBag.{SameBag}
 use Rattle.wx_journal.specs.declared.entry.Entry.{Entry}
-use Rattle.wx_journal.specs.declared.entry.Entry.TheVariants.{Turn as Turned, Word as Said, Take, Filter}
+use Rattle.wx_journal.specs.declared.entry.Entry.TheVariants.{Turn as Turned, Word as Said, Take, Filter, Show}
 use Rattle.wx_journal.specs.declared.entry.Named.{Named}
 use Rattle.wx_journal.specs.declared.entry.Offered.{Offered}
 use Rattle.wx_journal.specs.declared.entry.Offered.TheVariants.{Queued, Full, Closed}
@@ -15,6 +15,9 @@ use Rattle.wx_journal.specs.declared.entry.Word.TheVariants.{Idle}
 use Rattle.wx_journal.specs.Names.{event_count, moment}
 use Rattle.wx_journal.specs.Written.{Written}
 use Rattle.wx_config.specs.declared.runtime.RuntimeError.{RuntimeError}
+use Rattle.wx_config.specs.declared.runtime.RuntimeError.TheVariants.{Exit}
+use Rattle.wx_words.specs.declared.list.Memory.{Memory as NoMemory}
+use Rattle.wx_journal.specs.declared.wish.Wish.{Wish}
 use Rattle.wx_control.specs.declared.id.Id.{Id}
 use Rattle.wx_command.specs.declared.command.Command.{Command}
 use Rattle.wx_job.specs.History.{lives}
@@ -26,11 +29,13 @@ use Rattle.wx_action.specs.declared.worker_state.Held.{Held}
 use Rattle.wx_action.specs.declared.worker_state.Worker.{Worker}
 use Rattle.wx_action.specs.declared.work_turn.Collected.{Collected}
 use Rattle.wx_action.specs.declared.work_turn.Collected.TheVariants as collected
+use Rattle.wx_action.specs.declared.work_turn.Found.{Found}
+use Rattle.wx_action.specs.declared.work_turn.Found.TheVariants as found
 use Rattle.wx_action.specs.declared.work_turn.Worked.{Worked}
 use Rattle.wx_action.specs.declared.work_turn.Worked.TheVariants as worked
 use Rattle.wx_action.specs.Start.{Start}
 use Rattle.wx_action.specs.Journal.{settings, passes_unseen, closed, named, bag, window, first, is_over}
-use Rattle.wx_action.specs.Due.{is_quitting, agenda, plans, Open, Hands, Ends}
+use Rattle.wx_action.specs.Due.{is_quitting, agenda, plans, Open, Shows, Hands, Ends}
 use Rattle.wx_action.specs.Handled.{AreEvents, lookup}
 use Rattle.wx_action.specs.Orderly.{IsOrderly}
 
@@ -106,14 +111,19 @@ IsOffered old item new Queued = SameBag new.items (old.items ++ item ∷ []) × 
 IsOffered old item new Full = (new.items ≡ old.items) × ((length old.items == old.size) ≡ true) × (old.closed ≡ false)
 IsOffered old item new Closed = (new.items ≡ old.items) × (old.closed ≡ true)
 
--- what the taking of an event adds: its Take, and where it doesn't pass unseen its Filter behind that
-abbrev pub Shows : Bool → ℕ → List Entry → List Entry → Type 0
-Shows true name p p' = p' ≡ Take name ∷ p
-Shows false name p p' = (n : ℕ) × (answer : Result Bool RuntimeError) × (p' ≡ Filter n name answer ∷ Take name ∷ p)
+-- an error was shown behind these entries, or none was
+abbrev pub MayShow : List Entry → List Entry → Type 0
+MayShow p p' = (p' ≡ p) ⊎ ((n : ℕ) × (error : RuntimeError) × (wish : Wish) × (p' ≡ Show n error wish ∷ p))
+
+-- what the taking of an event adds: its Take, and where it doesn't pass unseen its Filter behind that, and maybe the error of
+-- that
+abbrev pub AddsTake : Bool → ℕ → List Entry → List Entry → Type 0
+AddsTake true name p p' = p' ≡ Take name ∷ p
+AddsTake false name p p' = (n : ℕ) × (answer : Result Bool RuntimeError) × MayShow (Filter n name answer ∷ Take name ∷ p) p'
 
 -- an event was taken: it was in the bag, and is there no more
 pub record HasTaken (name : ℕ) (p p' : List Entry) : Type 0 where
-  pub taken : Shows (passes_unseen name p) name p p'
+  pub taken : AddsTake (passes_unseen name p) name p p'
   pub was : is_some (named name (bag p)) ≡ true
   pub left : named name (bag p') ≡ None
 
@@ -149,16 +159,47 @@ Collects s p collected.Idle p' = HasNone s p p' × (agenda s p' ≡ Open)
 Collects s p collected.Kept p' = HasPassed p p' × (agenda s p' ≡ Open)
 Collects s p collected.Dropped p' = HasDropped p p' × (agenda s p' ≡ Open)
 
--- What became of an event that was shown to the filter, behind its Filter: the window is due with it, or it waits there, or
--- it was dropped.
-abbrev pub Judges : Start → List Entry → ℕ → Collected → List Entry → Type 0
-Judges s p name collected.Hand p' = agenda s p' ≡ Hands
-Judges s p name collected.Kept p' = (window p' ≡ window p ++ name ∷ []) × (agenda s p' ≡ Open)
-Judges s p name collected.Dropped p' = (window p' ≡ window p) × (agenda s p' ≡ Open)
-Judges s p name collected.Stop p' = ⊥
-Judges s p name collected.Idle p' = ⊥
+-- the error of a filter is to be shown, or there was no memory for a copy of it
+abbrev pub IsToShow : Start → Result RuntimeError NoMemory → List Entry → Type 0
+IsToShow s (Ok error) p = agenda s p ≡ Shows error
+IsToShow s (Err want) p = (error : RuntimeError) × (agenda s p ≡ Shows error)
 
-pub record IsJudged (s : Start) (p : List Entry) (name : ℕ) (found : Collected) (p' : List Entry) : Type 0 where
+-- what becomes of an event that a filter answered so about, and didn't let pass
+abbrev pub HasFailed : RuntimeError → Found → Type 0
+HasFailed error (found.Failed (Ok copy)) = copy ≡ error
+HasFailed error (found.Failed (Err want)) = Unit {0}
+HasFailed error (_) = ⊥
+
+abbrev pub IsDropped : Result Bool RuntimeError → Found → Type 0
+IsDropped (Ok passes) f = f ≡ found.Dropped
+IsDropped (Err Exit) f = f ≡ found.Dropped
+IsDropped (Err error) f = HasFailed error f
+
+-- beside what the end takes there is room for the entry of an error that is to be shown
+abbrev pub LeavesRoom : Found → ℕ → ℕ → ℕ → Type 0
+LeavesRoom (found.Failed error) ends journal hooks = (1 + ends ≤ journal) × (1 ≤ hooks)
+LeavesRoom (_) ends journal hooks = Unit {0}
+
+-- The same before the error of a filter is shown: then the event was dropped, and this is due.
+abbrev pub Finds : Start → List Entry → Found → List Entry → Type 0
+Finds s p found.Stop p' = Collects s p collected.Stop p'
+Finds s p found.Hand p' = Collects s p collected.Hand p'
+Finds s p found.Idle p' = Collects s p collected.Idle p'
+Finds s p found.Kept p' = Collects s p collected.Kept p'
+Finds s p found.Dropped p' = Collects s p collected.Dropped p'
+Finds s p (found.Failed error) p' = HasDropped p p' × IsToShow s error p'
+
+-- What became of an event that was shown to the filter, behind its Filter: the window is due with it, or it waits there, or
+-- it was dropped, and maybe the error of the filter is to be shown.
+abbrev pub Judges : Start → List Entry → ℕ → Found → List Entry → Type 0
+Judges s p name found.Hand p' = agenda s p' ≡ Hands
+Judges s p name found.Kept p' = (window p' ≡ window p ++ name ∷ []) × (agenda s p' ≡ Open)
+Judges s p name found.Dropped p' = (window p' ≡ window p) × (agenda s p' ≡ Open)
+Judges s p name (found.Failed error) p' = (window p' ≡ window p) × IsToShow s error p'
+Judges s p name found.Stop p' = ⊥
+Judges s p name found.Idle p' = ⊥
+
+pub record IsJudged (s : Start) (p : List Entry) (name : ℕ) (found : Found) (p' : List Entry) : Type 0 where
   pub n : ℕ
   pub answer : Result Bool RuntimeError
   pub shown : p' ≡ Filter n name answer ∷ p

@@ -3,6 +3,7 @@
 
 mod acts_done;
 mod batch;
+mod error_hook;
 mod handler;
 mod ids;
 mod job_list;
@@ -13,6 +14,7 @@ mod work_turn;
 mod worker_state;
 
 pub use batch::Batch;
+pub use error_hook::ErrorHook;
 pub use handler::{ActionHandler, CreateRefused};
 pub use ids::IdCount;
 pub use job_list::{JobList, Jobs};

@@ -1,11 +1,13 @@
 // The traits of the outside: what the engine asks of its world, and of the hooks that its user hands in.
 ghost use Rattle.std.specs.Prelude.{◌≡◌, ◌∷◌, [], ◌≤◌, ◌<◌, ◌+◌, IfOk, true, false, Some, List};
 ghost use Rattle.wx_journal.specs.declared.entry.Entry.{Entry, Entry as AnEntry};
+ghost use Rattle.wx_journal.specs.declared.wish.Wish.TheVariants.{Nothing};
 ghost use Rattle.wx_journal.specs.Told.{tell};
 ghost use Rattle.wx_job.specs.Kept.{Keeps};
 ghost use Rattle.wx_action.specs.Journal.{listed};
 ghost use Rattle.wx_action.specs.Told.{gives_last, GivesTurn};
 
+use crate::error_hook::ErrorHook;
 use crate::handler::ActionHandler;
 use wx_config::RuntimeError;
 use wx_events::{Event, Priority};
@@ -50,6 +52,16 @@ pub trait Hooks: JobHooks {
         ensures told { (Self.seen self.new).told ≡ tell (Entry.Filter n name result) (Self.seen self.old).told }
         ensures spare { (Self.seen self.old).spare ≤ (Self.seen self.new).spare + 1 }
         ensures keeps { (p : List AnEntry) → listed name p ≡ Some (event.now, priority) → Keeps Self.seen Self.rule Self.stands self.old p (Entry.Filter n name result) self.new };
+
+    /// Shows an error to the error handler of this number. The hook collects what is wished.
+    fn error(&mut self, n: u32, hook: &mut ErrorHook)
+        requires room { 1 ≤ (Self.seen self.old).spare }
+        requires wish { hook.old.wish ≡ Nothing }
+        requires open { hook.old.told ≡ false }
+        ensures error { hook.new.error ≡ hook.old.error }
+        ensures told { (Self.seen self.new).told ≡ tell (Entry.Show n hook.old.error hook.new.wish) (Self.seen self.old).told }
+        ensures spare { (Self.seen self.old).spare ≤ (Self.seen self.new).spare + 1 }
+        ensures keeps { (p : List AnEntry) → Keeps Self.seen Self.rule Self.stands self.old p (Entry.Show n hook.old.error hook.new.wish) self.new };
 
     /// Hands a batch to the action handler of this number. The handler collects what is asked for.
     fn action(&mut self, n: u32, handler: &mut ActionHandler<'_>)

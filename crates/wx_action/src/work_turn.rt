@@ -1,21 +1,23 @@
 // A Work turn: an event is taken, and the window is handed where it is due.
-ghost use Rattle.std.specs.Prelude.{◌≡◌, ◌∷◌, [], ◌++◌, ◌+◌, ◌<◌, ◌≤◌, ◌==◌, ◌||◌, nat_le, Some, true, false, if◌then◌else◌, length, List, Option, IfOk, IfErr, OnErr};
+ghost use Rattle.std.specs.Prelude.{◌≡◌, ◌∷◌, [], ◌++◌, ◌+◌, ◌<◌, ◌≤◌, ◌==◌, ◌||◌, nat_le, Some, true, false, if◌then◌else◌, length, List, Option, is_some, IfOk, IfErr, OnOk, OnErr};
 ghost use Rattle.wx_journal.specs.declared.entry.Entry.{Entry};
+ghost use Rattle.wx_journal.specs.declared.entry.Entry.TheVariants.{Filter};
 ghost use Rattle.wx_journal.specs.Names.{moment};
 ghost use Rattle.wx_events.specs.Priority.{is_urgent};
 ghost use Rattle.wx_config.specs.declared.error.CriticalError.TheVariants.{Memory as WantOfMemory};
 ghost use Rattle.wx_job.specs.Steady.{IsSteady};
 ghost use Rattle.wx_action.specs.Serves.{Grows, GrowsHand, Continues};
 ghost use Rattle.wx_action.specs.Start.{Start};
-ghost use Rattle.wx_action.specs.Journal.{listed, is_unseen, lets_pass, is_exit, bag, is_over, is_over_of};
-ghost use Rattle.wx_action.specs.Due.{agenda, work, has_quit, Open, Takes, Filters, Hands, after_acts};
-ghost use Rattle.wx_action.specs.Answer.{NoneIsToGo, MemoryCuts};
+ghost use Rattle.wx_action.specs.Journal.{listed, is_unseen, lets_pass, is_exit, is_close, ending, bag, is_over, is_over_of};
+ghost use Rattle.wx_action.specs.Due.{agenda, work, has_quit, Open, Takes, Filters, Shows, Hands, after_acts};
+ghost use Rattle.wx_action.specs.Answer.{NoneIsToGo, BreaksOff, BreaksHere, Fails};
 ghost use Rattle.wx_action.specs.Perform.{OwesActs};
 ghost use Rattle.wx_action.specs.Laws.{NoneUrgentWaits};
-ghost use Rattle.wx_action.specs.Stands.{Stands, AtWork, Collects, IsJudged, Works, HasRoom, end_room};
+ghost use Rattle.wx_action.specs.Stands.{Stands, AtWork, MayShow, Finds, Collects, IsDropped, IsJudged, LeavesRoom, Works, HasRoom, end_room};
 
 use crate::acts_done::perform;
 use crate::batch::Batch;
+use crate::error_hook::ErrorHook;
 use crate::handler::{ActionHandler, Todo, is_quit};
 use crate::outside::Hooks;
 use crate::worker_state::Worker;
@@ -23,9 +25,9 @@ use prio_channel::PrioQueue;
 use std::alloc::Global;
 use std::mem;
 use wx_config::{CriticalError, RuntimeError};
-use wx_events::{Event, Memory, Priority};
+use wx_events::{Copies, Event, Memory, Priority};
 use wx_job::Host;
-use wx_journal::{Act, Entry, Journal, Named, Word};
+use wx_journal::{Act, Entry, Journal, Named, Wish, Word};
 
 /// What a Work turn collected.
 #[derive(Clone, Copy, Debug, PartialEq, Eq)]
@@ -58,14 +60,26 @@ fn begun(is_empty: bool, at: u64, first: u64) -> u64
     if is_empty { at } else { first }
 }
 
-/// What an event that was taken leads to.
-fn due_or_kept(is_urgent: bool, is_over: bool) -> Collected
-    ensures { result ≡ (if is_urgent || is_over then Collected.Hand else Collected.Kept) }
+/// What a Work turn found, before the error of a filter is shown.
+#[derive(Drop)]
+pub(crate) enum Found {
+    Stop,
+    Hand,
+    Idle,
+    Kept,
+    Dropped,
+    /// An event was dropped, since the filter failed. Its error is to be shown, or there was no memory for a copy of it.
+    Failed(Result<RuntimeError, Memory>),
+}
+
+/// What an event that passed leads to.
+fn due_or_kept(is_urgent: bool, is_over: bool) -> Found
+    ensures { result ≡ (if is_urgent || is_over then Found.Hand else Found.Kept) }
 {
     if is_urgent || is_over {
-        Collected::Hand
+        Found::Hand
     } else {
-        Collected::Kept
+        Found::Kept
     }
 }
 
@@ -116,6 +130,42 @@ fn is_exit(answer: &Result<bool, RuntimeError>) -> bool
     matches!(answer, Err(RuntimeError::Exit))
 }
 
+/// What becomes of an event that a filter didn't let pass: an error but an exit is to be shown. A copy of it is taken.
+fn dropped(alloc: Global, answer: &Result<bool, RuntimeError>) -> Found
+    ensures { IsDropped answer.now result }
+{
+    match answer {
+        Ok(_) | Err(RuntimeError::Exit) => Found::Dropped,
+        Err(error) => Found::Failed(error.copy(alloc)),
+    }
+}
+
+/// Whether an error handler wished the end without an error.
+fn is_close(wish: &Wish) -> bool
+    ensures { result ≡ is_close wish.now }
+{
+    matches!(wish, Wish::Critical(CriticalError::Exit))
+}
+
+/// The error that a wish ends the run with. It fails only for want of memory.
+fn ending(
+    alloc: Global,
+    error: &RuntimeError,
+    wish: &Wish,
+) -> Result<Option<CriticalError>, Memory>
+    ensures ending { IfOk result (λ ends. ends ≡ ending error.now wish.now) }
+    ensures wants { OnErr result (is_some (ending error.now wish.now) ≡ true) }
+{
+    match wish {
+        Wish::Nothing | Wish::Critical(CriticalError::Exit) => Ok(None),
+        Wish::Elevate => Ok(Some(CriticalError::Elevated {
+            err: error.copy(alloc)?,
+            help: None,
+        })),
+        Wish::Critical(wished) => Ok(Some(wished.copy(alloc)?)),
+    }
+}
+
 /// Closes the queue, where the run is to end.
 fn close_where(ends: bool, queue: &mut PrioQueue<Named>)
     ensures items { queue.new.items ≡ queue.old.items }
@@ -129,13 +179,13 @@ fn close_where(ends: bool, queue: &mut PrioQueue<Named>)
 
 impl Worker {
     /// Adds an event that passed to the window, in room that was taken. It answers whether the window is due now.
-    fn join(&mut self, item: Named, priority: Priority, at: u64) -> Collected
+    fn join(&mut self, item: Named, priority: Priority, at: u64) -> Found
         requires { 1 ≤ self.old.batch.room }
         ensures same { self.new ≡ record self.old { batch = self.new.batch; first = self.new.first } }
         ensures names { self.new.batch.names ≡ self.old.batch.names ++ item.name ∷ [] }
         ensures events { self.new.batch.events ≡ self.old.batch.events ++ item.event ∷ [] }
         ensures first { self.new.first ≡ (if length self.old.batch.names == 0 then at else self.old.first) }
-        ensures found { result ≡ (if is_urgent priority || is_over_of self.old.config.throttle self.new.batch.names self.new.first at then Collected.Hand else Collected.Kept) }
+        ensures found { result ≡ (if is_urgent priority || is_over_of self.old.config.throttle self.new.batch.names self.new.first at then Found.Hand else Found.Kept) }
     {
         self.first = begun(self.batch.is_empty(), at, self.first);
         self.batch.push(item);
@@ -143,15 +193,16 @@ impl Worker {
     }
 
     /// Shows an event that was taken to the filter. It joins the window where the filter lets it pass, and is dropped else.
-    /// Where the filter asks for the end the queue is closed.
+    /// Where the filter asks for the end the queue is closed. It answers its error, which is to be shown.
     fn judge<H: Hooks>(
         &mut self,
+        alloc: Global,
         item: Named,
         priority: Priority,
         at: u64,
         hooks: &mut H,
         journal: &mut Journal,
-    ) -> Collected
+    ) -> Found
         ghost start: { Start }
         requires due { agenda start journal.old.past ≡ Filters item.name }
         requires listed { listed item.name journal.old.past ≡ Some (item.event, priority) }
@@ -169,18 +220,46 @@ impl Worker {
         let n = self.config.filterer;
         let name = item.name;
         let answer = hooks.check_event(n, name, &item.event, priority);
-        let passes = lets_pass(&answer);
-        let ends = is_exit(&answer);
-        journal.push(Entry::Filter { n, name, answer });
-        if passes {
+        if lets_pass(&answer) {
+            journal.push(Entry::Filter { n, name, answer });
             return self.join(item, priority, at);
         }
+        self.reject(alloc, n, name, answer, journal)
+    }
+
+    /// Drops an event that the filter didn't let pass. Where the filter asks for the end the queue is closed.
+    fn reject(
+        &mut self,
+        alloc: Global,
+        n: u32,
+        name: u64,
+        answer: Result<bool, RuntimeError>,
+        journal: &mut Journal,
+    ) -> Found
+        requires room { 1 ≤ journal.old.spare }
+        ensures same { self.new ≡ record self.old { queue = self.new.queue } }
+        ensures items { self.new.queue.items ≡ self.old.queue.items }
+        ensures size { self.new.queue.size ≡ self.old.queue.size }
+        ensures closed { self.new.queue.closed ≡ (is_exit answer || self.old.queue.closed) }
+        ensures past { journal.new.past ≡ Filter n name answer ∷ journal.old.past }
+        ensures room { journal.new.spare + 1 ≡ journal.old.spare }
+        ensures found { IsDropped answer result }
+    {
+        let ends = is_exit(&answer);
+        let found = dropped(alloc, &answer);
+        journal.push(Entry::Filter { n, name, answer });
         close_where(ends, &mut self.queue);
-        Collected::Dropped
+        found
     }
 
     /// Takes an event of greatest priority from the queue, which isn't empty. It joins the window where it passes.
-    fn take<H: Hooks>(&mut self, at: u64, hooks: &mut H, journal: &mut Journal) -> Collected
+    fn take<H: Hooks>(
+        &mut self,
+        alloc: Global,
+        at: u64,
+        hooks: &mut H,
+        journal: &mut Journal,
+    ) -> Found
         ghost start: { Start }
         requires due { agenda start journal.old.past ≡ Takes }
         requires some { (length (bag journal.old.past) == 0) ≡ false }
@@ -190,7 +269,7 @@ impl Worker {
         requires batch_room { 1 ≤ self.old.batch.room }
         requires hooks_room { 1 ≤ (H.seen hooks.old).spare }
         ensures grows { GrowsHand H.seen H.rule H.stands start journal.old.past hooks.old self.new journal.new.past hooks.new }
-        ensures collected { Collects start journal.old.past result journal.new.past }
+        ensures found { Finds start journal.old.past result journal.new.past }
         ensures end_kept { end_room self.new ≡ end_room self.old }
         ensures room { journal.old.spare ≤ journal.new.spare + 2 }
         ensures hooks_room { (H.seen hooks.old).spare ≤ (H.seen hooks.new).spare + 1 }
@@ -202,23 +281,24 @@ impl Worker {
         if is_unseen(&item.event, priority) {
             return self.join(item, priority, at);
         }
-        self.judge(item, priority, at, hooks, journal)
+        self.judge(alloc, item, priority, at, hooks, journal)
     }
 
     /// What a Work turn finds: a closed queue; the window, where the throttle is over; nothing; or an event, which is taken.
     fn collect<H: Hooks>(
         &mut self,
+        alloc: Global,
         at: u64,
         hooks: &mut H,
         journal: &mut Journal,
-    ) -> Result<Collected, CriticalError>
+    ) -> Result<Found, Memory>
         ghost start: { Start }
         requires due { agenda start journal.old.past ≡ work start journal.old.past at }
         requires moment { moment journal.old.past ≡ at }
         requires stands { Stands start self.old journal.old.past }
         ensures grows { GrowsHand H.seen H.rule H.stands start journal.old.past hooks.old self.new journal.new.past hooks.new }
-        ensures collected { IfOk result (λ found. Collects start journal.old.past found journal.new.past) }
-        ensures error { IfErr result (λ error. error ≡ WantOfMemory) }
+        ensures found { IfOk result (λ found. Finds start journal.old.past found journal.new.past) }
+        ensures left { IfOk result (λ found. LeavesRoom found (end_room self.new) journal.new.spare (H.seen hooks.new).spare) }
         ensures unchanged { OnErr result (journal.new.past ≡ journal.old.past) }
         ensures end_kept { end_room self.new ≡ end_room self.old }
         ensures room { journal.old.spare ≤ journal.new.spare + 2 }
@@ -226,19 +306,55 @@ impl Worker {
         ensures hooks_room { (H.seen hooks.old).spare ≤ (H.seen hooks.new).spare + 1 }
     {
         if self.queue.is_closed() {
-            return Ok(Collected::Stop);
+            return Ok(Found::Stop);
         }
         if self.is_over(at) {
-            return Ok(Collected::Hand);
+            return Ok(Found::Hand);
         }
-        self.reserve(2, journal)?;
+        self.reserve(3, journal)?;
         if self.queue.is_empty() {
             journal.push(Entry::Word(Word::Idle));
-            return Ok(Collected::Idle);
+            return Ok(Found::Idle);
         }
         self.batch.reserve()?;
-        hooks.reserve(1)?;
-        Ok(self.take(at, hooks, journal))
+        hooks.reserve(2)?;
+        Ok(self.take(alloc, at, hooks, journal))
+    }
+
+    /// Shows an error to the error handler. Where this wishes that the run ends the error with which it does is answered, and
+    /// where it wishes the end without an error the queue is closed. It also fails for want of memory.
+    fn show<H: Hooks>(
+        &mut self,
+        alloc: Global,
+        error: RuntimeError,
+        hooks: &mut H,
+        journal: &mut Journal,
+    ) -> Result<(), CriticalError>
+        ghost start: { Start }
+        requires due { agenda start journal.old.past ≡ Shows error }
+        requires stands { Stands start self.old journal.old.past }
+        requires room { 1 ≤ journal.old.spare }
+        requires hooks_room { 1 ≤ (H.seen hooks.old).spare }
+        ensures grows { GrowsHand H.seen H.rule H.stands start journal.old.past hooks.old self.new journal.new.past hooks.new }
+        ensures adds { MayShow journal.old.past journal.new.past }
+        ensures done { OnOk result (agenda start journal.new.past ≡ Open) }
+        ensures breaks { IfErr result (λ error. BreaksHere start journal.new.past error) }
+        ensures end_kept { end_room self.new ≡ end_room self.old }
+        ensures room { journal.old.spare ≤ journal.new.spare + 1 }
+        ensures hooks_room { (H.seen hooks.old).spare ≤ (H.seen hooks.new).spare + 1 }
+    {
+        let n = self.config.error_handler;
+        let mut hook = ErrorHook::new(alloc, error)?;
+        hooks.error(n, &mut hook);
+        let (error, wish) = hook.into_parts();
+        let ends = ending(alloc, &error, &wish);
+        let closes = is_close(&wish);
+        journal.push(Entry::Show { n, error, wish });
+        close_where(closes, &mut self.queue);
+        match ends? {
+            Some(error) => Err(error),
+            None => Ok(()),
+        }
     }
 }
 
@@ -246,8 +362,10 @@ impl Worker {
 /// the window is due. Else an event of greatest priority is taken from the queue, or there is nothing to take. An urgent
 /// event and one without tags pass unseen, and any other is shown to the filter. What passes joins the window, which is due
 /// where the event is urgent or the throttle is over. What doesn't pass is dropped, and the queue is closed where the filter
-/// asks for the end. It fails only for want of memory, and adds no entry then.
+/// asks for the end. Any other error of the filter is shown to the error handler. It fails where this wishes that the run
+/// ends with an error, and for want of memory, and not between a take and its filter.
 pub fn throttle_collect<H: Hooks>(
+    alloc: Global,
     worker: &mut Worker,
     at: u64,
     hooks: &mut H,
@@ -257,14 +375,23 @@ pub fn throttle_collect<H: Hooks>(
     requires { AtWork start worker.old at journal.old.past }
     ensures grows { GrowsHand H.seen H.rule H.stands start journal.old.past hooks.old worker.new journal.new.past hooks.new }
     ensures collected { IfOk result (λ found. Collects start journal.old.past found journal.new.past) }
-    ensures error { IfErr result (λ error. error ≡ WantOfMemory) }
-    ensures unchanged { OnErr result (journal.new.past ≡ journal.old.past) }
-    ensures room { journal.old.spare ≤ journal.new.spare + 2 }
+    ensures fails { IfErr result (λ error. Fails start journal.old.past journal.new.past error) }
+    ensures room { journal.old.spare ≤ journal.new.spare + 3 }
     ensures end_room { end_room worker.new ≡ end_room worker.old }
     ensures kept_room { end_room worker.old ≤ journal.old.spare → end_room worker.new ≤ journal.new.spare }
-    ensures hooks_room { (H.seen hooks.old).spare ≤ (H.seen hooks.new).spare + 1 }
+    ensures hooks_room { (H.seen hooks.old).spare ≤ (H.seen hooks.new).spare + 2 }
 {
-    worker.collect(at, hooks, journal)
+    match worker.collect(alloc, at, hooks, journal)? {
+        Found::Stop => Ok(Collected::Stop),
+        Found::Hand => Ok(Collected::Hand),
+        Found::Idle => Ok(Collected::Idle),
+        Found::Kept => Ok(Collected::Kept),
+        Found::Dropped => Ok(Collected::Dropped),
+        Found::Failed(error) => {
+            worker.show(alloc, error?, hooks, journal)?;
+            Ok(Collected::Dropped)
+        }
+    }
 }
 
 /// What a turn did that handed a batch.
@@ -347,15 +474,14 @@ pub fn worker<W: Host, H: Hooks>(
     requires { AtWork start worker.old at journal.old.past }
     ensures continues { Continues H.seen H.rule H.stands start journal.old.past (W.seen host.old) hooks.old worker.new journal.new.past (W.seen host.new) hooks.new }
     ensures works { IfOk result (λ worked. Works start worked journal.new.past) }
-    ensures error { IfErr result (λ error. error ≡ WantOfMemory) }
-    ensures cut { OnErr result (MemoryCuts start journal.new.past) }
+    ensures breaks { IfErr result (λ error. BreaksOff start journal.new.past error) }
     ensures calm { NoneUrgentWaits journal.old.past → NoneUrgentWaits journal.new.past }
     ensures room { HasRoom worker.old journal.old.spare (W.seen host.old).spare → HasRoom worker.new journal.new.spare (W.seen host.new).spare }
 {
-    worker.reserve(3, journal)?;
+    worker.reserve(4, journal)?;
     worker.reserve_host(0, host)?;
-    hooks.reserve(2)?;
-    match throttle_collect(worker, at, hooks, journal)? {
+    hooks.reserve(3)?;
+    match throttle_collect(alloc, worker, at, hooks, journal)? {
         Collected::Stop => Ok(Worked::End),
         Collected::Hand => Ok(hand(alloc, worker, host, hooks, journal)?),
         Collected::Idle => Ok(Worked::On),

@@ -3,7 +3,6 @@ ghost use Rattle.std.specs.Prelude.{◌≡◌, IfOk};
 ghost use Rattle.wx_words.specs.Line.{Reads};
 ghost use Rattle.wx_words.specs.Combine.{read_as};
 ghost use Rattle.wx_config.specs.Critical.{help, elevated, make_elevated};
-ghost use Rattle.wx_config.specs.declared.error.CriticalError.TheVariants.{Elevated};
 
 use crate::runtime::RuntimeError;
 use crate::source_errors::FsWatcherError;
@@ -67,13 +66,17 @@ impl Copies for CriticalError {
         Ok(match self {
             CriticalError::Exit => CriticalError::Exit,
             CriticalError::External(text) => CriticalError::External(text.copy(alloc)?),
-            CriticalError::Elevated { err, help } => CriticalError::Elevated {
-                err: err.copy(alloc)?,
-                help: match help {
+            CriticalError::Elevated { err, help } => {
+                // copied first: a drop of an option is quicker to prove than that of a long enum
+                let help = match help {
                     Some(text) => Some(text.copy(alloc)?),
                     None => None,
-                },
-            },
+                };
+                CriticalError::Elevated {
+                    err: err.copy(alloc)?,
+                    help,
+                }
+            }
             CriticalError::IoError { about, err } => CriticalError::IoError {
                 about: about.copy(alloc)?,
                 err: *err,
@@ -136,22 +139,26 @@ fn read_help(alloc: Global, line: &mut Words) -> Result<Option<Option<Text>>, Me
 fn read_elevated(alloc: Global, line: &mut Words) -> Result<Option<CriticalError>, Memory>
     ensures { IfOk result (λ x. Reads line.new x (read_as make_elevated elevated.read line.old)) }
 {
-    match RuntimeError::read(alloc, line)? {
-        Some(err) => with_help(alloc, line, err),
+    let Some(err) = RuntimeError::read(alloc, line)? else {
+        return Ok(None);
+    };
+    match with_help(alloc, line, err)? {
+        Some((err, help)) => Ok(Some(CriticalError::Elevated { err, help })),
         None => Ok(None),
     }
 }
 
-/// Takes the word to the user behind this error, or loses the place.
-fn with_help(
+/// Takes the word to the user behind this error, or loses the place. It may be of any type: a drop of a long enum by
+/// name is slow to prove.
+fn with_help<E: Drop>(
     alloc: Global,
     line: &mut Words,
-    err: RuntimeError,
-) -> Result<Option<CriticalError>, Memory>
-    ensures { IfOk result (λ x. Reads line.new x (read_as (λ h. Elevated err h) help.read line.old)) }
+    err: E,
+) -> Result<Option<(E, Option<Text>)>, Memory>
+    ensures { IfOk result (λ x. Reads line.new x (read_as (λ h. (err, h)) help.read line.old)) }
 {
     match read_help(alloc, line)? {
-        Some(help) => Ok(Some(CriticalError::Elevated { err, help })),
+        Some(help) => Ok(Some((err, help))),
         None => Ok(None),
     }
 }

@@ -1,20 +1,23 @@
 -- What a run that led from the empty journal to this one told.
-use Rattle.std.proofs.Common.{◌≡◌, inl, inr, Option, List, [], Ok, Err, refl, ap, ◌∙◌}
+use Rattle.std.proofs.Common.{◌≡◌, ℕ, inl, inr, Option, None, Some, List, [], ◌∷◌, Ok, Err, refl, ap, sym, ◌∙◌}
+use Rattle.std.specs.Prelude.{IfErr}
 use Rattle.wx_journal.specs.declared.entry.Entry.{Entry}
-use Rattle.wx_journal.specs.declared.entry.Entry.TheVariants.{Dropped, Gone}
-use Rattle.wx_journal.specs.Told.{tell_if, tells, anywhere, is_world, is_hooks}
+use Rattle.wx_journal.specs.declared.entry.Entry.TheVariants.{Show, Dropped, Gone}
+use Rattle.wx_journal.specs.Told.{Rose, tell_if, tells, anywhere, is_world, is_hooks}
 use Rattle.wx_action.specs.Start.{Start}
+use Rattle.wx_config.specs.declared.error.CriticalError.{CriticalError}
 use Rattle.wx_config.specs.declared.error.CriticalError.TheVariants.{IoError, Memory}
-use Rattle.wx_action.specs.Answer.{Dying, Alive, Dies, Answers}
+use Rattle.wx_action.specs.Answer.{Dying, Alive, Dies, IsBroken, AtAnyPlace, Wishes, MemoryCuts, Answers}
 use Rattle.wx_journal.specs.Lines.{Answer}
-use Rattle.wx_action.specs.Laws.{IsBatched, AreBatches, NoneUnseenIsShown, AreMadeOnce, AreServed}
+use Rattle.wx_action.specs.Laws.{IsBatched, AreBatches, NoneUnseenIsShown, NoneIsShownClosed, AreMadeOnce, AreServed}
 use Rattle.wx_action.specs.Leads.{Leads, Here, Then}
 use Rattle.wx_action.proofs.JobLaws.{run_makes_once}
-use Rattle.wx_action.proofs.RunLaws.{orderly, run_is_batched, run_has_batches, run_shows, run_is_served}
+use Rattle.wx_action.proofs.RunLaws.{orderly, run_is_batched, run_has_batches, run_shows, run_shows_open, run_is_served}
 use Rattle.wx_action.proofs.PlanLaws.{of_end}
 use Rattle.wx_action.specs.Lawful.{IsOfEnd}
 use Rattle.wx_action.proofs.EndLaws.{dying_keeps}
-use Rattle.wx_engine.specs.Run.{Ran}
+use Rattle.wx_engine.specs.Run.{Ran, HasCause}
+use Rattle.wx_engine.specs.Completes.{IsOkOrMemory, NoneEnds}
 
 -- the world was told its entries, and no other
 pub leads_world : (s : Start) (world hooks : Option (List Entry)) (p' : List Entry) (world' hooks' : Option (List Entry)) → Leads s [] world hooks p' world' hooks' → world' ≡ tells is_world p' world
@@ -36,12 +39,17 @@ pub dying_hooks : (q p : List Entry) (before : Option (List Entry)) → Dying q 
 dying_hooks q _ before Alive = refl
 dying_hooks q _ before (Dies e p l d) = no_call e (tells (anywhere is_hooks) p before) (of_end p e d) ∙ dying_hooks q p before l
 
+-- a run that was cut at some places was cut at any
+anywhere_broken : (place : List Entry → Type 0) (s : Start) (p : List Entry) → IsBroken place s p → IsBroken AtAnyPlace s p
+anywhere_broken place s p broken = record { before = broken.before; run = broken.run; cut = tt; dying = broken.dying; none = broken.none }
+
 -- whatever was answered, the end of the run is done
 pub answered_ran : (s : Start) (p : List Entry) (answer : Answer) → Answers s p answer → Ran s p
 answered_ran s p (Ok u) a = inl a.0
-answered_ran s p (Err (IoError about err)) a = inl a.0
-answered_ran s p (Err Memory) a = inr (record { before = a.before; run = a.run; cut = tt; dying = a.dying; none = a.none })
-answered_ran s p (Err (_)) a = absurd a
+answered_ran s p (Err (IoError about err)) (inl failed) = inl failed.complete
+answered_ran s p (Err (IoError about err)) (inr broken) = inr (anywhere_broken (Wishes (IoError about err)) s p broken)
+answered_ran s p (Err Memory) broken = inr (anywhere_broken (MemoryCuts s) s p broken)
+answered_ran s p (Err error) broken = inr (anywhere_broken (Wishes error) s p broken)
 
 -- the laws of batches, with the end
 pub ran_is_batched : (s : Start) (p : List Entry) → Ran s p → IsBatched p
@@ -56,6 +64,33 @@ ran_has_batches s p (inr broken) = (dying_keeps s broken.before p broken.dying).
 pub ran_shows : (s : Start) (p : List Entry) → Ran s p → NoneUnseenIsShown p
 ran_shows s p (inl complete) = run_shows s p complete.run
 ran_shows s p (inr broken) = (dying_keeps s broken.before p broken.dying).shows (run_shows s broken.before broken.run)
+
+-- nothing was shown once the queue was closed
+pub ran_shows_open : (s : Start) (p : List Entry) → Ran s p → NoneIsShownClosed p
+ran_shows_open s p (inl complete) = run_shows_open s p complete.run
+ran_shows_open s p (inr broken) = (dying_keeps s broken.before p broken.dying).shows_open (run_shows_open s broken.before broken.run)
+
+-- where no wish ended the run with an error, none does
+none_before : (q p : List Entry) → Dying q p → NoneEnds p → NoneEnds q
+none_before q _ Alive none = none
+none_before q _ (Dies (Dropped c) p l d) none = none_before q p l none
+none_before q _ (Dies (Gone job) p l d) none = none_before q p l none
+none_before q _ (Dies e p l d) none = absurd (of_end p e d)
+
+none_wished : (error : CriticalError) (p : List Entry) → NoneEnds p → Wishes error p → ⊥
+none_wished error [] none is = cc
+none_wished error (Show n shown wish ∷ p) none is = let both : None ≡ Some error = sym none.0 ∙ is in cc
+none_wished error (_ ∷ p) none is = cc
+
+unbroken : (error : CriticalError) (s : Start) (p : List Entry) → NoneEnds p → IsBroken (Wishes error) s p → ⊥
+unbroken error s p none broken = none_wished error broken.before (none_before broken.before p broken.dying none) broken.cut
+
+pub completed : (s : Start) (p : List Entry) (answer : Answer) (old new : ℕ) → Answers s p answer → IfErr answer (λ error. HasCause s p error old new) → (Rose old new → ⊥) → NoneEnds p → IsOkOrMemory answer
+completed s p (Ok u) old new a cause calm none = tt
+completed s p (Err Memory) old new a cause calm none = tt
+completed s p (Err (IoError about err)) old new a (inl rose) calm none = calm rose
+completed s p (Err (IoError about err)) old new a (inr broken) calm none = unbroken (IoError about err) s p none broken
+completed s p (Err error) old new a cause calm none = unbroken error s p none a
 
 -- ids made are distinct
 pub ran_makes_once : (s : Start) (p : List Entry) → Ran s p → AreMadeOnce p

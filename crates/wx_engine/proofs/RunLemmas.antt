@@ -1,27 +1,62 @@
 -- The end behind the turns of a run.
-use Rattle.std.proofs.Common.{◌≡◌, List, [], ◌∷◌, Ok, Err, inr, ◌∙◌}
-use Rattle.std.specs.Prelude.{IsErrAnd}
+use Rattle.std.proofs.Common.{◌≡◌, ℕ, Some, List, [], ◌∷◌, Ok, Err, inl, inr, subst, ◌∙◌}
+use Rattle.std.specs.Prelude.{IsErrAnd, IfErr}
 use Rattle.wx_events.specs.declared.event.Event.{Event}
 use Rattle.wx_events.specs.declared.priority.Priority.{Priority}
 use Rattle.wx_journal.specs.declared.entry.Entry.{Entry}
-use Rattle.wx_config.specs.declared.error.CriticalError.TheVariants.{IoError, Memory}
+use Rattle.wx_journal.specs.declared.entry.Entry.TheVariants.{Show}
+use Rattle.wx_journal.specs.declared.wish.Wish.{Wish}
+use Rattle.wx_journal.specs.declared.wish.Wish.TheVariants.{Nothing, Elevate, Critical}
+use Rattle.wx_config.specs.declared.runtime.RuntimeError.{RuntimeError}
+use Rattle.wx_config.specs.declared.error.CriticalError.{CriticalError}
+use Rattle.wx_config.specs.declared.error.CriticalError.TheVariants.{Exit, IoError, Memory}
+use Rattle.wx_action.specs.Journal.{ending}
 use Rattle.wx_action.specs.Start.{Start}
 use Rattle.wx_action.specs.Jobs.{jobs}
 use Rattle.wx_action.specs.Due.{agenda, Open, Ends, sends, IsRun}
-use Rattle.wx_action.specs.Answer.{Dying, Alive, IsComplete, IsBroken, NoneIsToGo, MemoryCuts, Answers}
+use Rattle.wx_action.specs.Answer.{Dying, Alive, IsComplete, IsBroken, NoneIsToGo, MemoryCuts, Wishes, Answers}
 use Rattle.wx_journal.specs.Lines.{Answer}
 use Rattle.wx_action.proofs.EndLaws.{dying_turns, dying_run, dying_ends}
-use Rattle.wx_engine.specs.Run.{Stops}
+use Rattle.wx_engine.specs.Run.{Stops, HasCause, HasTurnCause}
+
+-- an exit is no error that a wish ends the run with
+none_exits : (error : RuntimeError) (wish : Wish) → ending error wish ≡ Some Exit → ⊥
+none_exits error Nothing is = cc
+none_exits error Elevate is = cc
+none_exits error (Critical Exit) is = cc
+none_exits error (Critical wished) is = cc
+
+no_exit : (p : List Entry) → Wishes Exit p → ⊥
+no_exit [] is = cc
+no_exit (Show n error wish ∷ p) is = none_exits error wish is
+no_exit (_ ∷ p) is = cc
 
 complete : (s : Start) (q p : List Entry) → IsRun s q → agenda s q ≡ Ends → Dying q p → jobs p ≡ [] → IsComplete s p
 complete s q p run due dying none = record { run = dying_run s q p dying run due; ended = dying_ends s q p dying due; none = none }
 
 -- what is answered once the end is done
+broken_off : (place : List Entry → Type 0) (s : Start) (q p : List Entry) → IsRun s q → place q → Dying q p → jobs p ≡ [] → IsBroken place s p
+broken_off place s q p run cut dying none = record { before = q; run = run; cut = cut; dying = dying; none = none }
+
 pub stopped : (s : Start) (q p : List Entry) (answer : Answer) → IsRun s q → Stops s q answer → Dying q p → jobs p ≡ [] → Answers s p answer
 stopped s q p (Ok u) run stops dying none = (complete s q p run stops.0 dying none, (dying_turns s q p dying).fault ∙ stops.1)
-stopped s q p (Err (IoError about err)) run stops dying none = (complete s q p run stops.0 dying none, stops.1, (dying_turns s q p dying).fault ∙ stops.2)
-stopped s q p (Err Memory) run stops dying none = record { before = q; run = run; cut = stops; dying = dying; none = none }
-stopped s q p (Err (_)) run stops dying none = absurd stops
+stopped s q p (Err (IoError about err)) run (inl failed) dying none = inl (record { complete = complete s q p run failed.0 dying none; is_turn = failed.1; fault = (dying_turns s q p dying).fault ∙ failed.2 })
+stopped s q p (Err (IoError about err)) run (inr wished) dying none = inr (broken_off (Wishes (IoError about err)) s q p run wished dying none)
+stopped s q p (Err Memory) run (inl failed) dying none = absurd failed
+stopped s q p (Err Memory) run (inr cut) dying none = broken_off (MemoryCuts s) s q p run cut dying none
+stopped s q p (Err error) run (inl failed) dying none = absurd failed
+stopped s q p (Err error) run (inr wished) dying none = broken_off (Wishes error) s q p run wished dying none
+
+-- its cause
+caused : (s : Start) (q p : List Entry) (error : CriticalError) (old new : ℕ) → IsRun s q → Dying q p → jobs p ≡ [] → Answers s p (Err error) → HasTurnCause q error old new → HasCause s p error old new
+caused s q p (IoError about err) old new run dying none answers (inl rose) = inl rose
+caused s q p (IoError about err) old new run dying none answers (inr wished) = inr (broken_off (Wishes (IoError about err)) s q p run wished dying none)
+caused s q p Exit old new run dying none answers cause = absurd (no_exit answers.before answers.cut)
+caused s q p (_) old new run dying none answers cause = tt
+
+pub caused_by : (s : Start) (q p : List Entry) (answer : Answer) (old mid new : ℕ) → mid ≡ new → IsRun s q → Dying q p → jobs p ≡ [] → Answers s p answer → IfErr answer (λ error. HasTurnCause q error old mid) → IfErr answer (λ error. HasCause s p error old new)
+caused_by s q p (Ok u) old mid new same run dying none answers cause = tt
+caused_by s q p (Err error) old mid new same run dying none answers cause = caused s q p error old new run dying none answers (subst (λ (n : ℕ). HasTurnCause q error old n) same cause)
 
 -- a run that was broken off before any job was made
 pub broken : (s : Start) (p : List Entry) → IsRun s p → jobs p ≡ [] → NoneIsToGo (agenda s p) → IsBroken (MemoryCuts s) s p
@@ -35,7 +70,7 @@ wants s p (Err e) is broken = rw is broken
 -- turns are served until memory is wanted, where it may be
 pub stops_wanting : (s : Start) (p : List Entry) (answer : Answer) → IsErrAnd answer (λ e. e ≡ Memory) → MemoryCuts s p → Stops s p answer
 stops_wanting s p (Ok u) is cut = absurd is
-stops_wanting s p (Err e) is cut = rw is cut
+stops_wanting s p (Err e) is cut = rw is (inr cut)
 
 -- nothing is to be shown or handed where a turn may come, nor while events are listed as sent
 pub none_when_open : (s : Start) (p : List Entry) → agenda s p ≡ Open → NoneIsToGo (agenda s p)

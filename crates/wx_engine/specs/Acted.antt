@@ -9,7 +9,9 @@ use Rattle.wx_control.specs.declared.job.Job.{Job}
 use Rattle.wx_journal.specs.Acts.{JournalAct as Act}
 use Rattle.wx_journal.specs.declared.entry.Act.TheVariants.{Create, Ask as Asks, Quit}
 use Rattle.wx_journal.specs.declared.entry.Entry.{Entry}
-use Rattle.wx_journal.specs.declared.entry.Entry.TheVariants.{Filter, Hand}
+use Rattle.wx_journal.specs.declared.entry.Entry.TheVariants.{Filter, Show, Hand}
+use Rattle.wx_journal.specs.declared.wish.Wish.{Wish}
+use Rattle.wx_journal.specs.declared.wish.Wish.TheVariants.{Nothing}
 use Rattle.wx_journal.specs.Names.{creates, next_job}
 use Rattle.wx_job.specs.History.{same}
 use Rattle.wx_action.specs.Handled.{with_quit}
@@ -64,15 +66,25 @@ verdict_of (_) = None
 abbrev pub filters : Calls Verdict Verdict
 filters = answered_by verdict_of (Ok true)
 
+-- the calls of the error handler: each wishes what its line says, and those for which none is left wish nothing
+abbrev pub wish_of : Entry → Option Wish
+wish_of (Show n error wish) = Some wish
+wish_of (_) = None
+
+abbrev pub errors : Calls Wish Wish
+errors = answered_by wish_of Nothing
+
 -- what hooks that follow a script are to do
 pub record Wished : Type 0 where
   pub actions : List (List ScriptAct)
   pub filters : List Verdict
+  pub errors : List Wish
 
 -- their rule: each call of either kind is answered what is due
 pub record IsWished (plan : Wished) (p : List Entry) (e : Entry) : Type 0 where
   pub acts : IsAnswered hands plan.actions p e
   pub verdict : IsAnswered filters plan.filters p e
+  pub wish : IsAnswered errors plan.errors p e
 
 -- a handle is on the job of this id
 abbrev pub is_made : Id → Job → Bool

@@ -3,7 +3,7 @@ use Rattle.std.proofs.Common.{◌≡◌, ℕ, Bool, true, false, cond, if◌then
 use Rattle.std.proofs.lemmas.List.{append-nil}
 use Rattle.std.specs.List.{list_all}
 use Rattle.wx_journal.specs.declared.entry.Entry.{Entry}
-use Rattle.wx_journal.specs.declared.entry.Entry.TheVariants.{Filter, Hand, Spawn, Kill, Wait}
+use Rattle.wx_journal.specs.declared.entry.Entry.TheVariants.{Filter, Show, Hand, Spawn, Kill, Wait}
 use Rattle.wx_journal.specs.declared.entry.Turn.{Turn as Timed}
 use Rattle.wx_journal.specs.Told.{tell_if, tells, anywhere, is_world, is_hooks, is_turn, Obeys, Same, More}
 use Rattle.wx_engine.specs.declared.script.Script.{Script}
@@ -11,7 +11,8 @@ use Rattle.wx_engine.specs.declared.script.ScriptTurn.{ScriptTurn}
 use Rattle.wx_engine.specs.declared.script.ScriptTurn.TheVariants.{Turn, Fault}
 use Rattle.wx_engine.specs.Answered.{Calls, with_answer, answers_of, due_answer, due_answers, IsAnswered, AreAnswered, AreUsed, AreAmong, answered_by}
 use Rattle.wx_engine.specs.HostCalls.{HostCall, row, reply, calls, FollowsAnswers}
-use Rattle.wx_engine.specs.Acted.{Verdict, hands, filters, IsWished}
+use Rattle.wx_engine.specs.Acted.{Verdict, hands, filters, errors, Wished, IsWished}
+use Rattle.wx_journal.specs.declared.wish.Wish.{Wish}
 use Rattle.wx_engine.specs.Wishes.{ScriptAct}
 use Rattle.wx_engine.specs.Turns.{comes, risen, Rises, Given, given, newest, turns_of, FollowsGiven}
 use Rattle.wx_engine.specs.Follows.{given_of, FollowsTurns}
@@ -108,6 +109,10 @@ pub filters_among : AreAmong filters (anywhere is_hooks)
 filters_among p (Filter n name answer) other = absurd cc
 filters_among p (_) other = refl
 
+pub errors_among : AreAmong errors (anywhere is_hooks)
+errors_among p (Show n error wish) other = absurd cc
+errors_among p (_) other = refl
+
 calls_among : (k : HostCall) → AreAmong (calls k) is_world
 calls_among k p (Spawn child job tag what answer) other = absurd cc
 calls_among k p (Kill child answer) other = absurd cc
@@ -153,8 +158,10 @@ come_more (y ∷ turns) x all one = go (comes y) all (λ e. come_more turns x e 
     go false e more = cc
 
 -- what hooks that follow a script keep, by their rule
-pub wished_follows : (mine actions : List (List ScriptAct)) (answers verdicts : List Verdict) (p : List Entry) → mine ≡ actions → answers ≡ verdicts → Obeys (λ q e. IsWished (record { actions = mine; filters = answers }) q e) [] p → AreAnswered hands actions p × AreAnswered filters verdicts p
-wished_follows mine actions answers verdicts p same_actions same_verdicts obeys = (
-  subst (λ lines. AreAnswered hands lines p) same_actions (obeys_answered hands hands_among mine _ (λ q e due. due.acts) p obeys),
-  subst (λ lines. AreAnswered filters lines p) same_verdicts (obeys_answered filters filters_among answers _ (λ q e due. due.verdict) p obeys),
+pub wished_follows : (plan : Wished) (actions : List (List ScriptAct)) (verdicts : List Verdict) (wishes : List Wish) (p : List Entry) → plan.actions ≡ actions → plan.filters ≡ verdicts → plan.errors ≡ wishes → Obeys (λ q e. IsWished plan q e) [] p
+    → AreAnswered hands actions p × AreAnswered filters verdicts p × AreAnswered errors wishes p
+wished_follows plan actions verdicts wishes p same_actions same_verdicts same_wishes obeys = (
+  subst (λ lines. AreAnswered hands lines p) same_actions (obeys_answered hands hands_among plan.actions _ (λ q e due. due.acts) p obeys),
+  subst (λ lines. AreAnswered filters lines p) same_verdicts (obeys_answered filters filters_among plan.filters _ (λ q e due. due.verdict) p obeys),
+  subst (λ lines. AreAnswered errors lines p) same_wishes (obeys_answered errors errors_among plan.errors _ (λ q e due. due.wish) p obeys),
 )

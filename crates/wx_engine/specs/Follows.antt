@@ -8,19 +8,20 @@ use Rattle.wx_engine.specs.declared.script.Script.{Script}
 use Rattle.wx_engine.specs.Turns.{comes, Rises, Given, FollowsGiven}
 use Rattle.wx_engine.specs.Answered.{AreAnswered}
 use Rattle.wx_engine.specs.HostCalls.{FollowsAnswers}
-use Rattle.wx_engine.specs.Acted.{hands, filters}
+use Rattle.wx_engine.specs.Acted.{hands, filters, errors}
 
 -- what holds of each script that is read
 pub record IsScript (s : Script) : Type 0 where
   pub size : IsSize s.size
+  pub error_size : IsSize s.error_size
   pub sends : length s.sends ≤ s.size
   pub comes : list_all comes s.turns ≡ true
   pub rises : Rises s.turns s.last
 
--- what the engine starts from: the default settings but for the throttle and the size, and the topmost folder
+-- what the engine starts from: the default settings but for the throttle and the two sizes, and the topmost folder
 abbrev pub start_of : Script → Start
 start_of s = record {
-  config = record default_config { throttle = s.throttle; event_channel_size = s.size };
+  config = record default_config { throttle = s.throttle; event_channel_size = s.size; error_channel_size = s.error_size };
   folder = 47 ∷ [];
   events = s.sends;
 }
@@ -33,10 +34,11 @@ given_of s = record { turns = s.turns; last = s.last; answers = s.answers }
 abbrev pub FollowsTurns : Script → List Entry → Type 0
 FollowsTurns s p = FollowsGiven s.turns s.last p
 
--- the run follows the script: in its turns, in what is asked for in each call of the action handler, and in what the calls
--- of the filter and those on the host are answered
+-- the run follows the script: in its turns, in what is asked for in each call of the action handler, in what the error
+-- handler wishes, and in what the calls of the filter and those on the host are answered
 pub record Follows (s : Script) (p : List Entry) : Type 0 where
   pub turns : FollowsTurns s p
   pub acts : AreAnswered hands s.actions p
   pub filtered : AreAnswered filters s.filters p
+  pub wished : AreAnswered errors s.errors p
   pub answers : FollowsAnswers s.answers p

@@ -8,3 +8,4 @@ pub mod FollowLaws
 pub mod Sent
 pub mod Run
 pub mod Completes
+pub mod Offers

@@ -7,7 +7,7 @@ use Rattle.wx_journal.specs.Written.{Written}
 use Rattle.wx_job.specs.Seen.{Seen}
 use Rattle.wx_job.specs.Faults.{Counted, CountsOn}
 use Rattle.wx_config.specs.declared.error.CriticalError.{CriticalError}
-use Rattle.wx_config.specs.declared.error.CriticalError.TheVariants.{IoError, Memory}
+use Rattle.wx_config.specs.declared.error.CriticalError.TheVariants.{Exit, IoError}
 use Rattle.wx_action.specs.Start.{Start}
 use Rattle.wx_action.specs.declared.worker_state.Worker.{Worker}
 use Rattle.wx_action.specs.Journal.{turn_count, early_count, turn_fault}
@@ -15,26 +15,34 @@ use Rattle.wx_action.specs.Due.{agenda, Open, Ends}
 use Rattle.wx_action.specs.Laws.{IsBatched, AreBatches, NoneUrgentWaits, MomentsRise}
 use Rattle.wx_action.specs.Leads.{Follows}
 use Rattle.wx_action.specs.Stands.{Stands, HasRoom}
-use Rattle.wx_action.specs.Answer.{IsComplete, IsBroken, AtAnyPlace, MemoryCuts}
+use Rattle.wx_action.specs.Answer.{IsComplete, IsBroken, AtAnyPlace, Wishes, BreaksOff}
 use Rattle.wx_journal.specs.Lines.{Answer}
 
 -- where the world told the turns of the one journal it then tells those of the other
 abbrev pub TellsTurns : List Entry → Option (List Entry) → List Entry → Option (List Entry) → Type 0
 TellsTurns p told p' told' = (before : Option (List Entry)) → told ≡ tells (anywhere is_turn) p before → told' ≡ tells (anywhere is_turn) p' before
 
--- an error about a turn comes only where the count of turn faults rose, and no other comes but want of memory
-abbrev pub HasCause : CriticalError → ℕ → ℕ → Type 0
-HasCause (IoError about err) old new = Rose old new
-HasCause Memory old new = Unit {0}
-HasCause (_) old new = ⊥
+-- An error about a turn comes only where the count of turn faults rose, or where the error handler wished it, and an exit
+-- never comes. Of any other error the journal has the cause.
+abbrev pub HasCause : Start → List Entry → CriticalError → ℕ → ℕ → Type 0
+HasCause s p (IoError about err) old new = Rose old new ⊎ IsBroken (Wishes (IoError about err)) s p
+HasCause s p Exit old new = ⊥
+HasCause s p (_) old new = Unit {0}
 
--- Turns are served until the end is owed, with the fault of a turn where that is the error, or until memory is wanted
--- where it may be.
+-- the same before the end
+abbrev pub HasTurnCause : List Entry → CriticalError → ℕ → ℕ → Type 0
+HasTurnCause p (IoError about err) old new = Rose old new ⊎ Wishes (IoError about err) p
+HasTurnCause p (_) old new = Unit {0}
+
+-- the fault of a turn is that error
+abbrev pub TurnFailed : Start → List Entry → CriticalError → Type 0
+TurnFailed s p (IoError about err) = (agenda s p ≡ Ends) × (about ≡ codes "turn") × (turn_fault p ≡ Some err)
+TurnFailed s p (_) = ⊥
+
+-- Turns are served until the end is owed, with the fault of a turn where that is the error, or until the run breaks off.
 abbrev pub Stops : Start → List Entry → Answer → Type 0
 Stops s p (Ok u) = (agenda s p ≡ Ends) × (turn_fault p ≡ None)
-Stops s p (Err (IoError about err)) = (agenda s p ≡ Ends) × (about ≡ codes "turn") × (turn_fault p ≡ Some err)
-Stops s p (Err Memory) = MemoryCuts s p
-Stops s p (Err (_)) = ⊥
+Stops s p (Err error) = TurnFailed s p error ⊎ BreaksOff s p error
 
 -- a run whose end is done, or one that was cut, with its end behind it
 abbrev pub Ran : Start → List Entry → Type 0

@@ -7,17 +7,17 @@ ghost use Rattle.wx_job.specs.Steady.{OnlyRoom};
 ghost use Rattle.wx_config.specs.declared.error.CriticalError.TheVariants.{Memory as WantOfMemory};
 ghost use Rattle.wx_job.specs.Kept.{KeepsOn, Promised};
 ghost use Rattle.wx_action.specs.Serves.{Adds, Continues};
-ghost use Rattle.wx_action.specs.Start.{Start, IsStart};
+ghost use Rattle.wx_action.specs.Start.{Start, IsStart, IsSize};
 ghost use Rattle.wx_action.specs.Journal.{turn_count, early_count, turn_fault};
 ghost use Rattle.wx_action.specs.Jobs.{jobs};
 ghost use Rattle.wx_action.specs.Due.{agenda, begin_of, Open};
 ghost use Rattle.wx_action.specs.Told.{is_last, TellsNoEnd};
 ghost use Rattle.wx_action.specs.Laws.{IsBatched, AreBatches, NoneUrgentWaits, MomentsRise};
-ghost use Rattle.wx_action.specs.Answer.{NoneIsToGo, MemoryCuts, Answers};
+ghost use Rattle.wx_action.specs.Answer.{NoneIsToGo, BreaksOff, Answers};
 ghost use Rattle.wx_job.specs.Faults.{Counted, CountsOn};
 ghost use Rattle.wx_action.specs.Leads.{Follows};
 ghost use Rattle.wx_action.specs.Stands.{Stands, AtTurn, HasRoom, Works, end_room};
-ghost use Rattle.wx_engine.specs.Run.{HasCause, Stops, Rests, IsBetween, ServesTurns, Lists, HasLaws};
+ghost use Rattle.wx_engine.specs.Run.{HasCause, HasTurnCause, Stops, Rests, IsBetween, ServesTurns, Lists, HasLaws};
 
 use crate::watchexec::Watchexec;
 use std::alloc::Global;
@@ -45,6 +45,35 @@ fn beginning(alloc: Global, config: &Config, folder: TextPath) -> Result<Entry, 
     })
 }
 
+/// The worker of a run with these settings and this folder, whose beginning it lists. It fails only for want of memory; then
+/// nothing is listed.
+fn list_beginning(
+    alloc: Global,
+    config: Config,
+    folder: TextPath,
+    journal: &mut Journal,
+) -> Result<Worker, Memory>
+    requires size { IsSize config.event_channel_size }
+    ensures stands { IfOk result (λ worker. (s : Start) → s.config ≡ config → Stands s worker (begin_of s ∷ [])) }
+    ensures room { IfOk result (λ worker. end_room worker ≡ 0) }
+    ensures listed { OnOk result (journal.new.past ≡ begin_of (record { config = config; folder = folder; events = [] }) ∷ journal.old.past) }
+    ensures err { OnErr result (journal.new.past ≡ journal.old.past) }
+{
+    journal.reserve(1)?;
+    let entry = beginning(alloc, &config, folder)?;
+    match Worker::new(alloc, config) {
+        Ok(worker) => {
+            journal.push(entry);
+            Ok(worker)
+        }
+        Err(memory) => {
+            // let go by generic code: the drop of a long enum is dear to prove
+            drop(entry);
+            Err(memory)
+        }
+    }
+}
+
 /// Begins a run: lists the beginning, and each event that was sent. It fails only for want of memory.
 pub(crate) fn begin(
     alloc: Global,
@@ -67,10 +96,7 @@ pub(crate) fn begin(
         folder,
         sent,
     } = engine;
-    let entry = beginning(alloc, &config, folder)?;
-    let mut worker = Worker::new(alloc, config)?;
-    journal.reserve(1)?;
-    journal.push(entry);
+    let mut worker = list_beginning(alloc, config, folder, journal)?;
     for item in sent.as_slice() {
         let event = item.0.copy(alloc)?;
         worker.send(alloc, event, item.1, journal)?;
@@ -79,7 +105,7 @@ pub(crate) fn begin(
 }
 
 /// What is due in a turn that was drawn and listed, of this moment and kind. The answer says whether the run goes on. It
-/// fails only for want of memory.
+/// fails where the run breaks off: for want of memory, and where the error handler wished it.
 fn serve<W: World, H: Hooks>(
     alloc: Global,
     kind: TurnKind,
@@ -96,8 +122,7 @@ fn serve<W: World, H: Hooks>(
     ensures room { HasRoom state.new journal.new.spare (W.seen world.new).spare }
     ensures works { IfOk result (λ worked. Works start worked journal.new.past) }
     ensures last { IfOk result (λ worked. worked ≡ Worked.On → is_last kind ≡ false) }
-    ensures error { IfErr result (λ error. error ≡ WantOfMemory) }
-    ensures cut { OnErr result (MemoryCuts start journal.new.past) }
+    ensures breaks { IfErr result (λ error. BreaksOff start journal.new.past error) }
     ensures calm { NoneUrgentWaits journal.old.past → NoneUrgentWaits journal.new.past }
 {
     match kind {
@@ -168,7 +193,7 @@ fn serve_turns<W: World, H: Hooks>(
     ensures stops { Stops start journal.new.past result }
     ensures serves { ServesTurns start journal.old.past (W.seen world.old) (H.seen hooks.old).told journal.new.past (W.seen world.new) (H.seen hooks.new).told }
     ensures keeps { KeepsOn H.seen H.rule H.stands hooks.old journal.old.past hooks.new journal.new.past }
-    ensures cause { IfErr result (λ error. HasCause error (W.seen world.old).progress.turn_faults (W.seen world.new).progress.turn_faults) }
+    ensures cause { IfErr result (λ error. HasTurnCause journal.new.past error (W.seen world.old).progress.turn_faults (W.seen world.new).progress.turn_faults) }
 {
     'turns: loop {
         make_room(state, world, journal)?;
@@ -204,7 +229,7 @@ pub(crate) fn run<W: World, H: Hooks>(
     requires engine { engine ≡ start }
     requires empty { journal.old.past ≡ [] }
     ensures answers { Answers start journal.new.past result }
-    ensures cause { IfErr result (λ error. HasCause error (W.seen world.old).progress.turn_faults (W.seen world.new).progress.turn_faults) }
+    ensures cause { IfErr result (λ error. HasCause start journal.new.past error (W.seen world.old).progress.turn_faults (W.seen world.new).progress.turn_faults) }
     ensures lists { Lists journal.new.past (W.seen world.old) (H.seen hooks.old).told (W.seen world.new) (H.seen hooks.new).told }
     ensures laws { HasLaws start journal.new.past }
     ensures promised { Promised H.seen H.rule H.stands hooks.old [] hooks.new journal.new.past }

@@ -3,7 +3,7 @@ use crate::answers::Answers;
 use std::alloc::Global;
 use wx_config::RuntimeError;
 use wx_events::{Copies, Event, List, Memory, Priority, Spelled, Text, Words};
-use wx_journal::{Act, Turn};
+use wx_journal::{Act, Turn, Wish};
 
 /// What the world is to do when it is asked for a turn.
 #[derive(Drop, Debug)]
@@ -52,6 +52,8 @@ pub struct Script {
     pub throttle: u64,
     /// How many events the queue holds.
     pub size: u32,
+    /// The size of the channel of errors in the settings.
+    pub error_size: u32,
     /// The events that are sent before the run.
     pub sends: List<(Event, Priority)>,
     /// The turns, in order. Those after them are last turns.
@@ -60,6 +62,8 @@ pub struct Script {
     pub actions: List<List<Act<Wanted>>>,
     /// What the filter answers: to its first call, to its second, and so on.
     pub filters: List<Result<bool, RuntimeError>>,
+    /// What the error handler wishes: in its first call, in its second, and so on.
+    pub errors: List<Wish>,
     /// What the host answers.
     pub answers: Answers,
     /// The moment of the last turn that is written down, in nanoseconds, 0 where there is none.

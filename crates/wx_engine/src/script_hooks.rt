@@ -1,27 +1,30 @@
 // Hooks in memory, which follow a script.
-ghost use Rattle.std.specs.Prelude.{◌≡◌, ◌++◌, ◌∷◌, [], ◌+◌, min, length, get_or, Bool, true, false, Some, Ok as Well, List, IfOk, OnOk, option_map};
+ghost use Rattle.std.specs.Prelude.{◌≡◌, ◌++◌, ◌∷◌, [], ◌+◌, min, length, get_or, Bool, true, false, Some, Ok as Well, List, IfOk, OnOk, OnErr, option_map};
 ghost use Rattle.std.specs.List.{find};
 ghost use Rattle.wx_journal.specs.declared.entry.Act.TheVariants.{Ask as Asks};
 ghost use Rattle.wx_engine.specs.Wishes.{ScriptAct as AnAct};
+ghost use Rattle.wx_journal.specs.declared.wish.Wish.TheVariants.{Nothing};
 ghost use Rattle.wx_journal.specs.Told.{anywhere, is_hooks};
 ghost use Rattle.wx_engine.specs.Answered.{AreUsed};
-ghost use Rattle.wx_engine.specs.Acted.{is_made, AreMade, performed, with_create, with_ask, with_act, hands, filters, Wished, IsWished};
-ghost use Rattle.wx_engine.specs.FollowLaws.{uses_over, hands_among, filters_among};
+ghost use Rattle.wx_engine.specs.Acted.{is_made, AreMade, performed, with_create, with_ask, with_act, hands, filters, errors, Wished, IsWished};
+ghost use Rattle.wx_engine.specs.FollowLaws.{uses_over, hands_among, filters_among, errors_among};
 
 use crate::replies::{line, passed};
 use crate::script::{Script, Wanted};
 use std::alloc::Global;
-use wx_action::{ActionHandler, CreateRefused, Hooks, JobHooks};
+use wx_action::{ActionHandler, CreateRefused, ErrorHook, Hooks, JobHooks};
 use wx_command::Command;
 use wx_config::RuntimeError;
 use wx_control::{Ask, Controls, Id, Job};
 use wx_events::{Copies, Event, List, Memory, Priority};
-use wx_journal::{Act, Entry, Journal};
+use wx_journal::{Act, Entry, Journal, Wish};
+use wx_words::copy_twice;
 
 /// Hooks that ask in each call of the action handler for the next acts of a script, and for nothing after them, and answer
-/// each call of the filter by the next answer of the script, and let every event after them pass. Where memory is wanted for
-/// an act they are short, quit, and leave out the acts behind it. Where it is wanted for an answer they are short, and answer
-/// the error `Memory`. They tell their entries.
+/// each call of the filter by the next answer of the script, and let every event after them pass. Of each error they wish what
+/// the script does next, and nothing after that. Where memory is wanted for an act they are short, quit, and leave out the
+/// acts behind it. Where it is wanted for an answer they are short, and answer the error `Memory`. Where it is wanted for a
+/// wish they are short, and wish nothing. They tell their entries.
 #[derive(Drop, Debug)]
 pub struct ScriptHooks {
     alloc: Global,
@@ -29,6 +32,8 @@ pub struct ScriptHooks {
     used: usize,
     filters: List<Result<bool, RuntimeError>>,
     asked: usize,
+    errors: List<Wish>,
+    shown: usize,
     told: Journal,
     is_short: bool,
 }
@@ -38,7 +43,8 @@ impl ScriptHooks {
     pub fn new(alloc: Global, script: &Script) -> Result<ScriptHooks, Memory>
         ensures plan { IfOk result (λ hooks. hooks.actions ≡ script.now.actions) }
         ensures filters { IfOk result (λ hooks. hooks.filters ≡ script.now.filters) }
-        ensures stands { IfOk result (λ hooks. AreUsed hands hooks.actions hooks.used [] × AreUsed filters hooks.filters hooks.asked []) }
+        ensures errors { IfOk result (λ hooks. hooks.errors ≡ script.now.errors) }
+        ensures stands { IfOk result (λ hooks. AreUsed hands hooks.actions hooks.used [] × AreUsed filters hooks.filters hooks.asked [] × AreUsed errors hooks.errors hooks.shown []) }
         ensures told { IfOk result (λ hooks. hooks.told.past ≡ []) }
         ensures short { IfOk result (λ hooks. hooks.is_short ≡ false) }
     {
@@ -46,14 +52,16 @@ impl ScriptHooks {
             alloc,
             actions: script.actions.copy(alloc)?,
             used: 0,
-            filters: copy_answers(alloc, &script.filters)?,
+            filters: script.filters.copy(alloc)?,
             asked: 0,
+            errors: script.errors.copy(alloc)?,
+            shown: 0,
             told: Journal::new(alloc)?,
             is_short: false,
         })
     }
 
-    /// Whether an act was left out for want of memory.
+    /// Whether an act, an answer or a wish was left out for want of memory.
     pub fn short(&self) -> bool
         ensures { result ≡ self.now.is_short }
     {
@@ -64,17 +72,17 @@ impl ScriptHooks {
 impl JobHooks for ScriptHooks {
     ghost Plan = { Wished };
 
-    ghost seen = { λ s. record { plan = record { actions = s.actions; filters = s.filters }; told = Some s.told.past; spare = s.told.spare; short = s.is_short; place = [] } };
+    ghost seen = { λ s. record { plan = record { actions = s.actions; filters = s.filters; errors = s.errors }; told = Some s.told.past; spare = s.told.spare; short = s.is_short; place = [] } };
 
     ghost rule = { λ plan p e. IsWished plan p e };
 
-    ghost stands = { λ s p. AreUsed hands s.actions s.used p × AreUsed filters s.filters s.asked p };
+    ghost stands = { λ s p. AreUsed hands s.actions s.used p × AreUsed filters s.filters s.asked p × AreUsed errors s.errors s.shown p };
 
     fn reserve(&mut self, n: u64) -> Result<(), Memory> {
         self.told.reserve(n)
     }
 
-    ghost stands_other = { λ s p e _ other stands. (uses_over hands (anywhere is_hooks) hands_among s.actions s.used p e other stands.0, uses_over filters (anywhere is_hooks) filters_among s.filters s.asked p e other stands.1) };
+    ghost stands_other = { λ s p e _ other stands. (uses_over hands (anywhere is_hooks) hands_among s.actions s.used p e other stands.0, uses_over filters (anywhere is_hooks) filters_among s.filters s.asked p e other stands.1, uses_over errors (anywhere is_hooks) errors_among s.errors s.shown p e other stands.2) };
 }
 
 impl Hooks for ScriptHooks {
@@ -88,6 +96,7 @@ impl Hooks for ScriptHooks {
         let usual = Ok(true);
         let due = line(&self.filters, self.asked, &usual);
         let (answer, told, short) = answer_and_told(self.alloc, due);
+        drop(usual);
         self.is_short = self.is_short || short;
         self.asked = passed(&self.filters, self.asked);
         self.told.push(Entry::Filter {
@@ -96,6 +105,17 @@ impl Hooks for ScriptHooks {
             answer: told,
         });
         answer
+    }
+
+    fn error(&mut self, n: u32, hook: &mut ErrorHook) {
+        let usual = Wish::Nothing;
+        let wish = line(&self.errors, self.shown, &usual);
+        let short = wish_or_short(self.alloc, wish, hook);
+        drop(usual);
+        self.is_short = self.is_short || short;
+        self.shown = passed(&self.errors, self.shown);
+        let entry = hook.shown(n);
+        self.told.push(entry);
     }
 
     fn action(&mut self, n: u32, handler: &mut ActionHandler<'_>) {
@@ -111,42 +131,33 @@ impl Hooks for ScriptHooks {
     }
 }
 
-/// The answer of a filter once more. It fails only for want of memory.
-fn copy_answer(
-    alloc: Global,
-    answer: &Result<bool, RuntimeError>,
-) -> Result<Result<bool, RuntimeError>, Memory>
-    ensures { IfOk result (λ again. again ≡ answer.now) }
+/// Wishes this of the error that a hook shows. It fails only for want of memory; then nothing is wished.
+fn wish_so(alloc: Global, wish: &Wish, hook: &mut ErrorHook) -> Result<(), Memory>
+    requires { hook.old.wish ≡ Nothing }
+    ensures wish { OnOk result (hook.new ≡ record hook.old { wish = wish.now }) }
+    ensures refused { OnErr result (hook.new ≡ hook.old) }
 {
-    match answer {
-        Ok(passes) => Ok(Ok(*passes)),
-        Err(error) => Ok(Err(error.copy(alloc)?)),
+    match wish {
+        Wish::Nothing => Ok(()),
+        Wish::Elevate => {
+            hook.elevate();
+            Ok(())
+        }
+        Wish::Critical(error) => hook.critical(alloc, error.copy(alloc)?),
     }
 }
 
-/// These answers once more. It fails only for want of memory.
-fn copy_answers(
-    alloc: Global,
-    answers: &List<Result<bool, RuntimeError>>,
-) -> Result<List<Result<bool, RuntimeError>>, Memory>
-    ensures { IfOk result (λ again. again ≡ answers.now) }
+/// Wishes this of the error that a hook shows, and answers whether there was no memory for it.
+fn wish_or_short(alloc: Global, wish: &Wish, hook: &mut ErrorHook) -> bool
+    requires { hook.old.wish ≡ Nothing }
+    ensures wish { result ≡ false → hook.new.wish ≡ wish.now }
+    ensures error { hook.new.error ≡ hook.old.error }
+    ensures told { hook.new.told ≡ hook.old.told }
 {
-    let mut again = Vec::new(alloc);
-    for answer in answers.as_slice() {
-        again.push(copy_answer(alloc, answer)?)?;
+    match wish_so(alloc, wish, hook) {
+        Ok(()) => false,
+        Err(_) => true,
     }
-    Ok(List::from_vec(again))
-}
-
-/// The answer of a filter twice. It fails only for want of memory.
-fn copy_twice(
-    alloc: Global,
-    answer: &Result<bool, RuntimeError>,
-) -> Result<(Result<bool, RuntimeError>, Result<bool, RuntimeError>), Memory>
-    ensures { IfOk result (λ both. (both.0 ≡ answer.now) × (both.1 ≡ answer.now)) }
-{
-    let first = copy_answer(alloc, answer)?;
-    Ok((first, copy_answer(alloc, answer)?))
 }
 
 /// The answer of a filter twice, to be given and to be told, or that there was no memory, and that this was so.

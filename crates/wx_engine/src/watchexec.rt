@@ -9,12 +9,13 @@ ghost use Rattle.wx_job.specs.Laws.{IsReaping, AfterFaults};
 ghost use Rattle.wx_config.specs.Defaults.{default_config};
 ghost use Rattle.wx_action.specs.Start.{Start, IsSize, IsStart, is_absolute};
 ghost use Rattle.wx_action.specs.Journal.{turn_count, early_count};
-ghost use Rattle.wx_action.specs.Laws.{IsBatched, AreBatches, NoneUrgentWaits, NoneUnseenIsShown, MomentsRise, AreMadeOnce, AreServed};
+ghost use Rattle.wx_action.specs.Laws.{IsBatched, AreBatches, NoneUrgentWaits, NoneUnseenIsShown, NoneIsShownClosed, MomentsRise, AreMadeOnce, AreServed};
 ghost use Rattle.wx_action.specs.Answer.{Answers};
 ghost use Rattle.wx_job.specs.Faults.{Counted};
 ghost use Rattle.wx_engine.specs.Sent.{Refuses};
 ghost use Rattle.wx_engine.specs.Run.{HasCause, Ran};
-ghost use Rattle.wx_engine.specs.Completes.{IsOkOrMemory};
+ghost use Rattle.wx_engine.specs.Completes.{IsOkOrMemory, NoneEnds, AreGranted};
+ghost use Rattle.wx_engine.specs.Offers.{AreOffered};
 
 use crate::running::run;
 use std::alloc::Global;
@@ -98,10 +99,13 @@ impl Watchexec {
     }
 
     /// Runs the engine: asks `world` for turns, serves each before the next, and writes all of it into `journal`, until an
-    /// action asks for the end or the last turn came. `IoError` about `turn` comes only where the world had no turn to
-    /// give, with the code of that fault; `Memory` where there was none. Whatever the answer, each job that lives then
-    /// ends, and the child that it runs is let go. The journal is a run, or for want of memory a run that was broken off,
-    /// with this end behind it. It lists the turns that were given and the calls that were made, in order.
+    /// action, the filter or the error handler asks for the end, or the last turn came. Ok comes where the end was due.
+    /// `IoError` about `turn` comes where the world had no turn to give, with the code of that fault. `Elevated`, and any
+    /// other error but `Exit`, comes directly after the error handler wished it: an error that it was shown, elevated
+    /// without help, or a critical error as it was handed in. `Memory` also comes for want of memory. `Exit` never comes.
+    /// Whatever the answer, each job that lives then ends, and the child that it runs is let go. The journal is a run, or
+    /// one that was broken off, with this end behind it. It lists the turns that were given and the calls that were made,
+    /// in order.
     pub fn main<W: World, H: Hooks>(
         self,
         alloc: Global,
@@ -114,8 +118,9 @@ impl Watchexec {
         // The journal is a run that this answer may have, with its end done, and each error has its cause.
         ensures ran { Ran self journal.new.past }
         ensures answer { Answers self journal.new.past result }
-        ensures cause { IfErr result (λ error. HasCause error (W.seen world.old).progress.turn_faults (W.seen world.new).progress.turn_faults) }
-        ensures completes { (Rose (W.seen world.old).progress.turn_faults (W.seen world.new).progress.turn_faults → ⊥) → IsOkOrMemory result }
+        ensures cause { IfErr result (λ error. HasCause self journal.new.past error (W.seen world.old).progress.turn_faults (W.seen world.new).progress.turn_faults) }
+        ensures completes { (Rose (W.seen world.old).progress.turn_faults (W.seen world.new).progress.turn_faults → ⊥) → NoneEnds journal.new.past → IsOkOrMemory result }
+        ensures granted { AreGranted result journal.new.past }
 
         // It lists what was told: the turns, and the calls on world and hooks. At most one turn more came than were left, and
         // it is a last one.
@@ -140,6 +145,8 @@ impl Watchexec {
         ensures never_lost { NoneUrgentWaits journal.new.past }
         ensures moments { MomentsRise journal.new.past }
         ensures shown { NoneUnseenIsShown journal.new.past }
+        ensures shown_open { NoneIsShownClosed journal.new.past }
+        ensures offers { AreOffered self journal.new.past }
         ensures ids { AreMadeOnce journal.new.past }
         ensures served { AreServed self journal.new.past }
 

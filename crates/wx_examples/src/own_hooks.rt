@@ -4,12 +4,12 @@ ghost use Rattle.std.specs.Prelude.{◌≡◌, ◌^◌, [], false, None};
 use crate::engine_tests::{engine_with, run_text, script_of};
 use std::alloc::Global;
 use std::test::Fail;
-use wx_action::{ActionHandler, Hooks, JobHooks};
+use wx_action::{ActionHandler, ErrorHook, Hooks, JobHooks};
 use wx_command::{Command, Program, SpawnOptions};
-use wx_config::RuntimeError;
+use wx_config::{CriticalError, RuntimeError};
 use wx_control::{Id, Job};
 use wx_events::{Copies, Event, List, Memory, Priority, Text, cut};
-use wx_journal::put_entry;
+use wx_journal::{Entry, put_entry};
 
 /// What hooks do in a call.
 #[derive(Clone, Copy)]
@@ -20,6 +20,19 @@ enum Does {
     AsksTwo,
     /// The batch creates a job, and looks for it.
     Looks,
+    /// The filter fails, and the error handler wishes this, one after the other.
+    Wishes(&'static [Says]),
+}
+
+/// What an error handler wishes.
+#[derive(Clone, Copy)]
+enum Says {
+    /// The error that is shown is to end the run.
+    Elevate,
+    /// An error of its own is to end it.
+    Critical,
+    /// The run is to end without an error.
+    Exit,
 }
 
 /// Hooks that do this in each call, and whether what they saw in the last one was right.
@@ -52,7 +65,14 @@ impl Hooks for Own {
         _event: &Event,
         _priority: Priority,
     ) -> Result<bool, RuntimeError> {
-        Ok(true)
+        match self.does {
+            Does::Wishes(_) => Err(RuntimeError::ProcessDeadOnArrival),
+            _ => Ok(true),
+        }
+    }
+
+    fn error(&mut self, _n: u32, hook: &mut ErrorHook) {
+        self.is_right = wish_all(self.alloc, self.does, hook).unwrap_or(false);
     }
 
     fn action(&mut self, _n: u32, handler: &mut ActionHandler<'_>) {
@@ -70,6 +90,37 @@ fn act(alloc: Global, does: Does, handler: &mut ActionHandler<'_>) -> Option<boo
         Does::Restarts => restart(alloc, handler),
         Does::AsksTwo => is_handed(alloc, handler),
         Does::Looks => is_not_shown(alloc, handler),
+        Does::Wishes(_) => None,
+    }
+}
+
+/// Wishes what is to be wished of an error, and answers whether this is the one of the filter, or nothing where a call failed.
+fn wish_all(alloc: Global, does: Does, hook: &mut ErrorHook) -> Option<bool>
+    ensures { hook.new.error ≡ hook.old.error }
+{
+    let Does::Wishes(wishes) = does else {
+        return None;
+    };
+    for says in wishes {
+        wish(alloc, *says, hook)?;
+    }
+    Some(matches!(hook.error(), RuntimeError::ProcessDeadOnArrival))
+}
+
+/// Wishes this, or answers nothing where that failed.
+fn wish(alloc: Global, says: Says, hook: &mut ErrorHook) -> Option<()>
+    ensures { hook.new.error ≡ hook.old.error }
+{
+    match says {
+        Says::Elevate => {
+            hook.elevate();
+            Some(())
+        }
+        Says::Critical => {
+            let text = Text::from_slice(alloc, b"own").ok()?;
+            hook.critical(alloc, CriticalError::External(text)).ok()
+        }
+        Says::Exit => hook.critical(alloc, CriticalError::Exit).ok(),
     }
 }
 
@@ -139,6 +190,15 @@ fn ask_two(alloc: Global, handler: &mut ActionHandler<'_>) -> Option<()>
 const ASKED: &[u8] =
     b"hand 0 1 0 create 0 exec ---- 1 a create 1 exec ---- 1 b ask 0 start ask 1 stop quit";
 
+/// The words of an entry. A long enum is dropped by generic code, which is quicker to prove.
+fn line_of(alloc: Global, entry: Entry) -> Result<Text, Memory> {
+    let mut line = Text::new(alloc);
+    let put = put_entry(&entry, &mut line);
+    drop(entry);
+    put?;
+    Ok(line)
+}
+
 /// Whether one event is shown, and `ASKED` tells what is asked for.
 fn is_handed(alloc: Global, handler: &mut ActionHandler<'_>) -> Option<bool>
     requires open { handler.old.handed ≡ false }
@@ -147,8 +207,7 @@ fn is_handed(alloc: Global, handler: &mut ActionHandler<'_>) -> Option<bool>
 {
     let events = handler.events().len();
     ask_two(alloc, handler)?;
-    let mut line = Text::new(alloc);
-    put_entry(&handler.hand(0), &mut line).ok()?;
+    let line = line_of(alloc, handler.hand(0)).ok()?;
     Some(events == 1 && line.as_slice() == ASKED)
 }
 
@@ -208,5 +267,41 @@ fn a_handler_lists_acts(rt: HostRuntime) -> Result<(), Fail> {
 #[test]
 fn a_handler_shows_no_job_that_it_created(rt: HostRuntime) -> Result<(), Fail> {
     assert!(rt; runs_so(rt.alloc(), Does::Looks, BATCH, LOOKED)?);
+    Ok(())
+}
+
+/// One event, which the filter is asked about, and a turn behind it.
+const SHOWN: &[u8] = b"turn 0 arrive low 1 unknown\nturn 0 work\nturn 1 arrive low 0\n";
+
+const CRITICAL: &[u8] =
+    b"turn 0 arrive low 1 unknown\noffer 0 - queued low 1 unknown\nturn 0 work\ntake 0\nfilter 0 0 fail deadonarrival\nshow 0 deadonarrival critical external own\nend error external own lost 0\n";
+
+const ELEVATED: &[u8] =
+    b"turn 0 arrive low 1 unknown\noffer 0 - queued low 1 unknown\nturn 0 work\ntake 0\nfilter 0 0 fail deadonarrival\nshow 0 deadonarrival elevate\nend error elevated deadonarrival none lost 0\n";
+
+const CLOSED: &[u8] =
+    b"turn 0 arrive low 1 unknown\noffer 0 - queued low 1 unknown\nturn 0 work\ntake 0\nfilter 0 0 fail deadonarrival\nshow 0 deadonarrival critical exit\nturn 1 arrive low 0\noffer 1 - closed low 0\nturn 1 last\nend ok lost 0\n";
+
+const UNWISHED: &[u8] =
+    b"turn 0 arrive low 1 unknown\noffer 0 - queued low 1 unknown\nturn 0 work\ntake 0\nfilter 0 0 fail deadonarrival\nshow 0 deadonarrival none\nturn 1 arrive low 0\noffer 1 - queued low 0\nturn 1 last\nend ok lost 0\n";
+
+#[test]
+fn the_first_wish_stands(rt: HostRuntime) -> Result<(), Fail> {
+    let table: [(&'static [Says], &[u8]); 8] = [
+        (&[], UNWISHED),
+        (&[Says::Elevate], ELEVATED),
+        (&[Says::Elevate, Says::Critical], ELEVATED),
+        (&[Says::Elevate, Says::Exit], ELEVATED),
+        (&[Says::Critical, Says::Exit], CRITICAL),
+        (&[Says::Critical, Says::Elevate], CRITICAL),
+        (&[Says::Exit, Says::Critical], CLOSED),
+        (&[Says::Exit, Says::Elevate], CLOSED),
+    ];
+    for (wishes, want) in table {
+        assert!(rt;
+            runs_so(rt.alloc(), Does::Wishes(wishes), SHOWN, want)?,
+            "of {want:?}"
+        );
+    }
     Ok(())
 }

@@ -16,7 +16,7 @@ use Rattle.wx_control.specs.Waits.{first}
 use Rattle.wx_journal.specs.declared.child.HostFault.{HostFault}
 use Rattle.wx_journal.specs.declared.child.SpawnTag.TheVariants.{Default}
 use Rattle.wx_journal.specs.declared.entry.Entry.{Entry}
-use Rattle.wx_journal.specs.declared.entry.Entry.TheVariants.{Begin, Sent, Turn as Turned, TurnFault, Offer, Word as Said, Take, Filter, Hand, Made, Asked, Pick, Spawn, Kill, Wait, Dropped, Raise, Gone}
+use Rattle.wx_journal.specs.declared.entry.Entry.TheVariants.{Begin, Sent, Turn as Turned, TurnFault, Offer, Word as Said, Take, Filter, Show, Hand, Made, Asked, Pick, Spawn, Kill, Wait, Dropped, Raise, Gone}
 use Rattle.wx_journal.specs.Names.{Names, NamesItsOwn, ticket_count, child_count}
 use Rattle.wx_journal.specs.Told.{is_hooks, Counts}
 use Rattle.wx_job.specs.declared.choice.Choice.{Choice}
@@ -50,6 +50,7 @@ Fits id p (TurnFault code) = ⊥
 Fits id p (Offer name item result event priority) = ⊥
 Fits id p (Take name) = ⊥
 Fits id p (Filter n name answer) = ⊥
+Fits id p (Show n error wish) = ⊥
 Fits id p (Hand n names acts) = ⊥
 Fits id p (Made job) = ⊥
 
@@ -69,6 +70,7 @@ Closes id (Offer name item result event priority) k = Unit {0}
 Closes id (Said word) k = Unit {0}
 Closes id (Take name) k = Unit {0}
 Closes id (Filter n name answer) k = Unit {0}
+Closes id (Show n error wish) k = Unit {0}
 Closes id (Hand n names acts) k = Unit {0}
 Closes id (Made job) k = Unit {0}
 Closes id (Asked ticket job level control) k = Unit {0}
@@ -200,6 +202,7 @@ children_fit id (_) p s h = h
 -- it is no call on the hooks
 no_hooks : (id : Id) (e : Entry) (p : List Entry) → Fits id p e → is_hooks e ≡ false
 no_hooks id (Filter n name answer) p s = absurd s
+no_hooks id (Show n error wish) p s = absurd s
 no_hooks id (Hand n names acts) p s = absurd s
 no_hooks id (_) p s = refl
 

@@ -5,7 +5,7 @@ use Rattle.wx_control.specs.declared.id.Id.{Id}
 use Rattle.wx_control.specs.declared.ask.Ask.{Ask}
 use Rattle.wx_control.specs.Asks.{sends_of}
 use Rattle.wx_journal.specs.declared.entry.Entry.{Entry}
-use Rattle.wx_journal.specs.declared.entry.Entry.TheVariants.{Begin, Sent, Turn as Turned, TurnFault, Offer, Word as Said, Take, Filter, Hand, Made, Asked, Pick, Spawn, Kill, Wait, Dropped, Raise, Gone}
+use Rattle.wx_journal.specs.declared.entry.Entry.TheVariants.{Begin, Sent, Turn as Turned, TurnFault, Offer, Word as Said, Take, Filter, Show, Hand, Made, Asked, Pick, Spawn, Kill, Wait, Dropped, Raise, Gone}
 use Rattle.wx_journal.specs.Names.{NamesItsOwn, child_count}
 use Rattle.wx_job.specs.declared.state.CommandState.TheVariants.{Pending}
 use Rattle.wx_job.specs.History.{same, lives, child, state, unless, owner, SameHistory}
@@ -61,6 +61,7 @@ is_about id p (Offer name item result event priority) = false
 is_about id p (Said word) = false
 is_about id p (Take name) = false
 is_about id p (Filter n name answer) = false
+is_about id p (Show n error wish) = false
 is_about id p (Hand n names acts) = false
 is_about id p (Made job) = same job id
 is_about id p (Asked ticket job level control) = same job id

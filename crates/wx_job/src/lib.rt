@@ -3,6 +3,8 @@
 
 mod case;
 mod choice;
+#[cfg(test)]
+mod journal_tests;
 mod laws;
 mod outside;
 mod state;

@@ -17,6 +17,7 @@ use Rattle.wx_events.specs.declared.process.ProcessEnd.{ProcessEnd}
 use Rattle.wx_command.specs.Commands.{spawnable}
 use Rattle.wx_command.specs.declared.spawnable.Spawnable.{Spawnable}
 use Rattle.wx_config.specs.Watched.{watcher, watched}
+use Rattle.wx_config.specs.Runtime.{runtime}
 use Rattle.wx_config.specs.declared.runtime.RuntimeError.{RuntimeError}
 use Rattle.wx_config.specs.declared.watched.Watcher.{Watcher}
 use Rattle.wx_config.specs.declared.watched.WatchedPath.{WatchedPath}
@@ -29,12 +30,14 @@ use Rattle.wx_control.specs.declared.control.Control.{Control}
 use Rattle.wx_journal.specs.Acts.{JournalAct, act}
 use Rattle.wx_journal.specs.Answers.{done, waited, verdict}
 use Rattle.wx_journal.specs.Kinds.{ranked, turn}
+use Rattle.wx_journal.specs.Wishes.{wish}
 use Rattle.wx_journal.specs.Words.{offered, said, tag}
 use Rattle.wx_journal.specs.declared.child.SpawnTag.{SpawnTag}
 use Rattle.wx_journal.specs.declared.child.HostFault.{HostFault}
+use Rattle.wx_journal.specs.declared.wish.Wish.{Wish}
 use Rattle.wx_journal.specs.declared.entry.Offered.{Offered}
 use Rattle.wx_journal.specs.declared.entry.Entry.{Entry}
-use Rattle.wx_journal.specs.declared.entry.Entry.TheVariants.{Begin, Sent, Turn as Turned, TurnFault, Offer, Word as Said, Take, Filter, Hand, Made, Asked, Pick, Spawn, Kill, Wait, Dropped, Raise, Gone}
+use Rattle.wx_journal.specs.declared.entry.Entry.TheVariants.{Begin, Sent, Turn as Turned, TurnFault, Offer, Word as Said, Take, Filter, Show, Hand, Made, Asked, Pick, Spawn, Kill, Wait, Dropped, Raise, Gone}
 
 -- ---- what stands behind the first word of an entry
 
@@ -62,6 +65,9 @@ offer = both (as_line number) (both optional (both offered ranked))
 
 abbrev pub filtered : Spelling line (ℕ × (ℕ × Result Bool RuntimeError))
 filtered = both u32 (both (as_line number) verdict)
+
+abbrev pub shown : Spelling line (ℕ × (RuntimeError × Wish))
+shown = both u32 (both runtime wish)
 
 abbrev pub asked : Spelling line (ℕ × (Id × (Level × Control)))
 asked = both (as_line number) (both id (both level control))
@@ -97,6 +103,7 @@ entry_rows =
     ∷ row (codes "word") said Said
     ∷ row (codes "take") (as_line number) Take
     ∷ row (codes "filter") filtered (λ p. Filter p.0 p.1.0 p.1.1)
+    ∷ row (codes "show") shown (λ p. Show p.0 p.1.0 p.1.1)
     ∷ row (codes "hand") unread make_hand
     ∷ row (codes "made") id Made
     ∷ row (codes "asked") asked (λ p. Asked p.0 p.1.0 p.1.1.0 p.1.1.1)
@@ -118,6 +125,7 @@ entry_word (Offer _ _ _ _ _) = codes "offer"
 entry_word (Said _) = codes "word"
 entry_word (Take _) = codes "take"
 entry_word (Filter _ _ _) = codes "filter"
+entry_word (Show _ _ _) = codes "show"
 entry_word (Hand _ _ _) = codes "hand"
 entry_word (Made _) = codes "made"
 entry_word (Asked _ _ _ _) = codes "asked"
@@ -138,6 +146,7 @@ entry_behind (Offer name item result event priority) = fields offer (name, (item
 entry_behind (Said word) = fields said word
 entry_behind (Take name) = fields (as_line number) name
 entry_behind (Filter n name answer) = fields filtered (n, (name, answer))
+entry_behind (Show n error wish) = fields shown (n, (error, wish))
 entry_behind (Hand n names acts) = fields unread (n, (names, acts))
 entry_behind (Made job) = fields id job
 entry_behind (Asked ticket job l c) = fields asked (ticket, (job, (l, c)))

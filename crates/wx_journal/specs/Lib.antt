@@ -3,6 +3,7 @@ pub mod Names
 pub mod Told
 pub mod Counted
 pub mod Answers
+pub mod Wishes
 pub mod Acts
 pub mod Kinds
 pub mod Words

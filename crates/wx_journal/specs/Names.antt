@@ -5,7 +5,7 @@ use Rattle.wx_control.specs.declared.id.Id.{Id}
 use Rattle.wx_journal.specs.Acts.{JournalAct as Act}
 use Rattle.wx_journal.specs.declared.entry.Act.TheVariants.{Create, Ask, Quit}
 use Rattle.wx_journal.specs.declared.entry.Entry.{Entry}
-use Rattle.wx_journal.specs.declared.entry.Entry.TheVariants.{Begin, Sent, Turn as Turned, TurnFault, Offer, Word as Said, Take, Filter, Hand, Made, Asked, Pick, Spawn, Kill, Wait, Dropped, Raise, Gone}
+use Rattle.wx_journal.specs.declared.entry.Entry.TheVariants.{Begin, Sent, Turn as Turned, TurnFault, Offer, Word as Said, Take, Filter, Show, Hand, Made, Asked, Pick, Spawn, Kill, Wait, Dropped, Raise, Gone}
 
 -- the moment of the last turn, 0 before the first
 abbrev pub moment : List Entry → ℕ
@@ -23,6 +23,7 @@ names_event (Offer name item result event priority) = true
 names_event (Said word) = false
 names_event (Take name) = false
 names_event (Filter n name answer) = false
+names_event (Show n error wish) = false
 names_event (Hand n names acts) = false
 names_event (Made job) = false
 names_event (Asked ticket job level control) = false
@@ -43,6 +44,7 @@ names_ticket (Offer name item result event priority) = false
 names_ticket (Said word) = false
 names_ticket (Take name) = false
 names_ticket (Filter n name answer) = false
+names_ticket (Show n error wish) = false
 names_ticket (Hand n names acts) = false
 names_ticket (Made job) = false
 names_ticket (Asked ticket job level control) = true
@@ -63,6 +65,7 @@ names_child (Offer name item result event priority) = false
 names_child (Said word) = false
 names_child (Take name) = false
 names_child (Filter n name answer) = false
+names_child (Show n error wish) = false
 names_child (Hand n names acts) = false
 names_child (Made job) = false
 names_child (Asked ticket job level control) = false
@@ -130,6 +133,7 @@ Names p (Offer name item result event priority) = (name ≡ event_count p) × Na
 Names p (Said word) = Unit {0}
 Names p (Take name) = name < event_count p
 Names p (Filter n name answer) = name < event_count p
+Names p (Show n error wish) = Unit {0}
 Names p (Hand n names acts) = AllByRecursion (λ name. name < event_count p) names
 Names p (Made job) = is_created job p ≡ true
 Names p (Asked ticket job level control) = ticket ≡ ticket_count p

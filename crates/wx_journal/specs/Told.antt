@@ -1,7 +1,7 @@
 -- What the outside is told, and what its counts and rules mean.
 use Rattle.std.specs.Prelude.{◌≡◌, ℕ, ◌≤◌, ◌+◌, ◌-◌, ◌^◌, min, Bool, true, false, if◌then◌else◌, Option, None, Some, List, [], ◌∷◌}
 use Rattle.wx_journal.specs.declared.entry.Entry.{Entry}
-use Rattle.wx_journal.specs.declared.entry.Entry.TheVariants.{Begin, Sent, Turn as Turned, TurnFault, Offer, Word as Said, Take, Filter, Hand, Made, Asked, Pick, Spawn, Kill, Wait, Dropped, Raise, Gone}
+use Rattle.wx_journal.specs.declared.entry.Entry.TheVariants.{Begin, Sent, Turn as Turned, TurnFault, Offer, Word as Said, Take, Filter, Show, Hand, Made, Asked, Pick, Spawn, Kill, Wait, Dropped, Raise, Gone}
 
 -- what is told after one entry more, where anything is told
 abbrev pub tell : Entry → Option (List Entry) → Option (List Entry)
@@ -30,6 +30,7 @@ is_world p (Offer name item result event priority) = false
 is_world p (Said word) = false
 is_world p (Take name) = false
 is_world p (Filter n name answer) = false
+is_world p (Show n error wish) = false
 is_world p (Hand n names acts) = false
 is_world p (Made job) = false
 is_world p (Asked ticket job level control) = false
@@ -51,6 +52,7 @@ is_hooks (Offer name item result event priority) = false
 is_hooks (Said word) = false
 is_hooks (Take name) = false
 is_hooks (Filter n name answer) = true
+is_hooks (Show n error wish) = true
 is_hooks (Hand n names acts) = true
 is_hooks (Made job) = false
 is_hooks (Asked ticket job level control) = false
@@ -72,6 +74,7 @@ is_hand (Offer name item result event priority) = false
 is_hand (Said word) = false
 is_hand (Take name) = false
 is_hand (Filter n name answer) = false
+is_hand (Show n error wish) = false
 is_hand (Hand n names acts) = true
 is_hand (Made job) = false
 is_hand (Asked ticket job level control) = false
@@ -93,6 +96,7 @@ is_turn (Offer name item result event priority) = false
 is_turn (Said word) = false
 is_turn (Take name) = false
 is_turn (Filter n name answer) = false
+is_turn (Show n error wish) = false
 is_turn (Hand n names acts) = false
 is_turn (Made job) = false
 is_turn (Asked ticket job level control) = false

@@ -2,6 +2,7 @@
 ghost use Rattle.std.specs.Prelude.{◌≡◌, IfOk};
 
 use crate::child::{HostFault, SpawnTag};
+use crate::wish::Wish;
 use std::alloc::Global;
 use wx_command::{Command, Spawnable};
 use wx_config::{RuntimeError, WatchedPath, Watcher};
@@ -109,6 +110,12 @@ pub enum Entry {
         n: u32,
         name: u64,
         answer: Result<bool, RuntimeError>,
+    },
+    /// This error was shown to the error handler of this number, which wishes this.
+    Show {
+        n: u32,
+        error: RuntimeError,
+        wish: Wish,
     },
     /// A batch was handed to the action handler of this number, which asked for these acts.
     Hand {

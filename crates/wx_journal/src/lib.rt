@@ -8,6 +8,7 @@ mod entry;
 mod journal;
 mod kinds;
 mod lines;
+mod wish;
 mod words;
 
 pub use answers::{VerdictRef, answers_are_read_again, read_verdict};
@@ -15,4 +16,5 @@ pub use child::{HostFault, SpawnTag};
 pub use entry::{Act, Entry, Named, Offered, Turn, TurnKind, Word};
 pub use journal::{Entries, Journal};
 pub use lines::{put_end, put_lines};
+pub use wish::Wish;
 pub use words::put_entry;

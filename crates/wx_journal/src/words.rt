@@ -182,6 +182,7 @@ pub fn append_entry(entry: &Entry, out: &mut Text) -> Result<(), Memory>
         Entry::Filter { n, name, answer } => {
             begin_row(b"filter", &(n, (name, VerdictRef { answer })), out)
         }
+        Entry::Show { n, error, wish } => begin_row(b"show", &(n, (error, wish)), out),
         Entry::Hand { n, names, acts } => put_hand(*n, names, acts, out),
         Entry::Made(_)
         | Entry::Asked { .. }

@@ -14,7 +14,7 @@ use Rattle.wx_engine.specs.declared.script.ScriptTurn.TheVariants.{Turn, Fault}
 use Rattle.wx_engine.specs.Follows.{IsScript}
 use Rattle.wx_engine.specs.FollowLaws.{rises_turn, rises_fault, come_more}
 use Rattle.wx_replay.specs.declared.lines.Line.{Line}
-use Rattle.wx_replay.specs.declared.lines.Line.TheVariants.{Nothing, Throttle, Size, Send, Turn as Turned, Fault as Failed, Acts, Filter, Spawn, Kill, Wait}
+use Rattle.wx_replay.specs.declared.lines.Line.TheVariants.{Nothing, Throttle, Size, ErrorSize, Send, Turn as Turned, Fault as Failed, Acts, Filter, Wishes, Spawn, Kill, Wait}
 use Rattle.wx_replay.specs.Lines.{can_bring, is_scripted, if_scripted, read_form, line_in}
 use Rattle.wx_replay.specs.Scripts.{start, accepts, step, begun_by, IsScriptOf}
 
@@ -46,7 +46,7 @@ line_comes (b ∷ bs) said e = go (b == 35) e
 -- ---- each line keeps what holds
 
 start_lawful : IsScript start
-start_lawful = record { size = record { some = omega arith; few = omega arith }; sends = omega arith; comes = refl; rises = refl }
+start_lawful = record { size = record { some = omega arith; few = omega arith }; error_size = record { some = omega arith; few = omega arith }; sends = omega arith; comes = refl; rises = refl }
 
 some_same : {A : Type 0} {x y : A} → ◌≡◌ {A = Option A} (Some x) (Some y) → x ≡ y
 some_same e = cc
@@ -55,30 +55,37 @@ accepts_lawful : (s t : Script) (said : Line) → IsScript s → LineComes said 
 accepts_lawful s t Nothing is come e = let same : s ≡ t = cc in subst IsScript same is
 accepts_lawful s t (Throttle n) is come e =
     let g = cond_some (length s.sends == 0 && length s.turns == 0) (record s { throttle = n }) t e in
-    subst IsScript g.1 (record { size = is.size; sends = is.sends; comes = is.comes; rises = is.rises })
+    subst IsScript g.1 (record { size = is.size; error_size = is.error_size; sends = is.sends; comes = is.comes; rises = is.rises })
 accepts_lawful s t (Size n) is come e =
     let g = cond_some (length s.sends == 0 && length s.turns == 0 && nat_le 1 n && nat_le n 65536) (record s { size = n }) t e in
     let test : (length s.sends == 0 && length s.turns == 0 && nat_le 1 n && nat_le n 65536) ≡ true = g.0 in
     let none : length s.sends ≡ 0 = grind (arith, nat_tests, test) in
     let some : 1 ≤ n = grind (arith, nat_tests, test) in
     let few : n ≤ 65536 = grind (arith, nat_tests, test) in
-    subst IsScript g.1 (record { size = record { some = some; few = few }; sends = omega (arith, none); comes = is.comes; rises = is.rises })
+    subst IsScript g.1 (record { size = record { some = some; few = few }; error_size = is.error_size; sends = omega (arith, none); comes = is.comes; rises = is.rises })
+accepts_lawful s t (ErrorSize n) is come e =
+    let g = cond_some (length s.sends == 0 && length s.turns == 0 && nat_le 1 n && nat_le n 65536) (record s { error_size = n }) t e in
+    let test : (length s.sends == 0 && length s.turns == 0 && nat_le 1 n && nat_le n 65536) ≡ true = g.0 in
+    let some : 1 ≤ n = grind (arith, nat_tests, test) in
+    let few : n ≤ 65536 = grind (arith, nat_tests, test) in
+    subst IsScript g.1 (record { size = is.size; error_size = record { some = some; few = few }; sends = is.sends; comes = is.comes; rises = is.rises })
 accepts_lawful s t (Send event priority) is come e =
     let g = cond_some (length s.turns == 0 && nat_lt (length s.sends) s.size) (record s { sends = s.sends ++ (event, priority) ∷ [] }) t e in
     let test : (length s.turns == 0 && nat_lt (length s.sends) s.size) ≡ true = g.0 in
     let room : length s.sends < s.size = grind (arith, nat_tests, test) in
-    subst IsScript g.1 (record { size = is.size; sends = omega (arith, room, length-append s.sends ((event, priority) ∷ [])); comes = is.comes; rises = is.rises })
+    subst IsScript g.1 (record { size = is.size; error_size = is.error_size; sends = omega (arith, room, length-append s.sends ((event, priority) ∷ [])); comes = is.comes; rises = is.rises })
 accepts_lawful s t (Turned turn) is come e =
     let g = cond_some (nat_le s.last turn.at) (record s { turns = s.turns ++ Turn turn ∷ []; last = turn.at }) t e in
-    subst IsScript g.1 (record { size = is.size; sends = is.sends; comes = come_more s.turns (Turn turn) is.comes (ap not come); rises = rises_turn s.turns s.last turn is.rises g.0 })
+    subst IsScript g.1 (record { size = is.size; error_size = is.error_size; sends = is.sends; comes = come_more s.turns (Turn turn) is.comes (ap not come); rises = rises_turn s.turns s.last turn is.rises g.0 })
 accepts_lawful s t (Failed code) is come e =
     let same : record s { turns = s.turns ++ Fault code ∷ [] } ≡ t = some_same e in
-    subst IsScript same (record { size = is.size; sends = is.sends; comes = come_more s.turns (Fault code) is.comes refl; rises = rises_fault s.turns s.last code is.rises })
-accepts_lawful s t (Acts acts) is come e = subst IsScript (some_same e) (record { size = is.size; sends = is.sends; comes = is.comes; rises = is.rises })
-accepts_lawful s t (Filter answer) is come e = subst IsScript (some_same e) (record { size = is.size; sends = is.sends; comes = is.comes; rises = is.rises })
-accepts_lawful s t (Spawn answer) is come e = subst IsScript (some_same e) (record { size = is.size; sends = is.sends; comes = is.comes; rises = is.rises })
-accepts_lawful s t (Kill answer) is come e = subst IsScript (some_same e) (record { size = is.size; sends = is.sends; comes = is.comes; rises = is.rises })
-accepts_lawful s t (Wait answer) is come e = subst IsScript (some_same e) (record { size = is.size; sends = is.sends; comes = is.comes; rises = is.rises })
+    subst IsScript same (record { size = is.size; error_size = is.error_size; sends = is.sends; comes = come_more s.turns (Fault code) is.comes refl; rises = rises_fault s.turns s.last code is.rises })
+accepts_lawful s t (Acts acts) is come e = subst IsScript (some_same e) (record { size = is.size; error_size = is.error_size; sends = is.sends; comes = is.comes; rises = is.rises })
+accepts_lawful s t (Filter answer) is come e = subst IsScript (some_same e) (record { size = is.size; error_size = is.error_size; sends = is.sends; comes = is.comes; rises = is.rises })
+accepts_lawful s t (Wishes wish) is come e = subst IsScript (some_same e) (record { size = is.size; error_size = is.error_size; sends = is.sends; comes = is.comes; rises = is.rises })
+accepts_lawful s t (Spawn answer) is come e = subst IsScript (some_same e) (record { size = is.size; error_size = is.error_size; sends = is.sends; comes = is.comes; rises = is.rises })
+accepts_lawful s t (Kill answer) is come e = subst IsScript (some_same e) (record { size = is.size; error_size = is.error_size; sends = is.sends; comes = is.comes; rises = is.rises })
+accepts_lawful s t (Wait answer) is come e = subst IsScript (some_same e) (record { size = is.size; error_size = is.error_size; sends = is.sends; comes = is.comes; rises = is.rises })
 
 step_lawful : (s t : Script) (line : List ℕ) → IsScript s → step s line ≡ Some t → IsScript t
 step_lawful s t line is e =

@@ -5,12 +5,13 @@ use Rattle.wx_words.specs.Combine.{Reader, read_as, read_rows, whole}
 use Rattle.wx_words.specs.Parts.{number, u32}
 use Rattle.wx_words.specs.ToEnd.{read_to_end}
 use Rattle.wx_journal.specs.Answers.{done, waited, verdict}
+use Rattle.wx_journal.specs.Wishes.{wish}
 use Rattle.wx_journal.specs.Kinds.{ranked, turn}
 use Rattle.wx_journal.specs.declared.entry.TurnKind.{TurnKind}
 use Rattle.wx_journal.specs.declared.entry.TurnKind.TheVariants.{Last}
 use Rattle.wx_engine.specs.Wishes.{script_act}
 use Rattle.wx_replay.specs.declared.lines.Line.{Line}
-use Rattle.wx_replay.specs.declared.lines.Line.TheVariants.{Nothing, Throttle, Size, Send, Turn as Turned, Fault, Acts, Filter, Spawn, Kill, Wait}
+use Rattle.wx_replay.specs.declared.lines.Line.TheVariants.{Nothing, Throttle, Size, ErrorSize, Send, Turn as Turned, Fault, Acts, Filter, Wishes, Spawn, Kill, Wait}
 
 -- what a script can say that a turn brings: all but a last turn
 abbrev pub can_bring : TurnKind → Bool
@@ -27,7 +28,7 @@ if_scripted said = if is_scripted said then Some said else None
 
 -- each setting, and how the rest is read
 abbrev pub set_rows : List (List ℕ × Reader Line)
-set_rows = (codes "throttle", read_as Throttle number.read) ∷ (codes "size", read_as Size u32.read) ∷ []
+set_rows = (codes "throttle", read_as Throttle number.read) ∷ (codes "size", read_as Size u32.read) ∷ (codes "errors", read_as ErrorSize u32.read) ∷ []
 
 unfoldable pub read_set : Reader Line
 read_set ws = read_rows set_rows ws
@@ -41,6 +42,7 @@ form_rows =
     ∷ (codes "turn", read_as Turned turn.read)
     ∷ (codes "turnfault", read_as Fault u32.read)
     ∷ (codes "filter", read_as Filter verdict.read)
+    ∷ (codes "error", read_as Wishes wish.read)
     ∷ (codes "spawn", read_as Spawn done.read)
     ∷ (codes "kill", read_as Kill done.read)
     ∷ (codes "wait", read_as Wait waited.read)

@@ -7,22 +7,24 @@ use Rattle.wx_engine.specs.declared.script.ScriptTurn.TheVariants.{Turn, Fault}
 use Rattle.wx_engine.specs.HostCalls.{no_answers}
 use Rattle.wx_replay.specs.Lines.{line_in}
 use Rattle.wx_replay.specs.declared.lines.Line.{Line}
-use Rattle.wx_replay.specs.declared.lines.Line.TheVariants.{Nothing, Throttle, Size, Send, Turn as Turned, Fault as Failed, Acts, Filter, Spawn, Kill, Wait}
+use Rattle.wx_replay.specs.declared.lines.Line.TheVariants.{Nothing, Throttle, Size, ErrorSize, Send, Turn as Turned, Fault as Failed, Acts, Filter, Wishes, Spawn, Kill, Wait}
 
 -- the script of no lines
 abbrev pub start : Script
-start = record { throttle = default_config.throttle; size = default_config.event_channel_size; sends = []; turns = []; actions = []; filters = []; answers = no_answers; last = 0 }
+start = record { throttle = default_config.throttle; size = default_config.event_channel_size; error_size = default_config.error_channel_size; sends = []; turns = []; actions = []; filters = []; errors = []; answers = no_answers; last = 0 }
 
 -- the script with what one more line says, where that can stand there
 abbrev pub accepts : Script → Line → Option Script
 accepts s Nothing = Some s
 accepts s (Throttle n) = if length s.sends == 0 && length s.turns == 0 then Some (record s { throttle = n }) else None
 accepts s (Size n) = if length s.sends == 0 && length s.turns == 0 && nat_le 1 n && nat_le n 65536 then Some (record s { size = n }) else None
+accepts s (ErrorSize n) = if length s.sends == 0 && length s.turns == 0 && nat_le 1 n && nat_le n 65536 then Some (record s { error_size = n }) else None
 accepts s (Send event priority) = if length s.turns == 0 && nat_lt (length s.sends) s.size then Some (record s { sends = s.sends ++ (event, priority) ∷ [] }) else None
 accepts s (Turned turn) = if nat_le s.last turn.at then Some (record s { turns = s.turns ++ Turn turn ∷ []; last = turn.at }) else None
 accepts s (Failed code) = Some (record s { turns = s.turns ++ Fault code ∷ [] })
 accepts s (Acts acts) = Some (record s { actions = s.actions ++ acts ∷ [] })
 accepts s (Filter answer) = Some (record s { filters = s.filters ++ answer ∷ [] })
+accepts s (Wishes wish) = Some (record s { errors = s.errors ++ wish ∷ [] })
 accepts s (Spawn answer) = Some (record s { answers = record s.answers { spawns = s.answers.spawns ++ answer ∷ [] } })
 accepts s (Kill answer) = Some (record s { answers = record s.answers { kills = s.answers.kills ++ answer ∷ [] } })
 accepts s (Wait answer) = Some (record s { answers = record s.answers { waits = s.answers.waits ++ answer ∷ [] } })

@@ -1,13 +1,16 @@
 // What one line of a script says.
 ghost use Rattle.std.specs.Prelude.{◌≡◌, IfOk};
 ghost use Rattle.wx_words.specs.Line.{Reads};
+ghost use Rattle.wx_words.specs.Combine.{read_as};
+ghost use Rattle.wx_journal.specs.Wishes.{wish};
+ghost use Rattle.wx_replay.specs.declared.lines.Line.TheVariants.{Wishes};
 ghost use Rattle.wx_replay.specs.Lines.{can_bring, is_scripted, read_set, read_form, line_in};
 
 use std::alloc::Global;
 use wx_config::RuntimeError;
 use wx_engine::Wanted;
 use wx_events::{Event, List, Memory, Priority, ProcessEnd, Spelled, Words};
-use wx_journal::{Act, HostFault, Turn, TurnKind, read_verdict};
+use wx_journal::{Act, HostFault, Turn, TurnKind, Wish, read_verdict};
 use wx_words::{read_result, read_rows, read_to_end};
 
 /// What a line of a script says.
@@ -19,6 +22,8 @@ pub enum Line {
     Throttle(u64),
     /// How many events the queue holds.
     Size(u32),
+    /// The size of the channel of errors in the settings.
+    ErrorSize(u32),
     /// An event is sent before the run.
     Send(Event, Priority),
     /// The world gives a turn.
@@ -29,6 +34,8 @@ pub enum Line {
     Acts(List<Act<Wanted>>),
     /// The filter answers this.
     Filter(Result<bool, RuntimeError>),
+    /// The error handler wishes this.
+    Wishes(Wish),
     /// The host answers this to a spawn.
     Spawn(Result<(), HostFault>),
     /// The host answers this to a kill.
@@ -65,7 +72,18 @@ fn take_set(alloc: Global, line: &mut Words) -> Result<Option<Line>, Memory>
     read_rows!(alloc, line;
         b"throttle" (throttle) => Line::Throttle(throttle),
         b"size" (size) => Line::Size(size),
+        b"errors" (size) => Line::ErrorSize(size),
     )
+}
+
+/// Takes what the error handler wishes, or loses the place.
+fn take_wish(alloc: Global, line: &mut Words) -> Result<Option<Line>, Memory>
+    ensures { IfOk result (λ said. Reads line.new said (read_as Wishes wish.read line.old)) }
+{
+    match Wish::read(alloc, line)? {
+        Some(wish) => Ok(Some(Line::Wishes(wish))),
+        None => Ok(None),
+    }
 }
 
 /// Takes what the first word calls for, or loses the place.
@@ -80,6 +98,7 @@ fn take_form(alloc: Global, line: &mut Words) -> Result<Option<Line>, Memory>
         b"turn" (turn) => Line::Turn(turn),
         b"turnfault" (code) => Line::Fault(code),
         b"filter" (answer = read_verdict) => Line::Filter(answer),
+        b"error" (said = take_wish) => said,
         b"spawn" (answer = read_result) => Line::Spawn(answer),
         b"kill" (answer = read_result) => Line::Kill(answer),
         b"wait" (answer = read_result) => Line::Wait(answer),

@@ -21,11 +21,12 @@ use wx_journal::Journal;
 
 /// The settings that a script states.
 fn config_of(alloc: Global, script: &Script) -> Result<Config, Memory>
-    ensures { IfOk result (λ config. config ≡ record default_config { throttle = script.now.throttle; event_channel_size = script.now.size }) }
+    ensures { IfOk result (λ config. config ≡ record default_config { throttle = script.now.throttle; event_channel_size = script.now.size; error_channel_size = script.now.error_size }) }
 {
     let mut config = Config::new(alloc)?;
     config.throttle.replace(script.throttle);
     config.event_channel_size = script.size;
+    config.error_channel_size = script.error_size;
     Ok(config)
 }
 
@@ -58,31 +59,20 @@ fn status_of(answer: &Result<(), CriticalError>) -> Result<Status, Memory>
     }
 }
 
-/// The text of the journal of a run with its end line, and the status of the run.
+/// The text of the journal of a run with its end line, and the status of the run, where the hooks were not short.
 fn shown(
-    alloc: Global,
-    journal: &Journal,
-    answer: &Result<(), CriticalError>,
-) -> Result<(Text, Status), Memory>
-    ensures { IfOk result (λ r. IsShown journal.now.past answer.now r.0 r.1) }
-{
-    let status = status_of(answer)?;
-    Ok((print_journal(alloc, journal, answer)?, status))
-}
-
-/// The same, where no memory was wanted for an act or an answer of the script.
-fn shown_if_whole(
     alloc: Global,
     short: bool,
     journal: &Journal,
-    answer: Result<(), CriticalError>,
+    answer: &Result<(), CriticalError>,
 ) -> Result<(Text, Status), Memory>
-    ensures { IfOk result (λ r. (short ≡ false) × IsShown journal.now.past answer r.0 r.1) }
+    ensures { IfOk result (λ r. (short ≡ false) × IsShown journal.now.past answer.now r.0 r.1) }
 {
     if short {
         return Err(Memory);
     }
-    shown(alloc, journal, &answer)
+    let status = status_of(answer)?;
+    Ok((print_journal(alloc, journal, answer)?, status))
 }
 
 /// Runs a script. The text is the journal of the run with its end line.
@@ -96,7 +86,9 @@ fn play(alloc: Global, script: &Script) -> Result<(Text, Status), Memory>
     let mut hooks = ScriptHooks::new(alloc, script)?;
     let mut journal = Journal::new(alloc)?;
     let answer = engine.main(alloc, &mut world, &mut hooks, &mut journal);
-    shown_if_whole(alloc, hooks.short(), &journal, answer)
+    let out = shown(alloc, hooks.short(), &journal, &answer);
+    drop(answer);
+    out
 }
 
 /// The text about a bad line.

@@ -2,7 +2,7 @@
 ghost use Rattle.std.specs.Prelude.{◌≡◌, ◌==◌, ◌&&◌, Some, None, Ok, Err, ℕ, length, IfOk, IfErr, MatchBool, MatchResult};
 ghost use Rattle.wx_engine.specs.Follows.{IsScript};
 ghost use Rattle.wx_engine.specs.declared.script.Script.{Script};
-ghost use Rattle.wx_replay.specs.declared.lines.Line.TheVariants.{Size, Send, Turn as Turned};
+ghost use Rattle.wx_replay.specs.declared.lines.Line.TheVariants.{Size, ErrorSize, Send, Turn as Turned};
 ghost use Rattle.wx_replay.specs.Scripts.{accepts, step, start, IsScriptOf, IsFirstBad};
 
 use crate::lines::{Line, line_in};
@@ -22,10 +22,12 @@ fn start(alloc: Global) -> Script
     Script {
         throttle: 50_000_000,
         size: 4096,
+        error_size: 64,
         sends: List::new(alloc),
         turns: List::new(alloc),
         actions: List::new(alloc),
         filters: List::new(alloc),
+        errors: List::new(alloc),
         answers: Answers::new(alloc),
         last: 0,
     }
@@ -45,6 +47,17 @@ fn set_size(script: &mut Script, size: u32) -> bool
     let fits = is_early(script) && 1 <= size && size <= 65_536;
     if fits {
         script.size = size;
+    }
+    fits
+}
+
+/// Sets the size of the channel of errors, where that can stand here.
+fn set_error_size(script: &mut Script, size: u32) -> bool
+    ensures { MatchBool result (accepts script.old (ErrorSize size) ≡ Some script.new) (accepts script.old (ErrorSize size) ≡ None) }
+{
+    let fits = is_early(script) && 1 <= size && size <= 65_536;
+    if fits {
+        script.error_size = size;
     }
     fits
 }
@@ -86,6 +99,7 @@ fn add(script: &mut Script, said: Line) -> Result<bool, Memory>
             Ok(fits)
         }
         Line::Size(size) => Ok(set_size(script, size)),
+        Line::ErrorSize(size) => Ok(set_error_size(script, size)),
         Line::Send(event, priority) => add_send(script, event, priority),
         Line::Turn(turn) => add_turn(script, turn),
         Line::Fault(code) => {
@@ -98,6 +112,10 @@ fn add(script: &mut Script, said: Line) -> Result<bool, Memory>
         }
         Line::Filter(answer) => {
             script.filters.push(answer)?;
+            Ok(true)
+        }
+        Line::Wishes(wish) => {
+            script.errors.push(wish)?;
             Ok(true)
         }
         Line::Spawn(answer) => {

@@ -4,8 +4,6 @@
 #[cfg(test)]
 mod feeding_tests;
 #[cfg(test)]
-mod journal_tests;
-#[cfg(test)]
 mod random;
 #[cfg(test)]
 mod script_tests;

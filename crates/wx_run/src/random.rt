@@ -24,6 +24,7 @@ struct Counts {
     ignored: u32,
     takes: u32,
     filters: u32,
+    shows: u32,
     hands: u32,
     made: u32,
     gone: u32,
@@ -59,6 +60,7 @@ impl Counts {
             Some(b"word") => self.add_word(&mut words),
             Some(b"take") => up(&mut self.takes),
             Some(b"filter") => up(&mut self.filters),
+            Some(b"show") => up(&mut self.shows),
             Some(b"hand") => up(&mut self.hands),
             Some(b"made") => up(&mut self.made),
             Some(b"gone") => up(&mut self.gone),
@@ -118,6 +120,36 @@ impl Verdict {
     }
 }
 
+/// What an error handler wishes.
+#[derive(Clone, Copy)]
+enum Wished {
+    Nothing,
+    Elevate,
+    Exit,
+    Critical,
+}
+
+impl Wished {
+    /// The line of this wish.
+    fn line(self) -> &'static [u8] {
+        match self {
+            Wished::Nothing => b"error none\n",
+            Wished::Elevate => b"error elevate\n",
+            Wished::Exit => b"error critical exit\n",
+            Wished::Critical => b"error critical external c\n",
+        }
+    }
+}
+
+/// With what a run ends.
+#[derive(Clone, Copy)]
+enum Outcome {
+    Well,
+    Fault(u32),
+    Elevated,
+    Critical,
+}
+
 /// What is due where each event that passes is handed at once, and no job is asked anything. Of the events that wait some are
 /// urgent. Either each other event has a tag, or none has.
 #[derive(Drop)]
@@ -127,9 +159,10 @@ struct Rules {
     urgent: u32,
     is_tagged: bool,
     verdicts: Vec<Verdict>,
+    wishes: Vec<Wished>,
     is_closed: bool,
     actions: Vec<Action>,
-    fault: Option<u32>,
+    outcome: Outcome,
     is_over: bool,
     counts: Counts,
 }
@@ -203,8 +236,31 @@ impl Rules {
         let next = self.verdicts.get(self.counts.filters as usize).copied();
         let verdict = next.unwrap_or(Verdict::Pass);
         up(&mut self.counts.filters);
-        self.is_closed = matches!(verdict, Verdict::Exit);
-        matches!(verdict, Verdict::Pass)
+        match verdict {
+            Verdict::Pass => return true,
+            Verdict::Reject => {}
+            Verdict::Fail => self.show(),
+            Verdict::Exit => self.is_closed = true,
+        }
+        false
+    }
+
+    /// An error is shown.
+    fn show(&mut self) {
+        let next = self.wishes.get(self.counts.shows as usize).copied();
+        up(&mut self.counts.shows);
+        match next.unwrap_or(Wished::Nothing) {
+            Wished::Nothing => {}
+            Wished::Exit => self.is_closed = true,
+            Wished::Elevate => self.end_with(Outcome::Elevated),
+            Wished::Critical => self.end_with(Outcome::Critical),
+        }
+    }
+
+    /// The run ends with this.
+    fn end_with(&mut self, outcome: Outcome) {
+        self.outcome = outcome;
+        self.is_over = true;
     }
 
     /// An event is handed.
@@ -236,8 +292,7 @@ impl Rules {
     fn fail(&mut self, code: u32) {
         if !self.is_over {
             up(&mut self.counts.faults);
-            self.fault = Some(code);
-            self.is_over = true;
+            self.end_with(Outcome::Fault(code));
         }
     }
 
@@ -254,12 +309,14 @@ impl Rules {
     /// The end line, behind the line feed before it.
     fn end_line(&self, alloc: Global) -> Result<Text, Memory> {
         let mut line = Text::from_slice(alloc, b"\nend ")?;
-        match self.fault {
-            None => line.append(b"ok")?,
-            Some(code) => {
+        match self.outcome {
+            Outcome::Well => line.append(b"ok")?,
+            Outcome::Fault(code) => {
                 line.append(b"error io turn ")?;
                 line.append_number(u64::from(code))?;
             }
+            Outcome::Elevated => line.append(b"error elevated filterer a b none")?,
+            Outcome::Critical => line.append(b"error external c")?,
         }
         line.append(b" lost 0\n")?;
         Ok(line)
@@ -267,9 +324,9 @@ impl Rules {
 
     /// How the program ends.
     fn status(&self) -> Status {
-        match self.fault {
-            None => Status::Done,
-            Some(_) => Status::Critical,
+        match self.outcome {
+            Outcome::Well => Status::Done,
+            _ => Status::Critical,
         }
     }
 }
@@ -283,6 +340,7 @@ struct Draft {
     is_urgent: bool,
     written: usize,
     answered: usize,
+    wished: usize,
     rules: Rules,
 }
 
@@ -296,15 +354,17 @@ impl Draft {
             is_urgent: false,
             written: 0,
             answered: 0,
+            wished: 0,
             rules: Rules {
                 size: 0,
                 waiting: 0,
                 urgent: 0,
                 is_tagged: false,
                 verdicts: Vec::new(alloc),
+                wishes: Vec::new(alloc),
                 is_closed: false,
                 actions: Vec::new(alloc),
-                fault: None,
+                outcome: Outcome::Well,
                 is_over: false,
                 counts: Counts::default(),
             },
@@ -314,6 +374,10 @@ impl Draft {
         for _ in 0..draft.draw(6) {
             let verdict = draft.draw_verdict();
             draft.rules.verdicts.push(verdict)?;
+        }
+        for _ in 0..draft.draw(4) {
+            let wish = draft.draw_wish();
+            draft.rules.wishes.push(wish)?;
         }
         for _ in 0..draft.draw(6) {
             let action = draft.draw_action(alloc)?;
@@ -368,6 +432,16 @@ impl Draft {
         }
     }
 
+    /// What the error handler wishes in a call. Mostly it is nothing.
+    fn draw_wish(&mut self) -> Wished {
+        match self.draw(8) {
+            0..=4 => Wished::Nothing,
+            5 => Wished::Exit,
+            6 => Wished::Elevate,
+            _ => Wished::Critical,
+        }
+    }
+
     /// An event with its priority. It answers whether it is urgent.
     fn put_event(&mut self) -> Result<bool, Memory> {
         let rank = if self.is_urgent { 3 } else { self.draw(4) };
@@ -412,6 +486,10 @@ impl Draft {
         self.put_unread()?;
         self.rules.size = 1 + self.draw(4);
         self.put(b"set size ", u64::from(self.rules.size), b"\n")?;
+        if self.draw(3) == 0 {
+            let size = 1 + u64::from(self.draw(65_536));
+            self.put(b"set errors ", size, b"\n")?;
+        }
         for _ in 0..self.draw(5).min(self.rules.size) {
             self.text.append(b"send ")?;
             let is_urgent = self.put_event()?;
@@ -422,7 +500,7 @@ impl Draft {
 
     /// A line of any form that may stand in the middle.
     fn put_line(&mut self) -> Result<(), Memory> {
-        match self.draw(20) {
+        match self.draw(21) {
             0..=5 => self.put_arrival(),
             6..=10 => {
                 self.rules.work();
@@ -434,6 +512,7 @@ impl Draft {
             16 => self.put_unread(),
             17 => self.put_answer(),
             18 => self.put_verdict(),
+            19 => self.put_wish(),
             _ => self.put_action(),
         }
     }
@@ -510,7 +589,16 @@ impl Draft {
         Ok(())
     }
 
-    /// The actions and answers of the filter that are left, and at times a fault with lines behind it.
+    /// The next wish of the error handler, where one is left.
+    fn put_wish(&mut self) -> Result<(), Memory> {
+        if let Some(wish) = self.rules.wishes.get(self.wished) {
+            self.text.append(wish.line())?;
+            self.wished = self.wished.saturating_add(1);
+        }
+        Ok(())
+    }
+
+    /// The actions, answers of the filter and wishes that are left, and at times a fault with lines behind it.
     fn put_tail(&mut self) -> Result<(), Memory> {
         if self.draw(4) == 0 {
             let code = self.rng.next_u32();
@@ -525,6 +613,9 @@ impl Draft {
         }
         for _ in 0..self.rules.verdicts.len() {
             self.put_verdict()?;
+        }
+        for _ in 0..self.rules.wishes.len() {
+            self.put_wish()?;
         }
         self.rules.end();
         Ok(())

@@ -128,6 +128,36 @@ fn reads_lines_about_filters(rt: HostRuntime) {
     }
 }
 
+/// How many answers of the filter and wishes of the error handler the script of these bytes has, and the size of the channel of errors.
+fn error_counts(alloc: Global, bytes: &[u8]) -> Option<(usize, usize, u32)> {
+    let script = script_in(alloc, bytes)?;
+    Some((script.filters.len(), script.errors.len(), script.error_size))
+}
+
+#[test]
+fn reads_lines_about_errors(rt: HostRuntime) {
+    let alloc = rt.alloc();
+    let table: [(&[u8], (usize, usize, u32)); 5] = [
+        (b"", (0, 0, 64)),
+        (b"error none\nset errors 1\n", (0, 1, 1)),
+        (
+            b"set errors 9\nset size 3\nset errors 65536\nsend low 0\nerror elevate\n",
+            (0, 1, 65_536),
+        ),
+        (
+            b"error critical exit\nerror critical memory\nturn 0 work\nerror critical send low 1 process 4\n",
+            (0, 3, 64),
+        ),
+        (
+            b"filter fail nocommands\nerror critical elevated trysend a full low 0 some b\nerror critical init native event nopath 0\n",
+            (1, 2, 64),
+        ),
+    ];
+    for (bytes, want) in table {
+        assert!(rt; error_counts(alloc, bytes) == Some(want), "at {bytes:?}");
+    }
+}
+
 #[test]
 fn refuses_lines_about_jobs(rt: HostRuntime) {
     let alloc = rt.alloc();
@@ -165,7 +195,7 @@ fn refuses_lines_about_jobs(rt: HostRuntime) {
 #[test]
 fn counts_lines_to_the_first_bad_one(rt: HostRuntime) {
     let alloc = rt.alloc();
-    let table: [(&[u8], u64); 12] = [
+    let table: [(&[u8], u64); 16] = [
         (b"turn 0 work", 1),
         (b"# c", 1),
         (b"turn 0 work\n# c", 2),
@@ -174,6 +204,10 @@ fn counts_lines_to_the_first_bad_one(rt: HostRuntime) {
         (b"set size 1\nsend low 0\nsend low 0\n", 3),
         (b"turn 0 work\nset throttle 1\n", 2),
         (b"turnfault 5\nset size 1\n", 2),
+        (b"send low 0\nset errors 1\n", 2),
+        (b"turn 0 work\nset errors 1\n", 2),
+        (b"turnfault 5\nset errors 1\n", 2),
+        (b"set errors 1\nset errors 65537\nset errors 2\n", 2),
         (b"turnfault 5\nsend low 0\n", 2),
         (b"turn 0 work\nsend low 0\n", 2),
         (b"turn 5 work\nturnfault 1\nturn 4 work\n", 3),
@@ -187,11 +221,16 @@ fn counts_lines_to_the_first_bad_one(rt: HostRuntime) {
 #[test]
 fn refuses_lines(rt: HostRuntime) {
     let alloc = rt.alloc();
-    let table: [&[u8]; 32] = [
+    let table: [&[u8]; 44] = [
         b"set size 0\n",
         b"set size 65537\n",
         b"set size 4294967296\n",
         b"set size\n",
+        b"set errors 0\n",
+        b"set errors 65537\n",
+        b"set errors 4294967296\n",
+        b"set errors\n",
+        b"set errors 1 1\n",
         b"set other 1\n",
         b"turn 5  work\n",
         b"turn 05 work\n",
@@ -211,6 +250,13 @@ fn refuses_lines(rt: HostRuntime) {
         b"filter pass 0\n",
         b"filter fail\n",
         b"filter fail filterer glob\n",
+        b"error\n",
+        b"error pass\n",
+        b"error elevate 0\n",
+        b"error critical\n",
+        b"error critical external\n",
+        b"error critical elevated exit\n",
+        b"error critical deadonarrival\n",
         b"send normal\n",
         b"send middle 0\n",
         b"send normal 00\n",

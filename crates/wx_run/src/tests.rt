@@ -130,6 +130,100 @@ fn runs_with_jobs(rt: HostRuntime) -> Result<(), Fail> {
 }
 
 #[test]
+fn runs_with_errors(rt: HostRuntime) -> Result<(), Fail> {
+    let table: [(&[u8], &[u8], Status); 4] = [
+        // the error is elevated
+        (
+            b"filter pass\nfilter fail filterer glob bad%20rule\nerror elevate\nturn 0 arrive normal 1 process 1\nturn 0 work\nturn 1 arrive normal 1 process 2\nturn 1 work\n",
+            b"turn 0 arrive normal 1 process 1\noffer 0 - queued normal 1 process 1\nturn 0 work\ntake 0\nfilter 0 0 pass\nturn 1 arrive normal 1 process 2\noffer 1 - queued normal 1 process 2\nturn 1 work\ntake 1\nfilter 0 1 fail filterer glob bad%20rule\nshow 0 filterer glob bad%20rule elevate\nend error elevated filterer glob bad%20rule none lost 1 0\n",
+            Status::Critical,
+        ),
+        // the error handler wishes an exit
+        (
+            b"filter fail filterer f x\nerror critical exit\nturn 0 arrive normal 1 unknown\nturn 0 work\nturn 1 arrive normal 0\nturn 1 work\n",
+            b"turn 0 arrive normal 1 unknown\noffer 0 - queued normal 1 unknown\nturn 0 work\ntake 0\nfilter 0 0 fail filterer f x\nshow 0 filterer f x critical exit\nturn 1 arrive normal 0\noffer 1 - closed normal 0\nturn 1 work\nend ok lost 0\n",
+            Status::Done,
+        ),
+        // nothing is wished, and an exit isn't shown
+        (
+            b"filter fail memory\nfilter fail io a%20b 7\nfilter fail exit\nerror none\nturn 0 arrive low 1 unknown\nturn 0 work\nturn 1 arrive low 1 unknown\nturn 1 work\nturn 2 arrive low 1 unknown\nturn 2 work\n",
+            b"turn 0 arrive low 1 unknown\noffer 0 - queued low 1 unknown\nturn 0 work\ntake 0\nfilter 0 0 fail memory\nshow 0 memory none\nturn 1 arrive low 1 unknown\noffer 1 - queued low 1 unknown\nturn 1 work\ntake 1\nfilter 0 1 fail io a%20b 7\nshow 0 io a%20b 7 none\nturn 2 arrive low 1 unknown\noffer 2 - queued low 1 unknown\nturn 2 work\ntake 2\nfilter 0 2 fail exit\nturn 2 last\nend ok lost 0\n",
+            Status::Done,
+        ),
+        // an error is elevated while a child runs
+        (
+            b"filter fail deadonarrival\nerror elevate\nsend urgent 0\naction create exec ---- 1 a ask 0 start\nturn 0 work\nturn 0 job 0\nturn 1 arrive low 1 unknown\nturn 1 work\nturn 2 work\n",
+            b"sent 0 urgent 0\nturn 0 work\ntake 0\nhand 0 1 0 create 0 exec ---- 1 a ask 0 start\nmade 0\nasked 0 0 normal start\nturn 0 job 0\npick 0 0\nspawn 0 0 default ---- 1 a ok\nraise 0\nturn 1 arrive low 1 unknown\noffer 1 - queued low 1 unknown\nturn 1 work\ntake 1\nfilter 0 1 fail deadonarrival\nshow 0 deadonarrival elevate\ndrop 0\ngone 0\nend error elevated deadonarrival none lost 0\n",
+            Status::Critical,
+        ),
+    ];
+    for (script, journal, want) in table {
+        let (sink, status) = run(rt.alloc(), b"replay", script)?;
+        let Some((_, rest)) = cut(sink.text().as_slice(), 10) else {
+            return Err(Fail::from(Memory));
+        };
+        assert!(rt; rest == journal, "of {script:?}");
+        assert!(rt; status == want, "of {script:?}");
+    }
+    Ok(())
+}
+
+/// A text of this critical error in its words, between these.
+fn text_about(alloc: Global, front: &[u8], error: &[u8], back: &[u8]) -> Result<Text, Memory> {
+    let mut text = Text::from_slice(alloc, front)?;
+    text.append(error)?;
+    text.append(back)?;
+    Ok(text)
+}
+
+/// What is written, and how it ends, where this critical error is wished of the first error of two.
+fn run_wishing(alloc: Global, error: &[u8]) -> Result<(MemSink, Status), Memory> {
+    let back =
+        b"\nturn 0 arrive low 1 unknown\nturn 0 work\nturn 1 arrive low 1 unknown\nturn 1 work\n";
+    let script = text_about(
+        alloc,
+        b"filter fail filterer f x\nerror critical ",
+        error,
+        back,
+    )?;
+    run(alloc, b"replay", script.as_slice())
+}
+
+#[test]
+fn runs_end_with_what_is_wished(rt: HostRuntime) -> Result<(), Fail> {
+    let table: [&[u8]; 9] = [
+        b"external %",
+        b"external a%20b",
+        b"io turn 5",
+        b"io elsewhere 0",
+        b"send high 2 process 7 signal quit",
+        b"init native create generic a%20b 2 /x /y",
+        b"init poll 9 pathscan /x changed lexical /x link",
+        b"elevated filterer f x some try%20again",
+        b"elevated io a 3 none",
+    ];
+    for error in table {
+        let (sink, status) = run_wishing(rt.alloc(), error)?;
+        assert!(rt; status == Status::Critical, "of {error:?}");
+        let shown = b"\ntake 0\nfilter 0 0 fail filterer f x\nshow 0 filterer f x critical ";
+        let want = text_about(rt.alloc(), shown, error, b"\nend error ")?;
+        let want = text_about(rt.alloc(), want.as_slice(), error, b" lost 0\n")?;
+        assert!(rt;
+            sink.text().as_slice().ends_with(want.as_slice()),
+            "of {error:?}"
+        );
+    }
+    Ok(())
+}
+
+#[test]
+fn a_wish_of_memory_ends_as_want_of_it(rt: HostRuntime) -> Result<(), Fail> {
+    let (_, status) = run_wishing(rt.alloc(), b"memory")?;
+    assert!(rt; status == Status::Memory);
+    Ok(())
+}
+
+#[test]
 fn jobs_that_go_on(rt: HostRuntime) -> Result<(), Fail> {
     let table: [(&[u8], &[u8]); 2] = [
         // a job is stopped and started again, and its second child ends
@@ -153,10 +247,11 @@ fn jobs_that_go_on(rt: HostRuntime) -> Result<(), Fail> {
 
 #[test]
 fn the_settings_stand_in_the_first_line(rt: HostRuntime) -> Result<(), Fail> {
-    let (sink, status) = run(rt.alloc(), b"replay", b"set throttle 7\nset size 9\n")?;
+    let script = b"set throttle 7\nset size 9\nset errors 65536\nset errors 1\n";
+    let (sink, status) = run(rt.alloc(), b"replay", script)?;
     assert!(rt;
         sink.text().as_slice()
-            == b"begin throttle 7 size 9 errors 64 keyboard off follow on jobsignals off watcher native cwd / paths 0\nturn 0 last\nend ok lost 0\n".as_slice()
+            == b"begin throttle 7 size 9 errors 1 keyboard off follow on jobsignals off watcher native cwd / paths 0\nturn 0 last\nend ok lost 0\n".as_slice()
     );
     assert!(rt; status == Status::Done);
     Ok(())

@@ -23,7 +23,7 @@ mod tuples;
 
 pub use cursor::{Words, cut};
 pub use dotted::{Dotted, read_dotted};
-pub use list::{Copies, List, Memory};
+pub use list::{Copies, List, Memory, copy_twice};
 pub use lists::{put_items, read_to_end};
 pub use numbers::number_of;
 pub use path::TextPath;

@@ -30,6 +30,29 @@ pub trait Copies {
         ensures { IfOk result (λ copied. copied ≡ self.now) };
 }
 
+impl Copies for bool {
+    fn copy(&self, _alloc: Global) -> Result<bool, Memory> {
+        Ok(*self)
+    }
+}
+
+impl<T: Copies + Drop, E: Copies + Drop> Copies for Result<T, E> {
+    fn copy(&self, alloc: Global) -> Result<Result<T, E>, Memory> {
+        match self {
+            Ok(value) => Ok(Ok(value.copy(alloc)?)),
+            Err(error) => Ok(Err(error.copy(alloc)?)),
+        }
+    }
+}
+
+/// Two values that equal this one. It fails only for want of memory.
+pub fn copy_twice<T: Copies + Drop>(alloc: Global, value: &T) -> Result<(T, T), Memory>
+    ensures { IfOk result (λ both. (both.0 ≡ value.now) × (both.1 ≡ value.now)) }
+{
+    let first = value.copy(alloc)?;
+    Ok((first, value.copy(alloc)?))
+}
+
 /// A list.
 #[derive(Drop, Debug)]
 pub struct List<T> {

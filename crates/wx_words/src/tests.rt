@@ -1,6 +1,6 @@
 // Lines and values by the rules of the words: the expected values are worked out by hand.
 use crate::cursor::Words;
-use crate::list::{List, Memory};
+use crate::list::{List, Memory, copy_twice};
 use crate::path::TextPath;
 use crate::rows::take_literal;
 use crate::spelled::Spelled;
@@ -280,6 +280,17 @@ fn texts_and_paths_are_compared_by_their_bytes(rt: HostRuntime) -> Result<(), Fa
         let one = TextPath::new(one);
         let other = TextPath::new(other);
         assert_eq!(rt; one == other, same, "{one:?} and {other:?}");
+    }
+    Ok(())
+}
+
+#[test]
+fn copies_twice(rt: HostRuntime) -> Result<(), Fail> {
+    let text = Text::from_slice(rt.alloc(), b"a b")?;
+    let values: [Result<bool, Text>; 2] = [Ok(true), Err(text)];
+    for value in &values {
+        let (first, second) = copy_twice(rt.alloc(), value)?;
+        assert!(rt; first == *value && second == *value);
     }
     Ok(())
 }

@@ -1,17 +1,14 @@
 use Rattle.std.proofs.Common.{◌≡◌, ℕ, List, inl, inr, ◌∙◌}
 use Rattle.std.specs.Prelude.{None}
-use Rattle.wx_journal.specs.declared.entry.Entry.{Entry}
 use Rattle.wx_journal.specs.declared.entry.TurnKind.TheVariants.{Work}
-use Rattle.wx_action.specs.declared.worker_state.Worker.{Worker}
-use Rattle.wx_action.specs.Answer.{MemoryCuts}
 use Rattle.wx_action.specs.Serves.{Continues}
-use Rattle.wx_action.specs.Stands.{Stands, AtWork}
-use Rattle.wx_action.specs.Start.{Start}
+use Rattle.wx_action.specs.Stands.{Stands}
 use Rattle.wx_action.proofs.TurnLaws.{at_turn, calm_after}
 use Rattle.wx_job.proofs.SteadyLemmas.{only_none}
-use Rattle.wx_action.proofs.HandLemmas.{on_err, not_hands, not_hands_at_end}
+use Rattle.wx_action.proofs.HandLemmas.{not_hands, not_hands_at_end}
+use Rattle.wx_action.proofs.BreakLemmas.{behind, breaks_want, breaks_on, breaks_fails, calm_fails}
 use Rattle.wx_action.proofs.work_turn.worker.Goals.{After-reserve, After-hand}
-use Rattle.wx_action.proofs.Serving.{hooks_none, continues_room, continues_after, continues_hand}
+use Rattle.wx_action.proofs.Serving.{hooks_none, continues_room, continues_after, continues_grown, continues_hand}
 use Rattle.wx_action.proofs.work_turn.worker.Goals as goal
 
 -- ---- what holds before anything is collected
@@ -28,24 +25,33 @@ returns-in_err-reserve_host-clause-continues g c = continues_room _ _ _ _ _ _ _ 
 pub returns-in_err-reserve-2-clause-continues : goal.returns-in_err-reserve-2-clause-continues
 returns-in_err-reserve-2-clause-continues g c = continues_room _ _ _ _ _ _ _ _ _ _ _ (stood g (goal.at.returns-in_err-reserve-2-clause-continues g c).After-reserve) c.in_ok-reserve.ensures.same c.reserve_host.ensures.rest c.reserve-2.ensures.rest
 
--- nothing was added behind the turn
-behind : (s : Start) (w : Worker) (at : ℕ) (p p' : List Entry) → AtWork s w at p → p' ≡ p → MemoryCuts s p'
-behind s w at p p' turn same = inl (rw (same, turn.last) tt)
+pub returns-in_err-reserve-clause-breaks : goal.returns-in_err-reserve-clause-breaks
+returns-in_err-reserve-clause-breaks g c = breaks_want g.start c.reserve.new.journal.past c.from_residual.result c.from_residual.ensures.1 (behind g.start c.args.worker.now c.args.at c.args.journal.now.past _ c.requires.1.1 c.in_err-reserve.ensures.same)
 
-pub returns-in_err-reserve-clause-cut : goal.returns-in_err-reserve-clause-cut
-returns-in_err-reserve-clause-cut g c = on_err _ (behind g.start c.args.worker.now c.args.at c.args.journal.now.past _ c.requires.1.1 c.in_err-reserve.ensures.same)
+pub returns-in_err-reserve_host-clause-breaks : goal.returns-in_err-reserve_host-clause-breaks
+returns-in_err-reserve_host-clause-breaks g c = breaks_want g.start c.reserve.new.journal.past c.from_residual-in_err-reserve_host.result c.from_residual-in_err-reserve_host.ensures.1 (behind g.start c.args.worker.now c.args.at c.args.journal.now.past _ c.requires.1.1 c.in_ok-reserve.ensures.same)
 
-pub returns-in_err-reserve_host-clause-cut : goal.returns-in_err-reserve_host-clause-cut
-returns-in_err-reserve_host-clause-cut g c = on_err _ (behind g.start c.args.worker.now c.args.at c.args.journal.now.past _ c.requires.1.1 c.in_ok-reserve.ensures.same)
+pub returns-in_err-reserve-2-clause-breaks : goal.returns-in_err-reserve-2-clause-breaks
+returns-in_err-reserve-2-clause-breaks g c = breaks_want g.start c.reserve.new.journal.past c.from_residual-in_err-reserve-2.result c.from_residual-in_err-reserve-2.ensures.1 (behind g.start c.args.worker.now c.args.at c.args.journal.now.past _ c.requires.1.1 c.in_ok-reserve.ensures.same)
 
-pub returns-in_err-reserve-2-clause-cut : goal.returns-in_err-reserve-2-clause-cut
-returns-in_err-reserve-2-clause-cut g c = on_err _ (behind g.start c.args.worker.now c.args.at c.args.journal.now.past _ c.requires.1.1 c.in_ok-reserve.ensures.same)
+pub returns-in_err-hand-in-Hand-clause-breaks : goal.returns-in_err-hand-in-Hand-clause-breaks
+returns-in_err-hand-in-Hand-clause-breaks g c = breaks_want g.start c.hand.new.journal.past c.from_residual-in_err-hand-in-Hand.result c.from_residual-in_err-hand-in-Hand.ensures.1 (inr c.in_err-hand-in-Hand.ensures.cut)
 
-pub returns-in_err-throttle_collect-clause-cut : goal.returns-in_err-throttle_collect-clause-cut
-returns-in_err-throttle_collect-clause-cut g c = on_err _ (behind g.start c.args.worker.now c.args.at c.args.journal.now.past _ c.requires.1.1 (c.in_err-throttle_collect.ensures.unchanged ∙ c.in_ok-reserve.ensures.same))
+-- ---- what holds where collecting failed
 
-pub returns-in_err-hand-in-Hand-clause-cut : goal.returns-in_err-hand-in-Hand-clause-cut
-returns-in_err-hand-in-Hand-clause-cut g c = on_err _ (inr c.in_err-hand-in-Hand.ensures.cut)
+pub returns-in_err-throttle_collect-clause-breaks : goal.returns-in_err-throttle_collect-clause-breaks
+returns-in_err-throttle_collect-clause-breaks g c =
+    breaks_on g.start c.throttle_collect.new.journal.past c.from_residual-in_err-throttle_collect.result c.in_err-throttle_collect.field-0.0 c.from_residual-in_err-throttle_collect.ensures.1
+    (breaks_fails g.start c.args.worker.now c.args.at c.args.journal.now.past c.reserve.new.journal.past c.throttle_collect.new.journal.past c.in_err-throttle_collect.field-0.0 c.requires.1.1 c.in_ok-reserve.ensures.same c.in_err-throttle_collect.ensures.fails)
+
+pub returns-in_err-throttle_collect-clause-calm : goal.returns-in_err-throttle_collect-clause-calm
+returns-in_err-throttle_collect-clause-calm g c =
+    calm_fails g.start c.args.worker.now c.args.at c.args.journal.now.past c.reserve.new.journal.past c.throttle_collect.new.journal.past c.in_err-throttle_collect.field-0.0 (g.H.JobHooks.seen c.reserve-2.new.self).told (g.H.JobHooks.seen c.throttle_collect.new.hooks).told
+    c.requires.1.1 c.in_ok-reserve.ensures.same c.throttle_collect.ensures.grows.adds.follows c.in_err-throttle_collect.ensures.fails
+
+pub returns-in_err-throttle_collect-clause-continues : goal.returns-in_err-throttle_collect-clause-continues
+returns-in_err-throttle_collect-clause-continues g c =
+    continues_after _ _ _ _ _ _ _ _ _ _ _ _ _ _ c.in_ok-reserve.ensures.same c.reserve_host.ensures.rest c.reserve-2.ensures.rest (continues_grown _ _ _ _ _ _ _ _ _ _ c.throttle_collect.ensures.grows)
 
 -- ---- what holds where the window isn't due
 

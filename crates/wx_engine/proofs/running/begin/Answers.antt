@@ -12,7 +12,7 @@ pub loop-item-init : goal.loop-item-init
 loop-item-init g c =
     let is = c.engine.view_is ∙ c.requires.0 in
     let all : c.as_slice-item-items.result.now ≡ g.start.events = c.as_slice-item-items.ensures ∙ ap (λ (s : Start). s.events) is in
-    let b = begun g.start c.in_ok-worker.worker c.in_ok-entry.entry c.args.journal.now.past c.push.new.self.past c.requires.1 (c.in_ok-entry.ensures ∙ ap begin_of is) (rw c.in_ok-reserve.ensures.same at c.push.ensures.past)
+    let b = begun g.start c.in_ok-worker.worker _ c.args.journal.now.past c.list_beginning.new.journal.past c.requires.1 (ap begin_of is) c.in_ok-worker.ensures.listed
     (c.in_ok-worker.ensures.stands g.start (ap (λ (s : Start). s.config) (sym is))) in
     record {
       is_start = subst IsStart is c.engine.invariant;

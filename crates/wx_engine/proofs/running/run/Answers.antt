@@ -8,7 +8,7 @@ use Rattle.wx_action.specs.Leads.{Here}
 use Rattle.wx_action.proofs.RunLaws.{orderly, run_led, run_is_batched, run_has_batches}
 use Rattle.wx_engine.proofs.MainLaws.{leads_world, leads_hooks, dying_hooks, answered_ran, ran_is_batched, ran_has_batches}
 use Rattle.wx_engine.proofs.BeginLemmas.{begun_run}
-use Rattle.wx_engine.proofs.RunLemmas.{stopped, broken, wants}
+use Rattle.wx_engine.proofs.RunLemmas.{stopped, caused_by, broken, wants}
 use Rattle.wx_engine.proofs.running.run.Goals as goal
 
 pub returns-in_err-about-clause-answers : goal.returns-in_err-about-clause-answers
@@ -79,6 +79,10 @@ serve_turns-answer-requires g c = λ κs lives.
 pub returns-clause-answers : goal.returns-clause-answers
 returns-clause-answers g c =
     stopped g.start c.serve_turns-answer.new.journal.past c.end_jobs.new.journal.past c.serve_turns-answer.result (run_led g.start _ _ _ _ _ _ c.serve_turns-answer.ensures.serves.follows (begun_run g.start _ _ c.requires.1.1.1 c.begin.ensures.adds)) c.serve_turns-answer.ensures.stops c.end_jobs.ensures.dying c.end_jobs.ensures.none
+
+pub returns-clause-cause : goal.returns-clause-cause
+returns-clause-cause g c =
+    caused_by g.start c.serve_turns-answer.new.journal.past c.end_jobs.new.journal.past c.serve_turns-answer.result _ _ _ (ap (λ k. k.turn_faults) (sym c.end_jobs.ensures.kept.progress_kept)) (run_led g.start _ _ _ _ _ _ c.serve_turns-answer.ensures.serves.follows (begun_run g.start _ _ c.requires.1.1.1 c.begin.ensures.adds)) c.end_jobs.ensures.dying c.end_jobs.ensures.none (returns-clause-answers g c) c.serve_turns-answer.ensures.cause
 
 pub returns-clause-lists : goal.returns-clause-lists
 returns-clause-lists g c =

@@ -9,9 +9,9 @@ use Rattle.wx_replay.specs.Replays.{IsReplay, IsWritten}
 use Rattle.wx_replay.proofs.replaying.play.Goals as goal
 
 pub returns-clause-text : goal.returns-clause-text
-returns-clause-text c = IfOk-weaker c.shown_if_whole.result _ (λ r. IsReplay c.args.script.now r.0 r.1) (λ r whole.
+returns-clause-text c = IfOk-weaker c.shown-out.result _ (λ r. IsReplay c.args.script.now r.0 r.1) (λ r whole.
     let j : List Entry = c.main-answer.new.journal.past in
-    let kept = wished_follows c.in_ok-hooks.hooks.actions c.args.script.now.actions c.in_ok-hooks.hooks.filters c.args.script.now.filters j c.in_ok-hooks.ensures.plan c.in_ok-hooks.ensures.filters (c.main-answer.ensures.rule (sym c.short.ensures ∙ whole.0) c.in_ok-hooks.ensures.stands) in
+    let kept = wished_follows (record { actions = c.in_ok-hooks.hooks.actions; filters = c.in_ok-hooks.hooks.filters; errors = c.in_ok-hooks.hooks.errors }) c.args.script.now.actions c.args.script.now.filters c.args.script.now.errors j c.in_ok-hooks.ensures.plan c.in_ok-hooks.ensures.filters c.in_ok-hooks.ensures.errors (c.main-answer.ensures.rule (sym c.short.ensures ∙ whole.0) c.in_ok-hooks.ensures.stands) in
     let shown = whole.1 in
     record {
       journal = j;
@@ -24,6 +24,7 @@ returns-clause-text c = IfOk-weaker c.shown_if_whole.result _ (λ r. IsReplay c.
             (c.main-answer.ensures.turns ∙ ap (λ (before : List Entry). tells (anywhere is_turn) j (Some (turns_of before))) c.in_ok-world.ensures.told);
         acts = kept.0;
         filtered = kept.1;
+        wished = kept.2;
         answers = follows_answers c.args.script.now _ c.main-answer.new.world.told.past j
             (c.main-answer.ensures.world_plan ∙ c.in_ok-world.ensures.plan)
             (λ k. (c.main-answer.new.world.answered k).0)
@@ -34,7 +35,7 @@ returns-clause-text c = IfOk-weaker c.shown_if_whole.result _ (λ r. IsReplay c.
       only = λ other said f g e. one_spelling other j said c.main-answer.result f shown.fits.0 g shown.fits.1 (sym e ∙ shown.text_is);
       status_is = shown.status_is;
     }
-    ) c.shown_if_whole.ensures
+    ) c.shown-out.ensures
 
 pub returns-clause-status : goal.returns-clause-status
-returns-clause-status c = IfOk-weaker c.shown_if_whole.result _ (λ r. IsWritten r.1) (λ r whole. whole.1.written) c.shown_if_whole.ensures
+returns-clause-status c = IfOk-weaker c.shown-out.result _ (λ r. IsWritten r.1) (λ r whole. whole.1.written) c.shown-out.ensures

@@ -21,8 +21,8 @@ done g c =
 pub returns-then-is_unseen-clause-grows : goal.returns-then-is_unseen-clause-grows
 returns-then-is_unseen-clause-grows g c = hand_grows _ _ _ _ c.args.self.now _ _ _ _ (grows g.start c.args.self.now _ _ _ (done g c).steps (ap (λ w. end_room w) c.join.ensures.same))
 
-pub returns-then-is_unseen-clause-collected : goal.returns-then-is_unseen-clause-collected
-returns-then-is_unseen-clause-collected g c = (done g c).collected
+pub returns-then-is_unseen-clause-found : goal.returns-then-is_unseen-clause-found
+returns-then-is_unseen-clause-found g c = (done g c).collected
 
 -- ---- it is shown to the filter
 
@@ -40,5 +40,5 @@ judge-requires g c = λ κs lives.
 pub returns-clause-grows : goal.returns-clause-grows
 returns-clause-grows g c = hand_then _ _ _ _ _ _ _ _ _ _ _ _ (hand_grows _ _ _ _ c.args.self.now _ _ _ _ (grows g.start c.args.self.now _ _ _ (shows g (goal.at.returns-clause-grows g c).Else-is_unseen).steps refl)) c.judge.ensures.grows
 
-pub returns-clause-collected : goal.returns-clause-collected
-returns-clause-collected g c = (shows g (goal.at.returns-clause-collected g c).Else-is_unseen).collects _ _ c.judge.ensures.judged
+pub returns-clause-found : goal.returns-clause-found
+returns-clause-found g c = (shows g (goal.at.returns-clause-found g c).Else-is_unseen).collects _ _ c.judge.ensures.judged

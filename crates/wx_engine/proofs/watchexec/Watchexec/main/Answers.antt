@@ -1,5 +1,7 @@
 use Rattle.wx_action.proofs.ReapLaws.{ran_reaps}
-use Rattle.wx_engine.proofs.MainLaws.{answered_ran, ran_shows, ran_makes_once, ran_is_served}
+use Rattle.wx_engine.proofs.MainLaws.{answered_ran, ran_shows, ran_shows_open, completed, ran_makes_once, ran_is_served}
+use Rattle.wx_engine.proofs.OfferLaws.{ran_offers}
+use Rattle.wx_engine.proofs.WishLaws.{answered_granted}
 use Rattle.wx_engine.proofs.watchexec.Watchexec.main.Goals as goal
 
 pub returns-clause-ran : goal.returns-clause-ran
@@ -22,3 +24,15 @@ returns-clause-ids g c = ran_makes_once c.args.self _ (answered_ran c.args.self 
 
 pub returns-clause-served : goal.returns-clause-served
 returns-clause-served g c = ran_is_served c.args.self _ (answered_ran c.args.self _ c.run.result c.run.ensures.answers)
+
+pub returns-clause-shown_open : goal.returns-clause-shown_open
+returns-clause-shown_open g c = ran_shows_open c.args.self _ (answered_ran c.args.self _ c.run.result c.run.ensures.answers)
+
+pub returns-clause-completes : goal.returns-clause-completes
+returns-clause-completes g c = completed c.args.self _ c.run.result _ _ c.run.ensures.answers c.run.ensures.cause
+
+pub returns-clause-granted : goal.returns-clause-granted
+returns-clause-granted g c = answered_granted c.args.self _ c.run.result c.run.ensures.answers
+
+pub returns-clause-offers : goal.returns-clause-offers
+returns-clause-offers g c = ran_offers c.args.self _ (answered_ran c.args.self _ c.run.result c.run.ensures.answers)

@@ -1,0 +1,84 @@
+-- A run ends with what the error handler wished.
+use Rattle.std.proofs.Common.{◌≡◌, inl, inr, Option, None, Some, IfSome, List, [], ◌∷◌, Ok, Err, refl}
+use Rattle.wx_config.specs.declared.runtime.RuntimeError.{RuntimeError}
+use Rattle.wx_config.specs.declared.error.CriticalError.{CriticalError}
+use Rattle.wx_config.specs.declared.error.CriticalError.TheVariants.{IoError, Memory}
+use Rattle.wx_journal.specs.declared.entry.Entry.{Entry}
+use Rattle.wx_journal.specs.declared.entry.Entry.TheVariants.{Show, Dropped, Gone}
+use Rattle.wx_journal.specs.declared.wish.Wish.{Wish}
+use Rattle.wx_journal.specs.Lines.{Answer}
+use Rattle.wx_action.specs.Start.{Start}
+use Rattle.wx_action.specs.Journal.{ending}
+use Rattle.wx_action.specs.Due.{Ends, after_show, settle, agenda, Admits, Due, IsRun}
+use Rattle.wx_action.specs.Answer.{Dying, Alive, Dies, IsComplete, IsBroken, Wishes, Answers}
+use Rattle.wx_action.specs.Lawful.{IsOfEnd}
+use Rattle.wx_action.proofs.PlanLaws.{of_end}
+use Rattle.wx_engine.specs.Completes.{NoneEnds, IsErrorOrMemory, AreGranted}
+
+-- nothing comes behind a wish that ends the run, nor is the end due there
+goes_on : (s : Start) (shown e : Entry) (p : List Entry) (wished : Option CriticalError) → Admits s (shown ∷ p) (settle (shown ∷ p) (after_show wished)) e → wished ≡ None
+goes_on s shown e p None due = refl
+goes_on s shown e p (Some error) due = absurd due
+
+ends_calm : (shown : Entry) (p : List Entry) (wished : Option CriticalError) → settle (shown ∷ p) (after_show wished) ≡ Ends → wished ≡ None
+ends_calm shown p None due = refl
+ends_calm shown p (Some error) due = absurd cc
+
+-- so no wish but the last entry's ends a run
+none_below : (s : Start) (e : Entry) (p : List Entry) → IsRun s (e ∷ p) → NoneEnds p
+none_below s e [] run = tt
+none_below s e (Show n error wish ∷ p) run = (goes_on s (Show n error wish) e p (ending error wish) run.0, none_below s (Show n error wish) p run.1)
+none_below s e (x ∷ p) run = none_below s x p run.1
+
+-- and none ends one whose end is due
+none_complete : (s : Start) (p : List Entry) → IsComplete s p → NoneEnds p
+none_complete s [] complete = tt
+none_complete s (Show n error wish ∷ p) complete = (ends_calm (Show n error wish) p (ending error wish) complete.ended, none_below s (Show n error wish) p complete.run)
+none_complete s (x ∷ p) complete = none_below s x p complete.run
+
+-- where no wish ends the run, any answer will do, and want of memory always does
+any_granted : (answer : Answer) (p : List Entry) → NoneEnds p → AreGranted answer p
+any_granted answer [] none = tt
+any_granted answer (Show n error wish ∷ p) none = (rw none.0 tt, any_granted answer p none.1)
+any_granted answer (_ ∷ p) none = any_granted answer p none
+
+memory_will : (wished : Option CriticalError) → IfSome wished (λ error. IsErrorOrMemory (Err Memory) error)
+memory_will None = tt
+memory_will (Some error) = tt
+
+memory_granted : (p : List Entry) → AreGranted (Err Memory) p
+memory_granted [] = tt
+memory_granted (Show n error wish ∷ p) = (memory_will (ending error wish), memory_granted p)
+memory_granted (_ ∷ p) = memory_granted p
+
+-- the error of the last entry's wish is granted
+same_error : (error : CriticalError) → IsErrorOrMemory (Err error) error
+same_error Memory = tt
+same_error (_) = refl
+
+last_granted : (s : Start) (error : CriticalError) (p : List Entry) → IsRun s p → Wishes error p → AreGranted (Err error) p
+last_granted s error [] run is = cc
+last_granted s error (Show n shown wish ∷ p) run is = (rw is (same_error error), any_granted (Err error) p (none_below s (Show n shown wish) p run))
+last_granted s error (_ ∷ p) run is = cc
+
+-- the end brings no wish
+end_granted : (answer : Answer) (e : Entry) (p : List Entry) → IsOfEnd e → AreGranted answer p → AreGranted answer (e ∷ p)
+end_granted answer (Dropped c) p o granted = granted
+end_granted answer (Gone job) p o granted = granted
+end_granted answer (_) p o granted = absurd o
+
+dying_granted : (answer : Answer) (q p : List Entry) → Dying q p → AreGranted answer q → AreGranted answer p
+dying_granted answer q p l granted = elim l as (λ p _. AreGranted answer p) [
+  | Alive ↦ granted
+  | Dies e p (l → h) d ↦ end_granted answer e p (of_end p e d) h
+]
+
+broken_granted : (s : Start) (error : CriticalError) (p : List Entry) → IsBroken (Wishes error) s p → AreGranted (Err error) p
+broken_granted s error p broken = dying_granted (Err error) broken.before p broken.dying (last_granted s error broken.before broken.run broken.cut)
+
+pub answered_granted : (s : Start) (p : List Entry) (answer : Answer) → Answers s p answer → AreGranted answer p
+answered_granted s p (Ok u) a = any_granted (Ok u) p (none_complete s p a.0)
+answered_granted s p (Err (IoError about err)) (inl failed) = any_granted (Err (IoError about err)) p (none_complete s p failed.complete)
+answered_granted s p (Err (IoError about err)) (inr broken) = broken_granted s (IoError about err) p broken
+answered_granted s p (Err Memory) a = memory_granted p
+answered_granted s p (Err error) a = broken_granted s error p a
