@@ -6,6 +6,7 @@ use Rattle.wx_config.specs.declared.error.CriticalError.TheVariants.{Memory}
 use Rattle.wx_config.specs.declared.runtime.RuntimeError.{RuntimeError}
 use Rattle.wx_journal.specs.declared.entry.Entry.{Entry}
 use Rattle.wx_journal.specs.declared.entry.Entry.TheVariants.{Take, Filter, Show}
+use Rattle.wx_journal.specs.declared.entry.TurnKind.{TurnKind}
 use Rattle.wx_journal.specs.declared.entry.TurnKind.TheVariants.{Work}
 use Rattle.wx_journal.specs.declared.wish.Wish.{Wish}
 use Rattle.wx_action.specs.declared.worker_state.Worker.{Worker}
@@ -15,8 +16,9 @@ use Rattle.wx_action.specs.Journal.{is_urgent_named, passes_unseen, ending, name
 use Rattle.wx_action.specs.Due.{agenda, Open, Filters, Shows, Hands, Ends, settle, is_quitting, after_pass, after_show}
 use Rattle.wx_action.specs.Answer.{NoneIsToGo, MemoryCuts, BreaksOff, BreaksHere, Fails}
 use Rattle.wx_action.specs.Laws.{NoneUrgentWaits}
-use Rattle.wx_action.specs.Leads.{FollowsHooks}
-use Rattle.wx_action.specs.Stands.{AtWork, AddsTake, MayShow, HasDropped, Collects, IsToShow}
+use Rattle.wx_action.specs.Leads.{Follows, FollowsHooks}
+use Rattle.wx_action.specs.Serves.{LeavesOff}
+use Rattle.wx_action.specs.Stands.{AtTurn, AtWork, AddsTake, MayShow, HasDropped, Collects, IsToShow}
 use Rattle.wx_action.specs.declared.work_turn.Collected.TheVariants as collected
 use Rattle.wx_action.proofs.TurnLaws.{calm_after}
 
@@ -47,6 +49,16 @@ pub calm_fails : (s : Start) (w : Worker) (at : ℕ) (p q p' : List Entry) (erro
 calm_fails s w at p q p' error hooks hooks' turn same follows (inl want) h = subst NoneUrgentWaits (sym (want.1 ∙ same)) h
 calm_fails s w at p q p' error hooks hooks' turn same follows (inr here) h =
     calm_after s w at Work p p' None hooks None hooks' turn (subst (λ r. FollowsHooks s r hooks p' hooks') same follows None) (not_hands_here s p' here.0) h
+
+-- ---- want of memory left a turn of a job
+
+pub breaks_left : (s : Start) (w : Worker) (at : ℕ) (kind : TurnKind) (p p' : List Entry) → AtTurn s w at kind p → LeavesOff s p p' → MemoryCuts s p'
+breaks_left s w at kind p p' turn (inl same) = inl (rw (same, turn.last) tt)
+breaks_left s w at kind p p' turn (inr given) = inr (rw given.due tt)
+
+pub calm_left : (s : Start) (w : Worker) (at : ℕ) (kind : TurnKind) (p p' : List Entry) (world hooks world' hooks' : Option (List Entry)) → AtTurn s w at kind p → Follows s p world hooks p' world' hooks' → LeavesOff s p p' → NoneUrgentWaits p → NoneUrgentWaits p'
+calm_left s w at kind p p' world hooks world' hooks' turn follows (inl same) h = subst NoneUrgentWaits (sym same) h
+calm_left s w at kind p p' world hooks world' hooks' turn follows (inr given) h = calm_after s w at kind p p' world hooks world' hooks' turn follows (not_hands_here s p' (rw given.due tt)) h
 
 -- ---- the error of a filter was shown
 

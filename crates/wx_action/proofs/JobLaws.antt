@@ -20,7 +20,7 @@ use Rattle.wx_job.specs.History.{same, lives, child, is_child}
 use Rattle.wx_job.specs.Table.{Plan, Done, step_plan, ask_plan, end_plan}
 use Rattle.wx_job.specs.Case.{Admits as Follows, next, Leads as Led, Here, Then as OneMore}
 use Rattle.wx_job.proofs.Owners.{either, same-is, children_named, child_owner}
-use Rattle.wx_job.proofs.Always.{Always, always_also}
+use Rattle.wx_job.proofs.Always.{Always, always_now, always_next, always_also}
 use Rattle.wx_job.proofs.Sound.{Fits, IsSound, Sound, sound_step, sound_end}
 use Rattle.wx_action.specs.Start.{Start}
 use Rattle.wx_action.specs.Jobs.{insert, set, jobs, creation, or_else, command, parent_among, parent, AreLawful}
@@ -275,11 +275,12 @@ agenda_plan s p (Show n error wish) o = absurd o
 agenda_plan s p (Hand n names acts) o = absurd o
 agenda_plan s p (_) o = refl
 
-pub calm_plan : (e : Entry) → IsOfPlan e → is_hooks e ≡ false
-calm_plan (Hand n names acts) o = absurd o
-calm_plan (Filter n name answer) o = absurd o
-calm_plan (Show n error wish) o = absurd o
-calm_plan (_) o = refl
+-- a plan without calls on the hooks
+abbrev pub CallsNone : List Entry → Plan → Type 0
+CallsNone p k = Always (λ q e j. is_hooks e ≡ false) p k
+
+pub calls_none_ask : (id : Id) (ask : Ask) (p : List Entry) → CallsNone p (ask_plan id (sends_of ask) Done)
+calls_none_ask id (One control) p = λ a. (refl, tt)
 
 -- a journal has its own turns
 pub same_turns : (p : List Entry) → SameTurns p p
@@ -306,12 +307,12 @@ command_plan (_) id p o = refl
 -- ---- a plan that is owed leads on in the run
 
 -- what is known of a journal to which a plan led that was owed before these agendas
-pub record IsLed (s : Start) (more : Agenda) (p : List Entry) (host hooks : Option (List Entry)) (k' : Plan) (p' : List Entry) (host' hooks' : Option (List Entry)) : Type 0 where
+pub record IsLed (s : Start) (more : Agenda) (k : Plan) (p : List Entry) (host hooks : Option (List Entry)) (k' : Plan) (p' : List Entry) (host' hooks' : Option (List Entry)) : Type 0 where
   pub orderly : IsOrderly s p'
   pub due : agenda s p' ≡ settle p' (plans k' more)
   pub quits : is_quitting p' ≡ is_quitting p
   pub follows : LeadsOn s p host hooks p' host' hooks'
-  pub quiet : StaysQuiet p p'
+  pub quiet : CallsNone p k → CallsNone p' k' × StaysQuiet p p'
   pub turns : StaysInTurn p p'
   pub commands : (id : Id) → command id p' ≡ command id p
 
@@ -327,23 +328,26 @@ fit_lawful : (p : List Entry) (k : Plan) (more : Agenda) → IsFit p (settle p (
 fit_lawful p Done more f = tt
 fit_lawful p (k) more f = f.0
 
-led_one : (s : Start) (more : Agenda) (p : List Entry) (host hooks : Option (List Entry)) (k : Plan) (q : List Entry) (host' hooks' : Option (List Entry)) (e : Entry) → Follows q k e → IsLed s more p host hooks k q host' hooks' → IsLed s more p host hooks (next k e) (e ∷ q) (tell_if (is_world q e) e host') (tell_if (is_hooks e) e hooks')
-led_one s more p host hooks k q host' hooks' e d h =
+led_one : (s : Start) (more : Agenda) (k₀ : Plan) (p : List Entry) (host hooks : Option (List Entry)) (k : Plan) (q : List Entry) (host' hooks' : Option (List Entry)) (e : Entry) → Follows q k e → IsLed s more k₀ p host hooks k q host' hooks' → IsLed s more k₀ p host hooks (next k e) (e ∷ q) (tell_if (is_world q e) e host') (tell_if (is_hooks e) e hooks')
+led_one s more k₀ p host hooks k q host' hooks' e d h =
     let kind = (lawful_now q k e d (fit_lawful q k more (subst (IsFit q) h.due h.orderly.fit))).of_plan in
     let due : Due s q e = subst (λ (j : Agenda). Admits s q j e) (sym h.due) (admits_plans s q k more e d) in record {
       orderly = orderly_more s e q due h.orderly;
       due = agenda_plan s q e kind ∙ ap (λ (j : Agenda). settle (e ∷ q) (rest e j)) h.due ∙ ap (settle (e ∷ q)) (rest_plans q k more e d);
       quits = quitting_over e q kind ∙ h.quits;
       follows = λ p₀ world₀ hooks₀ l. Then e q host' hooks' (h.follows p₀ world₀ hooks₀ l) due;
-      quiet = λ p₀ a. More e q (h.quiet p₀ a) (calm_plan e kind);
+      quiet = λ none. (
+        always_next (λ r x i. is_hooks x ≡ false) q k e d (h.quiet none).0,
+        λ p₀ a. More e q ((h.quiet none).1 p₀ a) (always_now (λ r x i. is_hooks x ≡ false) q k e d (h.quiet none).0),
+      );
       turns = λ p₀ t. turns_plan e p₀ q kind (h.turns p₀ t);
       commands = λ id. command_plan e id q kind ∙ h.commands id;
     }
 
-pub plans_lead : (s : Start) (more : Agenda) (k : Plan) (p : List Entry) (host hooks : Option (List Entry)) (n : ℕ) (k' : Plan) (p' : List Entry) (host' hooks' : Option (List Entry)) (n' : ℕ) → Led k p host hooks n k' p' host' hooks' n' → IsOrderly s p → agenda s p ≡ settle p (plans k more) → IsLed s more p host hooks k' p' host' hooks'
-plans_lead s more k p host hooks n k' p' host' hooks' n' l o due = elim l as (λ k' p' host' hooks' n' _. IsLed s more p host hooks k' p' host' hooks') [
-  | Here ↦ record { orderly = o; due = due; quits = refl; follows = λ p₀ world₀ hooks₀ l. l; quiet = λ p₀ a. a; turns = λ p₀ t. t; commands = λ id. refl }
-  | OneMore e k₁ p₁ host₁ hooks₁ n₁ n₂ (l → h) d counts ↦ led_one s more p host hooks k₁ p₁ host₁ hooks₁ e d h
+pub plans_lead : (s : Start) (more : Agenda) (k : Plan) (p : List Entry) (host hooks : Option (List Entry)) (n : ℕ) (k' : Plan) (p' : List Entry) (host' hooks' : Option (List Entry)) (n' : ℕ) → Led k p host hooks n k' p' host' hooks' n' → IsOrderly s p → agenda s p ≡ settle p (plans k more) → IsLed s more k p host hooks k' p' host' hooks'
+plans_lead s more k p host hooks n k' p' host' hooks' n' l o due = elim l as (λ k' p' host' hooks' n' _. IsLed s more k p host hooks k' p' host' hooks') [
+  | Here ↦ record { orderly = o; due = due; quits = refl; follows = λ p₀ world₀ hooks₀ l. l; quiet = λ none. (none, λ p₀ a. a); turns = λ p₀ t. t; commands = λ id. refl }
+  | OneMore e k₁ p₁ host₁ hooks₁ n₁ n₂ (l → h) d counts ↦ led_one s more k p host hooks k₁ p₁ host₁ hooks₁ e d h
 ]
 
 -- ---- a plan that makes no job leaves the set

@@ -1,6 +1,6 @@
 -- The turns of jobs.
 use Rattle.std.proofs.Common.{◌≡◌, ℕ, zero, suc, ◌<◌, Bool, true, false, cond, List, [], ◌∷◌, length, get_or, inl, inr, arith, refl, ap, sym, subst, ◌∙◌, eq-eqb}
-use Rattle.std.specs.Prelude.{Option, None, Some, is_some, option_map, map, not}
+use Rattle.std.specs.Prelude.{Option, None, Some, Result, Ok, Err, is_some, is_err, option_map, map, not}
 use Rattle.std.specs.List.{AllByRecursion, find}
 use Rattle.wx_words.specs.OptionLaws.{refused}
 use Rattle.wx_command.specs.declared.command.Command.{Command}
@@ -14,22 +14,25 @@ use Rattle.wx_journal.specs.declared.entry.Word.TheVariants.{Ignored}
 use Rattle.wx_journal.specs.Names.{NamesItsOwn, moment}
 use Rattle.wx_job.specs.declared.task.JobTask.{JobTask}
 use Rattle.wx_job.specs.History.{lives, child, same, is_child}
-use Rattle.wx_job.specs.Table.{Done, send_plan, step_plan, ask_plan}
-use Rattle.wx_job.specs.Case.{FollowsAlone as FollowsPlan, Leads as LeadsOn, Here as Stays}
+use Rattle.wx_job.specs.Table.{Plan, Done, send_plan, step_plan, ask_plan}
+use Rattle.wx_job.specs.Case.{IsCut, GaveUp, FollowsAlone as FollowsPlan, Leads as LeadsOn, Here as Stays}
 use Rattle.wx_job.specs.Laws.{LeavesOthers}
-use Rattle.wx_job.specs.Stands.{Stands as TaskStands, SameJob, IsEnding, id_of, command_of, gone_of, running_of}
+use Rattle.wx_journal.specs.Written.{Written}
+use Rattle.wx_job.specs.Seen.{Seen}
+use Rattle.wx_job.specs.Stands.{Stops, Before as AllAsBefore, Behind as BehindHook, Stands as TaskStands, SameJob, IsEnding, id_of, command_of, gone_of, running_of}
 use Rattle.wx_job.proofs.Owners.{self, same-is}
 use Rattle.wx_action.specs.declared.worker_state.Held.{Held}
 use Rattle.wx_action.specs.declared.worker_state.Worker.{Worker}
 use Rattle.wx_action.specs.Start.{Start}
 use Rattle.wx_action.specs.Jobs.{set, command, living, parent}
-use Rattle.wx_action.specs.Due.{agenda, Open, Says, plans, ask_turn, job_turn, ended_turn, is_quitting}
+use Rattle.wx_action.specs.Due.{agenda, Open, Says, Plans, plans, ask_turn, job_turn, ended_turn, is_quitting}
 use Rattle.wx_action.proofs.SettleLaws.{settle_calm}
 use Rattle.wx_job.specs.Kept.{StaysQuiet}
-use Rattle.wx_action.specs.Leads.{FollowsAlone}
+use Rattle.wx_action.specs.Leads.{FollowsAlone, Follows}
+use Rattle.wx_action.specs.Serves.{LeavesOff, Steps, Settles}
 use Rattle.wx_action.specs.Turns.{StaysInTurn}
 use Rattle.wx_action.proofs.RunLaws.{orderly_turn}
-use Rattle.wx_action.proofs.JobLaws.{IsIn, is_child_some, none_by_ask, none_by_step, parent_is, parent_is_none}
+use Rattle.wx_action.proofs.JobLaws.{calls_none_ask, IsIn, is_child_some, none_by_ask, none_by_step, parent_is, parent_is_none}
 use Rattle.wx_action.proofs.TurnLaws.{at_end_of_none, other_over_end}
 use Rattle.wx_action.specs.HeldJobs.{is_of, runs_child, handle_id, task_of, with_task}
 use Rattle.wx_action.specs.Stands.{Stands, AtTurn, IsStepOf, HeldStands, held_id}
@@ -94,13 +97,13 @@ ask_done s w w' id task task' ask p p' stands going due alive l fields jobs same
     let id_is : id_of task ≡ id = ap id_of (sym l.task_is) ∙ l.id_is in
     let owed : agenda s p ≡ plans (ask_plan id (sends_of ask) Done) Open = due ∙ ap (λ (b : Bool). cond b (plans (ask_plan id (sends_of ask) Done) Open) (Says Ignored Open)) alive in
     let plan_is : send_plan (id_of task) (sends_of ask) p ≡ ask_plan id (sends_of ask) Done = rw (id_is, alive) refl in
-    let done : (world hooks : Option (List Entry)) → JobDone s w' Open p p' world world hooks hooks = λ world hooks.
-    plan_done s w w' w.jobs change.0 h (record h { task = task' }) p p p' (ask_plan id (sends_of ask) Done) Open world world hooks hooks 0 0 stands (quiet p) stands.orderly going owed (none_by_ask id ask p) (jobs_stand s w p stands) fields change.1 (rw l.task_is leaves)
+    let done : (world hooks : Option (List Entry)) → JobDone s w' (ask_plan id (sends_of ask) Done) Open p p' world world hooks hooks = λ world hooks.
+    plan_done s w w' w.jobs change.0 h (record h { task = task' }) p p p' (ask_plan id (sends_of ask) Done) Done Open world world hooks hooks 0 0 stands (quiet p) stands.orderly going owed (none_by_ask id ask p) (jobs_stand s w p stands) fields change.1 (rw l.task_is leaves)
     (rw (← plan_is) (follows _ p world hooks 0 world hooks 0 Stays)) in
     let one = done None None in record {
       stands = one.stands;
       follows = λ world hooks. (done world hooks).follows;
-      quiet = one.quiet;
+      quiet = one.quiet (calls_none_ask id ask p);
       turns = one.turns;
       done = one.done;
     }
@@ -117,17 +120,70 @@ step_owed s w at id p stands going due now alive =
     let runs : living id p ≡ Some (command_of h.0.task) = rw alive commanded in
     record { what = command_of h.0.task; alive = alive; runs = commanded; due = due ∙ rw runs refl; going = going; now = now }
 
-pub step_done : (s : Start) (w w' : Worker) (at : ℕ) (id : Id) (task task' : JobTask) (p p' : List Entry) (world world' hooks hooks' : Option (List Entry)) (m m' : ℕ) → Stands s w p → IsStepOf s id at p → Lent p w.jobs id task
-    → w' ≡ record w { jobs = w'.jobs } → w'.jobs ≡ with_task id w.jobs task' → SameJob task task' → TaskStands task' p' → LeavesOthers (id_of task) p p' → LeadsOn (step_plan (id_of task) (command_of task) p) p world hooks m Done p' world' hooks' m'
-    → JobDone s w' Open p p' world world' hooks hooks'
-step_done s w w' at id task task' p p' world world' hooks hooks' m m' stands step l fields jobs same stood leaves led =
+-- what is known behind a step that followed its plan so far
+step_at_plan : (s : Start) (w w' : Worker) (at : ℕ) (id : Id) (task task' : JobTask) (k' : Plan) (p p' : List Entry) (world world' hooks hooks' : Option (List Entry)) (m m' : ℕ) → Stands s w p → IsStepOf s id at p → Lent p w.jobs id task
+    → w' ≡ record w { jobs = w'.jobs } → w'.jobs ≡ with_task id w.jobs task' → SameJob task task' → TaskStands task' p' → LeavesOthers (id_of task) p p' → LeadsOn (step_plan (id_of task) (command_of task) p) p world hooks m k' p' world' hooks' m'
+    → JobDone s w' (step_plan (id_of task) (command_of task) p) (plans k' Open) p p' world world' hooks hooks'
+step_at_plan s w w' at id task task' k' p p' world world' hooks hooks' m m' stands step l fields jobs same stood leaves led =
     let h = l.held in
     let change = changed p p' w.jobs w'.jobs id task task' l jobs same stood in
     let runs : command id p ≡ Some (command_of h.task) = ap (λ i. command i p) (sym l.id_is) ∙ l.stood.command_is in
     let both : Some step.what ≡ Some (command_of h.task) = sym step.runs ∙ runs in
     let what : step.what ≡ command_of h.task = cc in
     let due : agenda s p ≡ plans (step_plan (held_id h) (command_of h.task) p) Open = step.due ∙ ap (λ (i : Id). plans (step_plan i step.what p) Open) (sym l.id_is) ∙ ap (λ (k : Command). plans (step_plan (held_id h) k p) Open) what in
-    plan_done s w w' w.jobs change.0 h (record h { task = task' }) p p p' (step_plan (held_id h) (command_of h.task) p) Open world world' hooks hooks' m m' stands (quiet p) stands.orderly step.going due (none_by_step (held_id h) (command_of h.task) p) (jobs_stand s w p stands) fields change.1 (rw l.task_is leaves) (rw l.task_is led)
+    let owed : agenda s p ≡ plans (step_plan (id_of task) (command_of task) p) Open = rw (← l.task_is) due in
+    plan_done s w w' w.jobs change.0 h (record h { task = task' }) p p p' (step_plan (id_of task) (command_of task) p) k' Open world world' hooks hooks' m m' stands (quiet p) stands.orderly step.going owed (none_by_step (id_of task) (command_of task) p) (jobs_stand s w p stands) fields change.1 (rw l.task_is leaves) led
+
+pub step_done : (s : Start) (w w' : Worker) (at : ℕ) (id : Id) (task task' : JobTask) (p p' : List Entry) (world world' hooks hooks' : Option (List Entry)) (m m' : ℕ) → Stands s w p → IsStepOf s id at p → Lent p w.jobs id task
+    → w' ≡ record w { jobs = w'.jobs } → w'.jobs ≡ with_task id w.jobs task' → SameJob task task' → TaskStands task' p' → LeavesOthers (id_of task) p p' → LeadsOn (step_plan (id_of task) (command_of task) p) p world hooks m Done p' world' hooks' m'
+    → JobDone s w' (step_plan (id_of task) (command_of task) p) Open p p' world world' hooks hooks'
+step_done s w w' at id task task' p p' world world' hooks hooks' m m' stands step l fields jobs same stood leaves led = step_at_plan s w w' at id task task' Done p p' world world' hooks hooks' m m' stands step l fields jobs same stood leaves led
+
+-- a step that wanted for memory
+pub record StepStopped (s : Start) (w' : Worker) (p p' : List Entry) (world world' hooks hooks' : Option (List Entry)) : Type 0 where
+  pub stands : Stands s w' p'
+  pub follows : Follows s p world hooks p' world' hooks'
+  pub turns : StaysInTurn p p'
+  pub leaves : LeavesOff s p p'
+
+-- a plan at which a case may be given up isn't done
+cut_plans : (k : Plan) → IsCut k → plans k Open ≡ Plans k Open
+cut_plans Done cut = absurd cut
+cut_plans (k) cut = refl
+
+step_gave : {Fixed : Type 0} (s : Start) (w w' : Worker) (at : ℕ) (id : Id) (task task' : JobTask) (p p' : List Entry) (a b : Seen Fixed) (hooks hooks' : Option (List Entry)) → Stands s w p → IsStepOf s id at p → Lent p w.jobs id task
+    → w' ≡ record w { jobs = w'.jobs } → w'.jobs ≡ with_task id w.jobs task' → SameJob task task' → TaskStands task' p' → LeavesOthers (id_of task) p p' → GaveUp (step_plan (id_of task) (command_of task) p) p a hooks p' b hooks'
+    → StepStopped s w' p p' a.shown.told b.shown.told hooks hooks'
+step_gave s w w' at id task task' p p' a b hooks hooks' stands step l fields jobs same stood leaves gave =
+    let d = step_at_plan s w w' at id task task' gave.rest p p' a.shown.told b.shown.told hooks hooks' a.shown.faults b.shown.faults stands step l fields jobs same stood leaves gave.ran.led in
+    record { stands = d.stands; follows = d.follows; turns = d.turns; leaves = inr (record { rest = gave.rest; cut = gave.cut; due = d.done ∙ cut_plans gave.rest gave.cut }) }
+
+pub step_stopped : {Host Hooks Fixed : Type 0} (seen : Host → Seen Fixed) (told : Hooks → Option (List Entry)) (s : Start) (w w' : Worker) (at : ℕ) (id : Id) (task task' : JobTask) (j j' : Written) (host host' : Host) (x x' : Hooks) → Stands s w j.past → IsStepOf s id at j.past → Lent j.past w.jobs id task
+    → w' ≡ record w { jobs = w'.jobs } → w'.jobs ≡ with_task id w.jobs task' → SameJob task task' → TaskStands task' j'.past → LeavesOthers (id_of task) j.past j'.past
+    → Stops task j host x task' j' host' x' (GaveUp (step_plan (id_of task) (command_of task) j.past) j.past (seen host) (told x) j'.past (seen host') (told x'))
+    → StepStopped s w' j.past j'.past (seen host).shown.told (seen host').shown.told (told x) (told x')
+step_stopped seen told s w w' at id task task' j j' host host' x x' stands step l fields jobs same stood leaves (AllAsBefore undone hooks) = record {
+  stands = same_lent s w w' id task task' j.past j'.past stands (ap (λ k. k.past) undone.journal) l fields jobs same stood;
+  follows = λ p₀ world₀ hooks₀ led. rw (undone.journal, undone.host, hooks) led;
+  turns = λ p₀ t. rw undone.journal t;
+  leaves = inl (ap (λ k. k.past) undone.journal);
+}
+step_stopped seen told s w w' at id task task' j j' host host' x x' stands step l fields jobs same stood leaves (BehindHook pending gave) =
+    step_gave s w w' at id task task' j.past j'.past (seen host) (seen host') (told x) (told x') stands step l fields jobs same stood leaves gave
+
+-- where want of memory is answered
+pub steps_left : {X E : Type 0} (s : Start) (p p' : List Entry) (result : Result X E) → is_err result ≡ true → LeavesOff s p p' → Steps result s p p'
+steps_left s p p' (Ok x) is left = absurd cc
+steps_left s p p' (Err e) is left = record { done = tt; err = left }
+
+-- behind room that was taken
+pub steps_after : {X E : Type 0} (s : Start) (p q p' : List Entry) (result : Result X E) → q ≡ p → Steps result s q p' → Steps result s p p'
+steps_after s p q p' result same steps = subst (λ (r : List Entry). Steps result s r p') same steps
+
+-- where no entry was added
+pub steps_settled : {X E : Type 0} (s : Start) (p p' : List Entry) (result : Result X E) → Settles result s p p' → Steps result s p p'
+steps_settled s p p' (Ok x) h = record { done = h.done; err = tt }
+steps_settled s p p' (Err e) h = record { done = tt; err = inl h.err }
 
 -- ---- the end of a child
 

@@ -86,6 +86,8 @@ over_made i id p ne = record {
   kept_same = rw (other-is i id ne) refl;
   state_same = rw (other-is i id ne) refl;
   previous_same = rw (other-is i id ne) refl;
+  hook_same = rw (other-is i id ne) refl;
+  tag_same = rw (other-is i id ne) refl;
 }
 
 -- a new name is none of the old ones

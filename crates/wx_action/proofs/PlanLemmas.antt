@@ -23,7 +23,7 @@ use Rattle.wx_job.specs.Kept.{StaysQuiet}
 use Rattle.wx_action.specs.Leads.{Follows}
 use Rattle.wx_action.specs.Turns.{StaysInTurn}
 use Rattle.wx_action.specs.HeldJobs.{AreRising}
-use Rattle.wx_action.proofs.JobLaws.{set_rising, IsOfJob, MakesNone, plans_lead}
+use Rattle.wx_action.proofs.JobLaws.{set_rising, IsOfJob, MakesNone, CallsNone, plans_lead}
 use Rattle.wx_action.specs.Stands.{Stands, HeldStands, JobsStand, AreApart, held_id}
 use Rattle.wx_action.proofs.StandsLemmas.{Quiet, quiet, quiet_then, stands_quiet, same_held, ids_put, tasks_put, held_at}
 
@@ -58,11 +58,11 @@ still_led k p world hooks n k' p' world' hooks' n' none l = elim l as (λ k' p' 
 
 -- ---- a job among those of a worker followed a plan
 
-pub record JobDone (s : Start) (w' : Worker) (more : Agenda) (p p' : List Entry) (world world' hooks hooks' : Option (List Entry)) : Type 0 where
+pub record JobDone (s : Start) (w' : Worker) (k : Plan) (more : Agenda) (p p' : List Entry) (world world' hooks hooks' : Option (List Entry)) : Type 0 where
   pub stands : Stands s w' p'
   pub done : agenda s p' ≡ more
   pub follows : Follows s p world hooks p' world' hooks'
-  pub quiet : StaysQuiet p p'
+  pub quiet : CallsNone p k → StaysQuiet p p'
   pub turns : StaysInTurn p p'
 
 apart_all : (id : Id) (ids : List Id) → AllByRecursion (λ job. id.0 < job.0) ids → AllByRecursion (λ job. job ≢ id) ids
@@ -99,17 +99,17 @@ jobs_change p p' hs hs' n h h' jobs still leaves change =
       tasks_put p p' hs n h h' jobs.ids_apart change.within change.held (λ x ne st. same_held p p' x (leaves.others (held_id x) ne) (still.commands_same (held_id x)) st) jobs.tasks_stand new,
     )
 
-pub plan_done : (s : Start) (w w' : Worker) (hs : List Held) (at : ℕ) (h h' : Held) (q p p' : List Entry) (k : Plan) (more : Agenda) (world world' hooks hooks' : Option (List Entry)) (n n' : ℕ)
-    → Stands s w q → Quiet q p → IsOrderly s p → is_quitting p ≡ false → agenda s p ≡ plans k more → MakesNone p k → JobsStand p hs → w' ≡ record w { jobs = w'.jobs } → Changes hs w'.jobs at h h' p' → LeavesOthers (held_id h) p p' → LeadsOn k p world hooks n Done p' world' hooks' n'
-    → JobDone s w' more p p' world world' hooks hooks'
-plan_done s w w' hs at h h' q p p' k more world world' hooks hooks' n n' stands before orderly going due none jobs fields change leaves l =
-    let g = plans_lead s more k p world hooks n Done p' world' hooks' n' l orderly (due ∙ sym (settle_calm p (plans k more) going)) in
-    let still = (still_led k p world hooks n Done p' world' hooks' n' none l).still in
+pub plan_done : (s : Start) (w w' : Worker) (hs : List Held) (at : ℕ) (h h' : Held) (q p p' : List Entry) (k k' : Plan) (more : Agenda) (world world' hooks hooks' : Option (List Entry)) (n n' : ℕ)
+    → Stands s w q → Quiet q p → IsOrderly s p → is_quitting p ≡ false → agenda s p ≡ plans k more → MakesNone p k → JobsStand p hs → w' ≡ record w { jobs = w'.jobs } → Changes hs w'.jobs at h h' p' → LeavesOthers (held_id h) p p' → LeadsOn k p world hooks n k' p' world' hooks' n'
+    → JobDone s w' k (plans k' more) p p' world world' hooks hooks'
+plan_done s w w' hs at h h' q p p' k k' more world world' hooks hooks' n n' stands before orderly going due none jobs fields change leaves l =
+    let g = plans_lead s more k p world hooks n k' p' world' hooks' n' l orderly (due ∙ sym (settle_calm p (plans k more) going)) in
+    let still = (still_led k p world hooks n k' p' world' hooks' n' none l).still in
     let j = jobs_change p p' hs w'.jobs at h h' jobs still leaves change in record {
       stands = stands_quiet s w w' q p' stands g.orderly (quiet_then q p p' before still) fields j.0 j.1;
-      done = g.due ∙ settle_calm p' more (g.quits ∙ going);
+      done = g.due ∙ settle_calm p' (plans k' more) (g.quits ∙ going);
       follows = g.follows;
-      quiet = g.quiet;
+      quiet = λ none. (g.quiet none).1;
       turns = g.turns;
     }
 

@@ -590,9 +590,9 @@ waits_pass s p p' name true over is same_urgent u o h = record {
   some = rw is (some-append (window p) name);
   urgent_last = subst (λ (f : ℕ → Bool). UrgentLast f (window p')) (sym same_urgent) (rw is (urgent-append (urgent_in p) (window p) name h));
   in_time = λ calm_last. (
-    let other : last_is (urgent_in p') (window p') ≡ true = subst (λ (f : ℕ → Bool). last_is f (window p') ≡ true) (sym same_urgent) (rw is (last_added (urgent_in p) (window p) name ∙ u)) in
-    let both : true ≡ false = sym other ∙ calm_last in absurd cc
-  );
+      let other : last_is (urgent_in p') (window p') ≡ true = subst (λ (f : ℕ → Bool). last_is f (window p') ≡ true) (sym same_urgent) (rw is (last_added (urgent_in p) (window p) name ∙ u)) in
+      let both : true ≡ false = sym other ∙ calm_last in absurd cc
+      );
 }
 waits_pass s p p' name false true is same_urgent u o h = record {
   some = rw is (some-append (window p) name);

@@ -9,7 +9,7 @@ use Rattle.prio_channel.specs.SameBag.{SameBag}
 use Rattle.prio_channel.proofs.BagLaws.{same-trans, add-bag, same-length}
 use Rattle.wx_control.specs.declared.id.Id.{Id}
 use Rattle.wx_journal.specs.declared.entry.Entry.{Entry}
-use Rattle.wx_journal.specs.declared.entry.Entry.TheVariants.{Sent, Offer, Turn as Turned, TurnFault, Word as Said, Hand, Made, Asked, Pick, Spawn, Wait, Dropped, Gone}
+use Rattle.wx_journal.specs.declared.entry.Entry.TheVariants.{Sent, Offer, Turn as Turned, TurnFault, Word as Said, Hand, Made, Asked, Pick, Spawn, Wait, Dropped, Gone, Hook}
 use Rattle.wx_journal.specs.declared.entry.Named.{Named}
 use Rattle.wx_journal.specs.declared.entry.Offered.{Offered}
 use Rattle.wx_journal.specs.declared.entry.Offered.TheVariants.{Queued, Full, Closed}
@@ -53,6 +53,7 @@ IsOfNone (Spawn child job tag what answer) = ⊥
 IsOfNone (Wait child answer) = ⊥
 IsOfNone (Dropped child) = ⊥
 IsOfNone (Gone job) = ⊥
+IsOfNone (Hook job n answer) = ⊥
 IsOfNone (_) = Unit {0}
 
 pub over_none : (e : Entry) (p : List Entry) → IsOfNone e → SameJobs p (e ∷ p)
@@ -65,11 +66,12 @@ over_none (Spawn child job tag what answer) p h = absurd h
 over_none (Wait child answer) p h = absurd h
 over_none (Dropped child) p h = absurd h
 over_none (Gone job) p h = absurd h
-over_none (_) p h = record { histories = λ i. record { lives_same = refl; waits_same = λ l. refl; child_same = refl; kept_same = refl; state_same = refl; previous_same = refl }; commands = λ i. refl }
+over_none (Hook job n answer) p h = absurd h
+over_none (_) p h = record { histories = λ i. record { lives_same = refl; waits_same = λ l. refl; child_same = refl; kept_same = refl; state_same = refl; previous_same = refl; hook_same = refl; tag_same = refl }; commands = λ i. refl }
 
 -- a batch changes what its acts create
 pub over_hand : (n : ℕ) (names : List ℕ) (acts : List Act) (p : List Entry) (i : Id) → SameHistory i p (Hand n names acts ∷ p)
-over_hand n names acts p i = record { lives_same = refl; waits_same = λ l. refl; child_same = refl; kept_same = refl; state_same = refl; previous_same = refl }
+over_hand n names acts p i = record { lives_same = refl; waits_same = λ l. refl; child_same = refl; kept_same = refl; state_same = refl; previous_same = refl; hook_same = refl; tag_same = refl }
 
 -- ---- one of several that are held
 

@@ -51,6 +51,8 @@ task_over k t p other stands = record {
   end_kept = rw other stands.end_kept;
   state_kept = stands.state_kept;
   previous_kept = stands.previous_kept;
+  hook_kept = stands.hook_kept;
+  tag_kept = stands.tag_kept;
 }
 
 -- the turn tells no end of this one's child

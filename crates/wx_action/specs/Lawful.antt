@@ -2,7 +2,7 @@
 use Rattle.std.specs.Prelude.{◌≡◌, true, List, [], ◌∷◌, None, Some}
 use Rattle.wx_control.specs.declared.id.Id.{Id}
 use Rattle.wx_journal.specs.declared.entry.Entry.{Entry}
-use Rattle.wx_journal.specs.declared.entry.Entry.TheVariants.{Begin, Sent, Turn as Turned, TurnFault, Offer, Word as Said, Take, Filter, Show, Hand, Made, Asked, Pick, Spawn, Kill, Wait, Dropped, Raise, Gone}
+use Rattle.wx_journal.specs.declared.entry.Entry.TheVariants.{Begin, Sent, Turn as Turned, TurnFault, Offer, Word as Said, Take, Filter, Show, Hand, Made, Asked, Pick, Spawn, Kill, Wait, Dropped, Raise, Gone, Hook}
 use Rattle.wx_journal.specs.Names.{Names, next_job, IsNextJob}
 use Rattle.wx_job.specs.History.{lives, child}
 use Rattle.wx_job.specs.Table.{Plan}
@@ -31,6 +31,7 @@ IsOfPlan (Wait child answer) = Unit {0}
 IsOfPlan (Dropped child) = Unit {0}
 IsOfPlan (Raise ticket) = Unit {0}
 IsOfPlan (Gone job) = Unit {0}
+IsOfPlan (Hook job n answer) = Unit {0}
 
 -- the entries of an end
 abbrev pub IsOfEnd : Entry → Type 0
@@ -53,6 +54,7 @@ IsOfEnd (Wait child answer) = ⊥
 IsOfEnd (Dropped child) = Unit {0}
 IsOfEnd (Raise ticket) = ⊥
 IsOfEnd (Gone job) = Unit {0}
+IsOfEnd (Hook job n answer) = ⊥
 
 -- where a child is spawned its job lives and no child of it runs, one that is killed or waited for runs, and where a job is
 -- gone no child of it runs
@@ -76,6 +78,7 @@ IsFree p (Wait c answer) = Runs c p
 IsFree p (Dropped child) = Unit {0}
 IsFree p (Raise ticket) = Unit {0}
 IsFree p (Gone job) = child job p ≡ None
+IsFree p (Hook job n answer) = Unit {0}
 
 -- where a child is let go its job is gone next
 abbrev pub LetsGo : List Entry → Entry → Plan → Type 0
@@ -103,6 +106,7 @@ InOrder p (Wait child answer) = Unit {0}
 InOrder p (Dropped child) = Unit {0}
 InOrder p (Raise ticket) = Unit {0}
 InOrder p (Gone job) = Unit {0}
+InOrder p (Hook job n answer) = Unit {0}
 
 abbrev pub MadeInOrder : List Entry → Type 0
 MadeInOrder [] = Unit {0}

@@ -1,5 +1,5 @@
 -- What a turn did to a journal, and what it told.
-use Rattle.std.specs.Prelude.{◌≡◌, ℕ, Option, Result, OnOk, OnErr, List}
+use Rattle.std.specs.Prelude.{◌≡◌, ◌⊎◌, ℕ, Option, Result, OnOk, OnErr, List}
 use Rattle.wx_journal.specs.declared.entry.Entry.{Entry}
 use Rattle.wx_journal.specs.Written.{Written}
 use Rattle.wx_job.specs.Seen.{Seen, Hooked}
@@ -9,7 +9,9 @@ use Rattle.wx_job.specs.Steady.{IsSteady, OnlyRoom}
 use Rattle.wx_action.specs.declared.worker_state.Worker.{Worker}
 use Rattle.wx_action.specs.Start.{Start}
 use Rattle.wx_action.specs.Stands.{Stands, Ready, end_room}
-use Rattle.wx_action.specs.Due.{agenda, Open}
+use Rattle.wx_job.specs.Table.{Plan}
+use Rattle.wx_job.specs.Case.{IsCut}
+use Rattle.wx_action.specs.Due.{agenda, Open, Plans}
 use Rattle.wx_action.specs.Leads.{Follows, FollowsHooks, FollowsAlone}
 use Rattle.wx_action.specs.Turns.{StaysInTurn}
 
@@ -60,6 +62,21 @@ pub record Continues {K Fixed Plan : Type 0} (seen : K → Hooked Fixed) (rule :
   pub keeps : KeepsOn seen rule holds x p x' p'
 
 -- ---- with the answer
+
+-- the case of a job was given up behind the call of its spawn hook: what is left of it is still due
+pub record IsGivenUp (s : Start) (p : List Entry) : Type 0 where
+  pub rest : Plan
+  pub cut : IsCut rest
+  pub due : agenda s p ≡ Plans rest Open
+
+-- want of memory left a turn of a job: no entry was added, or its case was given up
+abbrev pub LeavesOff : Start → List Entry → List Entry → Type 0
+LeavesOff s p p' = (p' ≡ p) ⊎ IsGivenUp s p'
+
+-- where it went well nothing is due, and else want of memory left it
+pub record Steps {X E : Type 0} (result : Result X E) (s : Start) (p p' : List Entry) : Type 0 where
+  pub done : OnOk result (agenda s p' ≡ Open)
+  pub err : OnErr result (LeavesOff s p p')
 
 -- where it went well nothing is due, and else no entry was added
 pub record Settles {X E : Type 0} (result : Result X E) (s : Start) (p p' : List Entry) : Type 0 where

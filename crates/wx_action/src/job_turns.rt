@@ -5,7 +5,7 @@ ghost use Rattle.wx_journal.specs.Told.{is_world};
 ghost use Rattle.wx_journal.specs.declared.entry.TurnKind.TheVariants.{Ask as AsksTurn, Job as JobTurn, Ended as EndedTurn};
 ghost use Rattle.wx_journal.specs.declared.entry.Word.TheVariants.{Ignored};
 ghost use Rattle.wx_job.specs.Steady.{IsSteady};
-ghost use Rattle.wx_action.specs.Serves.{Grows, Continues, Settles};
+ghost use Rattle.wx_action.specs.Serves.{Grows, Continues, Steps, Settles};
 ghost use Rattle.wx_action.specs.Start.{Start};
 ghost use Rattle.wx_action.specs.Jobs.{jobs};
 ghost use Rattle.wx_action.specs.Due.{agenda, Says, Open, Ends};
@@ -46,7 +46,8 @@ pub fn ask_turn(
     Ok(())
 }
 
-/// The step of the job of this id, which is owed. It fails only for want of memory, and adds no entry then.
+/// The step of the job of this id, which is owed. It fails only for want of memory: then no entry was added,
+/// or the case was given up behind the call of the job's spawn hook.
 fn step_of<W: Host, H: Hooks>(
     alloc: Global,
     worker: &mut Worker,
@@ -63,7 +64,7 @@ fn step_of<W: Host, H: Hooks>(
     requires host_room { 16 + end_room worker.old ≤ (W.seen host.old).spare }
     requires hooks_room { 16 ≤ (H.seen hooks.old).spare }
     ensures continues { Continues H.seen H.rule H.stands start journal.old.past (W.seen host.old) hooks.old worker.new journal.new.past (W.seen host.new) hooks.new }
-    ensures settles { Settles result start journal.old.past journal.new.past }
+    ensures steps { Steps result start journal.old.past journal.new.past }
     ensures room { HasRoom worker.new journal.new.spare (W.seen host.new).spare }
 {
     let task = worker.jobs.task_mut(id);
@@ -71,8 +72,8 @@ fn step_of<W: Host, H: Hooks>(
     Ok(())
 }
 
-/// The step of the job of this id, which is owed, once room is taken for it. It fails only for want of memory, and adds
-/// no entry then.
+/// The step of the job of this id, which is owed, once room is taken for it. It fails only for want of memory: then no
+/// entry was added, or the case was given up behind the call of the job's spawn hook.
 #[tactic(auto, using(wx_job::proofs::KeptLemmas::kept))]
 fn take_step<W: Host, H: Hooks>(
     alloc: Global,
@@ -87,7 +88,7 @@ fn take_step<W: Host, H: Hooks>(
     requires due { IsStepOf start id at journal.old.past }
     requires stands { Stands start worker.old journal.old.past }
     ensures continues { Continues H.seen H.rule H.stands start journal.old.past (W.seen host.old) hooks.old worker.new journal.new.past (W.seen host.new) hooks.new }
-    ensures settles { Settles result start journal.old.past journal.new.past }
+    ensures steps { Steps result start journal.old.past journal.new.past }
     ensures room { HasRoom worker.old journal.old.spare (W.seen host.old).spare → HasRoom worker.new journal.new.spare (W.seen host.new).spare }
 {
     worker.reserve(16, journal)?;
@@ -96,7 +97,8 @@ fn take_step<W: Host, H: Hooks>(
     step_of(alloc, worker, id, at, host, hooks, journal)
 }
 
-/// A turn of a job: it takes a step. It fails only for want of memory, and adds no entry then.
+/// A turn of a job: it takes a step. It fails only for want of memory: then no entry was added,
+/// or the case was given up behind the call of the job's spawn hook.
 pub fn job_turn<W: Host, H: Hooks>(
     alloc: Global,
     worker: &mut Worker,
@@ -109,7 +111,7 @@ pub fn job_turn<W: Host, H: Hooks>(
     ghost start: { Start }
     requires turn { AtTurn start worker.old at (JobTurn id) journal.old.past }
     ensures continues { Continues H.seen H.rule H.stands start journal.old.past (W.seen host.old) hooks.old worker.new journal.new.past (W.seen host.new) hooks.new }
-    ensures settles { Settles result start journal.old.past journal.new.past }
+    ensures steps { Steps result start journal.old.past journal.new.past }
     ensures room { HasRoom worker.old journal.old.spare (W.seen host.old).spare → HasRoom worker.new journal.new.spare (W.seen host.new).spare }
 {
     if !worker.jobs.lives(id) {
@@ -136,7 +138,7 @@ pub fn keep_end(worker: &mut Worker, child: u64, at: u64, journal: &Journal) -> 
 }
 
 /// A turn that tells the end of a child: the job that ran it keeps the end, and takes a step. It fails only for want of
-/// memory, and adds no entry then.
+/// memory: then no entry was added, or the case was given up behind the call of the job's spawn hook.
 pub fn ended_turn<W: Host, H: Hooks>(
     alloc: Global,
     worker: &mut Worker,
@@ -149,7 +151,7 @@ pub fn ended_turn<W: Host, H: Hooks>(
     ghost start: { Start }
     requires turn { AtTurn start worker.old at (EndedTurn child) journal.old.past }
     ensures continues { Continues H.seen H.rule H.stands start journal.old.past (W.seen host.old) hooks.old worker.new journal.new.past (W.seen host.new) hooks.new }
-    ensures settles { Settles result start journal.old.past journal.new.past }
+    ensures steps { Steps result start journal.old.past journal.new.past }
     ensures room { HasRoom worker.old journal.old.spare (W.seen host.old).spare → HasRoom worker.new journal.new.spare (W.seen host.new).spare }
 {
     let Some(id) = keep_end(worker, child, at, journal) else {

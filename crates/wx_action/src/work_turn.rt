@@ -148,11 +148,7 @@ fn is_close(wish: &Wish) -> bool
 }
 
 /// The error that a wish ends the run with. It fails only for want of memory.
-fn ending(
-    alloc: Global,
-    error: &RuntimeError,
-    wish: &Wish,
-) -> Result<Option<CriticalError>, Memory>
+fn ending(alloc: Global, error: &RuntimeError, wish: &Wish) -> Result<Option<CriticalError>, Memory>
     ensures ending { IfOk result (λ ends. ends ≡ ending error.now wish.now) }
     ensures wants { OnErr result (is_some (ending error.now wish.now) ≡ true) }
 {

@@ -47,6 +47,11 @@ impl Spelled for Command {
             Program::Exec { prog, args } => {
                 put_row(b"exec", &(&self.options, ArgvRef { prog, args }), out)
             }
+            Program::Shell {
+                shell,
+                command,
+                args,
+            } => put_row(b"shell", &(&self.options, (shell, (command, args))), out),
         }
     }
 
@@ -54,6 +59,14 @@ impl Spelled for Command {
         read_rows!(alloc, line;
             b"exec" (options, Argv { prog, args }) => Command {
                 program: Program::Exec { prog, args },
+                options,
+            },
+            b"shell" (options, (shell, (command, args))) => Command {
+                program: Program::Shell {
+                    shell,
+                    command,
+                    args,
+                },
                 options,
             },
         )

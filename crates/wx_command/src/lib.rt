@@ -3,12 +3,18 @@
 
 mod argv;
 mod command;
+mod display;
+mod execable;
 mod options;
 mod program;
+mod shell;
+mod shell_words;
 mod spawnable;
 #[cfg(test)]
 mod tests;
 
 pub use command::{Command, SpawnOptions};
+pub use execable::is_execable;
 pub use program::Program;
+pub use shell::Shell;
 pub use spawnable::Spawnable;

@@ -1,4 +1,5 @@
 // Programs.
+use crate::shell::Shell;
 use std::alloc::Global;
 use wx_events::{Copies, List, Memory, Text};
 
@@ -6,7 +7,16 @@ use wx_events::{Copies, List, Memory, Text};
 #[derive(Drop, Debug, PartialEq, Eq, Hash)]
 pub enum Program {
     /// A program with its arguments, and no shell.
-    Exec { prog: Text, args: List<Text> },
+    Exec {
+        prog: Text,
+        args: List<Text>,
+    },
+    /// A shell that runs the text of the command, with the arguments behind it.
+    Shell {
+        shell: Shell,
+        command: Text,
+        args: List<Text>,
+    },
 }
 
 impl Copies for Program {
@@ -14,6 +24,15 @@ impl Copies for Program {
         match self {
             Program::Exec { prog, args } => Ok(Program::Exec {
                 prog: prog.copy(alloc)?,
+                args: args.copy(alloc)?,
+            }),
+            Program::Shell {
+                shell,
+                command,
+                args,
+            } => Ok(Program::Shell {
+                shell: shell.copy(alloc)?,
+                command: command.copy(alloc)?,
                 args: args.copy(alloc)?,
             }),
         }

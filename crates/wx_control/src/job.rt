@@ -1,6 +1,6 @@
 // Handles on jobs.
 ghost use Rattle.std.specs.Prelude.{◌≡◌};
-ghost use Rattle.wx_control.specs.declared.control.Control.TheVariants.{Start, Stop};
+ghost use Rattle.wx_control.specs.declared.control.Control.TheVariants.{Start, Stop, SetSyncSpawnHook, UnsetSpawnHook, SetSpawnFn, SetSpawnChildFn, ClearSpawnFn};
 ghost use Rattle.wx_control.specs.declared.ask.Ask.TheVariants.{One};
 ghost use Rattle.wx_control.specs.Sent.{sent};
 
@@ -75,6 +75,67 @@ impl Job {
         ensures { C.sink c.new ≡ sent result self.now.id (One Stop) (C.sink c.old) }
     {
         self.control(alloc, c, Control::Stop)
+    }
+
+    /// Asks that the spawn hook of this number be called before each spawn, as `control` does.
+    pub fn set_spawn_hook<C: Controls>(
+        &self,
+        alloc: Global,
+        c: &mut C,
+        n: u32,
+    ) -> Result<Ticket, Refused>
+        ensures { C.sink c.new ≡ sent result self.now.id (One (SetSyncSpawnHook n)) (C.sink c.old) }
+    {
+        self.control(alloc, c, Control::SetSyncSpawnHook(n))
+    }
+
+    /// Asks that no spawn hook be called, as `control` does.
+    pub fn unset_spawn_hook<C: Controls>(&self, alloc: Global, c: &mut C) -> Result<Ticket, Refused>
+        ensures { C.sink c.new ≡ sent result self.now.id (One UnsetSpawnHook) (C.sink c.old) }
+    {
+        self.control(alloc, c, Control::UnsetSpawnHook)
+    }
+
+    /// Asks for spawns by the spawn function of this number, as `control` does.
+    pub fn set_spawn_fn<C: Controls>(
+        &self,
+        alloc: Global,
+        c: &mut C,
+        n: u32,
+    ) -> Result<Ticket, Refused>
+        ensures { C.sink c.new ≡ sent result self.now.id (One (SetSpawnFn n)) (C.sink c.old) }
+    {
+        self.control(alloc, c, Control::SetSpawnFn(n))
+    }
+
+    /// Asks for spawns as where no function was set, as `control` does.
+    pub fn unset_spawn_fn<C: Controls>(&self, alloc: Global, c: &mut C) -> Result<Ticket, Refused>
+        ensures { C.sink c.new ≡ sent result self.now.id (One ClearSpawnFn) (C.sink c.old) }
+    {
+        self.control(alloc, c, Control::ClearSpawnFn)
+    }
+
+    /// Asks for spawns by the child function of this number, as `control` does.
+    pub fn set_spawn_child_fn<C: Controls>(
+        &self,
+        alloc: Global,
+        c: &mut C,
+        n: u32,
+    ) -> Result<Ticket, Refused>
+        ensures { C.sink c.new ≡ sent result self.now.id (One (SetSpawnChildFn n)) (C.sink c.old) }
+    {
+        self.control(alloc, c, Control::SetSpawnChildFn(n))
+    }
+
+    /// Asks for spawns as where no function was set, as `control` does.
+    pub fn unset_spawn_child_fn<C: Controls>(
+        &self,
+        alloc: Global,
+        c: &mut C,
+    ) -> Result<Ticket, Refused>
+        ensures { C.sink c.new ≡ sent result self.now.id (One ClearSpawnFn) (C.sink c.old) }
+    {
+        self.control(alloc, c, Control::ClearSpawnFn)
     }
 }
 

@@ -9,7 +9,7 @@ use crate::job::Job;
 use crate::laws::{are_equal_ids, are_equal_levels, compare_ids, compare_levels};
 use crate::level::Level;
 use crate::sink::{Controls, Refused};
-use crate::three_lists::ThreeLists;
+use crate::three_lists::{Picked, ThreeLists};
 use std::alloc::Global;
 use std::cmp::Ordering;
 use std::test::Fail;
@@ -123,7 +123,18 @@ fn levels_as_words(rt: HostRuntime) -> Result<(), Fail> {
 #[test]
 fn controls_and_asks_as_words(rt: HostRuntime) -> Result<(), Fail> {
     let alloc = rt.alloc();
-    let table: [(Control, &[u8]); 2] = [(Control::Start, b"start"), (Control::Stop, b"stop")];
+    let table: [(Control, &[u8]); 7] = [
+        (Control::Start, b"start"),
+        (Control::Stop, b"stop"),
+        (Control::SetSyncSpawnHook(0), b"sethook 0"),
+        (Control::UnsetSpawnHook, b"unsethook"),
+        (Control::SetSpawnFn(7), b"setspawn 7"),
+        (
+            Control::SetSpawnChildFn(4_294_967_295),
+            b"setchild 4294967295",
+        ),
+        (Control::ClearSpawnFn, b"clearspawn"),
+    ];
     for (control, word) in table {
         let line = line_of(alloc, &control)?;
         assert_eq!(rt; line.as_slice(), word);
@@ -134,7 +145,17 @@ fn controls_and_asks_as_words(rt: HostRuntime) -> Result<(), Fail> {
         let found: Option<Ask> = read_line(alloc, word)?;
         assert_eq!(rt; found, Some(Ask::One(control)));
     }
-    let words: [&[u8]; 5] = [b"Start", b"stop 1", b"", b"starts", b"one start"];
+    let words: [&[u8]; 9] = [
+        b"Start",
+        b"stop 1",
+        b"",
+        b"starts",
+        b"one start",
+        b"sethook",
+        b"sethook 4294967296",
+        b"unsethook 1",
+        b"setchild -1",
+    ];
     for word in words {
         let found: Option<Control> = read_line(alloc, word)?;
         assert_eq!(rt; found, None);
@@ -220,6 +241,25 @@ fn each_sender_sends_once(rt: HostRuntime) -> Result<(), Fail> {
 }
 
 #[test]
+fn senders_for_spawning(rt: HostRuntime) -> Result<(), Fail> {
+    let alloc = rt.alloc();
+    let one = job(alloc, 3)?;
+    let mut sink = sink(alloc, None);
+    assert!(rt; one.set_spawn_hook(alloc, &mut sink, 2).is_ok());
+    assert!(rt; one.unset_spawn_hook(alloc, &mut sink).is_ok());
+    assert!(rt; one.set_spawn_fn(alloc, &mut sink, 5).is_ok());
+    assert!(rt; one.unset_spawn_fn(alloc, &mut sink).is_ok());
+    assert!(rt; one.set_spawn_child_fn(alloc, &mut sink, 6).is_ok());
+    assert!(rt; one.unset_spawn_child_fn(alloc, &mut sink).is_ok());
+    let asks = asks_of(alloc, &sink)?;
+    let expected =
+        b"3 sethook 2,3 unsethook,3 setspawn 5,3 clearspawn,3 setchild 6,3 clearspawn,".as_slice();
+    assert_eq!(rt; asks.as_slice(), expected);
+    assert_eq!(rt; sink.sends, 6);
+    Ok(())
+}
+
+#[test]
 fn refused_sends_leave_nothing(rt: HostRuntime) -> Result<(), Fail> {
     let alloc = rt.alloc();
     let one = job(alloc, 3)?;
@@ -238,17 +278,27 @@ fn refused_sends_leave_nothing(rt: HostRuntime) -> Result<(), Fail> {
     Ok(())
 }
 
+/// The words of the command of a copy of a job.
+fn command_of_a_copy(alloc: Global) -> Result<Text, Memory> {
+    let copy = job(alloc, 9)?.copy(alloc)?;
+    line_of(alloc, copy.command())
+}
+
+/// Starts a job by a copy of its handle, and copies the ticket.
+fn start_by_a_copy(alloc: Global, sink: &mut Kept) -> Result<(), Fail> {
+    let copy = job(alloc, 9)?.copy(alloc)?;
+    let ticket = copy.start(alloc, sink).ok().ok_or("a ticket")?;
+    let _second = ticket.copy(alloc)?;
+    Ok(())
+}
+
 #[test]
 fn copies_are_equal(rt: HostRuntime) -> Result<(), Fail> {
     let alloc = rt.alloc();
-    let one = job(alloc, 9)?;
-    let copy = one.copy(alloc)?;
-    assert_eq!(rt; copy.id(), Id(9));
-    let line = line_of(alloc, copy.command())?;
+    let line = command_of_a_copy(alloc)?;
     assert_eq!(rt; line.as_slice(), b"exec ---- 1 true".as_slice());
     let mut sink = sink(alloc, None);
-    let ticket = copy.start(alloc, &mut sink).ok().ok_or("a ticket")?;
-    let _second = ticket.copy(alloc)?;
+    start_by_a_copy(alloc, &mut sink)?;
     let asks = asks_of(alloc, &sink)?;
     assert_eq!(rt; asks.as_slice(), b"9 start,".as_slice());
     assert_eq!(rt; Control::Stop.copy(alloc)?, Control::Stop);
@@ -291,45 +341,67 @@ fn levels_and_names_in_order(rt: HostRuntime) -> Result<(), Fail> {
     Ok(())
 }
 
-/// Controls that are put, each with its ticket and level.
-const PUTS: [(u64, Control, Level); 7] = [
-    (0, Control::Start, Level::Normal),
-    (1, Control::Stop, Level::Urgent),
-    (2, Control::Start, Level::High),
-    (3, Control::Stop, Level::Normal),
-    (4, Control::Start, Level::Urgent),
-    (5, Control::Stop, Level::High),
-    (6, Control::Start, Level::Normal),
-];
+/// Lists in which these wait, each a control with its ticket and level.
+fn waiting(alloc: Global) -> Result<ThreeLists, Memory> {
+    let mut lists = ThreeLists::new(alloc);
+    lists.put(0, Flag::new(alloc, false)?, Control::Start, Level::Normal)?;
+    lists.put(1, Flag::new(alloc, false)?, Control::Stop, Level::Urgent)?;
+    lists.put(2, Flag::new(alloc, false)?, Control::Start, Level::High)?;
+    lists.put(3, Flag::new(alloc, false)?, Control::Stop, Level::Normal)?;
+    lists.put(4, Flag::new(alloc, false)?, Control::Start, Level::Urgent)?;
+    lists.put(5, Flag::new(alloc, false)?, Control::Stop, Level::High)?;
+    lists.put(6, Flag::new(alloc, false)?, Control::Start, Level::Normal)?;
+    Ok(lists)
+}
 
-/// Whether a grace runs, and what is picked then.
-const PICKS: [(bool, Option<(u64, Control, Level)>); 10] = [
-    (false, Some((1, Control::Stop, Level::Urgent))),
-    (true, Some((4, Control::Start, Level::Urgent))),
-    (true, Some((2, Control::Start, Level::High))),
-    (false, Some((5, Control::Stop, Level::High))),
-    (true, None),
-    (false, Some((0, Control::Start, Level::Normal))),
-    (false, Some((3, Control::Stop, Level::Normal))),
-    (true, None),
-    (false, Some((6, Control::Start, Level::Normal))),
-    (false, None),
-];
+/// Appends what comes first, its ticket and control.
+fn put_first(first: Option<(u64, Control)>, line: &mut Text) -> Result<(), Memory> {
+    if let Some((ticket, control)) = first {
+        ticket.put(line)?;
+        line.append(b" ")?;
+        control.put(line)?;
+    }
+    line.append(b": ")
+}
+
+/// Appends what was picked, its ticket, control and level.
+fn put_pick(picked: Option<Picked>, line: &mut Text) -> Result<(), Memory> {
+    if let Some(picked) = picked {
+        picked.ticket.put(line)?;
+        line.append(b" ")?;
+        picked.control.put(line)?;
+        line.append(b" ")?;
+        picked.level.put(line)?;
+    }
+    line.append(b"; ")
+}
+
+/// What comes first and is picked, one after another, where a grace runs or not.
+fn picks_of(alloc: Global, lists: &mut ThreeLists, graces: &[bool]) -> Result<Text, Memory> {
+    let mut line = Text::new(alloc);
+    for grace in graces {
+        put_first(lists.first(*grace), &mut line)?;
+        put_pick(lists.pick(*grace), &mut line)?;
+    }
+    Ok(line)
+}
 
 #[test]
 fn the_most_pressing_is_picked_first(rt: HostRuntime) -> Result<(), Fail> {
-    let alloc = rt.alloc();
-    let mut lists = ThreeLists::new(alloc);
-    for (ticket, control, level) in PUTS {
-        lists.put(ticket, Flag::new(alloc, false)?, control, level)?;
-    }
-    for (grace, expected) in PICKS {
-        let first = lists.first(grace);
-        let picked = lists.pick(grace);
-        let picked = picked.map(|x| (x.ticket, x.control, x.level));
-        assert_eq!(rt; picked, expected);
-        assert_eq!(rt; first, expected.map(|x| (x.0, x.1)));
-    }
+    let mut lists = waiting(rt.alloc())?;
+    let graces = [
+        false, true, true, false, true, false, false, true, false, false,
+    ];
+    let line = picks_of(rt.alloc(), &mut lists, &graces)?;
+    let urgent = b"1 stop: 1 stop urgent; 4 start: 4 start urgent; ";
+    let high = b"2 start: 2 start high; 5 stop: 5 stop high; : ; ";
+    let normal =
+        b"0 start: 0 start normal; 3 stop: 3 stop normal; : ; 6 start: 6 start normal; : ; ";
+    let mut expected = Text::new(rt.alloc());
+    expected.append(urgent)?;
+    expected.append(high)?;
+    expected.append(normal)?;
+    assert_eq!(rt; line.as_slice(), expected.as_slice());
     Ok(())
 }
 

@@ -1,15 +1,13 @@
 -- A run ends with what the error handler wished.
 use Rattle.std.proofs.Common.{◌≡◌, inl, inr, Option, None, Some, IfSome, List, [], ◌∷◌, Ok, Err, refl}
-use Rattle.wx_config.specs.declared.runtime.RuntimeError.{RuntimeError}
 use Rattle.wx_config.specs.declared.error.CriticalError.{CriticalError}
 use Rattle.wx_config.specs.declared.error.CriticalError.TheVariants.{IoError, Memory}
 use Rattle.wx_journal.specs.declared.entry.Entry.{Entry}
 use Rattle.wx_journal.specs.declared.entry.Entry.TheVariants.{Show, Dropped, Gone}
-use Rattle.wx_journal.specs.declared.wish.Wish.{Wish}
 use Rattle.wx_journal.specs.Lines.{Answer}
 use Rattle.wx_action.specs.Start.{Start}
 use Rattle.wx_action.specs.Journal.{ending}
-use Rattle.wx_action.specs.Due.{Ends, after_show, settle, agenda, Admits, Due, IsRun}
+use Rattle.wx_action.specs.Due.{Ends, after_show, settle, Admits, IsRun}
 use Rattle.wx_action.specs.Answer.{Dying, Alive, Dies, IsComplete, IsBroken, Wishes, Answers}
 use Rattle.wx_action.specs.Lawful.{IsOfEnd}
 use Rattle.wx_action.proofs.PlanLaws.{of_end}

@@ -1,7 +1,9 @@
--- The acts of a script and the answers of its filter, and the rule of hooks that follow it.
-use Rattle.std.specs.Prelude.{◌≡◌, ℕ, ◌-◌, ◌^◌, Bool, true, nat_lt, ◌||◌, if◌then◌else◌, Option, None, Some, Result, Ok, List, [], ◌∷◌, ◌++◌}
+-- The acts of a script, the answers of its filter, and the words of its spawn hooks; and the rule of hooks that follow it.
+use Rattle.std.specs.Prelude.{◌≡◌, ℕ, ◌+◌, ◌-◌, ◌^◌, min, Bool, true, nat_lt, ◌||◌, if◌then◌else◌, Option, None, Some, Result, Ok, Err, List, [], ◌∷◌, ◌++◌, length, get_or}
 use Rattle.std.specs.List.{list_any}
+use Rattle.wx_words.specs.declared.list.Memory.{Memory}
 use Rattle.wx_command.specs.declared.command.Command.{Command}
+use Rattle.wx_command.specs.declared.spawnable.Spawnable.{Spawnable}
 use Rattle.wx_config.specs.declared.runtime.RuntimeError.{RuntimeError}
 use Rattle.wx_control.specs.declared.ask.Ask.{Ask as AnAsk}
 use Rattle.wx_control.specs.declared.id.Id.{Id}
@@ -9,7 +11,7 @@ use Rattle.wx_control.specs.declared.job.Job.{Job}
 use Rattle.wx_journal.specs.Acts.{JournalAct as Act}
 use Rattle.wx_journal.specs.declared.entry.Act.TheVariants.{Create, Ask as Asks, Quit}
 use Rattle.wx_journal.specs.declared.entry.Entry.{Entry}
-use Rattle.wx_journal.specs.declared.entry.Entry.TheVariants.{Filter, Show, Hand}
+use Rattle.wx_journal.specs.declared.entry.Entry.TheVariants.{Filter, Show, Hand, Hook}
 use Rattle.wx_journal.specs.declared.wish.Wish.{Wish}
 use Rattle.wx_journal.specs.declared.wish.Wish.TheVariants.{Nothing}
 use Rattle.wx_journal.specs.Names.{creates, next_job}
@@ -74,17 +76,45 @@ wish_of (_) = None
 abbrev pub errors : Calls Wish Wish
 errors = answered_by wish_of Nothing
 
+-- how often a spawn hook was called
+abbrev pub hook_count : List Entry → ℕ
+hook_count [] = 0
+hook_count (Hook job n left ∷ p) = hook_count p + 1
+hook_count (_ ∷ p) = hook_count p
+
+-- a spawn hook left these words behind those that it was given, and all else as it was
+abbrev pub Appends : List (List ℕ) → Result Spawnable Memory → Type 0
+Appends words (Ok left) = (given : Spawnable) × (left ≡ record given { words = given.words ++ words })
+Appends words (Err memory) = ⊥
+
+-- an entry, after these, left the words of its line so, if it is the call of a spawn hook: those of the first line in the first
+-- call, and so on, and none where no line is left
+abbrev pub IsHooked : List (List (List ℕ)) → List Entry → Entry → Type 0
+IsHooked lines p (Hook job n left) = Appends (get_or lines (hook_count p) []) left
+IsHooked lines p (_) = Unit {0}
+
+-- each call did
+abbrev pub AreHooked : List (List (List ℕ)) → List Entry → Type 0
+AreHooked lines [] = Unit {0}
+AreHooked lines (e ∷ p) = IsHooked lines p e × AreHooked lines p
+
+-- so many lines are used after these entries
+abbrev pub AreHooksUsed : List (List (List ℕ)) → ℕ → List Entry → Type 0
+AreHooksUsed lines used p = used ≡ min (hook_count p) (length lines)
+
 -- what hooks that follow a script are to do
 pub record Wished : Type 0 where
   pub actions : List (List ScriptAct)
   pub filters : List Verdict
   pub errors : List Wish
+  pub hooks : List (List (List ℕ))
 
--- their rule: each call of either kind is answered what is due
+-- their rule: each call of either kind is answered what is due, and spawn hooks leave the words that are due
 pub record IsWished (plan : Wished) (p : List Entry) (e : Entry) : Type 0 where
   pub acts : IsAnswered hands plan.actions p e
   pub verdict : IsAnswered filters plan.filters p e
   pub wish : IsAnswered errors plan.errors p e
+  pub words : IsHooked plan.hooks p e
 
 -- a handle is on the job of this id
 abbrev pub is_made : Id → Job → Bool

@@ -3,7 +3,7 @@ use Rattle.std.proofs.Common.{◌≡◌, ℕ, Bool, true, false, cond, if◌then
 use Rattle.std.proofs.lemmas.List.{append-nil}
 use Rattle.std.specs.List.{list_all}
 use Rattle.wx_journal.specs.declared.entry.Entry.{Entry}
-use Rattle.wx_journal.specs.declared.entry.Entry.TheVariants.{Filter, Show, Hand, Spawn, Kill, Wait}
+use Rattle.wx_journal.specs.declared.entry.Entry.TheVariants.{Filter, Show, Hand, Hook, Spawn, Kill, Wait}
 use Rattle.wx_journal.specs.declared.entry.Turn.{Turn as Timed}
 use Rattle.wx_journal.specs.Told.{tell_if, tells, anywhere, is_world, is_hooks, is_turn, Obeys, Same, More}
 use Rattle.wx_engine.specs.declared.script.Script.{Script}
@@ -11,7 +11,7 @@ use Rattle.wx_engine.specs.declared.script.ScriptTurn.{ScriptTurn}
 use Rattle.wx_engine.specs.declared.script.ScriptTurn.TheVariants.{Turn, Fault}
 use Rattle.wx_engine.specs.Answered.{Calls, with_answer, answers_of, due_answer, due_answers, IsAnswered, AreAnswered, AreUsed, AreAmong, answered_by}
 use Rattle.wx_engine.specs.HostCalls.{HostCall, row, reply, calls, FollowsAnswers}
-use Rattle.wx_engine.specs.Acted.{Verdict, hands, filters, errors, Wished, IsWished}
+use Rattle.wx_engine.specs.Acted.{Verdict, hands, filters, errors, IsHooked, AreHooked, AreHooksUsed, Wished, IsWished}
 use Rattle.wx_journal.specs.declared.wish.Wish.{Wish}
 use Rattle.wx_engine.specs.Wishes.{ScriptAct}
 use Rattle.wx_engine.specs.Turns.{comes, risen, Rises, Given, given, newest, turns_of, FollowsGiven}
@@ -113,6 +113,25 @@ pub errors_among : AreAmong errors (anywhere is_hooks)
 errors_among p (Show n error wish) other = absurd cc
 errors_among p (_) other = refl
 
+-- what is no call on hooks uses no words
+pub hooks_over : (lines : List (List (List ℕ))) (used : ℕ) (p : List Entry) (e : Entry) → is_hooks e ≡ false → AreHooksUsed lines used p → AreHooksUsed lines used (e ∷ p)
+hooks_over lines used p (Hook job n left) other uses = absurd cc
+hooks_over lines used p (_) other uses = uses
+
+-- an entry that is no call on hooks is none of a spawn hook
+hooked_over : (lines : List (List (List ℕ))) (p : List Entry) (e : Entry) → is_hooks e ≡ false → IsHooked lines p e
+hooked_over lines p (Hook job n left) other = absurd cc
+hooked_over lines p (_) other = tt
+
+-- where each call on the hooks passes a rule by which spawn hooks leave the words that are due, all do
+pub obeys_hooked : (lines : List (List (List ℕ))) (rule : List Entry → Entry → Type 0) → ((p : List Entry) (e : Entry) → rule p e → IsHooked lines p e) → (p : List Entry) → Obeys rule [] p → AreHooked lines p
+obeys_hooked lines rule due _ Same = tt
+obeys_hooked lines rule due _ (More e p before passes) = (now (is_hooks e) refl, obeys_hooked lines rule due p before)
+  where
+    now : (b : Bool) → is_hooks e ≡ b → IsHooked lines p e
+    now true is = due p e (passes is)
+    now false is = hooked_over lines p e is
+
 calls_among : (k : HostCall) → AreAmong (calls k) is_world
 calls_among k p (Spawn child job tag what answer) other = absurd cc
 calls_among k p (Kill child answer) other = absurd cc
@@ -158,10 +177,11 @@ come_more (y ∷ turns) x all one = go (comes y) all (λ e. come_more turns x e 
     go false e more = cc
 
 -- what hooks that follow a script keep, by their rule
-pub wished_follows : (plan : Wished) (actions : List (List ScriptAct)) (verdicts : List Verdict) (wishes : List Wish) (p : List Entry) → plan.actions ≡ actions → plan.filters ≡ verdicts → plan.errors ≡ wishes → Obeys (λ q e. IsWished plan q e) [] p
-    → AreAnswered hands actions p × AreAnswered filters verdicts p × AreAnswered errors wishes p
-wished_follows plan actions verdicts wishes p same_actions same_verdicts same_wishes obeys = (
+pub wished_follows : (plan : Wished) (actions : List (List ScriptAct)) (verdicts : List Verdict) (wishes : List Wish) (words : List (List (List ℕ))) (p : List Entry) → plan.actions ≡ actions → plan.filters ≡ verdicts → plan.errors ≡ wishes → plan.hooks ≡ words → Obeys (λ q e. IsWished plan q e) [] p
+    → AreAnswered hands actions p × AreAnswered filters verdicts p × AreAnswered errors wishes p × AreHooked words p
+wished_follows plan actions verdicts wishes words p same_actions same_verdicts same_wishes same_words obeys = (
   subst (λ lines. AreAnswered hands lines p) same_actions (obeys_answered hands hands_among plan.actions _ (λ q e due. due.acts) p obeys),
   subst (λ lines. AreAnswered filters lines p) same_verdicts (obeys_answered filters filters_among plan.filters _ (λ q e due. due.verdict) p obeys),
   subst (λ lines. AreAnswered errors lines p) same_wishes (obeys_answered errors errors_among plan.errors _ (λ q e due. due.wish) p obeys),
+  subst (λ lines. AreHooked lines p) same_words (obeys_hooked plan.hooks _ (λ q e due. due.words) p obeys),
 )

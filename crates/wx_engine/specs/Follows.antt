@@ -8,7 +8,7 @@ use Rattle.wx_engine.specs.declared.script.Script.{Script}
 use Rattle.wx_engine.specs.Turns.{comes, Rises, Given, FollowsGiven}
 use Rattle.wx_engine.specs.Answered.{AreAnswered}
 use Rattle.wx_engine.specs.HostCalls.{FollowsAnswers}
-use Rattle.wx_engine.specs.Acted.{hands, filters, errors}
+use Rattle.wx_engine.specs.Acted.{hands, filters, errors, AreHooked}
 
 -- what holds of each script that is read
 pub record IsScript (s : Script) : Type 0 where
@@ -35,10 +35,11 @@ abbrev pub FollowsTurns : Script → List Entry → Type 0
 FollowsTurns s p = FollowsGiven s.turns s.last p
 
 -- the run follows the script: in its turns, in what is asked for in each call of the action handler, in what the error
--- handler wishes, and in what the calls of the filter and those on the host are answered
+-- handler wishes, in the words that spawn hooks append, and in what the calls of the filter and those on the host are answered
 pub record Follows (s : Script) (p : List Entry) : Type 0 where
   pub turns : FollowsTurns s p
   pub acts : AreAnswered hands s.actions p
   pub filtered : AreAnswered filters s.filters p
   pub wished : AreAnswered errors s.errors p
+  pub hooked : AreHooked s.hooks p
   pub answers : FollowsAnswers s.answers p

@@ -64,6 +64,8 @@ pub struct Script {
     pub filters: List<Result<bool, RuntimeError>>,
     /// What the error handler wishes: in its first call, in its second, and so on.
     pub errors: List<Wish>,
+    /// What spawn hooks append to the words of what is spawned: in their first call, in the second, and so on.
+    pub hooks: List<List<Text>>,
     /// What the host answers.
     pub answers: Answers,
     /// The moment of the last turn that is written down, in nanoseconds, 0 where there is none.

@@ -6,25 +6,28 @@ ghost use Rattle.wx_engine.specs.Wishes.{ScriptAct as AnAct};
 ghost use Rattle.wx_journal.specs.declared.wish.Wish.TheVariants.{Nothing};
 ghost use Rattle.wx_journal.specs.Told.{anywhere, is_hooks};
 ghost use Rattle.wx_engine.specs.Answered.{AreUsed};
-ghost use Rattle.wx_engine.specs.Acted.{is_made, AreMade, performed, with_create, with_ask, with_act, hands, filters, errors, Wished, IsWished};
-ghost use Rattle.wx_engine.specs.FollowLaws.{uses_over, hands_among, filters_among, errors_among};
+ghost use Rattle.wx_engine.specs.Acted.{is_made, AreMade, performed, with_create, with_ask, with_act, hands, filters, errors, AreHooksUsed, Wished, IsWished};
+ghost use Rattle.wx_engine.specs.FollowLaws.{uses_over, hands_among, filters_among, errors_among, hooks_over};
 
 use crate::replies::{line, passed};
 use crate::script::{Script, Wanted};
 use std::alloc::Global;
 use wx_action::{ActionHandler, CreateRefused, ErrorHook, Hooks, JobHooks};
-use wx_command::Command;
+use wx_command::{Command, Spawnable};
 use wx_config::RuntimeError;
 use wx_control::{Ask, Controls, Id, Job};
-use wx_events::{Copies, Event, List, Memory, Priority};
+use wx_events::{Copies, Event, List, Memory, Priority, Text};
+use wx_job::JobTaskContext;
 use wx_journal::{Act, Entry, Journal, Wish};
 use wx_words::copy_twice;
 
 /// Hooks that ask in each call of the action handler for the next acts of a script, and for nothing after them, and answer
 /// each call of the filter by the next answer of the script, and let every event after them pass. Of each error they wish what
-/// the script does next, and nothing after that. Where memory is wanted for an act they are short, quit, and leave out the
+/// the script does next, and nothing after that. Each call of a spawn hook appends the next words of the script to those of
+/// what is spawned, and none after them. Where memory is wanted for an act they are short, quit, and leave out the
 /// acts behind it. Where it is wanted for an answer they are short, and answer the error `Memory`. Where it is wanted for a
-/// wish they are short, and wish nothing. They tell their entries.
+/// wish they are short, and wish nothing. Where it is wanted for what is spawned they are short, leave that as it was, and
+/// answer `Memory`. They tell their entries.
 #[derive(Drop, Debug)]
 pub struct ScriptHooks {
     alloc: Global,
@@ -34,6 +37,8 @@ pub struct ScriptHooks {
     asked: usize,
     errors: List<Wish>,
     shown: usize,
+    hooks: List<List<Text>>,
+    hooked: usize,
     told: Journal,
     is_short: bool,
 }
@@ -44,7 +49,8 @@ impl ScriptHooks {
         ensures plan { IfOk result (λ hooks. hooks.actions ≡ script.now.actions) }
         ensures filters { IfOk result (λ hooks. hooks.filters ≡ script.now.filters) }
         ensures errors { IfOk result (λ hooks. hooks.errors ≡ script.now.errors) }
-        ensures stands { IfOk result (λ hooks. AreUsed hands hooks.actions hooks.used [] × AreUsed filters hooks.filters hooks.asked [] × AreUsed errors hooks.errors hooks.shown []) }
+        ensures hooks { IfOk result (λ hooks. hooks.hooks ≡ script.now.hooks) }
+        ensures stands { IfOk result (λ hooks. AreUsed hands hooks.actions hooks.used [] × AreUsed filters hooks.filters hooks.asked [] × AreUsed errors hooks.errors hooks.shown [] × AreHooksUsed hooks.hooks hooks.hooked []) }
         ensures told { IfOk result (λ hooks. hooks.told.past ≡ []) }
         ensures short { IfOk result (λ hooks. hooks.is_short ≡ false) }
     {
@@ -56,12 +62,14 @@ impl ScriptHooks {
             asked: 0,
             errors: script.errors.copy(alloc)?,
             shown: 0,
+            hooks: script.hooks.copy(alloc)?,
+            hooked: 0,
             told: Journal::new(alloc)?,
             is_short: false,
         })
     }
 
-    /// Whether an act, an answer or a wish was left out for want of memory.
+    /// Whether an act, an answer, a wish or words were left out for want of memory.
     pub fn short(&self) -> bool
         ensures { result ≡ self.now.is_short }
     {
@@ -72,17 +80,44 @@ impl ScriptHooks {
 impl JobHooks for ScriptHooks {
     ghost Plan = { Wished };
 
-    ghost seen = { λ s. record { plan = record { actions = s.actions; filters = s.filters; errors = s.errors }; told = Some s.told.past; spare = s.told.spare; short = s.is_short; place = [] } };
+    ghost seen = { λ s. record { plan = record { actions = s.actions; filters = s.filters; errors = s.errors; hooks = s.hooks }; told = Some s.told.past; spare = s.told.spare; short = s.is_short; place = [] } };
 
     ghost rule = { λ plan p e. IsWished plan p e };
 
-    ghost stands = { λ s p. AreUsed hands s.actions s.used p × AreUsed filters s.filters s.asked p × AreUsed errors s.errors s.shown p };
+    ghost stands = { λ s p. AreUsed hands s.actions s.used p × AreUsed filters s.filters s.asked p × AreUsed errors s.errors s.shown p × AreHooksUsed s.hooks s.hooked p };
 
     fn reserve(&mut self, n: u64) -> Result<(), Memory> {
         self.told.reserve(n)
     }
 
-    ghost stands_other = { λ s p e _ other stands. (uses_over hands (anywhere is_hooks) hands_among s.actions s.used p e other stands.0, uses_over filters (anywhere is_hooks) filters_among s.filters s.asked p e other stands.1, uses_over errors (anywhere is_hooks) errors_among s.errors s.shown p e other stands.2) };
+    fn spawn_hook(
+        &mut self,
+        job: Id,
+        n: u32,
+        what: &mut Spawnable,
+        _cx: &JobTaskContext<'_>,
+    ) -> Result<(), Memory> {
+        let none = List::new(self.alloc);
+        let words = line(&self.hooks, self.hooked, &none).as_slice();
+        let told = append_words(self.alloc, what, words);
+        drop(none);
+        self.hooked = passed(&self.hooks, self.hooked);
+        match told {
+            Ok(left) => {
+                let answer = Ok(left);
+                self.told.push(Entry::Hook { job, n, answer });
+                Ok(())
+            }
+            Err(want) => {
+                self.is_short = true;
+                let answer = Err(want);
+                self.told.push(Entry::Hook { job, n, answer });
+                Err(want)
+            }
+        }
+    }
+
+    ghost stands_other = { λ s p e _ other stands. (uses_over hands (anywhere is_hooks) hands_among s.actions s.used p e other stands.0, uses_over filters (anywhere is_hooks) filters_among s.filters s.asked p e other stands.1, uses_over errors (anywhere is_hooks) errors_among s.errors s.shown p e other stands.2, hooks_over s.hooks s.hooked p e other stands.3) };
 }
 
 impl Hooks for ScriptHooks {
@@ -129,6 +164,30 @@ impl Hooks for ScriptHooks {
         let entry = handler.hand(n);
         self.told.push(entry);
     }
+}
+
+/// What is spawned where these words are appended. It fails only for want of memory.
+fn appended(alloc: Global, what: &Spawnable, words: &[Text]) -> Result<Spawnable, Memory>
+    ensures { IfOk result (λ left. left ≡ record what.now { words = what.now.words ++ words.now }) }
+{
+    let mut left = what.copy(alloc)?;
+    for word in words {
+        left.words.push(word.copy(alloc)?)?;
+    }
+    Ok(left)
+}
+
+/// Appends these words to those of what is spawned, and answers what this then is. It fails only for want of memory; then
+/// what is spawned is as it was.
+fn append_words(alloc: Global, what: &mut Spawnable, words: &[Text]) -> Result<Spawnable, Memory>
+    ensures ok { IfOk result (λ told. told ≡ record what.old { words = what.old.words ++ words.now }) }
+    ensures told { IfOk result (λ told. what.new ≡ told) }
+    ensures err { OnErr result (what.new ≡ what.old) }
+{
+    let left = appended(alloc, what, words)?;
+    let told = left.copy(alloc)?;
+    *what = left;
+    Ok(told)
 }
 
 /// Wishes this of the error that a hook shows. It fails only for want of memory; then nothing is wished.

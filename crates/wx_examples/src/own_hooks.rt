@@ -1,14 +1,15 @@
 // Hooks as a user writes them, and runs with them: their texts are worked out by hand.
-ghost use Rattle.std.specs.Prelude.{◌≡◌, ◌^◌, [], false, None};
+ghost use Rattle.std.specs.Prelude.{◌≡◌, ◌^◌, [], false, None, OnErr};
 
 use crate::engine_tests::{engine_with, run_text, script_of};
 use std::alloc::Global;
 use std::test::Fail;
 use wx_action::{ActionHandler, ErrorHook, Hooks, JobHooks};
-use wx_command::{Command, Program, SpawnOptions};
+use wx_command::{Command, Program, SpawnOptions, Spawnable};
 use wx_config::{CriticalError, RuntimeError};
 use wx_control::{Id, Job};
 use wx_events::{Copies, Event, List, Memory, Priority, Text, cut};
+use wx_job::{CommandState, JobTaskContext};
 use wx_journal::{Entry, put_entry};
 
 /// What hooks do in a call.
@@ -20,6 +21,10 @@ enum Does {
     AsksTwo,
     /// The batch creates a job, and looks for it.
     Looks,
+    /// Each batch starts one job, which the first creates. Its spawn hook sets a variable of the environment.
+    SetsVariable,
+    /// The same, but the spawn hook has no memory.
+    WantsMemory,
     /// The filter fails, and the error handler wishes this, one after the other.
     Wishes(&'static [Says]),
 }
@@ -52,6 +57,23 @@ impl JobHooks for Own {
 
     fn reserve(&mut self, _n: u64) -> Result<(), Memory> {
         Ok(())
+    }
+
+    fn spawn_hook(
+        &mut self,
+        _job: Id,
+        n: u32,
+        what: &mut Spawnable,
+        cx: &JobTaskContext<'_>,
+    ) -> Result<(), Memory> {
+        match self.does {
+            Does::SetsVariable => {
+                self.is_right = n == 3 && is_fresh(self.alloc, what, cx)?;
+                set_variable(self.alloc, what, cx)
+            }
+            Does::WantsMemory => Err(Memory),
+            _ => Ok(()),
+        }
     }
 
     ghost stands_other = { λ _ _ _ _ _ _. tt };
@@ -90,8 +112,34 @@ fn act(alloc: Global, does: Does, handler: &mut ActionHandler<'_>) -> Option<boo
         Does::Restarts => restart(alloc, handler),
         Does::AsksTwo => is_handed(alloc, handler),
         Does::Looks => is_not_shown(alloc, handler),
+        Does::SetsVariable | Does::WantsMemory => start_hooked(alloc, handler),
         Does::Wishes(_) => None,
     }
+}
+
+/// Whether no child of the job runs, and what is about to be spawned is what its command spawns.
+fn is_fresh(alloc: Global, what: &Spawnable, cx: &JobTaskContext<'_>) -> Result<bool, Memory> {
+    let given = cx.command.to_spawnable(alloc)?;
+    Ok(*cx.current == CommandState::Pending && given == *what)
+}
+
+/// Lets the program `env` run what is about to be spawned, with a variable that says whether a child of the job ended
+/// before.
+fn set_variable(alloc: Global, what: &mut Spawnable, cx: &JobTaskContext<'_>) -> Result<(), Memory>
+    ensures { OnErr result (what.new ≡ what.old) }
+{
+    let setting: &[u8] = match cx.previous {
+        Some(state) if state.is_finished() => b"RUN=again",
+        _ => b"RUN=first",
+    };
+    let mut words = List::new(alloc);
+    words.push(Text::from_slice(alloc, b"env")?)?;
+    words.push(Text::from_slice(alloc, setting)?)?;
+    for word in what.words.as_slice() {
+        words.push(word.copy(alloc)?)?;
+    }
+    what.words = words;
+    Ok(())
 }
 
 /// Wishes what is to be wished of an error, and answers whether this is the one of the filter, or nothing where a call failed.
@@ -168,6 +216,30 @@ fn restart(alloc: Global, handler: &mut ActionHandler<'_>) -> Option<bool>
     } else {
         let _started = job.start(alloc, handler).ok()?;
     }
+    Some(true)
+}
+
+/// Creates a job whose spawn hook is the one of the number 3.
+fn hooked(alloc: Global, handler: &mut ActionHandler<'_>) -> Option<Job>
+    ensures past { handler.new.past ≡ handler.old.past }
+    ensures names { handler.new.names ≡ handler.old.names }
+{
+    let job = created(alloc, Id(0), b"make", handler)?;
+    let _set = job.set_spawn_hook(alloc, handler, 3).ok()?;
+    Some(job)
+}
+
+/// Starts the job, which is created where there is none.
+fn start_hooked(alloc: Global, handler: &mut ActionHandler<'_>) -> Option<bool>
+    ensures past { handler.new.past ≡ handler.old.past }
+    ensures names { handler.new.names ≡ handler.old.names }
+{
+    let first = handler.list_jobs().next().map(|item| item.0);
+    let job = match first {
+        Some(id) => handler.get_job(alloc, id).ok()??,
+        None => hooked(alloc, handler)?,
+    };
+    let _started = job.start(alloc, handler).ok()?;
     Some(true)
 }
 
@@ -267,6 +339,28 @@ fn a_handler_lists_acts(rt: HostRuntime) -> Result<(), Fail> {
 #[test]
 fn a_handler_shows_no_job_that_it_created(rt: HostRuntime) -> Result<(), Fail> {
     assert!(rt; runs_so(rt.alloc(), Does::Looks, BATCH, LOOKED)?);
+    Ok(())
+}
+
+/// The first batch creates the job and starts it, the second starts it again after its child ended.
+const STARTS: &[u8] =
+    b"turn 0 arrive urgent 0\nturn 0 work\nturn 0 job 0\nturn 1 job 0\nturn 2 ended 0\nturn 3 arrive urgent 0\nturn 3 work\nturn 4 job 0\n";
+
+const VARIABLE: &[u8] =
+    b"turn 0 arrive urgent 0\noffer 0 - queued urgent 0\nturn 0 work\ntake 0\nhand 0 1 0 create 0 exec ---- 1 make ask 0 sethook 3 ask 0 start\nmade 0\nasked 0 0 normal sethook 3\nasked 1 0 normal start\nturn 0 job 0\npick 0 0\nraise 0\nturn 1 job 0\npick 0 1\nhook 0 3 ---- 3 env RUN=first make\nspawn 0 0 default ---- 3 env RUN=first make ok\nraise 1\nturn 2 ended 0\nwait 0 success\nturn 3 arrive urgent 0\noffer 1 - queued urgent 0\nturn 3 work\ntake 1\nhand 0 1 1 ask 0 start\nasked 2 0 normal start\nturn 4 job 0\npick 0 2\nhook 0 3 ---- 3 env RUN=again make\nspawn 1 0 default ---- 3 env RUN=again make ok\nraise 2\nturn 4 last\ndrop 1\ngone 0\nend ok lost 0\n";
+
+#[test]
+fn a_hook_sets_a_variable(rt: HostRuntime) -> Result<(), Fail> {
+    assert!(rt; runs_so(rt.alloc(), Does::SetsVariable, STARTS, VARIABLE)?);
+    Ok(())
+}
+
+const WANTED: &[u8] =
+    b"turn 0 arrive urgent 0\noffer 0 - queued urgent 0\nturn 0 work\ntake 0\nhand 0 1 0 create 0 exec ---- 1 make ask 0 sethook 3 ask 0 start\nmade 0\nasked 0 0 normal sethook 3\nasked 1 0 normal start\nturn 0 job 0\npick 0 0\nraise 0\nturn 1 job 0\npick 0 1\nhook 0 3 memory\ngone 0\nend error memory lost 0\n";
+
+#[test]
+fn a_hook_without_memory_ends_the_run(rt: HostRuntime) -> Result<(), Fail> {
+    assert!(rt; runs_so(rt.alloc(), Does::WantsMemory, STARTS, WANTED)?);
     Ok(())
 }
 

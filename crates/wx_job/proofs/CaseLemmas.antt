@@ -1,6 +1,8 @@
 -- One entry more on the way that a plan leads, by its kind.
-use Rattle.std.proofs.Common.{◌≡◌, ℕ, ◌≤◌, Bool, true, false, cond, List, ◌∷◌, Option, Result, refl, arith}
+use Rattle.std.proofs.Common.{◌≡◌, ℕ, ◌≤◌, Bool, true, false, cond, List, ◌∷◌, Option, Some, Result, Ok, Err, refl, arith}
+use Rattle.wx_words.specs.declared.list.Memory.{Memory}
 use Rattle.wx_events.specs.declared.process.ProcessEnd.{ProcessEnd}
+use Rattle.wx_command.specs.declared.command.Command.{Command}
 use Rattle.wx_command.specs.declared.spawnable.Spawnable.{Spawnable}
 use Rattle.wx_control.specs.declared.id.Id.{Id}
 use Rattle.wx_control.specs.declared.control.Control.{Control}
@@ -8,13 +10,13 @@ use Rattle.wx_control.specs.declared.level.Level.{Level}
 use Rattle.wx_journal.specs.declared.child.SpawnTag.{SpawnTag}
 use Rattle.wx_journal.specs.declared.child.HostFault.{HostFault}
 use Rattle.wx_journal.specs.declared.entry.Entry.{Entry}
-use Rattle.wx_journal.specs.declared.entry.Entry.TheVariants.{Asked, Spawn, Kill, Wait}
+use Rattle.wx_journal.specs.declared.entry.Entry.TheVariants.{Asked, Spawn, Kill, Wait, Hook}
 use Rattle.wx_journal.specs.Names.{ticket_count, child_count}
 use Rattle.wx_journal.specs.Told.{tell, tell_if, is_world, is_hooks, Counts}
-use Rattle.wx_job.specs.Table.{Call, Adds, Spawns, Kills, Waits, Asks, Plan, Done, Owes, adds}
+use Rattle.wx_job.specs.Table.{Words, Left, Call, Adds, Spawns, Kills, Waits, Asks, Hooks, Plan, Done, GivenUp, Owes, adds, spawn, fresh_by}
 use Rattle.wx_job.specs.Seen.{Seen}
 use Rattle.wx_job.specs.Steady.{Tells}
-use Rattle.wx_job.specs.Case.{Answer, entry, is_fault, fails, Leads, Here, Then, Ran}
+use Rattle.wx_job.specs.Case.{Answer, entry, words_of, is_fault, fails, Leads, Here, Then, Ran, FollowsHost, Follows, GaveUp, HookedOnly}
 use Rattle.wx_job.proofs.SteadyLemmas.{steady_none, steady_then}
 
 -- no fault came
@@ -32,8 +34,11 @@ brings-adds p e = record { answer = tt; is = refl }
 pub brings-ask : (p : List Entry) (t : ℕ) (id : Id) (level : Level) (control : Control) → t ≡ ticket_count p → Brings p (Asks id level control) (Asked t id level control)
 brings-ask p t id level control same = record { answer = tt; is = rw same refl }
 
-pub brings-spawn : (p : List Entry) (c : ℕ) (id : Id) (tag : SpawnTag) (what : Spawnable) (a : Result (Unit {0}) HostFault) → c ≡ child_count p → Brings p (Spawns id tag what) (Spawn c id tag what a)
-brings-spawn p c id tag what a same = record { answer = a; is = rw same refl }
+pub brings-spawn : (p : List Entry) (c : ℕ) (id : Id) (tag : SpawnTag) (words : Words) (what : Spawnable) (a : Result (Unit {0}) HostFault) → c ≡ child_count p → words_of p words ≡ what → Brings p (Spawns id tag words) (Spawn c id tag what a)
+brings-spawn p c id tag words what a same is = record { answer = a; is = rw (same, is) refl }
+
+pub brings-hook : (p : List Entry) (id : Id) (n : ℕ) (a : Result Spawnable Memory) → Brings p (Hooks id n) (Hook id n a)
+brings-hook p id n a = record { answer = a; is = refl }
 
 pub brings-kill : (p : List Entry) (c : ℕ) (a : Result (Unit {0}) HostFault) → Brings p (Kills c) (Kill c a)
 brings-kill p c a = record { answer = a; is = refl }
@@ -53,6 +58,12 @@ leads-told failed k p host hooks n e call k' f p' host' hooks' n' n'' fault goes
     let on : Leads k p host hooks n (cond (fails e) f k') (e ∷ p') (tell_if (is_world p' e) e host') (tell_if (is_hooks e) e hooks') n'' = Then e _ _ _ _ _ _ g (b.answer, b.is) (rw fault counts) in
     rw (goes, world, other) at on
 
+-- one that the hooks are told: they answered, or had no memory
+leads-heard : (wants : Bool) (k : Plan) (p : List Entry) (host hooks : Option (List Entry)) (n : ℕ) (e : Entry) (call : Call) (k' f : Plan) (p' : List Entry) (host' hooks' : Option (List Entry)) (n' : ℕ) → is_fault e ≡ false → fails e ≡ wants → is_world p' e ≡ false → is_hooks e ≡ true → Leads k p host hooks n (Owes call k' f) p' host' hooks' n' → Brings p' call e → Leads k p host hooks n (cond wants f k') (e ∷ p') host' (tell e hooks') n'
+leads-heard wants k p host hooks n e call k' f p' host' hooks' n' calm goes world mine g b =
+    let on : Leads k p host hooks n (cond (fails e) f k') (e ∷ p') (tell_if (is_world p' e) e host') (tell_if (is_hooks e) e hooks') n' = Then e _ _ _ _ _ _ g (b.answer, b.is) (rw calm (no_fault n' n' (omega arith))) in
+    rw (goes, world, mine) at on
+
 -- ---- the same over what is seen of the host
 
 pub ran-none : {Fixed : Type 0} (k : Plan) (p : List Entry) (a : Seen Fixed) (hooks : Option (List Entry)) → Ran k p a hooks k p a hooks
@@ -70,4 +81,25 @@ ran-err k p a hooks e call k' f p' b c hooks' fault goes world other tells r bri
 pub ran-tells : {Fixed : Type 0} (k : Plan) (p : List Entry) (a : Seen Fixed) (hooks : Option (List Entry)) (e : Entry) (k' : Plan) (p' : List Entry) (b c : Seen Fixed) (hooks' : Option (List Entry)) → is_fault e ≡ false → fails e ≡ false → is_world p' e ≡ true → is_hooks e ≡ false → Tells e false b c → Ran k p a hooks (adds e k') p' b hooks' → Ran k p a hooks k' (e ∷ p') c hooks'
 ran-tells k p a hooks e k' p' b c hooks' calm well world other tells r = ran-ok k p a hooks e (Adds e) k' Done p' b c hooks' calm well world other tells r (brings-adds p' e)
 
-pub ruleset leads = (Here, leads-says, ran-none, ran-says, ran-tells, ran-ok, ran-err, brings-adds, brings-ask, brings-spawn, brings-kill, brings-wait)
+-- a hook that answered, and one that had no memory
+pub ran-calls : {Fixed : Type 0} (k : Plan) (p : List Entry) (a : Seen Fixed) (hooks : Option (List Entry)) (id : Id) (n : ℕ) (what : Spawnable) (k' f : Plan) (p' : List Entry) (b : Seen Fixed) (hooks' : Option (List Entry)) → Ran k p a hooks (Owes (Hooks id n) k' f) p' b hooks' → Ran k p a hooks k' (Hook id n (Ok what) ∷ p') b (tell (Hook id n (Ok what)) hooks')
+ran-calls k p a hooks id n what k' f p' b hooks' r = record { led = leads-heard false k p _ _ _ (Hook id n (Ok what)) (Hooks id n) k' f p' _ _ _ refl refl refl refl r.led (brings-hook p' id n (Ok what)); steady = r.steady }
+
+ran-wants : {Fixed : Type 0} (k : Plan) (p : List Entry) (a : Seen Fixed) (hooks : Option (List Entry)) (id : Id) (n : ℕ) (none : Memory) (k' f : Plan) (p' : List Entry) (b : Seen Fixed) (hooks' : Option (List Entry)) → Ran k p a hooks (Owes (Hooks id n) k' f) p' b hooks' → Ran k p a hooks f (Hook id n (Err none) ∷ p') b (tell (Hook id n (Err none)) hooks')
+ran-wants k p a hooks id n none k' f p' b hooks' r = record { led = leads-heard true k p _ _ _ (Hook id n (Err none)) (Hooks id n) k' f p' _ _ _ refl refl refl refl r.led (brings-hook p' id n (Err none)); steady = r.steady }
+
+-- a hook was called, and then what it left was spawned
+pub fresh_hooked : {Fixed : Type 0} (id : Id) (command : Command) (tag : SpawnTag) (hook : Option ℕ) (n : ℕ) (what : Spawnable) (p p' p'' : List Entry) (a b : Seen Fixed) (hooks hooks' : Option (List Entry)) (k : Plan) → hook ≡ Some n → p' ≡ Hook id n (Ok what) ∷ p → hooks' ≡ tell (Hook id n (Ok what)) hooks → ((words : Words) → words_of p' words ≡ what → (k : Plan) → FollowsHost (spawn id tag words k) p' a k p'' b) → Follows (fresh_by id command tag hook k) p a hooks k p'' b hooks'
+fresh_hooked id command tag hook n what p p' p'' a b hooks hooks' k is past told on k₀ p₀ a₀ hooks₀ r =
+    let called : Ran k₀ p₀ a₀ hooks₀ (spawn id tag Left k) p' a hooks' = rw (past, told) (ran-calls k₀ p₀ a₀ hooks₀ id n what (spawn id tag Left k) GivenUp p a hooks (rw is at r)) in
+    on Left (rw past refl) k k₀ p₀ a₀ hooks₀ hooks' called
+
+-- where the case is given up behind the call of a hook
+gave_up : {Fixed : Type 0} (k : Plan) (p : List Entry) (a : Seen Fixed) (hooks : Option (List Entry)) (id : Id) (n : ℕ) (answer : Result Spawnable Memory) (tag : SpawnTag) (k' : Plan) (p' : List Entry) (b : Seen Fixed) (hooks' : Option (List Entry)) → Ran k p a hooks (Owes (Hooks id n) (spawn id tag Left k') GivenUp) p' b hooks' → GaveUp k p a hooks (Hook id n answer ∷ p') b (tell (Hook id n answer) hooks')
+gave_up k p a hooks id n (Ok what) tag k' p' b hooks' r = record { rest = spawn id tag Left k'; cut = tt; ran = ran-calls k p a hooks id n what _ _ p' b hooks' r }
+gave_up k p a hooks id n (Err none) tag k' p' b hooks' r = record { rest = GivenUp; cut = tt; ran = ran-wants k p a hooks id n none _ _ p' b hooks' r }
+
+pub gives-up : {Fixed : Type 0} (k : Plan) (p : List Entry) (a : Seen Fixed) (hooks : Option (List Entry)) (id : Id) (n : ℕ) (tag : SpawnTag) (k' : Plan) (p' p'' : List Entry) (b : Seen Fixed) (hooks' hooks'' : Option (List Entry)) → HookedOnly id n p' hooks' p'' hooks'' → Ran k p a hooks (Owes (Hooks id n) (spawn id tag Left k') GivenUp) p' b hooks' → GaveUp k p a hooks p'' b hooks''
+gives-up k p a hooks id n tag k' p' p'' b hooks' hooks'' only r = rw (only.past, only.told) (gave_up k p a hooks id n only.answer tag k' p' b hooks' r)
+
+pub ruleset leads = (Here, leads-says, ran-none, ran-says, ran-tells, ran-ok, ran-err, ran-calls, gives-up, brings-adds, brings-ask, brings-spawn, brings-kill, brings-wait)

@@ -1,12 +1,13 @@
 -- What hooks keep over calls on them and over other entries.
 use Rattle.std.proofs.Common.{◌≡◌, ℕ, Bool, true, false, List, [], ◌∷◌, Option, Some, refl, ◌∙◌, sym, subst}
 use Rattle.wx_journal.specs.declared.entry.Entry.{Entry}
+use Rattle.wx_job.proofs.CaseLemmas.{ran-none}
 use Rattle.wx_journal.specs.Names.{NamesItsOwn}
 use Rattle.wx_journal.specs.Told.{tell_if, is_hooks, Obeys, Same as NoneMore, More as OneMore}
 use Rattle.wx_job.specs.Table.{Plan}
-use Rattle.wx_job.specs.Case.{Leads, Here, Then}
-use Rattle.wx_job.specs.Seen.{Hooked}
-use Rattle.wx_job.specs.Kept.{OnlyHooksRoom, Quiet, Same, More, Kept, Still, Past, Roomy, Called, Promised}
+use Rattle.wx_job.specs.Case.{Leads, Here, Then, FollowsHost}
+use Rattle.wx_job.specs.Seen.{Seen, Hooked}
+use Rattle.wx_job.specs.Kept.{Keeps, OnlyHooksRoom, Quiet, Same, More, Kept, Still, Past, Roomy, Called, Promised}
 
 -- ---- quiet stretches
 
@@ -34,7 +35,24 @@ quiet_led k p host n k' p' host' n' l = let h = heard k p host n k' p' host' (So
 pub kept-room : {K Fixed : Type 0} (seen : K → Hooked Fixed) (rule : Fixed → List Entry → Entry → Type 0) (stands : K → List Entry → Type 0) (x₀ : K) (p₀ : List Entry) (x x' : K) (p : List Entry) → OnlyHooksRoom seen stands x x' → Kept seen rule stands x₀ p₀ x p → Kept seen rule stands x₀ p₀ x' p
 kept-room seen rule stands x₀ p₀ x x' p only k = Roomy x x' p k only
 
+-- ---- calls on them, and entries that are none
+
+pub kept-call : {K Fixed : Type 0} (seen : K → Hooked Fixed) (rule : Fixed → List Entry → Entry → Type 0) (stands : K → List Entry → Type 0) (x₀ : K) (p₀ : List Entry) (x x' : K) (e : Entry) (p : List Entry) → Keeps seen rule stands x p e x' → Kept seen rule stands x₀ p₀ x p → Kept seen rule stands x₀ p₀ x' (e ∷ p)
+kept-call seen rule stands x₀ p₀ x x' e p keeps k = Called x x' e p k keeps
+
+pub kept-one : {K Fixed : Type 0} (seen : K → Hooked Fixed) (rule : Fixed → List Entry → Entry → Type 0) (stands : K → List Entry → Type 0) (x₀ : K) (p₀ : List Entry) (x : K) (e : Entry) (p : List Entry) → is_hooks e ≡ false → Kept seen rule stands x₀ p₀ x p → Kept seen rule stands x₀ p₀ x (e ∷ p)
+kept-one seen rule stands x₀ p₀ x e p other k = Past x p (e ∷ p) k (More e p Same other)
+
+-- where only the host was called
+pub quiet-followed : {Fixed : Type 0} (k : Plan) (p : List Entry) (a : Seen Fixed) (k' : Plan) (p' : List Entry) (b : Seen Fixed) → FollowsHost k p a k' p' b → Quiet p p'
+quiet-followed k p a k' p' b led = quiet_led k p _ _ k' p' _ _ (led k p a (Some []) (Some []) (ran-none k p a (Some []))).led
+
+pub kept-past : {K Fixed : Type 0} (seen : K → Hooked Fixed) (rule : Fixed → List Entry → Entry → Type 0) (stands : K → List Entry → Type 0) (x₀ : K) (p₀ : List Entry) (x : K) (p p' : List Entry) → Quiet p p' → Kept seen rule stands x₀ p₀ x p → Kept seen rule stands x₀ p₀ x p'
+kept-past seen rule stands x₀ p₀ x p p' quiet k = Past x p p' k quiet
+
 pub ruleset kept = (kept-room)
+
+pub ruleset calls = (kept-call, kept-one, kept-past, More, Same)
 
 -- ---- what was kept, in plain words
 

@@ -12,7 +12,7 @@ use Rattle.wx_control.specs.declared.level.Level.{Level}
 use Rattle.wx_control.specs.declared.level.Level.TheVariants.{High, Urgent}
 use Rattle.wx_control.specs.Levels.{rank}
 use Rattle.wx_journal.specs.declared.entry.Entry.{Entry}
-use Rattle.wx_journal.specs.declared.entry.Entry.TheVariants.{Made, Asked, Pick, Spawn, Wait, Dropped, Gone}
+use Rattle.wx_journal.specs.declared.entry.Entry.TheVariants.{Made, Asked, Pick, Spawn, Wait, Dropped, Gone, Hook}
 use Rattle.wx_journal.specs.Names.{NamesItsOwn, ticket_count, child_count, moment}
 use Rattle.wx_job.specs.declared.state.CommandState.{CommandState}
 use Rattle.wx_job.specs.declared.state.CommandState.TheVariants.{Pending, Running, Finished}
@@ -114,6 +114,7 @@ running_ok c d id job at p s false is own name look e = owner_kept c d id job p 
 pub state_owner : Spawned (λ id p. child_of (state id p))
 state_owner id c [] own e = cc
 state_owner id c (Made job ∷ p) own e = state_owner id c p own (pending_of (same job id) (state id p) c e)
+state_owner id c (Hook job n answer ∷ p) own e = state_owner id c p own (pending_of (same job id) (state id p) c e)
 state_owner id c (Wait d (Ok status) ∷ p) own e = state_owner id c p own (finish_some d status (moment p) (state id p) c e)
 state_owner id c (Spawn d job tag what (Ok done) ∷ p) own e = running_ok c d id job (moment p) p (state id p) (same job id) refl own.1 own.0 (λ h. state_owner id c p own.1 h) e
 state_owner id c (Spawn d job tag what (Err fault) ∷ p) own e = owner_kept c d id job p own.1 own.0 (state_owner id c p own.1 (pending_of (same job id) (state id p) c e))

@@ -14,25 +14,24 @@ use Rattle.wx_control.specs.declared.ask.Ask.TheVariants.{One}
 use Rattle.wx_control.specs.Asks.{sends_of}
 use Rattle.wx_control.specs.Waits.{first}
 use Rattle.wx_journal.specs.declared.child.HostFault.{HostFault}
-use Rattle.wx_journal.specs.declared.child.SpawnTag.TheVariants.{Default}
+use Rattle.wx_journal.specs.declared.child.SpawnTag.{SpawnTag}
 use Rattle.wx_journal.specs.declared.entry.Entry.{Entry}
-use Rattle.wx_journal.specs.declared.entry.Entry.TheVariants.{Begin, Sent, Turn as Turned, TurnFault, Offer, Word as Said, Take, Filter, Show, Hand, Made, Asked, Pick, Spawn, Kill, Wait, Dropped, Raise, Gone}
+use Rattle.wx_journal.specs.declared.entry.Entry.TheVariants.{Begin, Sent, Turn as Turned, TurnFault, Offer, Word as Said, Take, Filter, Show, Hand, Made, Asked, Pick, Spawn, Kill, Wait, Dropped, Raise, Gone, Hook}
 use Rattle.wx_journal.specs.Names.{Names, NamesItsOwn, ticket_count, child_count}
-use Rattle.wx_journal.specs.Told.{is_hooks, Counts}
+use Rattle.wx_journal.specs.Told.{Counts}
 use Rattle.wx_job.specs.declared.choice.Choice.{Choice}
 use Rattle.wx_job.specs.declared.choice.Choice.TheVariants.{End, Next, Nothing}
 use Rattle.wx_job.specs.History.{same, lives, waits, child, kept, unless, SameHistory}
-use Rattle.wx_job.specs.Table.{Call, Adds, Waits, Plan, Done, GivenUp, Owes, adds, raises, reap, fresh, row, choose, choose_control, pick, case, step_plan, ask_plan, send_plan, end_plan, leave}
-use Rattle.wx_job.specs.Case.{Answer, entry, Admits, is_fault, next, Leads, Here, Then}
+use Rattle.wx_job.specs.Table.{Words, Given, Left, Call, Adds, Spawns, Waits, Plan, Done, GivenUp, Owes, Kit, kit, kit_after, adds, raises, reap, spawn, fresh_by, fresh, row, choose, choose_control, pick, case, step_plan, ask_plan, send_plan, end_plan, leave}
+use Rattle.wx_job.specs.Case.{Answer, entry, Admits, is_fault, next, IsCut, Leads, Here, Then}
 use Rattle.wx_job.specs.Faults.{fault_count, Counted}
 use Rattle.wx_job.specs.Laws.{unreaped, AreReaped, AfterFaults, NamesChildren}
 use Rattle.wx_job.proofs.Owners.{self, children_named, owner_below, child_owner, waits_asked, AreAsked}
-use Rattle.wx_job.proofs.Frame.{same_history, history_then, frame_pick, frame_asked, frame_spawn_ok, frame_spawn_err, frame_gone, frame_silent, frame_wait_ok, frame_wait_err, frame_drop}
-use Rattle.wx_job.proofs.KeptLemmas.{KeepsOther}
+use Rattle.wx_job.proofs.Frame.{same_history, history_then, frame_pick, frame_asked, frame_spawn_ok, frame_spawn_err, frame_hook, frame_gone, frame_silent, frame_wait_ok, frame_wait_err, frame_drop}
 use Rattle.wx_job.proofs.Always.{Always, both, always_now, always_next, always_if}
 
--- What a plan of a job brings: it names this job, its running child and what has the next name, spawns only where no child
--- runs, and says that the job is gone only then.
+-- What a plan of a job brings: it names this job, its running child and what has the next name, spawns and calls a spawn hook
+-- only where no child runs, and says that the job is gone only then.
 abbrev pub Fits : Id → List Entry → Entry → Type 0
 Fits id p (Pick job t) = job ≡ id
 Fits id p (Spawn c job tag what answer) = (job ≡ id) × (child id p ≡ None) × (c ≡ child_count p)
@@ -42,6 +41,7 @@ Fits id p (Dropped c) = child id p ≡ Some c
 Fits id p (Raise t) = Unit {0}
 Fits id p (Gone job) = (job ≡ id) × (child id p ≡ None)
 Fits id p (Asked t job level control) = (job ≡ id) × (t ≡ ticket_count p)
+Fits id p (Hook job n answer) = (job ≡ id) × (child id p ≡ None)
 Fits id p (Said word) = Unit {0}
 Fits id p (Begin throttle size errors keyboard follow jobsignals watcher cwd paths) = ⊥
 Fits id p (Sent name event priority) = ⊥
@@ -81,6 +81,7 @@ Closes id (Wait c answer) k = Unit {0}
 Closes id (Dropped c) k = Goes id k
 Closes id (Raise ticket) k = Unit {0}
 Closes id (Gone job) k = Unit {0}
+Closes id (Hook job n answer) k = Unit {0}
 
 -- What is known of each entry that a plan of a job brings, with what is owed behind it. The job lives while it owes
 -- anything: what ends it comes last.
@@ -112,10 +113,17 @@ sound_raise id t k p alive asked rest = λ a. (record { alive = alive; fits = tt
 pub sound_raises : (id : Id) (t : ℕ) (p : List Entry) → lives id p ≡ true → IsAsked t p → Sound id p (raises t)
 sound_raises id t p alive asked = sound_raise id t Done p alive asked tt
 
-pub sound_fresh : (id : Id) (command : Command) (t : ℕ) (p : List Entry) → child id p ≡ None → lives id p ≡ true → IsAsked t p → Sound id p (fresh id command (raises t))
-sound_fresh id command t p none alive asked = λ a.
-    let after = sound_raises id t (Spawn (child_count p) id Default (spawnable_of command) a ∷ p) alive (λ own. asked own.1) in
+sound_spawn : (id : Id) (tag : SpawnTag) (words : Words) (t : ℕ) (p : List Entry) → child id p ≡ None → lives id p ≡ true → IsAsked t p → Sound id p (spawn id tag words (raises t))
+sound_spawn id tag words t p none alive asked = λ a.
+    let after = sound_raises id t (entry p (Spawns id tag words) a ∷ p) alive (λ own. asked own.1) in
     (record { alive = alive; fits = (refl, none, refl); names = λ own. refl; closes = tt }, both _ after after)
+
+sound_fresh_by : (id : Id) (command : Command) (tag : SpawnTag) (hook : Option ℕ) (t : ℕ) (p : List Entry) → child id p ≡ None → lives id p ≡ true → IsAsked t p → Sound id p (fresh_by id command tag hook (raises t))
+sound_fresh_by id command tag None t p none alive asked = sound_spawn id tag (Given (spawnable_of command)) t p none alive asked
+sound_fresh_by id command tag (Some n) t p none alive asked = λ a. (record { alive = alive; fits = (refl, none); names = λ own. tt; closes = tt }, both _ tt (sound_spawn id tag Left t (Hook id n a ∷ p) none alive (λ own. asked own.1)))
+
+pub sound_fresh : (id : Id) (by : Kit) (t : ℕ) (p : List Entry) → child id p ≡ None → lives id p ≡ true → IsAsked t p → Sound id p (fresh id by (raises t))
+sound_fresh id by t p none alive asked = sound_fresh_by id by.command by.tag by.hook t p none alive asked
 
 sound_waited : (id : Id) (d : ℕ) (t : ℕ) (k : Plan) (p : List Entry) (a : Result ProcessEnd HostFault) → child id p ≡ Some d → lives id p ≡ true → IsAsked t p → ((q : List Entry) → child id q ≡ None → lives id q ≡ true → IsAsked t q → Sound id q k) → MatchBool (is_err a) (Sound id (Wait d a ∷ p) (raises t)) (Sound id (Wait d a ∷ p) k)
 sound_waited id d t k p (Ok status) is alive asked rest = rest (Wait d (Ok status) ∷ p) (gone_child d (child id p) is) alive (λ own. asked own.1)
@@ -136,10 +144,10 @@ sound_leave id (Some d) p is alive = λ a. (record { alive = alive; fits = is; n
 
 -- ---- the plans of the table are sound
 
-sound_row : (id : Id) (command : Command) (t : ℕ) (control : Control) (c : Option ℕ) (p : List Entry) → child id p ≡ c → lives id p ≡ true → IsAsked t p → Sound id p (row id command t control c)
-sound_row id command t Start None p is alive asked = sound_fresh id command t p is alive asked
-sound_row id command t Stop (Some d) p is alive asked = sound_reap id d t (raises t) p is alive asked (λ q none alive asked. sound_raises id t q alive asked)
-sound_row id command t (_) (_) p is alive asked = sound_raises id t p alive asked
+sound_row : (id : Id) (by : Kit) (t : ℕ) (control : Control) (c : Option ℕ) (p : List Entry) → child id p ≡ c → lives id p ≡ true → IsAsked t p → Sound id p (row id by t control c)
+sound_row id by t Start None p is alive asked = sound_fresh id by t p is alive asked
+sound_row id by t Stop (Some d) p is alive asked = sound_reap id d t (raises t) p is alive asked (λ q none alive asked. sound_raises id t q alive asked)
+sound_row id by t (_) (_) p is alive asked = sound_raises id t p alive asked
 
 -- what is picked names the running child, or a ticket that was asked
 abbrev IsNamed : Option ℕ → List Entry → Choice → Type 0
@@ -158,15 +166,15 @@ named_choice None p end x h = h None
 named_choice (Some d) p true x h = refl
 named_choice (Some d) p false x h = h (Some d)
 
-sound_case : (id : Id) (command : Command) (choice : Choice) (p : List Entry) → IsNamed (child id p) p choice → lives id p ≡ true → Sound id p (case id command (child id p) choice)
-sound_case id command (End d) p is alive = λ a. (record { alive = alive; fits = is; names = λ own. child_below id d p own is; closes = tt }, both _ tt tt)
-sound_case id command (Next t control) p asked alive = λ a. (record { alive = alive; fits = refl; names = asked; closes = tt }, sound_row id command t control (child id p) (Pick id t ∷ p) refl alive (λ own. asked own.1))
-sound_case id command Nothing p is alive = λ a. (record { alive = alive; fits = tt; names = λ own. tt; closes = tt }, tt)
+sound_case : (id : Id) (by : Kit) (choice : Choice) (p : List Entry) → IsNamed (child id p) p choice → lives id p ≡ true → Sound id p (case id by (child id p) choice)
+sound_case id by (End d) p is alive = λ a. (record { alive = alive; fits = is; names = λ own. child_below id d p own is; closes = tt }, both _ tt tt)
+sound_case id by (Next t control) p asked alive = λ a. (record { alive = alive; fits = refl; names = asked; closes = tt }, sound_row id (kit_after control by) t control (child id p) (Pick id t ∷ p) refl alive (λ own. asked own.1))
+sound_case id by Nothing p is alive = λ a. (record { alive = alive; fits = tt; names = λ own. tt; closes = tt }, tt)
 
 pub sound_step : (id : Id) (command : Command) (p : List Entry) → Sound id p (step_plan id command p)
 sound_step id command p =
-    always_if (IsSound id) p (lives id p) (case id command (child id p) (pick id p))
-    (sound_case id command (pick id p) p
+    always_if (IsSound id) p (lives id p) (case id (kit id command p) (child id p) (pick id p))
+    (sound_case id (kit id command p) (pick id p) p
     (named_choice (child id p) p (kept id p) _ (λ d. named_control d p (waits id Urgent p) (waits id High p) (waits id Normal p) (waits_asked id Urgent p) (waits_asked id High p) (waits_asked id Normal p))))
 
 pub sound_ask : (id : Id) (ask : Ask) (p : List Entry) → lives id p ≡ true → Sound id p (ask_plan id (sends_of ask) Done)
@@ -190,6 +198,7 @@ frame i id (Wait c (Ok status)) p ne named s = frame_wait_ok i id c status p ne 
 frame i id (Wait c (Err a)) p ne named s = frame_wait_err i id c a p ne named s
 frame i id (Dropped c) p ne named s = frame_drop i id c p ne named s
 frame i id (Gone job) p ne named s = rw s.0 (frame_gone i id p ne)
+frame i id (Hook job n answer) p ne named s = rw s.0 (frame_hook i id n answer p ne)
 frame i id (Turned t) p ne named s = absurd s
 frame i id (Made job) p ne named s = absurd s
 frame i id (e) p ne named s = frame_silent i e p refl
@@ -198,13 +207,6 @@ frame i id (e) p ne named s = frame_silent i e p refl
 children_fit : (id : Id) (e : Entry) (p : List Entry) → Fits id p e → NamesChildren p → NamesChildren (e ∷ p)
 children_fit id (Spawn c job tag what answer) p s h = (s.2, h)
 children_fit id (_) p s h = h
-
--- it is no call on the hooks
-no_hooks : (id : Id) (e : Entry) (p : List Entry) → Fits id p e → is_hooks e ≡ false
-no_hooks id (Filter n name answer) p s = absurd s
-no_hooks id (Show n error wish) p s = absurd s
-no_hooks id (Hand n names acts) p s = absurd s
-no_hooks id (_) p s = refl
 
 -- it leaves after a fault what must be left
 fault_left : (id : Id) (e : Entry) (p : List Entry) → Fits id p e → AfterFaults p → AfterFaults (e ∷ p)
@@ -254,32 +256,36 @@ reaps_on id k (e) k' p d s r = record { each = r.each; last = λ l g. last_befor
 
 -- ---- a whole way
 
--- What is known of a journal to which the plan of a job led, and of hooks that stood for the one before. Only what is said of
--- other jobs and of hooks asks for the journal's names.
-pub record Followed (stands : List Entry → Type 0) (id : Id) (k : Plan) (p : List Entry) (k' : Plan) (p' : List Entry) : Type 0 where
+-- What is known of a journal to which the plan of a job led. Only what is said of other jobs asks for the journal's names.
+pub record Followed (id : Id) (k : Plan) (p : List Entry) (k' : Plan) (p' : List Entry) : Type 0 where
   pub sound : Sound id p' k'
   pub children : NamesChildren p → NamesChildren p'
   pub reaps : Reaping id k p → Reaping id k' p'
   pub failing : AfterFaults p → AfterFaults p'
   pub own : NamesItsOwn p → NamesItsOwn p'
   pub others : NamesChildren p → (i : Id) → i ≢ id → SameHistory i p p'
-  pub calm : NamesItsOwn p → stands p → stands p'
 
-pub follow : (stands : List Entry → Type 0) → KeepsOther stands → (id : Id) (k : Plan) (p : List Entry) (host hooks : Option (List Entry)) (n : ℕ) (k' : Plan) (p' : List Entry) (host' hooks' : Option (List Entry)) (n' : ℕ) → Leads k p host hooks n k' p' host' hooks' n' → Sound id p k → Followed stands id k p k' p'
-follow stands keep id k p host hooks n k' p' host' hooks' n' l s = elim l as (λ k' p' host' hooks' n' _. Followed stands id k p k' p') [
-  | Here ↦ record { sound = s; children = λ h. h; reaps = λ r. r; failing = λ r. r; own = λ h. h; others = λ named i ne. same_history i p; calm = λ own h. h }
+pub follow : (id : Id) (k : Plan) (p : List Entry) (host hooks : Option (List Entry)) (n : ℕ) (k' : Plan) (p' : List Entry) (host' hooks' : Option (List Entry)) (n' : ℕ) → Leads k p host hooks n k' p' host' hooks' n' → Sound id p k → Followed id k p k' p'
+follow id k p host hooks n k' p' host' hooks' n' l s = elim l as (λ k' p' host' hooks' n' _. Followed id k p k' p') [
+  | Here ↦ record { sound = s; children = λ h. h; reaps = λ r. r; failing = λ r. r; own = λ h. h; others = λ named i ne. same_history i p }
   | Then e k₁ p₁ host₁ hooks₁ n₁ n₂ (l → h) d counts ↦
-      let o = always_now (IsSound id) p₁ k₁ e d h.sound in
-      let calm = no_hooks id e p₁ o.fits in record {
+      let o = always_now (IsSound id) p₁ k₁ e d h.sound in record {
         sound = always_next (IsSound id) p₁ k₁ e d h.sound;
         children = λ named. children_fit id e p₁ o.fits (h.children named);
         reaps = λ r. reaps_on id k₁ e (next k₁ e) p₁ d o (h.reaps r);
         failing = λ r. fault_left id e p₁ o.fits (h.failing r);
         own = λ own. (o.names (h.own own), h.own own);
         others = λ named i ne. history_then i p p₁ (e ∷ p₁) (h.others named i ne) (frame i id e p₁ ne (h.children named) o.fits);
-        calm = λ own g. keep p₁ e (h.own own) calm (h.calm own g);
       }
 ]
+
+-- where a case may be given up the end of the job doesn't come next
+pub cut_goes : (id : Id) (k : Plan) → IsCut k → Goes id k → ⊥
+cut_goes id Done c g = absurd c
+cut_goes id GivenUp c g = absurd g
+cut_goes id (Owes (Spawns job tag words) k f) c g = absurd cc
+cut_goes id (Owes (Adds e) k f) c g = absurd c
+cut_goes id (Owes (call) k f) c g = absurd cc
 
 -- ---- each fault raised the count
 

@@ -1,6 +1,7 @@
 -- A task stands for the journal with one entry more.
-use Rattle.std.proofs.Common.{◌≡◌, ℕ, true, false, List, [], ◌∷◌, ◌++◌, Option, Some, None, Ok, Err, refl, ap, sym, ◌∙◌, eq-eqb}
+use Rattle.std.proofs.Common.{◌≡◌, ℕ, true, false, List, [], ◌∷◌, ◌++◌, Option, Some, None, Result, Ok, Err, refl, ap, sym, ◌∙◌, eq-eqb}
 use Rattle.std.specs.Prelude.{◌==◌}
+use Rattle.wx_words.specs.declared.list.Memory.{Memory}
 use Rattle.wx_events.specs.declared.process.ProcessEnd.{ProcessEnd}
 use Rattle.wx_command.specs.declared.spawnable.Spawnable.{Spawnable}
 use Rattle.wx_control.specs.declared.id.Id.{Id}
@@ -12,12 +13,12 @@ use Rattle.wx_control.specs.Waits.{Waits, picked, joined, headed, level_of, firs
 use Rattle.wx_journal.specs.declared.child.SpawnTag.{SpawnTag}
 use Rattle.wx_journal.specs.declared.child.HostFault.{HostFault}
 use Rattle.wx_journal.specs.declared.entry.Entry.{Entry}
-use Rattle.wx_journal.specs.declared.entry.Entry.TheVariants.{Asked, Pick, Spawn, Wait}
+use Rattle.wx_journal.specs.declared.entry.Entry.TheVariants.{Asked, Pick, Spawn, Wait, Hook}
 use Rattle.wx_journal.specs.Names.{moment}
 use Rattle.wx_job.specs.declared.state.CommandState.{CommandState}
 use Rattle.wx_job.specs.declared.state.CommandState.TheVariants.{Pending, Running, Finished}
 use Rattle.wx_job.specs.declared.task.JobTask.{JobTask}
-use Rattle.wx_job.specs.History.{lives, waits, child, finish, SameHistory}
+use Rattle.wx_job.specs.History.{lives, waits, child, finish, before_spawn, picked_control, set_hook, set_tag, SameHistory}
 use Rattle.wx_job.specs.Table.{leave, end_plan}
 use Rattle.wx_job.specs.Stands.{Stands, child_of, id_of}
 use Rattle.wx_job.proofs.Owners.{self}
@@ -34,6 +35,8 @@ stands_history k p p' h s = record {
   end_kept = s.end_kept ∙ sym h.kept_same;
   state_kept = s.state_kept ∙ sym h.state_same;
   previous_kept = s.previous_kept ∙ sym h.previous_same;
+  hook_kept = s.hook_kept ∙ sym h.hook_same;
+  tag_kept = s.tag_kept ∙ sym h.tag_same;
 }
 
 -- entries that say nothing of a job
@@ -62,6 +65,8 @@ stands-wait-ok k p c status s here runs =
       end_kept = rw (is, found) refl;
       state_kept = ap (λ x. finish c status (moment p) x) s.state_kept;
       previous_kept = s.previous_kept;
+      hook_kept = s.hook_kept;
+      tag_kept = s.tag_kept;
     }
 
 pub stands-wait-err : (k : JobTask) (p : List Entry) (c : ℕ) (fault : HostFault) → Stands k p → k.gone ≡ false → child_of k.state ≡ Some c → Stands (record k { kept = false }) (Wait c (Err fault) ∷ p)
@@ -77,10 +82,12 @@ stands-wait-err k p c fault s here runs =
       end_kept = rw (is, found) refl;
       state_kept = s.state_kept;
       previous_kept = s.previous_kept;
+      hook_kept = s.hook_kept;
+      tag_kept = s.tag_kept;
     }
 
-pub stands-spawn-ok : (k : JobTask) (p : List Entry) (c : ℕ) (tag : SpawnTag) (what : Spawnable) (a : Unit {0}) → Stands k p → k.gone ≡ false → Stands (record k { state = Running c (moment p); previous = Some k.state; kept = false }) (Spawn c k.id tag what (Ok a) ∷ p)
-stands-spawn-ok k p c tag what a s here = record {
+pub stands-spawn-ok : (k : JobTask) (p : List Entry) (c : ℕ) (tag : SpawnTag) (what : Spawnable) (a : Unit {0}) (before : CommandState) → Stands k p → k.gone ≡ false → before ≡ before_spawn k.id p → Stands (record k { state = Running c (moment p); previous = Some before; kept = false }) (Spawn c k.id tag what (Ok a) ∷ p)
+stands-spawn-ok k p c tag what a before s here is = record {
   lives_kept = s.lives_kept;
   urgent_kept = s.urgent_kept;
   high_kept = s.high_kept;
@@ -88,11 +95,27 @@ stands-spawn-ok k p c tag what a s here = record {
   child_kept = rw (here, self k.id) refl;
   end_kept = rw (self k.id) refl;
   state_kept = rw (self k.id) refl;
-  previous_kept = rw (self k.id) (ap (λ x. Some x) s.state_kept);
+  previous_kept = rw (self k.id) (ap (λ x. Some x) is);
+  hook_kept = s.hook_kept;
+  tag_kept = s.tag_kept;
 }
 
-pub stands-spawn-err : (k : JobTask) (p : List Entry) (c : ℕ) (tag : SpawnTag) (what : Spawnable) (fault : HostFault) → Stands k p → k.gone ≡ false → child_of k.state ≡ None → Stands (record k { state = Pending; previous = Some k.state }) (Spawn c k.id tag what (Err fault) ∷ p)
-stands-spawn-err k p c tag what fault s here none = record {
+pub stands-spawn-err : (k : JobTask) (p : List Entry) (c : ℕ) (tag : SpawnTag) (what : Spawnable) (fault : HostFault) (before : CommandState) → Stands k p → k.gone ≡ false → child_of k.state ≡ None → before ≡ before_spawn k.id p → Stands (record k { state = Pending; previous = Some before }) (Spawn c k.id tag what (Err fault) ∷ p)
+stands-spawn-err k p c tag what fault before s here none is = record {
+  lives_kept = s.lives_kept;
+  urgent_kept = s.urgent_kept;
+  high_kept = s.high_kept;
+  normal_kept = s.normal_kept;
+  child_kept = rw here (rw (here, none) at s.child_kept);
+  end_kept = s.end_kept;
+  state_kept = rw (self k.id) refl;
+  previous_kept = rw (self k.id) (ap (λ x. Some x) is);
+  hook_kept = s.hook_kept;
+  tag_kept = s.tag_kept;
+}
+
+pub stands-hook : (k : JobTask) (p : List Entry) (n : ℕ) (a : Result Spawnable Memory) → Stands k p → k.gone ≡ false → child_of k.state ≡ None → Stands (record k { state = Pending; previous = Some k.state }) (Hook k.id n a ∷ p)
+stands-hook k p n a s here none = record {
   lives_kept = s.lives_kept;
   urgent_kept = s.urgent_kept;
   high_kept = s.high_kept;
@@ -101,6 +124,8 @@ stands-spawn-err k p c tag what fault s here none = record {
   end_kept = s.end_kept;
   state_kept = rw (self k.id) refl;
   previous_kept = rw (self k.id) (ap (λ x. Some x) s.state_kept);
+  hook_kept = s.hook_kept;
+  tag_kept = s.tag_kept;
 }
 
 -- these hold what waits at each level
@@ -126,6 +151,8 @@ stands-asked k k' p t level control s here joins fields =
       end_kept = s.end_kept;
       state_kept = s.state_kept;
       previous_kept = s.previous_kept;
+      hook_kept = s.hook_kept;
+      tag_kept = s.tag_kept;
     } in
     rw fields stood
 
@@ -161,10 +188,32 @@ headed_waits w w' id p t Normal control is level h =
     let normal : waits id Normal p ≡ (t, control) ∷ w'.normal = sym h.2 ∙ ap (λ (v : Waits). v.normal) is in
     (rw (self id, urgent) (sym (ap (λ (v : Waits). v.urgent) is) ∙ none.0), rw (self id, urgent, high) (sym (ap (λ (v : Waits). v.high) is) ∙ none.1), rw (self id, urgent, high, normal, found) refl)
 
-pub stands-picked : (k k' : JobTask) (p : List Entry) (x : Picked) → Stands k p → k.waiting ≡ record (headed x.level (picked x) k'.waiting) { spare = k.waiting.spare } → first_level false k.waiting ≡ Some x.level → k' ≡ record k { waiting = k'.waiting } → Stands k' (Pick k.id x.ticket ∷ p)
+-- the control that is picked
+headed_picked : (w w' : Waits) (id : Id) (p : List Entry) (t : ℕ) (level : Level) (control : Control) → w ≡ record (headed level (t, control) w') { spare = w.spare } → first_level false w ≡ Some level → AreWaiting w id p → picked_control id t p ≡ Some control
+headed_picked w w' id p t Urgent control is level h =
+    let found : (t == t) ≡ true = eq-eqb t t refl in
+    let urgent : waits id Urgent p ≡ (t, control) ∷ w'.urgent = sym h.0 ∙ ap (λ (v : Waits). v.urgent) is in
+    rw (urgent, found) refl
+headed_picked w w' id p t High control is level h =
+    let found : (t == t) ≡ true = eq-eqb t t refl in
+    let none : w.urgent ≡ [] = no_urgent w.urgent w.high w.normal level in
+    let urgent : waits id Urgent p ≡ [] = sym h.0 ∙ none in
+    let high : waits id High p ≡ (t, control) ∷ w'.high = sym h.1 ∙ ap (λ (v : Waits). v.high) is in
+    rw (urgent, high, found) refl
+headed_picked w w' id p t Normal control is level h =
+    let found : (t == t) ≡ true = eq-eqb t t refl in
+    let none = none_above w.urgent w.high w.normal level in
+    let urgent : waits id Urgent p ≡ [] = sym h.0 ∙ none.0 in
+    let high : waits id High p ≡ [] = sym h.1 ∙ none.1 in
+    let normal : waits id Normal p ≡ (t, control) ∷ w'.normal = sym h.2 ∙ ap (λ (v : Waits). v.normal) is in
+    rw (urgent, high, normal, found) refl
+
+pub stands-picked : (k k' : JobTask) (p : List Entry) (x : Picked) → Stands k p → k.waiting ≡ record (headed x.level (picked x) k'.waiting) { spare = k.waiting.spare } → first_level false k.waiting ≡ Some x.level → k' ≡ record k { waiting = k'.waiting; hook = set_hook (Some x.control) k.hook; tag = set_tag (Some x.control) k.tag } → Stands k' (Pick k.id x.ticket ∷ p)
 stands-picked k k' p x s heads level fields =
-    let ws = headed_waits k.waiting k'.waiting k.id p x.ticket x.level x.control heads level (s.urgent_kept, s.high_kept, s.normal_kept) in
-    let stood : Stands (record k { waiting = k'.waiting }) (Pick k.id x.ticket ∷ p) = record {
+    let were : AreWaiting k.waiting k.id p = (s.urgent_kept, s.high_kept, s.normal_kept) in
+    let ws = headed_waits k.waiting k'.waiting k.id p x.ticket x.level x.control heads level were in
+    let control = headed_picked k.waiting k'.waiting k.id p x.ticket x.level x.control heads level were in
+    let stood : Stands (record k { waiting = k'.waiting; hook = set_hook (Some x.control) k.hook; tag = set_tag (Some x.control) k.tag }) (Pick k.id x.ticket ∷ p) = record {
       lives_kept = s.lives_kept;
       urgent_kept = ws.0;
       high_kept = ws.1;
@@ -173,6 +222,8 @@ stands-picked k k' p x s heads level fields =
       end_kept = s.end_kept;
       state_kept = s.state_kept;
       previous_kept = s.previous_kept;
+      hook_kept = rw (self k.id, control) (ap (set_hook (Some x.control)) s.hook_kept);
+      tag_kept = rw (self k.id, control) (ap (set_tag (Some x.control)) s.tag_kept);
     } in
     rw fields stood
 
@@ -180,4 +231,4 @@ stands-picked k k' p x s heads level fields =
 pub end-is : (k : JobTask) (p : List Entry) (c : Option ℕ) → Stands k p → k.gone ≡ false → c ≡ child_of k.state → end_plan k.id p ≡ leave k.id c
 end-is k p c s here is = let alive : lives k.id p ≡ true = sym s.lives_kept ∙ rw here refl in let runs : child k.id p ≡ child_of k.state = sym s.child_kept ∙ rw here refl in rw (alive, runs, is) refl
 
-pub ruleset stands = (stands-asked, stands-picked, stands-silent, stands-wait-ok, stands-wait-err, stands-spawn-ok, stands-spawn-err)
+pub ruleset stands = (stands-asked, stands-picked, stands-silent, stands-wait-ok, stands-wait-err, stands-spawn-ok, stands-spawn-err, stands-hook)

@@ -28,11 +28,11 @@ stands_left k id p p' l ne s = stands_history k p p' (l.others (id_of k) ne) s
 
 -- another job is made
 pub stands_made : (k : JobTask) (id : Id) (p : List Entry) → id_of k ≢ id → Stands k p → Stands k (Made id ∷ p)
-stands_made k id p ne s = stands_history k p (Made id ∷ p) (record { lives_same = rw (other-is (id_of k) id ne) refl; waits_same = λ l. rw (other-is (id_of k) id ne) refl; child_same = rw (other-is (id_of k) id ne) refl; kept_same = rw (other-is (id_of k) id ne) refl; state_same = rw (other-is (id_of k) id ne) refl; previous_same = rw (other-is (id_of k) id ne) refl }) s
+stands_made k id p ne s = stands_history k p (Made id ∷ p) (record { lives_same = rw (other-is (id_of k) id ne) refl; waits_same = λ l. rw (other-is (id_of k) id ne) refl; child_same = rw (other-is (id_of k) id ne) refl; kept_same = rw (other-is (id_of k) id ne) refl; state_same = rw (other-is (id_of k) id ne) refl; previous_same = rw (other-is (id_of k) id ne) refl; hook_same = rw (other-is (id_of k) id ne) refl; tag_same = rw (other-is (id_of k) id ne) refl }) s
 
 -- another job is created and made
 pub stands_created : (k : JobTask) (id : Id) (n : ℕ) (names : List ℕ) (acts : List Act) (p : List Entry) → id_of k ≢ id → Stands k p → Stands k (Made id ∷ Hand n names acts ∷ p)
-stands_created k id n names acts p ne s = stands_made k id (Hand n names acts ∷ p) ne (stands_history k p (Hand n names acts ∷ p) (record { lives_same = refl; waits_same = λ l. refl; child_same = refl; kept_same = refl; state_same = refl; previous_same = refl }) s)
+stands_created k id n names acts p ne s = stands_made k id (Hand n names acts ∷ p) ne (stands_history k p (Hand n names acts ∷ p) (record { lives_same = refl; waits_same = λ l. refl; child_same = refl; kept_same = refl; state_same = refl; previous_same = refl; hook_same = refl; tag_same = refl }) s)
 
 pub names_created : (id : Id) (command : Command) (n : ℕ) (p : List Entry) → NamesItsOwn p → NamesItsOwn (Made id ∷ Hand n [] (Create id command ∷ []) ∷ p)
 names_created id command n p own = (rw (self id) refl, (tt, own))

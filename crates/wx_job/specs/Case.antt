@@ -1,30 +1,44 @@
 -- Following a plan: which entries it lets come, and what is left of it then.
-use Rattle.std.specs.Prelude.{◌≡◌, ℕ, Bool, false, if◌then◌else◌, is_err, Option, Result, List, ◌∷◌}
+use Rattle.std.specs.Prelude.{◌≡◌, ℕ, Bool, false, if◌then◌else◌, is_err, Option, Result, Ok, List, [], ◌∷◌}
+use Rattle.wx_words.specs.declared.list.Memory.{Memory}
+use Rattle.wx_command.specs.declared.spawnable.Spawnable.{Spawnable}
 use Rattle.wx_events.specs.declared.process.ProcessEnd.{ProcessEnd}
+use Rattle.wx_control.specs.declared.id.Id.{Id}
 use Rattle.wx_journal.specs.declared.child.HostFault.{HostFault}
 use Rattle.wx_journal.specs.declared.entry.Entry.{Entry}
-use Rattle.wx_journal.specs.declared.entry.Entry.TheVariants.{Begin, Sent, Turn as Turned, TurnFault, Offer, Word as Said, Take, Filter, Show, Hand, Made, Asked, Pick, Spawn, Kill, Wait, Dropped, Raise, Gone}
+use Rattle.wx_journal.specs.declared.entry.Entry.TheVariants.{Begin, Sent, Turn as Turned, TurnFault, Offer, Word as Said, Take, Filter, Show, Hand, Made, Asked, Pick, Spawn, Kill, Wait, Dropped, Raise, Gone, Hook}
 use Rattle.wx_journal.specs.Names.{ticket_count, child_count}
-use Rattle.wx_journal.specs.Told.{tell_if, is_world, is_hooks, Counts}
+use Rattle.wx_journal.specs.Told.{tell, tell_if, is_world, is_hooks, Counts}
 use Rattle.wx_job.specs.Seen.{Seen}
 use Rattle.wx_job.specs.Steady.{IsSteady}
-use Rattle.wx_job.specs.Table.{Call, Adds, Spawns, Kills, Waits, Asks, Plan, Done, GivenUp, Owes}
+use Rattle.wx_job.specs.Table.{Words, Given, Left, Call, Adds, Spawns, Kills, Waits, Asks, Hooks, Plan, Done, GivenUp, Owes}
 
 -- what may be answered
 abbrev pub Answer : Call → Type 0
 Answer (Adds e) = Unit {0}
-Answer (Spawns id tag what) = Result (Unit {0}) HostFault
+Answer (Spawns id tag words) = Result (Unit {0}) HostFault
 Answer (Kills c) = Result (Unit {0}) HostFault
 Answer (Waits c) = Result ProcessEnd HostFault
 Answer (Asks id level control) = Unit {0}
+Answer (Hooks id n) = Result Spawnable Memory
+
+-- what the newest entry left to be spawned: nothing, where it is no hook that answered
+abbrev pub left : List Entry → Spawnable
+left (Hook id n (Ok what) ∷ p) = what
+left (_) = record { words = []; options = record { grouped = false; session = false; reset_sigmask = false; grant_foreground = false } }
+
+abbrev pub words_of : List Entry → Words → Spawnable
+words_of p (Given what) = what
+words_of p Left = left p
 
 -- the entry behind these, with this answer
 abbrev pub entry : List Entry → (call : Call) → Answer call → Entry
 entry p (Adds e) a = e
-entry p (Spawns id tag what) a = Spawn (child_count p) id tag what a
+entry p (Spawns id tag words) a = Spawn (child_count p) id tag (words_of p words) a
 entry p (Kills c) a = Kill c a
 entry p (Waits c) a = Wait c a
 entry p (Asks id level control) a = Asked (ticket_count p) id level control
+entry p (Hooks id n) a = Hook id n a
 
 -- the entries that a plan lets come next behind these
 abbrev pub Admits : List Entry → Plan → Entry → Type 0
@@ -53,9 +67,11 @@ is_fault (Wait c answer) = is_err answer
 is_fault (Dropped c) = false
 is_fault (Raise ticket) = false
 is_fault (Gone job) = false
+is_fault (Hook job n answer) = false
 
--- a plan goes on behind the entry as it does behind a fault
+-- a plan goes on behind the entry as it does behind a fault: also where a hook had no memory
 abbrev pub fails : Entry → Bool
+fails (Hook job n answer) = is_err answer
 fails e = is_fault e
 
 -- what is left of a plan after the entry that was owed first
@@ -64,11 +80,21 @@ next Done e = Done
 next GivenUp e = GivenUp
 next (Owes call k f) e = if fails e then f else k
 
--- the plans at which want of memory may give a case up
+-- the spawn of what a hook left comes next
+abbrev pub SpawnsLeft : Call → Type 0
+SpawnsLeft (Adds e) = ⊥
+SpawnsLeft (Spawns id tag (Given what)) = ⊥
+SpawnsLeft (Spawns id tag Left) = Unit {0}
+SpawnsLeft (Kills c) = ⊥
+SpawnsLeft (Waits c) = ⊥
+SpawnsLeft (Asks id level control) = ⊥
+SpawnsLeft (Hooks id n) = ⊥
+
+-- the plans at which want of memory may give a case up: behind a hook that had no memory, and between a hook and the spawn
 abbrev pub IsCut : Plan → Type 0
 IsCut Done = ⊥
 IsCut GivenUp = Unit {0}
-IsCut (Owes call k f) = ⊥
+IsCut (Owes call k f) = SpawnsLeft call
 
 -- From one plan and journal to what is left of it and a longer journal, with what host and hooks were told and how often
 -- a call on a child failed: each entry on top was owed first, was told by just the one that it is a call on, and where it
@@ -89,3 +115,23 @@ FollowsHost {Fixed} k p a k' p' b = (k₀ : Plan) (p₀ : List Entry) (a₀ : Se
 -- the same where the host isn't called either
 abbrev pub FollowsAlone : Plan → List Entry → Plan → List Entry → Type 0
 FollowsAlone k p k' p' = (k₀ : Plan) (p₀ : List Entry) (host₀ hooks₀ : Option (List Entry)) (faults₀ : ℕ) (host hooks : Option (List Entry)) (faults : ℕ) → Leads k₀ p₀ host₀ hooks₀ faults₀ k p host hooks faults → Leads k₀ p₀ host₀ hooks₀ faults₀ k' p' host hooks faults
+
+-- the same where both may be called
+abbrev pub Follows : {Fixed : Type 0} → Plan → List Entry → Seen Fixed → Option (List Entry) → Plan → List Entry → Seen Fixed → Option (List Entry) → Type 0
+Follows {Fixed} k p a hooks k' p' b hooks' = (k₀ : Plan) (p₀ : List Entry) (a₀ : Seen Fixed) (hooks₀ : Option (List Entry)) → Ran k₀ p₀ a₀ hooks₀ k p a hooks → Ran k₀ p₀ a₀ hooks₀ k' p' b hooks'
+
+-- from one plan and journal to a place where want of memory gave the case up
+pub record GaveUp {Fixed : Type 0} (k : Plan) (p : List Entry) (a : Seen Fixed) (hooks : Option (List Entry)) (p' : List Entry) (b : Seen Fixed) (hooks' : Option (List Entry)) : Type 0 where
+  pub rest : Plan
+  pub cut : IsCut rest
+  pub ran : Ran k p a hooks rest p' b hooks'
+
+-- whatever ran to the one runs on to such a place
+abbrev pub GivesUp : {Fixed : Type 0} → Plan → List Entry → Seen Fixed → Option (List Entry) → List Entry → Seen Fixed → Option (List Entry) → Type 0
+GivesUp {Fixed} k p a hooks p' b hooks' = (k₀ : Plan) (p₀ : List Entry) (a₀ : Seen Fixed) (hooks₀ : Option (List Entry)) → Ran k₀ p₀ a₀ hooks₀ k p a hooks → GaveUp k₀ p₀ a₀ hooks₀ p' b hooks'
+
+-- The call of a hook after which the case is given up: it had no memory, or what it left could not be copied.
+pub record HookedOnly (id : Id) (n : ℕ) (p : List Entry) (hooks : Option (List Entry)) (p' : List Entry) (hooks' : Option (List Entry)) : Type 0 where
+  pub answer : Result Spawnable Memory
+  pub past : p' ≡ Hook id n answer ∷ p
+  pub told : hooks' ≡ tell (Hook id n answer) hooks

@@ -3,11 +3,14 @@ use Rattle.std.specs.Prelude.{◌≡◌, ℕ, Bool, false, not, ◌&&◌, ◌||�
 use Rattle.wx_events.specs.declared.process.ProcessEnd.{ProcessEnd}
 use Rattle.wx_control.specs.declared.id.Id.{Id}
 use Rattle.wx_control.specs.declared.control.Control.{Control}
+use Rattle.wx_control.specs.declared.control.Control.TheVariants.{SetSyncSpawnHook, UnsetSpawnHook, SetSpawnFn, SetSpawnChildFn, ClearSpawnFn}
 use Rattle.wx_control.specs.declared.level.Level.{Level}
 use Rattle.wx_control.specs.declared.level.Level.TheVariants.{Normal, High, Urgent}
 use Rattle.wx_control.specs.Levels.{rank}
+use Rattle.wx_journal.specs.declared.child.SpawnTag.{SpawnTag}
+use Rattle.wx_journal.specs.declared.child.SpawnTag.TheVariants.{Default, Command, Child}
 use Rattle.wx_journal.specs.declared.entry.Entry.{Entry}
-use Rattle.wx_journal.specs.declared.entry.Entry.TheVariants.{Turn as Turned, Made, Asked, Pick, Spawn, Wait, Dropped, Gone}
+use Rattle.wx_journal.specs.declared.entry.Entry.TheVariants.{Turn as Turned, Made, Asked, Pick, Spawn, Wait, Dropped, Gone, Hook}
 use Rattle.wx_journal.specs.declared.entry.TurnKind.TheVariants as turn
 use Rattle.wx_journal.specs.declared.entry.TurnKind.{TurnKind}
 use Rattle.wx_journal.specs.Names.{moment}
@@ -90,21 +93,63 @@ finish c status at Pending = Pending
 finish c status at (Running d started) = if d == c then Finished status started at else Running d started
 finish c status at (Finished before started finished) = Finished before started finished
 
--- the state, by the last Spawn or successful Wait
+-- the state, by the last Hook, Spawn or successful Wait
 abbrev pub state : Id → List Entry → CommandState
 state id [] = Pending
 state id (Made job ∷ p) = if same job id then Pending else state id p
 state id (Spawn c job tag what (Ok done) ∷ p) = if same job id then Running c (moment p) else state id p
 state id (Spawn c job tag what (Err fault) ∷ p) = if same job id then Pending else state id p
 state id (Wait c (Ok status) ∷ p) = finish c status (moment p) (state id p)
+state id (Hook job n answer ∷ p) = if same job id then Pending else state id p
 state id (_ ∷ p) = state id p
 
--- the state before the last Spawn
+-- the state before a spawn, or before the hook that was called just before it
+abbrev pub before_spawn : Id → List Entry → CommandState
+before_spawn id (Hook job n answer ∷ p) = state id p
+before_spawn id (p) = state id p
+
+-- the state before the last Spawn, or before the last Hook where one came since
 abbrev pub previous : Id → List Entry → Option CommandState
 previous id [] = None
 previous id (Made job ∷ p) = if same job id then None else previous id p
-previous id (Spawn c job tag what answer ∷ p) = if same job id then Some (state id p) else previous id p
+previous id (Spawn c job tag what answer ∷ p) = if same job id then Some (before_spawn id p) else previous id p
+previous id (Hook job n answer ∷ p) = if same job id then Some (state id p) else previous id p
 previous id (_ ∷ p) = previous id p
+
+-- the control of this ticket among those that wait
+abbrev pub found : ℕ → List (ℕ × Control) → Option Control
+found ticket [] = None
+found ticket (x ∷ xs) = if x.0 == ticket then Some x.1 else found ticket xs
+
+-- the control that is picked under this ticket, at the most pressing level at which it waits
+abbrev pub picked_control : Id → ℕ → List Entry → Option Control
+picked_control id ticket p = found ticket (waits id Urgent p ++ waits id High p ++ waits id Normal p)
+
+-- what a control that is picked leaves of the spawn hook, and of what spawns
+abbrev pub set_hook : Option Control → Option ℕ → Option ℕ
+set_hook (Some (SetSyncSpawnHook n)) before = Some n
+set_hook (Some UnsetSpawnHook) before = None
+set_hook (_) before = before
+
+abbrev pub set_tag : Option Control → SpawnTag → SpawnTag
+set_tag (Some (SetSpawnFn n)) before = Command n
+set_tag (Some (SetSpawnChildFn n)) before = Child n
+set_tag (Some ClearSpawnFn) before = Default
+set_tag (_) before = before
+
+-- the spawn hook that is set, by the controls that were picked
+abbrev pub hook : Id → List Entry → Option ℕ
+hook id [] = None
+hook id (Made job ∷ p) = if same job id then None else hook id p
+hook id (Pick job ticket ∷ p) = if same job id then set_hook (picked_control id ticket p) (hook id p) else hook id p
+hook id (_ ∷ p) = hook id p
+
+-- what spawns, by the controls that were picked
+abbrev pub tag : Id → List Entry → SpawnTag
+tag id [] = Default
+tag id (Made job ∷ p) = if same job id then Default else tag id p
+tag id (Pick job ticket ∷ p) = if same job id then set_tag (picked_control id ticket p) (tag id p) else tag id p
+tag id (_ ∷ p) = tag id p
 
 -- the job that spawned the child of this name
 abbrev pub owner : ℕ → List Entry → Option Id
@@ -120,3 +165,5 @@ pub record SameHistory (id : Id) (p p' : List Entry) : Type 0 where
   pub kept_same : kept id p' ≡ kept id p
   pub state_same : state id p' ≡ state id p
   pub previous_same : previous id p' ≡ previous id p
+  pub hook_same : hook id p' ≡ hook id p
+  pub tag_same : tag id p' ≡ tag id p

@@ -5,12 +5,12 @@ use Rattle.wx_control.specs.declared.id.Id.{Id}
 use Rattle.wx_control.specs.declared.ask.Ask.{Ask}
 use Rattle.wx_control.specs.Asks.{sends_of}
 use Rattle.wx_journal.specs.declared.entry.Entry.{Entry}
-use Rattle.wx_journal.specs.declared.entry.Entry.TheVariants.{Begin, Sent, Turn as Turned, TurnFault, Offer, Word as Said, Take, Filter, Show, Hand, Made, Asked, Pick, Spawn, Kill, Wait, Dropped, Raise, Gone}
+use Rattle.wx_journal.specs.declared.entry.Entry.TheVariants.{Begin, Sent, Turn as Turned, TurnFault, Offer, Word as Said, Take, Filter, Show, Hand, Made, Asked, Pick, Spawn, Kill, Wait, Dropped, Raise, Gone, Hook}
 use Rattle.wx_journal.specs.Names.{NamesItsOwn, child_count}
 use Rattle.wx_job.specs.declared.state.CommandState.TheVariants.{Pending}
 use Rattle.wx_job.specs.History.{same, lives, child, state, unless, owner, SameHistory}
-use Rattle.wx_job.specs.Table.{Done, step_plan, send_plan, end_plan}
-use Rattle.wx_job.specs.Case.{Leads}
+use Rattle.wx_job.specs.Table.{Plan, Done, step_plan, send_plan, end_plan}
+use Rattle.wx_job.specs.Case.{Leads, IsCut}
 
 -- the child that was spawned and not reaped: no Wait of it answered ok
 abbrev pub unreaped : Id → List Entry → Option ℕ
@@ -72,6 +72,7 @@ is_about id p (Wait c answer) = is_owner id (owner c p)
 is_about id p (Dropped c) = is_owner id (owner c p)
 is_about id p (Raise ticket) = false
 is_about id p (Gone job) = same job id
+is_about id p (Hook job n answer) = same job id
 
 -- each child has the next name
 abbrev pub NamesChildren : List Entry → Type 0
@@ -79,13 +80,14 @@ NamesChildren [] = Unit {0}
 NamesChildren (Spawn c job tag what answer ∷ p) = (c ≡ child_count p) × NamesChildren p
 NamesChildren (_ ∷ p) = NamesChildren p
 
--- The life of a job since it was last made: then come asks, whole steps and its end, each by its plan, and between them
--- entries that are not about it. Nothing is asked of other names than those of children.
+-- The life of a job since it was last made: then come asks, whole steps, steps that were given up, and its end, each by its
+-- plan, and between them entries that are not about it. Nothing is asked of other names than those of children.
 pub data Lived (id : Id) (command : Command) : List Entry → Type 0 where
   Begins : (p : List Entry) → NamesChildren p → Lived id command (Made id ∷ p)
   Others : (e : Entry) (p : List Entry) → Lived id command p → NamesChildren (e ∷ p) → is_about id p e ≡ false → Lived id command (e ∷ p)
   Asks : (ask : Ask) (p p' : List Entry) (host hooks host' hooks' : Option (List Entry)) (n n' : ℕ) → Lived id command p → Leads (send_plan id (sends_of ask) p) p host hooks n Done p' host' hooks' n' → Lived id command p'
   Steps : (p p' : List Entry) (host hooks host' hooks' : Option (List Entry)) (n n' : ℕ) → Lived id command p → Leads (step_plan id command p) p host hooks n Done p' host' hooks' n' → Lived id command p'
+  GivesUp : (rest : Plan) (p p' : List Entry) (host hooks host' hooks' : Option (List Entry)) (n n' : ℕ) → Lived id command p → Leads (step_plan id command p) p host hooks n rest p' host' hooks' n' → IsCut rest → Lived id command p'
   Ends : (p p' : List Entry) (host hooks host' hooks' : Option (List Entry)) (n n' : ℕ) → Lived id command p → Leads (end_plan id p) p host hooks n Done p' host' hooks' n' → Lived id command p'
 
 -- what calls on one job leave alone: the names are the journal's own, and all other jobs are as they were

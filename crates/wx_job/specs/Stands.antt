@@ -12,8 +12,8 @@ use Rattle.wx_job.specs.declared.state.CommandState.{CommandState}
 use Rattle.wx_job.specs.declared.state.CommandState.TheVariants.{Pending, Running, Finished}
 use Rattle.wx_job.specs.declared.task.JobTask.{JobTask}
 use Rattle.wx_job.specs.declared.choice.Choice.{Choice}
-use Rattle.wx_job.specs.Table.{choose}
-use Rattle.wx_job.specs.History.{lives, waits, child, kept, state, previous}
+use Rattle.wx_job.specs.Table.{Kit, choose}
+use Rattle.wx_job.specs.History.{lives, waits, child, kept, state, previous, hook, tag}
 
 -- the child of a state
 abbrev pub child_of : CommandState → Option ℕ
@@ -45,6 +45,8 @@ pub record Stands (k : JobTask) (p : List Entry) : Type 0 where
   pub end_kept : k.kept ≡ kept k.id p
   pub state_kept : k.state ≡ state k.id p
   pub previous_kept : k.previous ≡ previous k.id p
+  pub hook_kept : k.hook ≡ hook k.id p
+  pub tag_kept : k.tag ≡ tag k.id p
 
 -- two tasks of one job
 pub record SameJob (k k' : JobTask) : Type 0 where
@@ -56,6 +58,12 @@ pub record Undone {Host : Type 0} (k : JobTask) (j : Written) (h : Host) (k' : J
   pub task : k' ≡ k
   pub journal : j' ≡ j
   pub host : h' ≡ h
+
+-- A step that answers want of memory: nothing was done, also to the hooks, or the case was given up behind a call of a hook,
+-- and the state is Pending.
+pub data Stops {Host Hooks : Type 0} (k : JobTask) (j : Written) (h : Host) (x : Hooks) (k' : JobTask) (j' : Written) (h' : Host) (x' : Hooks) (GaveUp : Type 0) : Type 0 where
+  Before : Undone k j h k' j' h' → x' ≡ x → Stops k j h x k' j' h' x' GaveUp
+  Behind : k'.state ≡ Pending → GaveUp → Stops k j h x k' j' h' x' GaveUp
 
 -- all that a task keeps is the same, but for the room for controls
 pub record SameTask (k k' : JobTask) : Type 0 where
@@ -71,6 +79,10 @@ pub record IsEnding (k : JobTask) (c at : ℕ) (p : List Entry) : Type 0 where
   pub before : List Entry
   pub last : p ≡ Turned (record { at = at; kind = Ended c }) ∷ before
   pub stands : Stands k before
+
+-- what its cases go by
+abbrev pub kit_of : JobTask → Kit
+kit_of k = record { command = k.command; hook = k.hook; tag = k.tag }
 
 -- what a step of the task picks
 abbrev pub choice_of : JobTask → Choice

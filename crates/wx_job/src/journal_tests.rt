@@ -22,10 +22,11 @@ fn line_of(alloc: Global, entry: &Entry) -> Result<Text, Memory> {
     Ok(line)
 }
 
-/// Holds the line of an entry to this one.
+/// Holds the line of an entry to this one. The entry is dropped by generic code, which is quicker to prove.
 fn expect_line(rt: &impl Abort, alloc: Global, entry: Entry, want: &[u8]) -> Result<(), Memory> {
-    let line = line_of(alloc, &entry)?;
-    assert!(rt; line.as_slice() == want, "at {want:?}");
+    let line = line_of(alloc, &entry);
+    drop(entry);
+    assert!(rt; line?.as_slice() == want, "at {want:?}");
     Ok(())
 }
 
@@ -378,6 +379,44 @@ fn entries_of_spawns(rt: HostRuntime) -> Result<(), Fail> {
     let fault = b"spawn 2 3 default g--- 2 sh a%20b fault 9";
     expect_line(&rt, alloc, badly, fault)?;
     expect_line(&rt, alloc, Entry::Dropped(2), b"drop 2")?;
+    Ok(())
+}
+
+/// Hook 2 of job 3 was called, and answered so.
+fn hook(answer: Result<Spawnable, Memory>) -> Entry {
+    Entry::Hook {
+        job: Id(3),
+        n: 2,
+        answer,
+    }
+}
+
+#[test]
+fn entries_of_hooks(rt: HostRuntime) -> Result<(), Fail> {
+    let alloc = rt.alloc();
+    let words = shell(alloc)?;
+    let options = SpawnOptions::default();
+    let left = Spawnable { words, options };
+    expect_line(&rt, alloc, hook(Ok(left)), b"hook 3 2 ---- 2 sh a%20b")?;
+    expect_line(&rt, alloc, hook(Err(Memory)), b"hook 3 2 memory")?;
+    Ok(())
+}
+
+#[test]
+fn what_spawns_as_words(rt: HostRuntime) -> Result<(), Fail> {
+    let alloc = rt.alloc();
+    let tags: [&[u8]; 4] = [b"default", b"command.0", b"command.7", b"child.4294967295"];
+    let others: [&[u8]; 8] = [
+        b"",
+        b"command",
+        b"command.",
+        b"child.4294967296",
+        b"child.-1",
+        b"default.1",
+        b"command 7",
+        b"child.1.2",
+    ];
+    expect_words::<SpawnTag>(&rt, alloc, &tags, &others)?;
     Ok(())
 }
 

@@ -3,6 +3,7 @@
 
 mod case;
 mod choice;
+mod context;
 #[cfg(test)]
 mod journal_tests;
 mod laws;
@@ -15,6 +16,7 @@ mod test_world;
 mod tests;
 
 pub use choice::Stepped;
+pub use context::JobTaskContext;
 pub use laws::children_are_reaped;
 pub use outside::{Host, JobHooks, Outside};
 pub use state::CommandState;

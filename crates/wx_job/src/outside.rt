@@ -1,12 +1,14 @@
 // The traits of the outside that jobs use: what runs their children, and what they call.
-ghost use Rattle.std.specs.Prelude.{◌≡◌, ◌∷◌, [], ◌≤◌, ◌+◌, OnOk, is_err, List, ℕ, Bool, true, false, Option, None};
-ghost use Rattle.wx_journal.specs.declared.entry.Entry.{Entry};
+ghost use Rattle.std.specs.Prelude.{◌≡◌, ◌∷◌, [], ◌≤◌, ◌+◌, OnOk, OnErr, is_err, List, ℕ, Bool, true, false, Option, None};
+ghost use Rattle.wx_command.specs.Spawnables.{spawnable_of};
+ghost use Rattle.wx_journal.specs.declared.entry.Entry.{Entry, Entry as AnEntry};
 ghost use Rattle.wx_journal.specs.Names.{NamesItsOwn};
-ghost use Rattle.wx_journal.specs.Told.{is_hooks};
+ghost use Rattle.wx_journal.specs.Told.{tell, is_hooks};
 ghost use Rattle.wx_job.specs.Seen.{Seen, Hooked};
-ghost use Rattle.wx_job.specs.Kept.{OnlyHooksRoom};
+ghost use Rattle.wx_job.specs.Kept.{Keeps, OnlyHooksRoom, left_by};
 ghost use Rattle.wx_job.specs.Steady.{OnlyRoom, Tells};
 
+use crate::context::JobTaskContext;
 use wx_command::Spawnable;
 use wx_control::{Flag, Id};
 use wx_events::{Memory, ProcessEnd};
@@ -87,6 +89,22 @@ pub trait JobHooks {
     fn reserve(&mut self, n: u64) -> Result<(), Memory>
         ensures room { OnOk result (n ≤ (seen self.new).spare) }
         ensures rest { OnlyHooksRoom seen stands self.old self.new };
+
+    /// Lets the spawn hook of this number change what a job is about to spawn, which is what its command spawns. Where
+    /// it has no memory that is as it was.
+    fn spawn_hook(
+        &mut self,
+        job: Id,
+        n: u32,
+        what: &mut Spawnable,
+        cx: &JobTaskContext<'_>,
+    ) -> Result<(), Memory>
+        requires room { 1 ≤ (seen self.old).spare }
+        requires given { what.old ≡ spawnable_of cx.now.command.now }
+        ensures same { OnErr result (what.new ≡ what.old) }
+        ensures told { (seen self.new).told ≡ tell (Entry.Hook job n (left_by result what.new)) (seen self.old).told }
+        ensures spare { (seen self.old).spare ≤ (seen self.new).spare + 1 }
+        ensures keeps { (p : List AnEntry) → Keeps seen rule stands self.old p (Entry.Hook job n (left_by result what.new)) self.new };
 
     /// What is no call on it leaves what it stands for.
     ghost stands_other: { (x : Self) (p : List Entry) (e : Entry) → NamesItsOwn p → is_hooks e ≡ false → stands x p → stands x (e ∷ p) };

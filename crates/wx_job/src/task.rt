@@ -7,12 +7,12 @@ ghost use Rattle.wx_journal.specs.declared.entry.TurnKind.TheVariants.{Ended};
 ghost use Rattle.wx_journal.specs.Names.{moment, NamesItsOwn};
 ghost use Rattle.wx_job.specs.History.{child as running, state, previous};
 ghost use Rattle.wx_job.specs.Table.{Plan, Done, adds, asks, send_plan, pick, is_spawning, answer_of, step_plan, leave, end_plan};
-ghost use Rattle.wx_job.specs.Case.{Ran, FollowsHost, FollowsAlone};
+ghost use Rattle.wx_job.specs.Case.{Ran, FollowsHost, FollowsAlone, Follows, GaveUp, GivesUp};
 ghost use Rattle.wx_job.specs.Faults.{Counted};
 ghost use Rattle.wx_job.specs.Steady.{AreSpare, Spends};
-ghost use Rattle.wx_job.specs.Kept.{KeepsOn};
+ghost use Rattle.wx_job.specs.Kept.{KeepsOn, Promised};
 ghost use Rattle.wx_job.specs.Laws.{LeavesLaws};
-ghost use Rattle.wx_job.specs.Stands.{Stands, Undone, SameJob, SameTask, IsEnding, child_of, id_of, command_of, gone_of, running_of, with_end};
+ghost use Rattle.wx_job.specs.Stands.{Stands, Stops, SameJob, SameTask, IsEnding, child_of, id_of, command_of, gone_of, running_of, with_end};
 
 use crate::case::child_of;
 use crate::choice::{Choice, Stepped};
@@ -22,7 +22,7 @@ use std::alloc::Global;
 use wx_command::Command;
 use wx_control::{Ask, Control, Flag, Id, Job, Level, ThreeLists, Ticket};
 use wx_events::{Copies, Memory};
-use wx_journal::{Entry, Journal};
+use wx_journal::{Entry, Journal, SpawnTag};
 
 /// A job, with the child that it drives. It stands for its job in a journal where it keeps what the journal says of it.
 #[derive(Drop, Debug)]
@@ -37,6 +37,10 @@ pub struct JobTask {
     /// The running child has ended, and wasn't waited for yet.
     pub(crate) kept: bool,
     pub(crate) gone: bool,
+    /// The spawn hook that is set.
+    pub(crate) hook: Option<u32>,
+    /// What spawns the next child.
+    pub(crate) tag: SpawnTag,
 }
 
 /// A job of this name that runs this command, and a handle on it. It stands for its job behind the entry that it was
@@ -57,6 +61,8 @@ pub fn start_job(alloc: Global, id: Id, command: Command) -> Result<(Job, JobTas
         previous: None,
         kept: false,
         gone: false,
+        hook: None,
+        tag: SpawnTag::Default,
     };
     Ok((job, task))
 }
@@ -87,8 +93,9 @@ impl JobTask {
     }
 
     /// One step: what is picked is done. It answers `Gone` where the job is gone, `Idle` where nothing could be picked,
-    /// and else `Did`. Want of memory comes only where a child would be spawned, and before anything was done. `at` is
-    /// the moment of the journal's last turn, in nanoseconds.
+    /// and else `Did`. Want of memory comes only where a child would be spawned: before anything was done, or behind the
+    /// call of a spawn hook. Then the case is given up, its ticket isn't raised, and later steps go on. `at` is the
+    /// moment of the journal's last turn, in nanoseconds.
     pub fn step<H: Host, K: JobHooks>(
         &mut self,
         alloc: Global,
@@ -107,15 +114,15 @@ impl JobTask {
         ensures answer { IfOk result (λ stepped. stepped ≡ answer_of (gone_of self.old) (pick (id_of self.old) journal.old.past)) }
         ensures gone { gone_of self.new ≡ gone_of self.old }
         ensures memory { OnErr result (is_spawning (pick (id_of self.old) journal.old.past) (running (id_of self.old) journal.old.past) ≡ true) }
-        ensures err { OnErr result (Undone self.old journal.old host.old self.new journal.new host.new) }
-        ensures hooks { hooks.new ≡ hooks.old }
+        ensures err { OnErr result (Stops self.old journal.old host.old hooks.old self.new journal.new host.new hooks.new (GaveUp (step_plan (id_of self.old) (command_of self.old) journal.old.past) journal.old.past (H.seen host.old) (K.seen hooks.old).told journal.new.past (H.seen host.new) (K.seen hooks.new).told)) }
         ensures leaves { LeavesLaws (id_of self.old) journal.old.past journal.new.past }
         ensures keeps { KeepsOn K.seen K.rule K.stands hooks.old journal.old.past hooks.new journal.new.past }
-        ensures hooks_stand { NamesItsOwn journal.old.past → K.stands hooks.old journal.old.past → K.stands hooks.new journal.new.past }
+        ensures promised { NamesItsOwn journal.old.past → Promised K.seen K.rule K.stands hooks.old journal.old.past hooks.new journal.new.past }
         ensures faults { Counted journal.old.past (H.seen host.old).shown.faults journal.new.past (H.seen host.new).shown.faults }
         ensures spends { Spends 16 journal.old (H.seen host.old) journal.new (H.seen host.new) }
+        ensures hooks_room { (K.seen hooks.old).spare ≤ (K.seen hooks.new).spare + 16 }
     {
-        self.walk(alloc, at, host, journal)
+        self.walk(alloc, at, host, hooks, journal)
     }
 
     /// Keeps the end of the running child. The journal's last entry is the turn that told this end. It takes no memory.
@@ -150,13 +157,13 @@ impl JobTask {
         ensures answer { IfOk result (λ stepped. stepped ≡ answer_of (gone_of self.old) (pick (id_of self.old) journal.old.past)) }
         ensures gone { gone_of self.new ≡ gone_of self.old }
         ensures memory { OnErr result (is_spawning (pick (id_of self.old) journal.old.past) (running (id_of self.old) journal.old.past) ≡ true) }
-        ensures err { OnErr result (Undone (with_end self.old) journal.old host.old self.new journal.new host.new) }
-        ensures hooks { hooks.new ≡ hooks.old }
+        ensures err { OnErr result (Stops (with_end self.old) journal.old host.old hooks.old self.new journal.new host.new hooks.new (GaveUp (step_plan (id_of self.old) (command_of self.old) journal.old.past) journal.old.past (H.seen host.old) (K.seen hooks.old).told journal.new.past (H.seen host.new) (K.seen hooks.new).told)) }
         ensures leaves { LeavesLaws (id_of self.old) journal.old.past journal.new.past }
         ensures keeps { KeepsOn K.seen K.rule K.stands hooks.old journal.old.past hooks.new journal.new.past }
-        ensures hooks_stand { NamesItsOwn journal.old.past → K.stands hooks.old journal.old.past → K.stands hooks.new journal.new.past }
+        ensures promised { NamesItsOwn journal.old.past → Promised K.seen K.rule K.stands hooks.old journal.old.past hooks.new journal.new.past }
         ensures faults { Counted journal.old.past (H.seen host.old).shown.faults journal.new.past (H.seen host.new).shown.faults }
         ensures spends { Spends 16 journal.old (H.seen host.old) journal.new (H.seen host.new) }
+        ensures hooks_room { (K.seen hooks.old).spare ≤ (K.seen hooks.new).spare + 16 }
     {
         self.keep_end(child, at, journal);
         self.step(alloc, at, host, hooks, journal)
@@ -303,31 +310,35 @@ impl JobTask {
         self.gone = true;
     }
 
-    /// A step, where nothing is asked of the hooks.
-    fn walk<H: Host>(
+    /// A step.
+    fn walk<H: Host, K: JobHooks>(
         &mut self,
         alloc: Global,
         at: u64,
         host: &mut H,
+        hooks: &mut K,
         journal: &mut Journal,
     ) -> Result<Stepped, Memory>
         requires stands { Stands self.old journal.old.past }
         requires at { moment journal.old.past ≡ at }
         requires room { AreSpare 5 journal.old (H.seen host.old) }
+        requires hooks_room { 1 ≤ (K.seen hooks.old).spare }
         ensures stands { Stands self.new journal.new.past }
         ensures job { SameJob self.old self.new }
-        ensures follows { OnOk result (FollowsHost (step_plan (id_of self.old) (command_of self.old) journal.old.past) journal.old.past (H.seen host.old) Done journal.new.past (H.seen host.new)) }
+        ensures leads { OnOk result (Follows (step_plan (id_of self.old) (command_of self.old) journal.old.past) journal.old.past (H.seen host.old) (K.seen hooks.old).told Done journal.new.past (H.seen host.new) (K.seen hooks.new).told) }
         ensures answer { IfOk result (λ stepped. stepped ≡ answer_of (gone_of self.old) (pick (id_of self.old) journal.old.past)) }
         ensures gone { gone_of self.new ≡ gone_of self.old }
         ensures memory { OnErr result (is_spawning (pick (id_of self.old) journal.old.past) (running (id_of self.old) journal.old.past) ≡ true) }
-        ensures err { OnErr result (Undone self.old journal.old host.old self.new journal.new host.new) }
+        ensures err { OnErr result (Stops self.old journal.old host.old hooks.old self.new journal.new host.new hooks.new (GivesUp (step_plan (id_of self.old) (command_of self.old) journal.old.past) journal.old.past (H.seen host.old) (K.seen hooks.old).told journal.new.past (H.seen host.new) (K.seen hooks.new).told)) }
+        ensures keeps { KeepsOn K.seen K.rule K.stands hooks.old journal.old.past hooks.new journal.new.past }
         ensures spends { Spends 5 journal.old (H.seen host.old) journal.new (H.seen host.new) }
+        ensures hooks_room { (K.seen hooks.old).spare ≤ (K.seen hooks.new).spare + 1 }
     {
         if self.gone {
             return Ok(Stepped::Gone);
         }
         let choice = self.choose();
-        self.act(alloc, choice, at, host, journal)?;
+        self.act(alloc, choice, at, host, hooks, journal)?;
         Ok(stepped(choice))
     }
 }

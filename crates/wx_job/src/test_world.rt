@@ -1,4 +1,4 @@
-// What the tests run jobs over: a host that fails at a call of their choice, hooks without calls, and a journal.
+// What the tests run jobs over: a host that fails at a call of their choice, hooks that add words, and a journal.
 ghost use Rattle.std.specs.Prelude.{◌≡◌, ◌≢◌, ◌≤◌, ◌+◌, ◌^◌, [], false, Some, None, OnOk, IfOk, is_err};
 ghost use Rattle.wx_journal.specs.Names.{NamesItsOwn, moment};
 ghost use Rattle.wx_journal.specs.Told.{Counts};
@@ -6,7 +6,9 @@ ghost use Rattle.wx_job.specs.declared.task.JobTask.{JobTask as the-JobTask};
 ghost use Rattle.wx_job.specs.Stands.{Stands, id_of, running_of};
 
 use crate::choice::Stepped;
+use crate::context::JobTaskContext;
 use crate::outside::{Host, JobHooks, Outside};
+use crate::state::CommandState;
 use crate::task::{JobTask, start_job};
 use std::alloc::Global;
 use wx_command::{Command, Program, SpawnOptions, Spawnable};
@@ -121,11 +123,15 @@ impl Host for TestHost {
     }
 }
 
-/// Hooks on which there is no call.
+/// Hooks that tell nothing. A spawn hook adds the last of these words to what is spawned, but the one of the number 9 has
+/// no memory. The states of the last context that was shown are kept.
 #[derive(Drop, Debug)]
-pub(crate) struct NoHooks;
+pub(crate) struct TestHooks {
+    pub(crate) words: Vec<Text>,
+    pub(crate) shown: Option<(CommandState, Option<CommandState>)>,
+}
 
-impl JobHooks for NoHooks {
+impl JobHooks for TestHooks {
     ghost use Rattle.std.specs.Prelude.{ℕ};
 
     ghost Plan = { ℕ };
@@ -140,6 +146,23 @@ impl JobHooks for NoHooks {
         Ok(())
     }
 
+    fn spawn_hook(
+        &mut self,
+        _job: Id,
+        n: u32,
+        what: &mut Spawnable,
+        cx: &JobTaskContext<'_>,
+    ) -> Result<(), Memory> {
+        self.shown = Some((*cx.current, cx.previous.copied()));
+        if n == 9 {
+            return Err(Memory);
+        }
+        match self.words.pop() {
+            Some(word) => what.words.push(word),
+            None => Ok(()),
+        }
+    }
+
     ghost stands_other = { λ _ _ _ _ _ h. h };
 }
 
@@ -147,7 +170,7 @@ impl JobHooks for NoHooks {
 #[derive(Drop, Debug)]
 pub(crate) struct World {
     pub(crate) host: TestHost,
-    pub(crate) hooks: NoHooks,
+    pub(crate) hooks: TestHooks,
     pub(crate) journal: Journal,
 }
 
@@ -157,7 +180,10 @@ pub(crate) fn new_world(alloc: Global, host: TestHost) -> Result<World, Memory>
 {
     Ok(World {
         host,
-        hooks: NoHooks,
+        hooks: TestHooks {
+            words: Vec::new(alloc),
+            shown: None,
+        },
         journal: Journal::new(alloc)?,
     })
 }

@@ -15,7 +15,7 @@ use std::num::NonZeroI64;
 use std::process::Abort;
 use std::test::Fail;
 use wx_control::{Ask, Control, Flag, Id};
-use wx_events::{Memory, ProcessEnd};
+use wx_events::{Memory, ProcessEnd, Text};
 use wx_journal::{Entry, Journal};
 
 /// What a test does with its job.
@@ -59,6 +59,17 @@ impl One {
                 Ok(None)
             }
         }
+    }
+
+    /// Makes these moves, and gives how many of them had no memory.
+    fn play_through(&mut self, alloc: Global, moves: &[Move]) -> u64 {
+        let mut failed = 0u64;
+        for with in moves {
+            if self.play(alloc, *with).is_err() {
+                failed = failed.saturating_add(1);
+            }
+        }
+        failed
     }
 
     /// Makes these moves, and gives what the last of them answered.
@@ -360,6 +371,170 @@ fn calls_that_fail(rt: HostRuntime) -> Result<(), Fail> {
     for (bad, lines, state, previous) in table {
         expect_run(&rt, alloc, bad, lines, state, previous)?;
     }
+    Ok(())
+}
+
+/// Moves, how many of them have no memory, the lines of the journal behind its first one, the state, the one before, and the
+/// states that the last spawn hook was shown.
+type Hooked = (
+    &'static [Move],
+    u64,
+    &'static [u8],
+    CommandState,
+    CommandState,
+    Option<(CommandState, Option<CommandState>)>,
+);
+
+/// Plays the moves of a case, whose first spawn hook with memory adds the word -v, and holds what comes to the case.
+fn expect_hooked(rt: &impl Abort, alloc: Global, case: Hooked) -> Result<(), Memory> {
+    let (moves, without, lines, state, previous, shown) = case;
+    let mut job = one_job(alloc, host(alloc, None)?)?;
+    job.world.hooks.words = vec![in alloc; Text::from_slice(alloc, b"-v")?]?;
+    let failed = job.play_through(alloc, moves);
+    assert_eq!(rt; failed, without, "at {moves:?}");
+    assert!(rt; is_journal(alloc, &job, lines)?, "at {moves:?}");
+    assert_eq!(rt; job.task.state(), &state, "at {moves:?}");
+    assert_eq!(rt; job.task.previous(), Some(&previous), "at {moves:?}");
+    assert_eq!(rt; job.world.hooks.shown, shown, "at {moves:?}");
+    Ok(())
+}
+
+/// The state in which this child runs, which was spawned at this moment.
+fn running(child: u64, started: u64) -> CommandState {
+    CommandState::Running { child, started }
+}
+
+const HOOKS: &[Move] = &[
+    START,
+    STOP,
+    Move::Ask(Control::SetSyncSpawnHook(2)),
+    Move::Ask(Control::SetSpawnFn(7)),
+    START,
+    Move::Step(1),
+    Move::Step(2),
+    Move::Step(3),
+    Move::Step(4),
+    Move::Step(5),
+];
+
+const HOOKED: &[u8] = b"asked 0 0 normal start\nasked 1 0 normal stop\n\
+    asked 2 0 normal sethook 2\nasked 3 0 normal setspawn 7\nasked 4 0 normal start\n\
+    turn 1 job 0\npick 0 0\nspawn 0 0 default ---- 1 a ok\nraise 0\n\
+    turn 2 job 0\npick 0 1\nkill 0 ok\nwait 0 success\nraise 1\n\
+    turn 3 job 0\npick 0 2\nraise 2\n\
+    turn 4 job 0\npick 0 3\nraise 3\n\
+    turn 5 job 0\npick 0 4\nhook 0 2 ---- 2 a -v\nspawn 1 0 command.7 ---- 2 a -v ok\nraise 4\n";
+
+const UNHOOKS: &[Move] = &[
+    Move::Ask(Control::SetSyncSpawnHook(2)),
+    Move::Ask(Control::UnsetSpawnHook),
+    START,
+    Move::Step(1),
+    Move::Step(2),
+    Move::Step(3),
+];
+
+const UNHOOKED: &[u8] =
+    b"asked 0 0 normal sethook 2\nasked 1 0 normal unsethook\nasked 2 0 normal start\n\
+    turn 1 job 0\npick 0 0\nraise 0\n\
+    turn 2 job 0\npick 0 1\nraise 1\n\
+    turn 3 job 0\npick 0 2\nspawn 0 0 default ---- 1 a ok\nraise 2\n";
+
+const FUNCTIONS: &[Move] = &[
+    Move::Ask(Control::SetSpawnFn(7)),
+    Move::Ask(Control::SetSpawnChildFn(5)),
+    START,
+    STOP,
+    Move::Ask(Control::SetSpawnFn(1)),
+    Move::Ask(Control::ClearSpawnFn),
+    START,
+    Move::Step(1),
+    Move::Step(2),
+    Move::Step(3),
+    Move::Step(4),
+    Move::Step(5),
+    Move::Step(6),
+    Move::Step(7),
+];
+
+const TAGGED: &[u8] =
+    b"asked 0 0 normal setspawn 7\nasked 1 0 normal setchild 5\nasked 2 0 normal start\n\
+    asked 3 0 normal stop\nasked 4 0 normal setspawn 1\nasked 5 0 normal clearspawn\nasked 6 0 normal start\n\
+    turn 1 job 0\npick 0 0\nraise 0\n\
+    turn 2 job 0\npick 0 1\nraise 1\n\
+    turn 3 job 0\npick 0 2\nspawn 0 0 child.5 ---- 1 a ok\nraise 2\n\
+    turn 4 job 0\npick 0 3\nkill 0 ok\nwait 0 success\nraise 3\n\
+    turn 5 job 0\npick 0 4\nraise 4\n\
+    turn 6 job 0\npick 0 5\nraise 5\n\
+    turn 7 job 0\npick 0 6\nspawn 1 0 default ---- 1 a ok\nraise 6\n";
+
+#[test]
+fn spawn_hooks_and_functions(rt: HostRuntime) -> Result<(), Fail> {
+    let alloc = rt.alloc();
+    let pending = CommandState::Pending;
+    let ran = finished(1, 2);
+    let shown = Some((pending, Some(ran)));
+    let hooked: Hooked = (HOOKS, 0, HOOKED, running(1, 5), ran, shown);
+    expect_hooked(&rt, alloc, hooked)?;
+    let unhooked: Hooked = (UNHOOKS, 0, UNHOOKED, running(0, 3), pending, None);
+    expect_hooked(&rt, alloc, unhooked)?;
+    let tagged: Hooked = (FUNCTIONS, 0, TAGGED, running(1, 7), finished(3, 4), None);
+    expect_hooked(&rt, alloc, tagged)?;
+    Ok(())
+}
+
+/// The hook of number 9 has no memory.
+const GIVES_UP: &[Move] = &[
+    START,
+    STOP,
+    Move::Ask(Control::SetSyncSpawnHook(9)),
+    START,
+    Move::Step(1),
+    Move::Step(2),
+    Move::Step(3),
+    Move::Step(4),
+];
+
+const GIVEN_UP: &[u8] = b"asked 0 0 normal start\nasked 1 0 normal stop\n\
+    asked 2 0 normal sethook 9\nasked 3 0 normal start\n\
+    turn 1 job 0\npick 0 0\nspawn 0 0 default ---- 1 a ok\nraise 0\n\
+    turn 2 job 0\npick 0 1\nkill 0 ok\nwait 0 success\nraise 1\n\
+    turn 3 job 0\npick 0 2\nraise 2\n\
+    turn 4 job 0\npick 0 3\nhook 0 9 memory\n";
+
+const GOES_ON: &[Move] = &[
+    Move::Ask(Control::SetSyncSpawnHook(9)),
+    START,
+    START,
+    Move::Ask(Control::SetSyncSpawnHook(2)),
+    START,
+    Move::Step(1),
+    Move::Step(2),
+    Move::Step(3),
+    Move::Step(4),
+    Move::Step(5),
+];
+
+const GONE_ON: &[u8] =
+    b"asked 0 0 normal sethook 9\nasked 1 0 normal start\nasked 2 0 normal start\n\
+    asked 3 0 normal sethook 2\nasked 4 0 normal start\n\
+    turn 1 job 0\npick 0 0\nraise 0\n\
+    turn 2 job 0\npick 0 1\nhook 0 9 memory\n\
+    turn 3 job 0\npick 0 2\nhook 0 9 memory\n\
+    turn 4 job 0\npick 0 3\nraise 3\n\
+    turn 5 job 0\npick 0 4\nhook 0 2 ---- 2 a -v\nspawn 0 0 default ---- 2 a -v ok\nraise 4\n";
+
+#[test]
+fn spawn_hooks_without_memory(rt: HostRuntime) -> Result<(), Fail> {
+    let alloc = rt.alloc();
+    let pending = CommandState::Pending;
+    let ran = finished(1, 2);
+    let shown = Some((pending, Some(ran)));
+    let given_up: Hooked = (GIVES_UP, 1, GIVEN_UP, pending, ran, shown);
+    expect_hooked(&rt, alloc, given_up)?;
+    let shown = Some((pending, Some(pending)));
+    let gone_on: Hooked = (GOES_ON, 2, GONE_ON, running(0, 5), pending, shown);
+    expect_hooked(&rt, alloc, gone_on)?;
     Ok(())
 }
 

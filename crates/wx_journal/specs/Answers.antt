@@ -1,14 +1,18 @@
--- What a call on a child answers, and what a filter does, as words.
+-- What a call on a child answers, and what a filter and a spawn hook do, as words.
 use Rattle.std.proofs.Common.{ℕ, Result, refl}
 use Rattle.std.specs.Prelude.{Bool, true, false, Ok, Err, List, [], ◌∷◌, codes}
 use Rattle.wx_words.specs.Spellings.{Spelling}
 use Rattle.wx_words.specs.Choices.{Row, row, Behind, fields}
 use Rattle.wx_words.specs.ChoiceLaws.{MadeAgain, SpeltSo, choice}
-use Rattle.wx_words.specs.Parts.{line, nothing, named, renamed, u32}
+use Rattle.wx_words.specs.Parts.{line, HasWords, nothing, keyword, named, renamed, both, u32}
 use Rattle.wx_words.specs.Results.{AreApart, result_of}
 use Rattle.wx_words.specs.Done.{ok}
+use Rattle.wx_words.specs.declared.list.Memory.{Memory}
 use Rattle.wx_events.specs.Ends.{end}
 use Rattle.wx_events.specs.declared.process.ProcessEnd.{ProcessEnd}
+use Rattle.wx_command.specs.Commands.{spawnable}
+use Rattle.wx_command.specs.OptionsLaws.{options}
+use Rattle.wx_command.specs.declared.spawnable.Spawnable.{Spawnable}
 use Rattle.wx_config.specs.Runtime.{runtime}
 use Rattle.wx_config.specs.declared.runtime.RuntimeError.{RuntimeError}
 use Rattle.wx_journal.specs.declared.child.HostFault.{HostFault}
@@ -65,3 +69,24 @@ verdict_so = search
 
 unfoldable pub verdict : Spelling line (Result Bool RuntimeError)
 verdict = choice verdict_rows verdict_word verdict_behind verdict_made verdict_so refl
+
+-- ---- the answer of a spawn hook: what it left to be spawned, or that it had no memory
+
+abbrev pub memory_word : Memory → List ℕ
+memory_word m = codes "memory"
+
+abbrev pub memory_all : List Memory
+memory_all = record {} ∷ []
+
+pub memory_found : HasWords memory_word memory_all
+memory_found m = refl
+
+unfoldable pub memory : Spelling line Memory
+memory = keyword memory_word memory_all memory_found refl
+
+pub memory_apart : AreApart spawnable memory
+unfolding spawnable options memory both
+memory_apart m rest = refl
+
+abbrev pub hooked : Spelling line (Result Spawnable Memory)
+hooked = result_of spawnable memory memory_apart

@@ -11,6 +11,7 @@ use Rattle.wx_words.specs.ChoiceLaws.{MadeAgain, SpeltSo, choice}
 use Rattle.wx_words.specs.Parts.{line, never, both, named, list_of, as_line, number, u32, text, optional}
 use Rattle.wx_words.specs.Switches.{switch}
 use Rattle.wx_words.specs.ToEnd.{all_in}
+use Rattle.wx_words.specs.declared.list.Memory.{Memory}
 use Rattle.wx_events.specs.declared.priority.Priority.{Priority}
 use Rattle.wx_events.specs.declared.event.Event.{Event}
 use Rattle.wx_events.specs.declared.process.ProcessEnd.{ProcessEnd}
@@ -28,16 +29,17 @@ use Rattle.wx_control.specs.declared.id.Id.{Id}
 use Rattle.wx_control.specs.declared.level.Level.{Level}
 use Rattle.wx_control.specs.declared.control.Control.{Control}
 use Rattle.wx_journal.specs.Acts.{JournalAct, act}
-use Rattle.wx_journal.specs.Answers.{done, waited, verdict}
+use Rattle.wx_journal.specs.Answers.{done, waited, verdict, hooked}
 use Rattle.wx_journal.specs.Kinds.{ranked, turn}
 use Rattle.wx_journal.specs.Wishes.{wish}
-use Rattle.wx_journal.specs.Words.{offered, said, tag}
+use Rattle.wx_journal.specs.Tags.{tag}
+use Rattle.wx_journal.specs.Words.{offered, said}
 use Rattle.wx_journal.specs.declared.child.SpawnTag.{SpawnTag}
 use Rattle.wx_journal.specs.declared.child.HostFault.{HostFault}
 use Rattle.wx_journal.specs.declared.wish.Wish.{Wish}
 use Rattle.wx_journal.specs.declared.entry.Offered.{Offered}
 use Rattle.wx_journal.specs.declared.entry.Entry.{Entry}
-use Rattle.wx_journal.specs.declared.entry.Entry.TheVariants.{Begin, Sent, Turn as Turned, TurnFault, Offer, Word as Said, Take, Filter, Show, Hand, Made, Asked, Pick, Spawn, Kill, Wait, Dropped, Raise, Gone}
+use Rattle.wx_journal.specs.declared.entry.Entry.TheVariants.{Begin, Sent, Turn as Turned, TurnFault, Offer, Word as Said, Take, Filter, Show, Hand, Made, Asked, Pick, Spawn, Kill, Wait, Dropped, Raise, Gone, Hook}
 
 -- ---- what stands behind the first word of an entry
 
@@ -84,6 +86,9 @@ kill = both (as_line number) done
 abbrev pub wait : Spelling line (ℕ × Result ProcessEnd HostFault)
 wait = both (as_line number) waited
 
+abbrev pub hook : Spelling line (Id × (ℕ × Result Spawnable Memory))
+hook = both id (both u32 hooked)
+
 abbrev pub unread : Spelling line (ℕ × (List ℕ × List JournalAct))
 unread = never
 
@@ -114,6 +119,7 @@ entry_rows =
     ∷ row (codes "drop") (as_line number) Dropped
     ∷ row (codes "raise") (as_line number) Raise
     ∷ row (codes "gone") id Gone
+    ∷ row (codes "hook") hook (λ p. Hook p.0 p.1.0 p.1.1)
     ∷ []
 
 abbrev pub entry_word : Entry → List ℕ
@@ -136,6 +142,7 @@ entry_word (Wait _ _) = codes "wait"
 entry_word (Dropped _) = codes "drop"
 entry_word (Raise _) = codes "raise"
 entry_word (Gone _) = codes "gone"
+entry_word (Hook _ _ _) = codes "hook"
 
 abbrev pub entry_behind : Entry → Behind line
 entry_behind (Begin throttle size errors keyboard follow jobsignals how cwd paths) = fields settings ((throttle, (size, errors)), ((keyboard, (follow, jobsignals)), (how, (cwd, paths))))
@@ -157,6 +164,7 @@ entry_behind (Wait child answer) = fields wait (child, answer)
 entry_behind (Dropped child) = fields (as_line number) child
 entry_behind (Raise ticket) = fields (as_line number) ticket
 entry_behind (Gone job) = fields id job
+entry_behind (Hook job n answer) = fields hook (job, (n, answer))
 
 pub entry_made : MadeAgain entry_rows entry_word entry_behind
 entry_made (Begin throttle size errors keyboard follow jobsignals how cwd paths) = (_, refl, refl)

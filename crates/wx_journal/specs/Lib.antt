@@ -6,6 +6,7 @@ pub mod Answers
 pub mod Wishes
 pub mod Acts
 pub mod Kinds
+pub mod Tags
 pub mod Words
 pub mod Entries
 pub mod Lines

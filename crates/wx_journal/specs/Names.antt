@@ -5,7 +5,7 @@ use Rattle.wx_control.specs.declared.id.Id.{Id}
 use Rattle.wx_journal.specs.Acts.{JournalAct as Act}
 use Rattle.wx_journal.specs.declared.entry.Act.TheVariants.{Create, Ask, Quit}
 use Rattle.wx_journal.specs.declared.entry.Entry.{Entry}
-use Rattle.wx_journal.specs.declared.entry.Entry.TheVariants.{Begin, Sent, Turn as Turned, TurnFault, Offer, Word as Said, Take, Filter, Show, Hand, Made, Asked, Pick, Spawn, Kill, Wait, Dropped, Raise, Gone}
+use Rattle.wx_journal.specs.declared.entry.Entry.TheVariants.{Begin, Sent, Turn as Turned, TurnFault, Offer, Word as Said, Take, Filter, Show, Hand, Made, Asked, Pick, Spawn, Kill, Wait, Dropped, Raise, Gone, Hook}
 
 -- the moment of the last turn, 0 before the first
 abbrev pub moment : List Entry → ℕ
@@ -34,6 +34,7 @@ names_event (Wait child answer) = false
 names_event (Dropped child) = false
 names_event (Raise ticket) = false
 names_event (Gone job) = false
+names_event (Hook job n answer) = false
 
 abbrev pub names_ticket : Entry → Bool
 names_ticket (Begin throttle size errors keyboard follow jobsignals watcher cwd paths) = false
@@ -55,6 +56,7 @@ names_ticket (Wait child answer) = false
 names_ticket (Dropped child) = false
 names_ticket (Raise ticket) = false
 names_ticket (Gone job) = false
+names_ticket (Hook job n answer) = false
 
 abbrev pub names_child : Entry → Bool
 names_child (Begin throttle size errors keyboard follow jobsignals watcher cwd paths) = false
@@ -76,6 +78,7 @@ names_child (Wait child answer) = false
 names_child (Dropped child) = false
 names_child (Raise ticket) = false
 names_child (Gone job) = false
+names_child (Hook job n answer) = false
 
 -- how many entries are of a kind
 abbrev pub count : (Entry → Bool) → List Entry → ℕ
@@ -144,6 +147,7 @@ Names p (Wait child answer) = child < child_count p
 Names p (Dropped child) = child < child_count p
 Names p (Raise ticket) = ticket < ticket_count p
 Names p (Gone job) = Unit {0}
+Names p (Hook job n answer) = Unit {0}
 
 -- a journal names only what its own entries made
 abbrev pub NamesItsOwn : List Entry → Type 0

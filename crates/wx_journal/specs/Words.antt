@@ -3,12 +3,10 @@ use Rattle.std.proofs.Common.{refl}
 use Rattle.std.specs.Prelude.{ℕ, Bool, true, false, List, [], ◌∷◌, codes}
 use Rattle.wx_words.specs.Spellings.{Spelling}
 use Rattle.wx_words.specs.Parts.{line, HasWords, keyword}
-use Rattle.wx_journal.specs.declared.child.SpawnTag.{SpawnTag}
-use Rattle.wx_journal.specs.declared.child.SpawnTag.TheVariants.{Default}
 use Rattle.wx_journal.specs.declared.entry.Offered.{Offered}
 use Rattle.wx_journal.specs.declared.entry.Offered.TheVariants.{Queued, Full, Closed}
 use Rattle.wx_journal.specs.declared.entry.Entry.{Entry}
-use Rattle.wx_journal.specs.declared.entry.Entry.TheVariants.{Begin, Sent, Turn as Turned, TurnFault, Offer, Word as Said, Take, Filter, Show, Hand, Made, Asked, Pick, Spawn, Kill, Wait, Dropped, Raise, Gone}
+use Rattle.wx_journal.specs.declared.entry.Entry.TheVariants.{Begin, Sent, Turn as Turned, TurnFault, Offer, Word as Said, Take, Filter, Show, Hand, Made, Asked, Pick, Spawn, Kill, Wait, Dropped, Raise, Gone, Hook}
 use Rattle.wx_journal.specs.declared.entry.Word.{Word}
 use Rattle.wx_journal.specs.declared.entry.Word.TheVariants.{Idle, Ignored}
 
@@ -42,18 +40,6 @@ said_found Ignored = refl
 unfoldable pub said : Spelling line Word
 said = keyword said_word said_all said_found refl
 
-abbrev pub tag_word : SpawnTag → List ℕ
-tag_word Default = codes "default"
-
-abbrev pub tag_all : List SpawnTag
-tag_all = Default ∷ []
-
-pub tag_found : HasWords tag_word tag_all
-tag_found Default = refl
-
-unfoldable pub tag : Spelling line SpawnTag
-tag = keyword tag_word tag_all tag_found refl
-
 -- ---- the entries that are written apart
 
 abbrev pub is_begin : Entry → Bool
@@ -81,3 +67,4 @@ is_of_job (Wait child answer) = true
 is_of_job (Dropped child) = true
 is_of_job (Raise ticket) = true
 is_of_job (Gone job) = true
+is_of_job (Hook job n answer) = true

@@ -1,4 +1,4 @@
-// What a call on a child answers, and what a filter does, as words.
+// What a call on a child answers, and what a filter and a spawn hook do, as words.
 ghost use Rattle.std.specs.Prelude.{Result as AResult, Bool, IfOk};
 ghost use Rattle.wx_words.specs.Line.{Reads};
 ghost use Rattle.wx_words.specs.Texts.{text_in};
@@ -7,10 +7,13 @@ ghost use Rattle.wx_words.specs.Clean.{AllClean};
 ghost use Rattle.wx_events.specs.declared.process.ProcessEnd.{ProcessEnd as AnEnd};
 ghost use Rattle.wx_journal.specs.declared.child.HostFault.{HostFault as AFault};
 ghost use Rattle.wx_config.specs.declared.runtime.RuntimeError.{RuntimeError as AnError};
-ghost use Rattle.wx_journal.specs.Answers.{done, waited, verdict};
+ghost use Rattle.wx_words.specs.declared.list.Memory.{Memory as NoMemory};
+ghost use Rattle.wx_command.specs.declared.spawnable.Spawnable.{Spawnable as ASpawnable};
+ghost use Rattle.wx_journal.specs.Answers.{done, waited, verdict, hooked};
 
 use crate::child::HostFault;
 use std::alloc::Global;
+use wx_command::Spawnable;
 use wx_config::RuntimeError;
 use wx_events::{Memory, Spelled, Text, Words};
 use wx_words::{Fields, put_row, put_word, read_rows};
@@ -70,12 +73,36 @@ pub fn read_verdict(
     )
 }
 
+/// What a spawn hook answered, lent to be written.
+#[derive(Clone, Copy)]
+pub struct HookedRef<'a> {
+    pub answer: &'a Result<Spawnable, Memory>,
+}
+
+#[tactic(auto, unfolding(crate::specs::Answers::memory))]
+impl<'a> Fields for HookedRef<'a> {
+    ghost use Rattle.wx_journal.specs.Answers.{hooked};
+
+    ghost fits = { λ lent. hooked.fits lent.answer.now };
+
+    ghost words = { λ lent. hooked.words lent.answer.now };
+
+    fn put_fields(&self, out: &mut Text) -> Result<(), Memory> {
+        match self.answer {
+            Ok(what) => what.put_after(out),
+            Err(_) => put_word(b"memory", out),
+        }
+    }
+}
+
 /// Answers are read again from their words, what is read was spelled so, and no word has a space.
 pub fn answers_are_read_again()
     ensures done { IsForm text_in done.fits done.words done.read }
     ensures waited { IsForm text_in waited.fits waited.words waited.read }
     ensures verdict { IsForm text_in verdict.fits verdict.words verdict.read }
+    ensures hooked { IsForm text_in hooked.fits hooked.words hooked.read }
     ensures done_clean { (x : AResult (Unit {0}) AFault) → done.fits x → AllClean (done.words x) }
     ensures waited_clean { (x : AResult AnEnd AFault) → waited.fits x → AllClean (waited.words x) }
     ensures verdict_clean { (x : AResult Bool AnError) → verdict.fits x → AllClean (verdict.words x) }
+    ensures hooked_clean { (x : AResult ASpawnable NoMemory) → hooked.fits x → AllClean (hooked.words x) }
 {}

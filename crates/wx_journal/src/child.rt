@@ -3,34 +3,58 @@ ghost use Rattle.std.specs.Prelude.{◌≡◌};
 
 use std::alloc::Global;
 use wx_events::{Memory, Spelled, Text, Words};
-use wx_words::{put_word, read_rows};
+use wx_words::{Dotted, read_dotted, read_rows};
 
 /// What spawns a child.
 #[derive(Clone, Copy, Debug, PartialEq, Eq)]
 pub enum SpawnTag {
-    /// What spawns where nothing else was set.
+    /// What spawns where no function was set.
     Default,
+    /// The spawn function of this number.
+    Command(u32),
+    /// The child function of this number.
+    Child(u32),
 }
 
 /// A call on a child failed: the code of the fault.
 #[derive(Clone, Copy, Debug, PartialEq, Eq)]
 pub struct HostFault(pub u32);
 
-#[tactic(auto, unfolding(crate::specs::Words::tag))]
+impl Dotted for SpawnTag {
+    ghost use Rattle.wx_journal.specs.Tags.{tag_parts};
+
+    ghost read_parts = { tag_parts.read };
+
+    fn read_parts(alloc: Global, parts: &mut Words) -> Result<Option<SpawnTag>, Memory> {
+        read_rows!(alloc, parts;
+            b"default" => SpawnTag::Default,
+            b"command" (n) => SpawnTag::Command(n),
+            b"child" (n) => SpawnTag::Child(n),
+        )
+    }
+}
+
+#[tactic(auto, unfolding(crate::specs::Tags::tag, wx_words::specs::Line::behind))]
 impl Spelled for SpawnTag {
-    ghost use Rattle.wx_journal.specs.Words.{tag};
+    ghost use Rattle.wx_journal.specs.Tags.{tag};
 
     ghost spelling = { tag };
 
     fn put_after(&self, out: &mut Text) -> Result<(), Memory> {
         match self {
-            SpawnTag::Default => put_word(b"default", out),
+            SpawnTag::Default => out.append(b" default"),
+            SpawnTag::Command(n) => {
+                out.append(b" command.")?;
+                out.append_number(*n as u64)
+            }
+            SpawnTag::Child(n) => {
+                out.append(b" child.")?;
+                out.append_number(*n as u64)
+            }
         }
     }
 
-    fn read(_alloc: Global, line: &mut Words) -> Result<Option<SpawnTag>, Memory> {
-        read_rows!(_alloc, line;
-            b"default" => SpawnTag::Default,
-        )
+    fn read(alloc: Global, line: &mut Words) -> Result<Option<SpawnTag>, Memory> {
+        read_dotted(alloc, line)
     }
 }

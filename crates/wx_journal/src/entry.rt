@@ -161,6 +161,13 @@ pub enum Entry {
     Raise(u64),
     /// The job of this name is gone.
     Gone(Id),
+    /// The spawn hook of this number was called before a job spawned: what it left to be spawned, or that it had no
+    /// memory.
+    Hook {
+        job: Id,
+        n: u32,
+        answer: Result<Spawnable, Memory>,
+    },
 }
 
 impl Copies for TurnKind {

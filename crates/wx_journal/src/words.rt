@@ -5,7 +5,7 @@ ghost use Rattle.wx_journal.specs.Entries.{entry_words, EntryFits};
 ghost use Rattle.wx_journal.specs.Words.{is_begin, is_of_job};
 ghost use Rattle.wx_journal.specs.declared.entry.Entry.TheVariants.{Hand};
 
-use crate::answers::VerdictRef;
+use crate::answers::{HookedRef, VerdictRef};
 use crate::entry::{Act, Entry, Offered, Word};
 use std::alloc::Global;
 use wx_events::{List, Memory, Spelled, Text, Words, put_items};
@@ -151,6 +151,9 @@ fn put_job_entry(entry: &Entry, out: &mut Text) -> Result<(), Memory>
         Entry::Dropped(child) => begin_row(b"drop", &child, out),
         Entry::Raise(ticket) => begin_row(b"raise", &ticket, out),
         Entry::Gone(job) => begin_row(b"gone", &job, out),
+        Entry::Hook { job, n, answer } => {
+            begin_row(b"hook", &(job, (n, HookedRef { answer })), out)
+        }
         _ => Ok(()),
     }
 }
@@ -192,6 +195,7 @@ pub fn append_entry(entry: &Entry, out: &mut Text) -> Result<(), Memory>
         | Entry::Wait { .. }
         | Entry::Dropped(_)
         | Entry::Raise(_)
-        | Entry::Gone(_) => put_job_entry(entry, out),
+        | Entry::Gone(_)
+        | Entry::Hook { .. } => put_job_entry(entry, out),
     }
 }

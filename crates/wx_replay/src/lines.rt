@@ -2,14 +2,15 @@
 ghost use Rattle.std.specs.Prelude.{◌≡◌, IfOk};
 ghost use Rattle.wx_words.specs.Line.{Reads};
 ghost use Rattle.wx_words.specs.Combine.{read_as};
+ghost use Rattle.wx_words.specs.Parts.{list_of, text};
 ghost use Rattle.wx_journal.specs.Wishes.{wish};
-ghost use Rattle.wx_replay.specs.declared.lines.Line.TheVariants.{Wishes};
+ghost use Rattle.wx_replay.specs.declared.lines.Line.TheVariants.{Wishes, Hook};
 ghost use Rattle.wx_replay.specs.Lines.{can_bring, is_scripted, read_set, read_form, line_in};
 
 use std::alloc::Global;
 use wx_config::RuntimeError;
 use wx_engine::Wanted;
-use wx_events::{Event, List, Memory, Priority, ProcessEnd, Spelled, Words};
+use wx_events::{Event, List, Memory, Priority, ProcessEnd, Spelled, Text, Words};
 use wx_journal::{Act, HostFault, Turn, TurnKind, Wish, read_verdict};
 use wx_words::{read_result, read_rows, read_to_end};
 
@@ -36,6 +37,8 @@ pub enum Line {
     Filter(Result<bool, RuntimeError>),
     /// The error handler wishes this.
     Wishes(Wish),
+    /// A spawn hook appends these words in one call.
+    Hook(List<Text>),
     /// The host answers this to a spawn.
     Spawn(Result<(), HostFault>),
     /// The host answers this to a kill.
@@ -86,6 +89,16 @@ fn take_wish(alloc: Global, line: &mut Words) -> Result<Option<Line>, Memory>
     }
 }
 
+/// Takes the words that a spawn hook appends, or loses the place.
+fn take_words(alloc: Global, line: &mut Words) -> Result<Option<Line>, Memory>
+    ensures { IfOk result (λ said. Reads line.new said (read_as Hook (list_of text).read line.old)) }
+{
+    match List::read(alloc, line)? {
+        Some(words) => Ok(Some(Line::Hook(words))),
+        None => Ok(None),
+    }
+}
+
 /// Takes what the first word calls for, or loses the place.
 #[tactic(auto, using(wx_journal::specs::Acts::act_has_word), unfolding(crate::specs::Lines::read_form))]
 fn take_form(alloc: Global, line: &mut Words) -> Result<Option<Line>, Memory>
@@ -99,6 +112,7 @@ fn take_form(alloc: Global, line: &mut Words) -> Result<Option<Line>, Memory>
         b"turnfault" (code) => Line::Fault(code),
         b"filter" (answer = read_verdict) => Line::Filter(answer),
         b"error" (said = take_wish) => said,
+        b"hook" (said = take_words) => said,
         b"spawn" (answer = read_result) => Line::Spawn(answer),
         b"kill" (answer = read_result) => Line::Kill(answer),
         b"wait" (answer = read_result) => Line::Wait(answer),

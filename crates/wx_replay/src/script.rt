@@ -28,6 +28,7 @@ fn start(alloc: Global) -> Script
         actions: List::new(alloc),
         filters: List::new(alloc),
         errors: List::new(alloc),
+        hooks: List::new(alloc),
         answers: Answers::new(alloc),
         last: 0,
     }
@@ -116,6 +117,10 @@ fn add(script: &mut Script, said: Line) -> Result<bool, Memory>
         }
         Line::Wishes(wish) => {
             script.errors.push(wish)?;
+            Ok(true)
+        }
+        Line::Hook(words) => {
+            script.hooks.push(words)?;
             Ok(true)
         }
         Line::Spawn(answer) => {

@@ -27,10 +27,26 @@ struct Counts {
     shows: u32,
     hands: u32,
     made: u32,
+    asked: u32,
+    picks: u32,
+    hooks: u32,
+    // the words that hooks appended
+    words: u32,
+    spawns: u32,
+    // those of a spawn function, and those of a child function
+    commands: u32,
+    children: u32,
+    raises: u32,
+    drops: u32,
     gone: u32,
     ends: u32,
     // lines of no such sort, as what stands behind the last line feed
     others: u32,
+}
+
+/// This count, or the greatest that there is.
+fn small(count: usize) -> u32 {
+    u32::try_from(count).unwrap_or(u32::MAX)
 }
 
 /// One more.
@@ -63,8 +79,34 @@ impl Counts {
             Some(b"show") => up(&mut self.shows),
             Some(b"hand") => up(&mut self.hands),
             Some(b"made") => up(&mut self.made),
+            Some(b"asked") => up(&mut self.asked),
+            Some(b"pick") => up(&mut self.picks),
+            Some(b"hook") => self.add_hook(line),
+            Some(b"spawn") => self.add_spawn(&mut words),
+            Some(b"raise") => up(&mut self.raises),
+            Some(b"drop") => up(&mut self.drops),
             Some(b"gone") => up(&mut self.gone),
             Some(b"end") => up(&mut self.ends),
+            _ => up(&mut self.others),
+        }
+    }
+
+    /// Counts the call of a hook, and the words that it appended: its line has six without them.
+    fn add_hook(&mut self, line: &[u8]) {
+        up(&mut self.hooks);
+        let all = small(line.split(|byte| *byte == 32).count());
+        self.words = self.words.saturating_add(all.saturating_sub(6));
+    }
+
+    /// Counts a spawn with these words behind its first one.
+    fn add_spawn(&mut self, words: &mut Words) {
+        up(&mut self.spawns);
+        let _child = words.next();
+        let _job = words.next();
+        match words.next() {
+            Some(b"default") => {}
+            Some(b"command.7") => up(&mut self.commands),
+            Some(b"child.5") => up(&mut self.children),
             _ => up(&mut self.others),
         }
     }
@@ -91,11 +133,55 @@ impl Counts {
     }
 }
 
-/// An action line, and what it asks for.
+/// What a job is asked.
+#[derive(Clone, Copy)]
+enum Asked {
+    Start,
+    Hook,
+    Unhook,
+    Command,
+    Child,
+    Clear,
+}
+
+impl Asked {
+    /// The words of this control, each with a space before it.
+    fn words(self) -> &'static [u8] {
+        match self {
+            Asked::Start => b" start",
+            Asked::Hook => b" sethook 2",
+            Asked::Unhook => b" unsethook",
+            Asked::Command => b" setspawn 7",
+            Asked::Child => b" setchild 5",
+            Asked::Clear => b" clearspawn",
+        }
+    }
+}
+
+/// What spawns.
+#[derive(Clone, Copy)]
+enum Spawner {
+    Default,
+    Command,
+    Child,
+}
+
+/// A job: what it was asked, how much of that it picked, and what this left.
+#[derive(Drop)]
+struct Task {
+    asked: Vec<Asked>,
+    picked: usize,
+    is_hooked: bool,
+    spawner: Spawner,
+    runs: bool,
+}
+
+/// An action line, and what it asks for: so many new jobs, and then this of jobs.
 #[derive(Drop)]
 struct Action {
     line: Text,
     creates: u32,
+    asks: Vec<(u32, Asked)>,
     quits: bool,
 }
 
@@ -150,8 +236,8 @@ enum Outcome {
     Critical,
 }
 
-/// What is due where each event that passes is handed at once, and no job is asked anything. Of the events that wait some are
-/// urgent. Either each other event has a tag, or none has.
+/// What is due where each event that passes is handed at once, each spawn goes well, and no child ends before its run does. Of
+/// the events that wait some are urgent. Either each other event has a tag, or none has.
 #[derive(Drop)]
 struct Rules {
     size: u32,
@@ -162,6 +248,9 @@ struct Rules {
     wishes: Vec<Wished>,
     is_closed: bool,
     actions: Vec<Action>,
+    jobs: Vec<Task>,
+    // how many words each call of a hook appends
+    hooks: Vec<u32>,
     outcome: Outcome,
     is_over: bool,
     counts: Counts,
@@ -206,9 +295,9 @@ impl Rules {
     }
 
     /// A turn in which the worker acts.
-    fn work(&mut self) {
+    fn work(&mut self, alloc: Global) -> Result<(), Memory> {
         if !self.turn() {
-            return;
+            return Ok(());
         }
         if self.is_closed {
             self.is_over = true;
@@ -216,19 +305,21 @@ impl Rules {
             up(&mut self.counts.idle);
         } else {
             self.waiting -= 1;
-            self.take();
+            self.take(alloc)?;
         }
+        Ok(())
     }
 
     /// An event is taken, an urgent one where there is one, and handed where it passes.
-    fn take(&mut self) {
+    fn take(&mut self, alloc: Global) -> Result<(), Memory> {
         up(&mut self.counts.takes);
         if self.urgent > 0 {
             self.urgent -= 1;
-            self.hand();
+            self.hand(alloc)?;
         } else if !self.is_tagged || self.passes() {
-            self.hand();
+            self.hand(alloc)?;
         }
+        Ok(())
     }
 
     /// Whether the filter lets an event pass.
@@ -264,12 +355,19 @@ impl Rules {
     }
 
     /// An event is handed.
-    fn hand(&mut self) {
+    fn hand(&mut self, alloc: Global) -> Result<(), Memory> {
         if let Some(action) = self.actions.get(self.counts.hands as usize) {
-            self.counts.made = self.counts.made.saturating_add(action.creates);
+            for _ in 0..action.creates {
+                up(&mut self.counts.made);
+                self.jobs.push(Task::new(alloc))?;
+            }
+            for (job, asked) in &action.asks {
+                ask(&mut self.jobs, *job, *asked, &mut self.counts)?;
+            }
             self.is_over = action.quits;
         }
         up(&mut self.counts.hands);
+        Ok(())
     }
 
     /// A turn about a job or a child that isn't there.
@@ -279,12 +377,24 @@ impl Rules {
         }
     }
 
-    /// A turn of a job, which has nothing to do.
-    fn step(&mut self, job: u32) {
+    /// A turn that asks this of a job, which was made or was not.
+    fn ask(&mut self, job: u32, asked: Asked) -> Result<(), Memory> {
         if self.counts.made <= job {
             self.ignore();
         } else if self.turn() {
-            up(&mut self.counts.idle);
+            ask(&mut self.jobs, job, asked, &mut self.counts)?;
+        }
+        Ok(())
+    }
+
+    /// A turn of a job, which was made or was not.
+    fn step(&mut self, job: u32) {
+        if !self.turn() {
+            return;
+        }
+        match self.jobs.get_mut(job as usize) {
+            Some(task) => task.step(&self.hooks, &mut self.counts),
+            None => up(&mut self.counts.ignored),
         }
     }
 
@@ -302,6 +412,7 @@ impl Rules {
         self.is_over = true;
         self.counts.begins = 1;
         self.counts.gone = self.counts.made;
+        self.counts.drops = small(self.jobs.iter().filter(|task| task.runs).count());
         self.counts.ends = 1;
         self.counts.others = 1;
     }
@@ -331,6 +442,66 @@ impl Rules {
     }
 }
 
+impl Task {
+    /// A job that was asked nothing yet.
+    fn new(alloc: Global) -> Task {
+        Task {
+            asked: Vec::new(alloc),
+            picked: 0,
+            is_hooked: false,
+            spawner: Spawner::Default,
+            runs: false,
+        }
+    }
+
+    /// A step: the control that waits longest is picked, and done. Of the calls of hooks each appends so many words.
+    fn step(&mut self, hooks: &Vec<u32>, counts: &mut Counts) {
+        let Some(asked) = self.asked.get(self.picked).copied() else {
+            up(&mut counts.idle);
+            return;
+        };
+        self.picked = self.picked.saturating_add(1);
+        up(&mut counts.picks);
+        match asked {
+            Asked::Start => self.start(hooks, counts),
+            Asked::Hook => self.is_hooked = true,
+            Asked::Unhook => self.is_hooked = false,
+            Asked::Command => self.spawner = Spawner::Command,
+            Asked::Child => self.spawner = Spawner::Child,
+            Asked::Clear => self.spawner = Spawner::Default,
+        }
+        up(&mut counts.raises);
+    }
+
+    /// A child is spawned where none runs, behind the hook where one is set.
+    fn start(&mut self, hooks: &Vec<u32>, counts: &mut Counts) {
+        if self.runs {
+            return;
+        }
+        self.runs = true;
+        if self.is_hooked {
+            let words = hooks.get(counts.hooks as usize).copied();
+            counts.words = counts.words.saturating_add(words.unwrap_or(0));
+            up(&mut counts.hooks);
+        }
+        up(&mut counts.spawns);
+        match self.spawner {
+            Spawner::Default => {}
+            Spawner::Command => up(&mut counts.commands),
+            Spawner::Child => up(&mut counts.children),
+        }
+    }
+}
+
+/// This is asked of a job, where it was made.
+fn ask(jobs: &mut Vec<Task>, job: u32, asked: Asked, counts: &mut Counts) -> Result<(), Memory> {
+    if let Some(task) = jobs.get_mut(job as usize) {
+        up(&mut counts.asked);
+        task.asked.push(asked)?;
+    }
+    Ok(())
+}
+
 /// A script that is being drawn.
 #[derive(Drop)]
 struct Draft {
@@ -341,6 +512,9 @@ struct Draft {
     written: usize,
     answered: usize,
     wished: usize,
+    hooked: usize,
+    // the jobs that the action lines so far create
+    created: u32,
     rules: Rules,
 }
 
@@ -355,6 +529,8 @@ impl Draft {
             written: 0,
             answered: 0,
             wished: 0,
+            hooked: 0,
+            created: 0,
             rules: Rules {
                 size: 0,
                 waiting: 0,
@@ -364,6 +540,8 @@ impl Draft {
                 wishes: Vec::new(alloc),
                 is_closed: false,
                 actions: Vec::new(alloc),
+                jobs: Vec::new(alloc),
+                hooks: Vec::new(alloc),
                 outcome: Outcome::Well,
                 is_over: false,
                 counts: Counts::default(),
@@ -383,10 +561,14 @@ impl Draft {
             let action = draft.draw_action(alloc)?;
             draft.rules.actions.push(action)?;
         }
-        for _ in 0..10 + draft.draw(40) {
-            draft.put_line()?;
+        for _ in 0..draft.draw(4) {
+            let words = draft.draw(3);
+            draft.rules.hooks.push(words)?;
         }
-        draft.put_tail()?;
+        for _ in 0..20 + draft.draw(50) {
+            draft.put_line(alloc)?;
+        }
+        draft.put_tail(alloc)?;
         Ok(draft)
     }
 
@@ -398,28 +580,56 @@ impl Draft {
         self.rng.next_u32() % below
     }
 
-    /// An action line with up to three acts. An ask of a job that isn't there asks for nothing.
+    /// What is asked of a job.
+    fn draw_asked(&mut self) -> Asked {
+        match self.draw(14) {
+            0..=2 => Asked::Hook,
+            3 => Asked::Unhook,
+            4 | 5 => Asked::Command,
+            6 | 7 => Asked::Child,
+            8 => Asked::Clear,
+            _ => Asked::Start,
+        }
+    }
+
+    /// An action line with up to seven acts. An ask of a job that isn't there asks for nothing.
     fn draw_action(&mut self, alloc: Global) -> Result<Action, Memory> {
         let mut action = Action {
             line: Text::from_slice(alloc, b"action")?,
             creates: 0,
+            asks: Vec::new(alloc),
             quits: false,
         };
-        for _ in 0..self.draw(4) {
-            match self.draw(10) {
+        for _ in 0..self.draw(8) {
+            match self.draw(16) {
                 0 => {
                     action.line.append(b" quit")?;
                     action.quits = true;
                 }
-                1..=3 => action.line.append(b" ask 900 start")?,
+                1 | 2 => action.line.append(b" ask 900 start")?,
+                3..=12 if self.created > 0 => self.put_ask_of(&mut action)?,
                 _ => {
                     action.line.append(b" create exec ---- 1 a")?;
                     up(&mut action.creates);
+                    up(&mut self.created);
                 }
             }
         }
         action.line.push(10)?;
         Ok(action)
+    }
+
+    /// Something is asked of one of the jobs that were created so far.
+    fn put_ask_of(&mut self, action: &mut Action) -> Result<(), Memory>
+        requires { 0 < self.old.created }
+    {
+        let job = self.draw(self.created);
+        let asked = self.draw_asked();
+        action.line.append(b" ask ")?;
+        action.line.append_number(u64::from(job))?;
+        action.line.append(asked.words())?;
+        action.asks.push((job, asked))?;
+        Ok(())
     }
 
     /// What the filter answers to a call. It asks for the end less often.
@@ -499,20 +709,21 @@ impl Draft {
     }
 
     /// A line of any form that may stand in the middle.
-    fn put_line(&mut self) -> Result<(), Memory> {
-        match self.draw(21) {
+    fn put_line(&mut self, alloc: Global) -> Result<(), Memory> {
+        match self.draw(36) {
             0..=5 => self.put_arrival(),
-            6..=10 => {
-                self.rules.work();
+            6..=9 => {
+                self.rules.work(alloc)?;
                 self.put_turn(b" work\n")
             }
-            11..=13 => self.put_step(),
-            14 => self.put_ended(),
-            15 => self.put_ask(),
-            16 => self.put_unread(),
-            17 => self.put_answer(),
-            18 => self.put_verdict(),
-            19 => self.put_wish(),
+            10..=23 => self.put_step(),
+            24 => self.put_ended(),
+            25..=28 => self.put_ask(),
+            29 => self.put_unread(),
+            30 => self.put_answer(),
+            31 => self.put_verdict(),
+            32 => self.put_wish(),
+            33 => self.put_hook(),
             _ => self.put_action(),
         }
     }
@@ -527,7 +738,7 @@ impl Draft {
 
     /// A job takes a step, which was made or was not.
     fn put_step(&mut self) -> Result<(), Memory> {
-        let job = self.draw(6);
+        let job = self.draw(3);
         self.rules.step(job);
         self.put_turn(b" job ")?;
         self.put(b"", u64::from(job), b"\n")
@@ -537,19 +748,18 @@ impl Draft {
     fn put_ended(&mut self) -> Result<(), Memory> {
         self.rules.ignore();
         let child = u64::from(self.draw(3));
-        self.put_turn(b" ended ")?;
+        self.put_turn(b" ended 9")?;
         self.put(b"", child, b"\n")
     }
 
-    /// Something is asked of a job that isn't there.
+    /// Something is asked of a job, which was made or was not.
     fn put_ask(&mut self) -> Result<(), Memory> {
-        self.rules.ignore();
-        self.put_turn(b" ask 9")?;
-        let job = u64::from(self.draw(100));
-        match self.draw(2) {
-            0 => self.put(b"", job, b" start\n"),
-            _ => self.put(b"", job, b" stop\n"),
-        }
+        let job = self.draw(3);
+        let asked = self.draw_asked();
+        self.rules.ask(job, asked)?;
+        self.put_turn(b" ask ")?;
+        self.put(b"", u64::from(job), asked.words())?;
+        self.text.push(10)
     }
 
     /// A line that is not read.
@@ -561,11 +771,11 @@ impl Draft {
         }
     }
 
-    /// An answer to a call that does not come.
+    /// An answer to a call that does not come, or that a spawn goes well.
     fn put_answer(&mut self) -> Result<(), Memory> {
         match self.draw(4) {
-            0 => self.text.append(b"spawn fault 1\n"),
-            1 => self.text.append(b"kill ok\n"),
+            0 => self.text.append(b"spawn ok\n"),
+            1 => self.text.append(b"kill fault 1\n"),
             2 => self.text.append(b"wait error.1\n"),
             _ => self.text.append(b"wait fault 2\n"),
         }
@@ -598,14 +808,27 @@ impl Draft {
         Ok(())
     }
 
-    /// The actions, answers of the filter and wishes that are left, and at times a fault with lines behind it.
-    fn put_tail(&mut self) -> Result<(), Memory> {
+    /// The words of the next call of a hook, where such are left.
+    fn put_hook(&mut self) -> Result<(), Memory> {
+        if let Some(words) = self.rules.hooks.get(self.hooked).copied() {
+            self.put(b"hook ", u64::from(words), b"")?;
+            for _ in 0..words {
+                self.text.append(b" -v")?;
+            }
+            self.text.push(10)?;
+            self.hooked = self.hooked.saturating_add(1);
+        }
+        Ok(())
+    }
+
+    /// The actions, answers, wishes and words of hooks that are left, and at times a fault with lines behind it.
+    fn put_tail(&mut self, alloc: Global) -> Result<(), Memory> {
         if self.draw(4) == 0 {
             let code = self.rng.next_u32();
             self.rules.fail(code);
             self.put(b"turnfault ", u64::from(code), b"\n")?;
             for _ in 0..self.draw(5) {
-                self.put_line()?;
+                self.put_line(alloc)?;
             }
         }
         for _ in 0..self.rules.actions.len() {
@@ -616,6 +839,9 @@ impl Draft {
         }
         for _ in 0..self.rules.wishes.len() {
             self.put_wish()?;
+        }
+        for _ in 0..self.rules.hooks.len() {
+            self.put_hook()?;
         }
         self.rules.end();
         Ok(())

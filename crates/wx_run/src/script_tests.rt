@@ -158,6 +158,64 @@ fn reads_lines_about_errors(rt: HostRuntime) {
     }
 }
 
+/// How many calls of hooks the script of these bytes has words for, and how many words and bytes of them the first has.
+fn hook_counts(alloc: Global, bytes: &[u8]) -> Option<(usize, usize, usize)> {
+    let script = script_in(alloc, bytes)?;
+    let first = script.hooks.as_slice().first();
+    let words = first.map_or(0, |words| words.len());
+    let size = first
+        .and_then(|words| words.first())
+        .map_or(0, |word| word.len());
+    Some((script.hooks.len(), words, size))
+}
+
+#[test]
+fn reads_lines_about_hooks(rt: HostRuntime) {
+    let alloc = rt.alloc();
+    let table: [(&[u8], (usize, usize, usize)); 5] = [
+        (b"", (0, 0, 0)),
+        (b"hook 0\nhook 1 -v\n", (2, 0, 0)),
+        (b"hook 2 a%20b %\n", (1, 2, 3)),
+        (
+            b"send low 0\nhook 1 %\nturn 0 work\nhook 0\naction ask 0 sethook 4294967295 ask 0 unsethook\nhook 0\n",
+            (3, 1, 0),
+        ),
+        (
+            b"turn 0 ask 0 setspawn 0\nturn 0 ask 0 setchild 7\nturn 0 ask 0 clearspawn\nhook 3 x y z\n",
+            (1, 3, 1),
+        ),
+    ];
+    for (bytes, want) in table {
+        assert!(rt; hook_counts(alloc, bytes) == Some(want), "at {bytes:?}");
+    }
+}
+
+#[test]
+fn refuses_lines_about_hooks(rt: HostRuntime) {
+    let alloc = rt.alloc();
+    let table: [&[u8]; 16] = [
+        b"hook\n",
+        b"hook -v\n",
+        b"hook 1\n",
+        b"hook 1 -v -x\n",
+        b"hook 2 -v\n",
+        b"hook 01 -v\n",
+        b"hook 0 \n",
+        b"action ask 0 sethook\n",
+        b"action ask 0 sethook 4294967296\n",
+        b"action ask 0 unsethook 2\n",
+        b"action ask 0 setspawn x\n",
+        b"action ask 0 clearspawn 0\n",
+        b"turn 0 ask 0 setchild\n",
+        b"action create shell ---- sh 0 some -c a 0\n",
+        b"action create shell ---- sh quoted 0 -c a 0\n",
+        b"action create shell ---- sh quoted 0 some -c a\n",
+    ];
+    for bytes in table {
+        assert!(rt; bad_line(alloc, bytes) == Some(1), "at {bytes:?}");
+    }
+}
+
 #[test]
 fn refuses_lines_about_jobs(rt: HostRuntime) {
     let alloc = rt.alloc();

@@ -224,6 +224,100 @@ fn a_wish_of_memory_ends_as_want_of_it(rt: HostRuntime) -> Result<(), Fail> {
 }
 
 #[test]
+fn runs_with_hooks_and_functions(rt: HostRuntime) -> Result<(), Fail> {
+    let table: [(&[u8], &[u8]); 4] = [
+        // a hook appends its words, and a function spawns
+        (
+            b"hook 1 -v\naction create exec ---- 1 a ask 0 sethook 2 ask 0 setspawn 7 ask 0 start\nsend urgent 0\nturn 0 work\nturn 1 job 0\nturn 2 job 0\nturn 3 job 0\n",
+            b"sent 0 urgent 0\nturn 0 work\ntake 0\nhand 0 1 0 create 0 exec ---- 1 a ask 0 sethook 2 ask 0 setspawn 7 ask 0 start\nmade 0\nasked 0 0 normal sethook 2\nasked 1 0 normal setspawn 7\nasked 2 0 normal start\nturn 1 job 0\npick 0 0\nraise 0\nturn 2 job 0\npick 0 1\nraise 1\nturn 3 job 0\npick 0 2\nhook 0 2 ---- 2 a -v\nspawn 0 0 command.7 ---- 2 a -v ok\nraise 2\nturn 3 last\ndrop 0\ngone 0\nend ok lost 0\n",
+        ),
+        // each call takes the next words, one behind the last takes none, and a hook that is unset isn't called
+        (
+            b"hook 0\naction create exec gs-- 2 a b ask 0 sethook 2 ask 0 start ask 0 stop ask 0 sethook 4 ask 0 start ask 0 stop ask 0 start ask 0 stop ask 0 unsethook ask 0 start\nhook 2 -x a%20b\nsend urgent 0\nturn 0 work\nturn 1 job 0\nturn 2 job 0\nturn 3 job 0\nturn 4 job 0\nturn 5 job 0\nturn 6 job 0\nturn 7 job 0\nturn 8 job 0\nturn 9 job 0\nturn 10 job 0\n",
+            b"sent 0 urgent 0\nturn 0 work\ntake 0\nhand 0 1 0 create 0 exec gs-- 2 a b ask 0 sethook 2 ask 0 start ask 0 stop ask 0 sethook 4 ask 0 start ask 0 stop ask 0 start ask 0 stop ask 0 unsethook ask 0 start\nmade 0\nasked 0 0 normal sethook 2\nasked 1 0 normal start\nasked 2 0 normal stop\nasked 3 0 normal sethook 4\nasked 4 0 normal start\nasked 5 0 normal stop\nasked 6 0 normal start\nasked 7 0 normal stop\nasked 8 0 normal unsethook\nasked 9 0 normal start\nturn 1 job 0\npick 0 0\nraise 0\nturn 2 job 0\npick 0 1\nhook 0 2 gs-- 2 a b\nspawn 0 0 default gs-- 2 a b ok\nraise 1\nturn 3 job 0\npick 0 2\nkill 0 ok\nwait 0 success\nraise 2\nturn 4 job 0\npick 0 3\nraise 3\nturn 5 job 0\npick 0 4\nhook 0 4 gs-- 4 a b -x a%20b\nspawn 1 0 default gs-- 4 a b -x a%20b ok\nraise 4\nturn 6 job 0\npick 0 5\nkill 1 ok\nwait 1 success\nraise 5\nturn 7 job 0\npick 0 6\nhook 0 4 gs-- 2 a b\nspawn 2 0 default gs-- 2 a b ok\nraise 6\nturn 8 job 0\npick 0 7\nkill 2 ok\nwait 2 success\nraise 7\nturn 9 job 0\npick 0 8\nraise 8\nturn 10 job 0\npick 0 9\nspawn 3 0 default gs-- 2 a b ok\nraise 9\nturn 10 last\ndrop 3\ngone 0\nend ok lost 0\n",
+        ),
+        // calls of hooks are counted over all jobs, and a fault behind a hook leaves no child
+        (
+            b"hook 1 x\nhook 1 y\nspawn ok\nspawn fault 3\naction create exec ---- 1 a create exec ---- 1 b ask 0 sethook 0 ask 1 sethook 0 ask 0 start ask 1 start\nsend urgent 0\nturn 0 work\nturn 1 job 0\nturn 1 job 1\nturn 2 job 1\nturn 3 job 0\n",
+            b"sent 0 urgent 0\nturn 0 work\ntake 0\nhand 0 1 0 create 0 exec ---- 1 a create 1 exec ---- 1 b ask 0 sethook 0 ask 1 sethook 0 ask 0 start ask 1 start\nmade 0\nmade 1\nasked 0 0 normal sethook 0\nasked 1 1 normal sethook 0\nasked 2 0 normal start\nasked 3 1 normal start\nturn 1 job 0\npick 0 0\nraise 0\nturn 1 job 1\npick 1 1\nraise 1\nturn 2 job 1\npick 1 3\nhook 1 0 ---- 2 b x\nspawn 0 1 default ---- 2 b x ok\nraise 3\nturn 3 job 0\npick 0 2\nhook 0 0 ---- 2 a y\nspawn 1 0 default ---- 2 a y fault 3\nraise 2\nturn 3 last\ngone 0\ndrop 0\ngone 1\nend ok lost 0\n",
+        ),
+        // a child function spawns until functions are cleared
+        (
+            b"action create exec ---- 1 a ask 0 setspawn 7 ask 0 setchild 5 ask 0 start ask 0 stop ask 0 clearspawn ask 0 start\nsend urgent 0\nturn 0 work\nturn 1 job 0\nturn 2 job 0\nturn 3 job 0\nturn 4 job 0\nturn 5 job 0\nturn 6 job 0\n",
+            b"sent 0 urgent 0\nturn 0 work\ntake 0\nhand 0 1 0 create 0 exec ---- 1 a ask 0 setspawn 7 ask 0 setchild 5 ask 0 start ask 0 stop ask 0 clearspawn ask 0 start\nmade 0\nasked 0 0 normal setspawn 7\nasked 1 0 normal setchild 5\nasked 2 0 normal start\nasked 3 0 normal stop\nasked 4 0 normal clearspawn\nasked 5 0 normal start\nturn 1 job 0\npick 0 0\nraise 0\nturn 2 job 0\npick 0 1\nraise 1\nturn 3 job 0\npick 0 2\nspawn 0 0 child.5 ---- 1 a ok\nraise 2\nturn 4 job 0\npick 0 3\nkill 0 ok\nwait 0 success\nraise 3\nturn 5 job 0\npick 0 4\nraise 4\nturn 6 job 0\npick 0 5\nspawn 1 0 default ---- 1 a ok\nraise 5\nturn 6 last\ndrop 1\ngone 0\nend ok lost 0\n",
+        ),
+    ];
+    for (script, journal) in table {
+        let (sink, status) = run(rt.alloc(), b"replay", script)?;
+        assert!(rt; sink.text().as_slice().ends_with(journal), "for {script:?}");
+        assert!(rt; status == Status::Done);
+    }
+    Ok(())
+}
+
+/// What is written, and how it ends, where a job with this command is created, asked to start, and takes a step.
+fn run_starting(alloc: Global, command: &[u8]) -> Result<(MemSink, Status), Memory> {
+    let back = b" ask 0 start\nsend urgent 0\nturn 0 work\nturn 1 job 0\n";
+    let script = text_about(alloc, b"action create ", command, back)?;
+    run(alloc, b"replay", script.as_slice())
+}
+
+#[test]
+fn commands_spawn_their_words(rt: HostRuntime) -> Result<(), Fail> {
+    let table: [(&[u8], &[u8]); 8] = [
+        (b"exec --rf 3 echo a%20b %", b"--rf 3 echo a%20b %"),
+        // the shell can give its place to the program
+        (
+            b"shell ---- sh quoted 0 some -c make%20x 0",
+            b"---- 3 sh -c exec%20make%20x",
+        ),
+        (
+            b"shell ---- sh quoted 0 some -c bun%20run%20src/test.ts 0",
+            b"---- 3 sh -c exec%20bun%20run%20src/test.ts",
+        ),
+        (
+            b"shell g--- bash raw 2 -l -x none cmd%20$(echo%20sub) 1 z",
+            b"g--- 5 bash -l -x exec%20cmd%20$(echo%20sub) z",
+        ),
+        // it can't
+        (
+            b"shell ---- sh quoted 0 some -c make%20build%20&&%20make%20test 0",
+            b"---- 3 sh -c make%20build%20&&%20make%20test",
+        ),
+        (
+            b"shell -s-- sh raw 1 -e some -c FOO=1%20./run.sh 2 z %",
+            b"-s-- 6 sh -e -c FOO=1%20./run.sh z %",
+        ),
+        (
+            b"shell ---- sh quoted 0 some -c time%20make 0",
+            b"---- 3 sh -c time%20make",
+        ),
+        (b"shell ---- sh quoted 0 none % 0", b"---- 2 sh %"),
+    ];
+    for (command, spawned) in table {
+        let (sink, status) = run_starting(rt.alloc(), command)?;
+        let hand = text_about(
+            rt.alloc(),
+            b"\nhand 0 1 0 create 0 ",
+            command,
+            b" ask 0 start\nmade 0\nasked 0 0 normal start\nturn 1 job 0\npick 0 0\nspawn 0 0 default ",
+        )?;
+        let want = text_about(
+            rt.alloc(),
+            hand.as_slice(),
+            spawned,
+            b" ok\nraise 0\nturn 1 last\ndrop 0\ngone 0\nend ok lost 0\n",
+        )?;
+        assert!(rt;
+            sink.text().as_slice().ends_with(want.as_slice()),
+            "of {command:?}"
+        );
+        assert!(rt; status == Status::Done);
+    }
+    Ok(())
+}
+
+#[test]
 fn jobs_that_go_on(rt: HostRuntime) -> Result<(), Fail> {
     let table: [(&[u8], &[u8]); 2] = [
         // a job is stopped and started again, and its second child ends

@@ -3,7 +3,7 @@ use Rattle.wx_journal.specs.declared.entry.TurnKind.TheVariants.{Job}
 use Rattle.wx_job.specs.History.{lives}
 use Rattle.wx_action.proofs.TurnLaws.{at_turn}
 use Rattle.wx_action.proofs.HeldLemmas.{alive_is}
-use Rattle.wx_action.proofs.JobLemmas.{step_owed}
+use Rattle.wx_action.proofs.JobLemmas.{step_owed, steps_settled}
 use Rattle.wx_action.proofs.Serving.{continues_grows}
 use Rattle.wx_action.proofs.job_turns.job_turn.Goals as goal
 
@@ -24,3 +24,6 @@ take_step-requires g c = λ κs lent.
 
 pub returns-then-not-lives-clause-continues : goal.returns-then-not-lives-clause-continues
 returns-then-not-lives-clause-continues g c = continues_grows _ _ _ _ _ _ _ _ _ _ c.ignored.ensures.grows
+
+pub returns-then-not-lives-clause-steps : goal.returns-then-not-lives-clause-steps
+returns-then-not-lives-clause-steps g c = steps_settled _ _ _ _ c.ignored.ensures.settles

@@ -1,13 +1,14 @@
-use Rattle.std.proofs.Common.{◌*◌, arith, refl, ap, subst}
+use Rattle.std.proofs.Common.{rules, ◌*◌, arith, refl, ap, subst}
 use Rattle.wx_job.specs.declared.task.JobTask.{JobTask}
-use Rattle.wx_job.specs.Stands.{Stands as TaskStands}
+use Rattle.wx_job.specs.Table.{step_plan}
+use Rattle.wx_job.specs.Stands.{Stands as TaskStands, id_of, command_of}
 use Rattle.wx_action.specs.Due.{Open}
 use Rattle.wx_action.specs.HeldJobs.{with_task}
 use Rattle.wx_action.proofs.FaultLaws.{counts_on}
 use Rattle.wx_action.proofs.PlanLemmas.{JobDone}
 use Rattle.wx_action.proofs.JobListLemmas.{length_with}
-use Rattle.wx_action.proofs.JobLemmas.{lent, same_lent, alive_held, step_done}
-use Rattle.wx_action.proofs.Serving.{continues_none}
+use Rattle.wx_action.proofs.HandLemmas.{on_err}
+use Rattle.wx_action.proofs.JobLemmas.{lent, alive_held, step_done, StepStopped, step_stopped}
 use Rattle.wx_action.proofs.job_turns.step_of.Goals as goal
 
 pub task_mut-task-requires : goal.task_mut-task-requires
@@ -18,12 +19,22 @@ step-requires-clause-stands g c =
     let l = lent g.start c.args.worker.now c.args.journal.now.past c.args.id c.task_mut-task.result.now c.requires.1.1.1.0 c.task_mut-task.ensures.task in
     subst (λ (k : JobTask). TaskStands k c.args.journal.now.past) l.task_is l.stood.task_stands
 
-pub returns-in_err-step-clause-continues : goal.returns-in_err-step-clause-continues
-returns-in_err-step-clause-continues g c =
+stopped : (g : _) (c : goal.After-from_residual g) → StepStopped g.start (record c.args.worker.now { jobs = with_task c.args.id c.args.worker.now.jobs c.step.new.self }) c.args.journal.now.past c.step.new.journal.past
+    (g.W.Outside.seen c.args.host.now).shown.told (g.W.Outside.seen c.step.new.host).shown.told (g.H.JobHooks.seen c.args.hooks.now).told (g.H.JobHooks.seen c.step.new.hooks).told
+stopped g c =
     let l = lent g.start c.args.worker.now c.args.journal.now.past c.args.id c.task_mut-task.result.now c.requires.1.1.1.0 c.task_mut-task.ensures.task in
-    let undone = c.in_err-step.ensures.err in
-    let stands = same_lent g.start c.args.worker.now _ c.args.id c.task_mut-task.result.now c.step.new.self c.args.journal.now.past c.step.new.journal.past c.requires.1.1.1.0 (ap (λ j. j.past) undone.journal) l refl refl c.step.ensures.job c.step.ensures.stands in
-    continues_none _ _ _ _ _ _ _ _ _ _ _ stands (ap (λ j. j.past) undone.journal) (ap (λ h. g.W.Outside.seen h) undone.host) c.step.ensures.hooks
+    step_stopped (λ h. g.W.Outside.seen h) (λ x. (g.H.JobHooks.seen x).told) g.start c.args.worker.now _ c.args.at c.args.id c.task_mut-task.result.now c.step.new.self c.args.journal.now c.step.new.journal c.args.host.now c.step.new.host c.args.hooks.now c.step.new.hooks c.requires.1.1.1.0 c.requires.1.1.0 l refl refl
+    c.step.ensures.job c.step.ensures.stands (c.step.ensures.leaves.others c.requires.1.1.1.0.orderly.own) c.in_err-step.ensures.err
+
+pub returns-in_err-step-clause-continues : goal.returns-in_err-step-clause-continues
+returns-in_err-step-clause-continues g c = let d = stopped g c in record {
+  stands = d.stands;
+  serves = record { follows = d.follows; turns = d.turns; counts = counts_on _ _ _ _ c.step.ensures.faults; steady = c.step.ensures.spends.steady };
+  keeps = c.step.ensures.keeps;
+}
+
+pub returns-in_err-step-clause-steps : goal.returns-in_err-step-clause-steps
+returns-in_err-step-clause-steps g c = record { done = search rules; err = on_err c.from_residual.result (stopped g c).leaves }
 
 pub returns-in_err-step-clause-room : goal.returns-in_err-step-clause-room
 returns-in_err-step-clause-room g c = let same = length_with c.args.id c.args.worker.now.jobs c.step.new.self in record {
@@ -31,7 +42,7 @@ returns-in_err-step-clause-room g c = let same = length_with c.args.id c.args.wo
   in_host = omega (arith, ap (λ n. 2 * n) same, c.requires.1.1.1.1.1.0, c.step.ensures.spends.in_host);
 }
 
-done : (g : _) (c : goal.In_ok-step g) → JobDone g.start (record c.args.worker.now { jobs = with_task c.args.id c.args.worker.now.jobs c.step.new.self }) Open c.args.journal.now.past c.step.new.journal.past
+done : (g : _) (c : goal.In_ok-step g) → JobDone g.start (record c.args.worker.now { jobs = with_task c.args.id c.args.worker.now.jobs c.step.new.self }) (step_plan (id_of c.task_mut-task.result.now) (command_of c.task_mut-task.result.now) c.args.journal.now.past) Open c.args.journal.now.past c.step.new.journal.past
     (g.W.Outside.seen c.args.host.now).shown.told (g.W.Outside.seen c.step.new.host).shown.told (g.H.JobHooks.seen c.args.hooks.now).told (g.H.JobHooks.seen c.step.new.hooks).told
 done g c =
     let l = lent g.start c.args.worker.now c.args.journal.now.past c.args.id c.task_mut-task.result.now c.requires.1.1.1.0 c.task_mut-task.ensures.task in
@@ -45,8 +56,8 @@ returns-clause-continues g c = let d = done g c in record {
   keeps = c.step.ensures.keeps;
 }
 
-pub returns-clause-settles : goal.returns-clause-settles
-returns-clause-settles g c = record { done = (done g c).done; err = tt }
+pub returns-clause-steps : goal.returns-clause-steps
+returns-clause-steps g c = record { done = (done g c).done; err = tt }
 
 pub returns-clause-room : goal.returns-clause-room
 returns-clause-room g c = let same = length_with c.args.id c.args.worker.now.jobs c.step.new.self in record {

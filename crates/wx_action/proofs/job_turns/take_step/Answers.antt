@@ -1,3 +1,4 @@
+use Rattle.wx_action.proofs.JobLemmas.{steps_after}
 use Rattle.wx_action.proofs.Serving.{continues_after}
 use Rattle.wx_action.proofs.job_turns.take_step.Goals as goal
 
@@ -15,3 +16,6 @@ step_of-requires g c = λ κs lives. (
 
 pub returns-clause-continues : goal.returns-clause-continues
 returns-clause-continues g c = continues_after _ _ _ _ _ _ _ _ _ _ _ _ _ _ c.in_ok-reserve.ensures.same c.in_ok-reserve_host.ensures.rest c.in_ok-reserve-2.ensures.rest c.step_of.ensures.continues
+
+pub returns-clause-steps : goal.returns-clause-steps
+returns-clause-steps g c = steps_after _ _ _ _ _ c.in_ok-reserve.ensures.same c.step_of.ensures.steps

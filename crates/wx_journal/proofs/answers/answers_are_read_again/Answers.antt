@@ -1,4 +1,4 @@
-use Rattle.wx_journal.specs.Answers.{done, waited, verdict}
+use Rattle.wx_journal.specs.Answers.{done, waited, verdict, hooked}
 use Rattle.wx_journal.proofs.answers.answers_are_read_again.Goals as goal
 
 pub returns-clause-done : goal.returns-clause-done
@@ -18,3 +18,9 @@ returns-clause-verdict c = verdict.form
 
 pub returns-clause-verdict_clean : goal.returns-clause-verdict_clean
 returns-clause-verdict_clean c = verdict.clean
+
+pub returns-clause-hooked : goal.returns-clause-hooked
+returns-clause-hooked c = hooked.form
+
+pub returns-clause-hooked_clean : goal.returns-clause-hooked_clean
+returns-clause-hooked_clean c = hooked.clean

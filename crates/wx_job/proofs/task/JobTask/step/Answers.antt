@@ -1,15 +1,19 @@
-use Rattle.wx_job.specs.Kept.{Past}
-use Rattle.wx_job.proofs.StepLaws.{step_left, step_quiet, counted, undone_past, undone_host}
+use Rattle.wx_job.specs.Kept.{Still}
+use Rattle.wx_job.proofs.KeptLemmas.{promised}
+use Rattle.wx_job.proofs.StepLaws.{Stepped, stepped, on_stops}
 use Rattle.wx_job.proofs.task.JobTask.step.Goals as goal
 
-pub returns-clause-leaves : goal.returns-clause-leaves
-returns-clause-leaves g c = (step_left (λ p. g.K.JobHooks.stands c.args.hooks.now p) (g.met.K.JobHooks.stands_other c.args.hooks.now) c.walk.result c.args.self.now.id c.args.self.now.command c.args.journal.now.past c.walk.new.journal.past _ _ c.walk.ensures.follows (undone_past c.walk.result _ _ _ _ _ _ c.walk.ensures.err)).leaves
+done : (g : _) (c : goal.After-walk g) → Stepped c.args.self.now.id c.args.journal.now.past (g.H.Outside.seen c.args.host.now).shown.faults c.walk.new.journal.past (g.H.Outside.seen c.walk.new.host).shown.faults
+done g c = stepped (λ h. g.H.Outside.seen h) (λ x. (g.K.JobHooks.seen x).told) c.walk.result c.args.self.now.id c.args.self.now.command _ _ _ _ _ _ _ _ c.walk.ensures.leads c.walk.ensures.err
 
-pub returns-clause-hooks_stand : goal.returns-clause-hooks_stand
-returns-clause-hooks_stand g c own = (step_left (λ p. g.K.JobHooks.stands c.args.hooks.now p) (g.met.K.JobHooks.stands_other c.args.hooks.now) c.walk.result c.args.self.now.id c.args.self.now.command c.args.journal.now.past c.walk.new.journal.past _ _ c.walk.ensures.follows (undone_past c.walk.result _ _ _ _ _ _ c.walk.ensures.err)).calm own
+pub returns-clause-leaves : goal.returns-clause-leaves
+returns-clause-leaves g c = (done g c).left.leaves
 
 pub returns-clause-faults : goal.returns-clause-faults
-returns-clause-faults g c = counted (λ h. g.H.Outside.seen h) c.walk.result _ _ _ _ _ c.walk.ensures.follows (undone_past c.walk.result _ _ _ _ _ _ c.walk.ensures.err) (undone_host c.walk.result _ _ _ _ _ _ c.walk.ensures.err)
+returns-clause-faults g c = (done g c).counted
 
-pub returns-clause-keeps : goal.returns-clause-keeps
-returns-clause-keeps g c = λ x₀ p₀ k. Past _ _ _ k (step_quiet c.walk.result _ _ _ _ _ c.walk.ensures.follows (undone_past c.walk.result _ _ _ _ _ _ c.walk.ensures.err))
+pub returns-clause-promised : goal.returns-clause-promised
+returns-clause-promised g c own = promised (λ x. g.K.JobHooks.seen x) (λ plan. g.K.JobHooks.rule plan) (λ x. g.K.JobHooks.stands x) c.args.hooks.now c.args.journal.now.past c.walk.new.hooks c.walk.new.journal.past (λ y. g.met.K.JobHooks.stands_other y) ((done g c).left.leaves.others own).own (c.walk.ensures.keeps _ _ Still)
+
+pub returns-clause-err : goal.returns-clause-err
+returns-clause-err g c = on_stops c.walk.result _ _ _ _ _ _ _ _ _ _ _ _ _ _ _ c.walk.ensures.err

@@ -1,0 +1,6 @@
+use Rattle.wx_job.specs.Kept.{Past}
+use Rattle.wx_job.proofs.KeptLemmas.{quiet-followed}
+use Rattle.wx_job.proofs.task.JobTask.control.Goals as goal
+
+pub returns-in-Stop-clause-keeps : goal.returns-in-Stop-clause-keeps
+returns-in-Stop-clause-keeps g c = λ x₀ p₀ k. Past _ _ _ k (quiet-followed _ _ _ _ _ _ c.stop.ensures.follows)

@@ -1,0 +1,12 @@
+// What is shown of a job to what it calls.
+
+use crate::state::CommandState;
+use wx_command::Command;
+
+/// A job as it is shown to what it calls: its command, how far this is, and how far it was before the last spawn.
+#[derive(Drop, Debug)]
+pub struct JobTaskContext<'a> {
+    pub command: &'a Command,
+    pub current: &'a CommandState,
+    pub previous: Option<&'a CommandState>,
+}
