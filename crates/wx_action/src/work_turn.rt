@@ -454,9 +454,9 @@ fn hand<W: Host, H: Hooks>(
 }
 
 /// One Work turn: what it collects is handed to the action handler where it is due, what this asks for is done, and the
-/// answer says whether the run goes on. It fails only for want of memory, and not while an event is to be shown or a window
-/// to be handed behind an entry of its own. Where no urgent event waited, none waits
-/// afterwards. Where there was room for the end of all jobs, there is.
+/// answer says whether the run goes on. It fails where the error handler wished that the run ends with an error, and for want
+/// of memory, but not while an event is to be shown or a window to be handed behind an entry of its own. Where no urgent event
+/// waited, none waits afterwards. Where there was room for the end of all jobs, there is.
 #[tactic(auto, using(wx_job::proofs::KeptLemmas::kept))]
 pub fn worker<W: Host, H: Hooks>(
     alloc: Global,
