@@ -281,7 +281,7 @@ fn refuses_bad_shells(rt: HostRuntime) -> Result<(), Fail> {
         b"shell ---- s%h quoted 1 -e some -c a 1 b",
         b"shell ---- sh quotes 1 -e some -c a 1 b",
         b"shell ---- sh Quoted 1 -e some -c a 1 b",
-        b"shell ---- sh row 1 -e some -c a 1 b",
+        b"shell ---- sh rav 1 -e some -c a 1 b",
         b"shell ---- sh quoted 0 -e some -c a 1 b",
         b"shell ---- sh quoted 2 -e some -c a 1 b",
         b"shell ---- sh quoted 1 %e some -c a 1 b",

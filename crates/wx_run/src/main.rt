@@ -6,6 +6,8 @@ mod feeding_tests;
 #[cfg(test)]
 mod random;
 #[cfg(test)]
+mod random_counts;
+#[cfg(test)]
 mod script_tests;
 mod standard;
 #[cfg(test)]

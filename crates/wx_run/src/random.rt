@@ -1,6 +1,7 @@
 // Random scripts. How many lines of each sort their journals have is known by counting alone.
 ghost use Rattle.std.specs.Prelude.{◌<◌};
 
+use crate::random_counts::{Counts, small, up};
 use crate::top::wx_main;
 use rand_pcg::Pcg32;
 use rand_pcg::rand_core::Rng;
@@ -8,130 +9,6 @@ use std::alloc::Global;
 use std::test::Fail;
 use wx_events::{Memory, Text};
 use wx_replay::{MemSink, MemSource, Status};
-use wx_words::Words;
-
-/// How many lines of each sort a journal has.
-#[derive(Clone, Copy, Default, PartialEq, Debug)]
-struct Counts {
-    begins: u32,
-    sent: u32,
-    turns: u32,
-    faults: u32,
-    queued: u32,
-    full: u32,
-    closed: u32,
-    idle: u32,
-    ignored: u32,
-    takes: u32,
-    filters: u32,
-    shows: u32,
-    hands: u32,
-    made: u32,
-    asked: u32,
-    picks: u32,
-    hooks: u32,
-    // the words that hooks appended
-    words: u32,
-    spawns: u32,
-    // those of a spawn function, and those of a child function
-    commands: u32,
-    children: u32,
-    raises: u32,
-    drops: u32,
-    gone: u32,
-    ends: u32,
-    // lines of no such sort, as what stands behind the last line feed
-    others: u32,
-}
-
-/// This count, or the greatest that there is.
-fn small(count: usize) -> u32 {
-    u32::try_from(count).unwrap_or(u32::MAX)
-}
-
-/// One more.
-fn up(count: &mut u32) {
-    *count = count.saturating_add(1);
-}
-
-impl Counts {
-    /// The counts of all lines of this text.
-    fn of(text: &[u8]) -> Counts {
-        let mut counts = Counts::default();
-        for line in text.split(|byte| *byte == 10) {
-            counts.add(line);
-        }
-        counts
-    }
-
-    /// Counts this line.
-    fn add(&mut self, line: &[u8]) {
-        let mut words = Words::new(line);
-        match words.next() {
-            Some(b"begin") => up(&mut self.begins),
-            Some(b"sent") => up(&mut self.sent),
-            Some(b"turn") => up(&mut self.turns),
-            Some(b"turnfault") => up(&mut self.faults),
-            Some(b"offer") => self.add_offer(&mut words),
-            Some(b"word") => self.add_word(&mut words),
-            Some(b"take") => up(&mut self.takes),
-            Some(b"filter") => up(&mut self.filters),
-            Some(b"show") => up(&mut self.shows),
-            Some(b"hand") => up(&mut self.hands),
-            Some(b"made") => up(&mut self.made),
-            Some(b"asked") => up(&mut self.asked),
-            Some(b"pick") => up(&mut self.picks),
-            Some(b"hook") => self.add_hook(line),
-            Some(b"spawn") => self.add_spawn(&mut words),
-            Some(b"raise") => up(&mut self.raises),
-            Some(b"drop") => up(&mut self.drops),
-            Some(b"gone") => up(&mut self.gone),
-            Some(b"end") => up(&mut self.ends),
-            _ => up(&mut self.others),
-        }
-    }
-
-    /// Counts the call of a hook, and the words that it appended: its line has six without them.
-    fn add_hook(&mut self, line: &[u8]) {
-        up(&mut self.hooks);
-        let all = small(line.split(|byte| *byte == 32).count());
-        self.words = self.words.saturating_add(all.saturating_sub(6));
-    }
-
-    /// Counts a spawn with these words behind its first one.
-    fn add_spawn(&mut self, words: &mut Words) {
-        up(&mut self.spawns);
-        let _child = words.next();
-        let _job = words.next();
-        match words.next() {
-            Some(b"default") => {}
-            Some(b"command.7") => up(&mut self.commands),
-            Some(b"child.5") => up(&mut self.children),
-            _ => up(&mut self.others),
-        }
-    }
-
-    /// Counts an offer with these words behind its first one.
-    fn add_offer(&mut self, words: &mut Words) {
-        let _event = words.next();
-        let _item = words.next();
-        match words.next() {
-            Some(b"queued") => up(&mut self.queued),
-            Some(b"full") => up(&mut self.full),
-            Some(b"closed") => up(&mut self.closed),
-            _ => up(&mut self.others),
-        }
-    }
-
-    /// Counts a word with these words behind its first one.
-    fn add_word(&mut self, words: &mut Words) {
-        match words.next() {
-            Some(b"idle") => up(&mut self.idle),
-            Some(b"ignored") => up(&mut self.ignored),
-            _ => up(&mut self.others),
-        }
-    }
-}
 
 /// What a job is asked.
 #[derive(Clone, Copy)]
