@@ -8,14 +8,14 @@ use Rattle.wx_journal.specs.declared.entry.Entry.{Entry}
 use Rattle.wx_journal.specs.declared.entry.Entry.TheVariants.{Dropped, Gone}
 use Rattle.wx_journal.specs.Names.{NamesItsOwn}
 use Rattle.wx_journal.specs.Told.{tell_if, is_world, is_hooks, anywhere}
-use Rattle.wx_job.specs.History.{same, lives, child, unless}
+use Rattle.wx_job.specs.History.{same, lives, child, unless, command}
 use Rattle.wx_job.specs.Table.{Plan, Done, adds, drop_plan, end_plan}
 use Rattle.wx_job.specs.Case.{Admits as Follows, next, Leads as Led, Here, Then as OneMore}
 use Rattle.wx_job.proofs.Owners.{self}
 use Rattle.wx_action.specs.Told.{TellsOn}
 use Rattle.wx_action.specs.Start.{Start}
 use Rattle.wx_action.specs.Journal.{window}
-use Rattle.wx_action.specs.Jobs.{set, jobs, command, first_end, end}
+use Rattle.wx_action.specs.Jobs.{set, jobs, first_end, end}
 use Rattle.wx_action.specs.Due.{Agenda, Ends, settle, agenda, Admits, Due, rest, IsRun}
 use Rattle.wx_action.specs.Answer.{Dying, Alive, Dies}
 use Rattle.wx_action.specs.Laws.{IsBatched, AreBatches, NoneUrgentWaits, NoneUnseenIsShown, NoneIsShownClosed, AreMadeOnce, AreServed}

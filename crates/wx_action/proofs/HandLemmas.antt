@@ -10,7 +10,7 @@ use Rattle.wx_journal.specs.Acts.{JournalAct as Act}
 use Rattle.wx_journal.specs.declared.entry.Act.TheVariants.{Create, Ask, Quit}
 use Rattle.wx_journal.specs.Names.{next_job}
 use Rattle.wx_journal.specs.Told.{tell}
-use Rattle.wx_job.specs.History.{lives}
+use Rattle.wx_job.specs.History.{lives, creation, or_else, command}
 use Rattle.wx_job.specs.Table.{Plan, Done}
 use Rattle.wx_action.specs.declared.handler.Todo.{Todo}
 use Rattle.wx_action.specs.declared.worker_state.Held.{Held}
@@ -18,7 +18,7 @@ use Rattle.wx_action.specs.declared.worker_state.Worker.{Worker}
 use Rattle.wx_action.specs.declared.work_turn.Worked.TheVariants.{On, End}
 use Rattle.wx_action.specs.Start.{Start}
 use Rattle.wx_action.specs.Journal.{settings, window}
-use Rattle.wx_action.specs.Jobs.{set, command, creation, or_else, act_plan, AreLawful}
+use Rattle.wx_action.specs.Jobs.{set, act_plan, AreLawful}
 use Rattle.wx_action.specs.Answer.{NoneIsToGo}
 use Rattle.wx_action.specs.Due.{Agenda, agenda, Due, Hands, Open, Ends, plans, has_quit, after_acts, is_quitting, settle}
 use Rattle.wx_action.specs.Laws.{NoneUrgent, urgent_in, NoneUrgentWaits}
@@ -63,7 +63,7 @@ all_here P (h ∷ hs) s = all_cond P (is_here h) h (filter is_here hs) s.0 (all_
 tasks_hand : (s : Start) (p : List Entry) (n : ℕ) (names : List ℕ) (acts : List Act) (hs : List Held) → IsOrderly s p → AreLawful (next_job p) acts → ((id : Id) → IsIn id (map held_id hs) → IsIn id (set p)) → AllByRecursion (HeldStands p) hs → AllByRecursion (HeldStands (Hand n names acts ∷ p)) hs
 tasks_hand s p n names acts [] o lawful here stood = tt
 tasks_hand s p n names acts (h ∷ hs) o lawful here stood = (
-  same_held p (Hand n names acts ∷ p) h (over_hand n names acts p (held_id h)) (command_kept s p n names acts (held_id h) o lawful (here (held_id h) (inl refl))) stood.0,
+  same_held p (Hand n names acts ∷ p) h (over_hand n names acts p (held_id h) (command_kept s p n names acts (held_id h) o lawful (here (held_id h) (inl refl)))) stood.0,
   tasks_hand s p n names acts hs o lawful (λ id g. here id (inr g)) stood.1,
 )
 

@@ -16,14 +16,14 @@ use Rattle.wx_journal.specs.declared.entry.Entry.{Entry}
 use Rattle.wx_journal.specs.declared.entry.Entry.TheVariants.{Begin, Turn as Turned, TurnFault, Take, Filter, Show, Hand, Made, Gone}
 use Rattle.wx_journal.specs.Names.{creates, is_created, above, next_job, NamesItsOwn}
 use Rattle.wx_journal.specs.Told.{tell_if, is_world, is_hooks, is_turn}
-use Rattle.wx_job.specs.History.{same, lives, child, is_child}
+use Rattle.wx_job.specs.History.{same, lives, child, is_child, creation, or_else, command}
 use Rattle.wx_job.specs.Table.{Plan, Done, step_plan, ask_plan, end_plan}
 use Rattle.wx_job.specs.Case.{Admits as Follows, next, Leads as Led, Here, Then as OneMore}
 use Rattle.wx_job.proofs.Owners.{either, same-is, children_named, child_owner}
 use Rattle.wx_job.proofs.Always.{Always, always_now, always_next, always_also}
 use Rattle.wx_job.proofs.Sound.{Fits, IsSound, Sound, sound_step, sound_end}
 use Rattle.wx_action.specs.Start.{Start}
-use Rattle.wx_action.specs.Jobs.{insert, set, jobs, creation, or_else, command, parent_among, parent, AreLawful}
+use Rattle.wx_action.specs.Jobs.{insert, set, jobs, parent_among, parent, AreLawful}
 use Rattle.wx_action.specs.HeldJobs.{AreRising, AreBelow}
 use Rattle.wx_action.specs.Due.{Agenda, plans, rest, is_quitting, settle, agenda, Admits, Due}
 use Rattle.wx_action.specs.Laws.{was_made, AreMadeOnce}

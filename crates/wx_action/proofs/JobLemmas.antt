@@ -13,7 +13,7 @@ use Rattle.wx_journal.specs.declared.entry.TurnKind.TheVariants.{Ended}
 use Rattle.wx_journal.specs.declared.entry.Word.TheVariants.{Ignored}
 use Rattle.wx_journal.specs.Names.{NamesItsOwn, moment}
 use Rattle.wx_job.specs.declared.task.JobTask.{JobTask}
-use Rattle.wx_job.specs.History.{lives, child, same, is_child}
+use Rattle.wx_job.specs.History.{lives, child, same, is_child, command}
 use Rattle.wx_job.specs.Table.{Plan, Done, send_plan, step_plan, ask_plan}
 use Rattle.wx_job.specs.Case.{IsCut, GaveUp, FollowsAlone as FollowsPlan, Leads as LeadsOn, Here as Stays}
 use Rattle.wx_job.specs.Laws.{LeavesOthers}
@@ -24,7 +24,7 @@ use Rattle.wx_job.proofs.Owners.{self, same-is}
 use Rattle.wx_action.specs.declared.worker_state.Held.{Held}
 use Rattle.wx_action.specs.declared.worker_state.Worker.{Worker}
 use Rattle.wx_action.specs.Start.{Start}
-use Rattle.wx_action.specs.Jobs.{set, command, living, parent}
+use Rattle.wx_action.specs.Jobs.{set, living, parent}
 use Rattle.wx_action.specs.Due.{agenda, Open, Says, Plans, plans, ask_turn, job_turn, ended_turn, is_quitting}
 use Rattle.wx_action.proofs.SettleLaws.{settle_calm}
 use Rattle.wx_job.specs.Kept.{StaysQuiet}
@@ -168,7 +168,7 @@ step_stopped seen told s w w' at id task task' j j' host host' x x' stands step 
   turns = λ p₀ t. rw undone.journal t;
   leaves = inl (ap (λ k. k.past) undone.journal);
 }
-step_stopped seen told s w w' at id task task' j j' host host' x x' stands step l fields jobs same stood leaves (BehindHook pending gave) =
+step_stopped seen told s w w' at id task task' j j' host host' x x' stands step l fields jobs same stood leaves (BehindHook pending held gave) =
     step_gave s w w' at id task task' j.past j'.past (seen host) (seen host') (told x) (told x') stands step l fields jobs same stood leaves gave
 
 -- where want of memory is answered

@@ -17,7 +17,7 @@ use Rattle.wx_journal.specs.declared.entry.Entry.{Entry}
 use Rattle.wx_journal.specs.declared.entry.Entry.TheVariants.{Word as Said, Made, Asked}
 use Rattle.wx_journal.specs.declared.entry.Word.TheVariants.{Ignored}
 use Rattle.wx_journal.specs.Names.{ticket_count}
-use Rattle.wx_job.specs.History.{same, lives, SameHistory}
+use Rattle.wx_job.specs.History.{same, lives, command, RunsOnly, SameHistory}
 use Rattle.wx_job.specs.Table.{Plan, Done, adds, asks, ask_plan, send_plan}
 use Rattle.wx_job.specs.Case.{Admits as Lets, next, Leads as LeadsOn, Here as Stays, Then as Goes_on, FollowsAlone as FollowsPlan}
 use Rattle.wx_job.specs.Laws.{LeavesOthers}
@@ -29,7 +29,7 @@ use Rattle.wx_action.specs.declared.handler.Todo.TheVariants as todo
 use Rattle.wx_action.specs.declared.worker_state.Held.{Held}
 use Rattle.wx_action.specs.declared.worker_state.Worker.{Worker}
 use Rattle.wx_action.specs.Start.{Start}
-use Rattle.wx_action.specs.Jobs.{set, command, act_plan}
+use Rattle.wx_action.specs.Jobs.{set, act_plan}
 use Rattle.wx_action.specs.Due.{Agenda, Open, settle, agenda, plans, rest, Admits, Due}
 use Rattle.wx_action.specs.Todo.{IsNew, AreTodo}
 use Rattle.wx_action.specs.Perform.{AreCommanded, OwesActs}
@@ -88,7 +88,12 @@ over_made i id p ne = record {
   previous_same = rw (other-is i id ne) refl;
   hook_same = rw (other-is i id ne) refl;
   tag_same = rw (other-is i id ne) refl;
+  command_same = refl;
 }
+
+-- a job runs what it was created to run
+runs_only : (id : Id) (what : Command) (p : List Entry) → command id p ≡ Some what → RunsOnly id what p
+runs_only id what p is created made = let here : Some what ≡ Some created = sym is ∙ made in cc
 
 -- a new name is none of the old ones
 new_id : (ids : List Id) (id : Id) → AreBelow id.0 ids → AllByRecursion (λ j. j ≢ id) ids
@@ -100,7 +105,7 @@ ids_more (x ∷ hs) h = ap (λ js. held_id x ∷ js) (ids_more hs h)
 
 tasks_more : (p : List Entry) (id : Id) (hs : List Held) (h : Held) → AllByRecursion (λ j. j ≢ id) (map held_id hs) → AllByRecursion (HeldStands p) hs → HeldStands (Made id ∷ p) h → AllByRecursion (HeldStands (Made id ∷ p)) (hs ++ h ∷ [])
 tasks_more p id [] h ne s new = (new, tt)
-tasks_more p id (x ∷ hs) h ne s new = (same_held p (Made id ∷ p) x (over_made (held_id x) id p ne.0) refl s.0, tasks_more p id hs h ne.1 s.1 new)
+tasks_more p id (x ∷ hs) h ne s new = (same_held p (Made id ∷ p) x (over_made (held_id x) id p ne.0) s.0, tasks_more p id hs h ne.1 s.1 new)
 
 made_by : (s : Start) (w w' : Worker) (held : Held) (rests : List Todo) (more : Agenda) (p : List Entry) (f : FirstMake s p held rests) → settle p Open ≡ more → Stands s w p → w' ≡ record w { jobs = w'.jobs } → w'.jobs ≡ w.jobs ++ held ∷ [] → OneDone s w' rests more p (Made f.id ∷ p)
 made_by s w w' held rests more p f then stands fields items =
@@ -109,7 +114,7 @@ made_by s w w' held rests more p f then stands fields items =
     let lower : AreBelow f.id.0 (set p) = made_above s p f.id stands.orderly orderly in
     let others : AllByRecursion (λ j. j ≢ f.id) (map held_id w.jobs) = rw stands.jobs_kept (new_id (set p) f.id lower) in
     let new : HeldStands (Made f.id ∷ p) held = record {
-      task_stands = f.is_new.stands p;
+      task_stands = f.is_new.stands p (runs_only f.id f.what p f.commanded);
       command_is = ap (λ (i : Id). command i p) f.is_new.task_id ∙ f.commanded ∙ ap (λ (k : Command). Some k) (sym f.is_new.task_command);
       handle_is = f.is_new.handle_id ∙ sym f.is_new.task_id;
       handle_command = f.is_new.handle_command ∙ sym f.is_new.task_command;

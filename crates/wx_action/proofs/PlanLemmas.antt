@@ -96,7 +96,7 @@ jobs_change p p' hs hs' n h h' jobs still leaves change =
     } in
     rw change.items (
       ids_put hs n h h' change.within change.held change.job_same.same_id ∙ jobs.ids_are ∙ sym still.set_same,
-      tasks_put p p' hs n h h' jobs.ids_apart change.within change.held (λ x ne st. same_held p p' x (leaves.others (held_id x) ne) (still.commands_same (held_id x)) st) jobs.tasks_stand new,
+      tasks_put p p' hs n h h' jobs.ids_apart change.within change.held (λ x ne st. same_held p p' x (leaves.others (held_id x) ne) st) jobs.tasks_stand new,
     )
 
 pub plan_done : (s : Start) (w w' : Worker) (hs : List Held) (at : ℕ) (h h' : Held) (q p p' : List Entry) (k k' : Plan) (more : Agenda) (world world' hooks hooks' : Option (List Entry)) (n n' : ℕ)

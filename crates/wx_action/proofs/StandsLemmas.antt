@@ -15,13 +15,13 @@ use Rattle.wx_journal.specs.declared.entry.Offered.{Offered}
 use Rattle.wx_journal.specs.declared.entry.Offered.TheVariants.{Queued, Full, Closed}
 use Rattle.wx_journal.specs.Acts.{JournalAct as Act}
 use Rattle.wx_journal.specs.Names.{event_count}
-use Rattle.wx_job.specs.History.{child, SameHistory}
+use Rattle.wx_job.specs.History.{child, command, SameHistory}
 use Rattle.wx_job.proofs.StandsLemmas.{stands_history}
 use Rattle.wx_action.specs.declared.worker_state.Held.{Held}
 use Rattle.wx_action.specs.declared.worker_state.Worker.{Worker}
 use Rattle.wx_action.specs.Start.{Start}
 use Rattle.wx_action.specs.Journal.{settings, closed, bag, offered, window, first}
-use Rattle.wx_action.specs.Jobs.{set, command}
+use Rattle.wx_action.specs.Jobs.{set}
 use Rattle.wx_action.specs.Due.{Due}
 use Rattle.wx_action.specs.Handled.{AreEvents, lookup}
 use Rattle.wx_action.specs.Stands.{Stands, HeldStands, AreApart, IsOffered, held_id}
@@ -30,17 +30,16 @@ use Rattle.wx_action.proofs.RunLaws.{window_below, orderly_more}
 
 -- ---- what is held of a job
 
-pub same_held : (p p' : List Entry) (h : Held) → SameHistory (held_id h) p p' → command (held_id h) p' ≡ command (held_id h) p → HeldStands p h → HeldStands p' h
-same_held p p' h same commands s = record { task_stands = stands_history h.task p p' same s.task_stands; command_is = commands ∙ s.command_is; handle_is = s.handle_is; handle_command = s.handle_command }
+pub same_held : (p p' : List Entry) (h : Held) → SameHistory (held_id h) p p' → HeldStands p h → HeldStands p' h
+same_held p p' h same s = record { task_stands = stands_history h.task p p' same s.task_stands; command_is = same.command_same ∙ s.command_is; handle_is = s.handle_is; handle_command = s.handle_command }
 
--- the history of every job, and what each runs, is the same in both journals
-pub record SameJobs (p p' : List Entry) : Type 0 where
-  pub histories : (i : Id) → SameHistory i p p'
-  pub commands : (i : Id) → command i p' ≡ command i p
+-- the history of every job is the same in both journals
+abbrev pub SameJobs : List Entry → List Entry → Type 0
+SameJobs p p' = (i : Id) → SameHistory i p p'
 
 pub tasks_same : (p p' : List Entry) (hs : List Held) → SameJobs p p' → AllByRecursion (HeldStands p) hs → AllByRecursion (HeldStands p') hs
 tasks_same p p' [] same s = tt
-tasks_same p p' (h ∷ hs) same s = (same_held p p' h (same.histories (held_id h)) (same.commands (held_id h)) s.0, tasks_same p p' hs same s.1)
+tasks_same p p' (h ∷ hs) same s = (same_held p p' h (same (held_id h)) s.0, tasks_same p p' hs same s.1)
 
 -- an entry that is about no job, and is no turn and no batch
 abbrev pub IsOfNone : Entry → Type 0
@@ -67,11 +66,11 @@ over_none (Wait child answer) p h = absurd h
 over_none (Dropped child) p h = absurd h
 over_none (Gone job) p h = absurd h
 over_none (Hook job n answer) p h = absurd h
-over_none (_) p h = record { histories = λ i. record { lives_same = refl; waits_same = λ l. refl; child_same = refl; kept_same = refl; state_same = refl; previous_same = refl; hook_same = refl; tag_same = refl }; commands = λ i. refl }
+over_none (_) p h = λ i. record { lives_same = refl; waits_same = λ l. refl; child_same = refl; kept_same = refl; state_same = refl; previous_same = refl; hook_same = refl; tag_same = refl; command_same = refl }
 
 -- a batch changes what its acts create
-pub over_hand : (n : ℕ) (names : List ℕ) (acts : List Act) (p : List Entry) (i : Id) → SameHistory i p (Hand n names acts ∷ p)
-over_hand n names acts p i = record { lives_same = refl; waits_same = λ l. refl; child_same = refl; kept_same = refl; state_same = refl; previous_same = refl; hook_same = refl; tag_same = refl }
+pub over_hand : (n : ℕ) (names : List ℕ) (acts : List Act) (p : List Entry) (i : Id) → command i (Hand n names acts ∷ p) ≡ command i p → SameHistory i p (Hand n names acts ∷ p)
+over_hand n names acts p i kept = record { lives_same = refl; waits_same = λ l. refl; child_same = refl; kept_same = refl; state_same = refl; previous_same = refl; hook_same = refl; tag_same = refl; command_same = kept }
 
 -- ---- one of several that are held
 

@@ -53,6 +53,7 @@ task_over k t p other stands = record {
   previous_kept = stands.previous_kept;
   hook_kept = stands.hook_kept;
   tag_kept = stands.tag_kept;
+  runs_kept = stands.runs_kept;
 }
 
 -- the turn tells no end of this one's child

@@ -6,10 +6,10 @@ use Rattle.wx_control.specs.declared.job.Job.{Job}
 use Rattle.wx_journal.specs.declared.entry.Entry.{Entry}
 use Rattle.wx_journal.specs.Names.{next_job}
 use Rattle.wx_job.specs.declared.task.JobTask.{JobTask}
-use Rattle.wx_job.specs.History.{same, child, is_child}
+use Rattle.wx_job.specs.History.{same, child, is_child, command}
 use Rattle.wx_job.specs.Stands.{gone_of, running_of}
 use Rattle.wx_action.specs.declared.worker_state.Held.{Held}
-use Rattle.wx_action.specs.Jobs.{set, command}
+use Rattle.wx_action.specs.Jobs.{set}
 
 -- a handle on the job of this id, with what the job runs
 pub record IsHandle (p : List Entry) (id : Id) (job : Job) : Type 0 where

@@ -10,7 +10,7 @@ use Rattle.wx_journal.specs.declared.entry.Entry.{Entry}
 use Rattle.wx_journal.specs.declared.entry.Entry.TheVariants.{Word as Said, Hand, Made}
 use Rattle.wx_journal.specs.declared.entry.Word.TheVariants.{Ignored}
 use Rattle.wx_journal.specs.Names.{above, IsNextJob}
-use Rattle.wx_job.specs.History.{same, lives, child, is_child}
+use Rattle.wx_job.specs.History.{same, lives, child, is_child, command}
 use Rattle.wx_job.specs.Table.{Plan, Done, adds, ask_plan, end_plan}
 
 -- a job among others, by rising id
@@ -32,22 +32,6 @@ is_seen id p = list_any (λ job. same job id) (set p)
 -- the jobs that live, in the same order
 abbrev pub jobs : List Entry → List Id
 jobs p = filter (λ id. lives id p) (set p)
-
--- what a job runs, by the acts that create it
-abbrev pub creation : Id → List Act → Option Command
-creation id [] = None
-creation id (Create job command ∷ acts) = if same job id then Some command else creation id acts
-creation id (Ask job ask ∷ acts) = creation id acts
-creation id (Quit ∷ acts) = creation id acts
-
-abbrev pub or_else : Option Command → Option Command → Option Command
-or_else None other = other
-or_else (Some command) other = Some command
-
-abbrev pub command : Id → List Entry → Option Command
-command id [] = None
-command id (Hand n names acts ∷ p) = or_else (creation id acts) (command id p)
-command id (_ ∷ p) = command id p
 
 -- what a job that lives runs
 abbrev pub living : Id → List Entry → Option Command

@@ -3,10 +3,10 @@ use Rattle.std.specs.Prelude.{◌≡◌, Some, List, [], ◌∷◌}
 use Rattle.wx_journal.specs.declared.entry.Entry.{Entry}
 use Rattle.wx_journal.specs.Acts.{JournalAct as Act}
 use Rattle.wx_journal.specs.declared.entry.Act.TheVariants.{Create, Ask, Quit}
-use Rattle.wx_job.specs.History.{lives}
+use Rattle.wx_job.specs.History.{lives, command}
 use Rattle.wx_action.specs.declared.handler.Todo.{Todo}
 use Rattle.wx_action.specs.Start.{Start}
-use Rattle.wx_action.specs.Jobs.{command, act_plan}
+use Rattle.wx_action.specs.Jobs.{act_plan}
 use Rattle.wx_action.specs.Due.{Agenda, Open, settle, agenda, plans}
 use Rattle.wx_action.specs.Todo.{AreTodo}
 

@@ -20,11 +20,11 @@ use Rattle.wx_words.specs.declared.list.Memory.{Memory as NoMemory}
 use Rattle.wx_journal.specs.declared.wish.Wish.{Wish}
 use Rattle.wx_control.specs.declared.id.Id.{Id}
 use Rattle.wx_command.specs.declared.command.Command.{Command}
-use Rattle.wx_job.specs.History.{lives}
+use Rattle.wx_job.specs.History.{lives, command}
 use Rattle.wx_job.specs.Seen.{Seen}
 use Rattle.wx_job.specs.Table.{step_plan}
 use Rattle.wx_job.specs.Stands.{Stands as TaskStands, id_of, command_of}
-use Rattle.wx_action.specs.Jobs.{set, command}
+use Rattle.wx_action.specs.Jobs.{set}
 use Rattle.wx_action.specs.declared.worker_state.Held.{Held}
 use Rattle.wx_action.specs.declared.worker_state.Worker.{Worker}
 use Rattle.wx_action.specs.declared.work_turn.Collected.{Collected}

@@ -10,20 +10,20 @@ use crate::flag::{Flag, Ticket};
 use crate::id::Id;
 use crate::sink::{Controls, Refused};
 use std::alloc::Global;
-use wx_command::Command;
+use wx_command::{Command, SharedCommand};
 use wx_events::{Copies, Memory};
 
-/// A handle on a job: its name, what it runs, and the flag that tells that it is gone.
+/// A handle on a job: its name, what it runs, which all handles share, and the flag that tells that it is gone.
 #[derive(Drop, Debug)]
 pub struct Job {
     id: Id,
-    command: Command,
+    command: SharedCommand,
     gone: Flag,
 }
 
 impl Job {
     /// A handle on the job of this name.
-    pub fn new(id: Id, command: Command, gone: Flag) -> Job
+    pub fn new(id: Id, command: SharedCommand, gone: Flag) -> Job
         ensures { result ≡ record { id = id; command = command; gone = gone } }
     {
         Job { id, command, gone }
@@ -40,7 +40,7 @@ impl Job {
     pub fn command(&self) -> &Command
         ensures { result.now ≡ self.now.command }
     {
-        &self.command
+        self.command.get()
     }
 
     /// The flag that tells that the job is gone.

@@ -13,7 +13,7 @@ use crate::three_lists::{Picked, ThreeLists};
 use std::alloc::Global;
 use std::cmp::Ordering;
 use std::test::Fail;
-use wx_command::{Command, Program, SpawnOptions};
+use wx_command::{Command, Program, SharedCommand, SpawnOptions};
 use wx_events::{Copies, List, Memory, Spelled, Text, Words};
 
 /// A sink that keeps the asks that it takes, counts all sends, and refuses each where it is told to.
@@ -69,6 +69,7 @@ fn job(alloc: Global, number: u32) -> Result<Job, Memory> {
         },
         options: SpawnOptions::default(),
     };
+    let command = SharedCommand::new(alloc, command)?;
     Ok(Job::new(Id(number), command, Flag::new(alloc, false)?))
 }
 

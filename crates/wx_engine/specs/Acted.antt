@@ -4,6 +4,7 @@ use Rattle.std.specs.List.{list_any}
 use Rattle.wx_words.specs.declared.list.Memory.{Memory}
 use Rattle.wx_command.specs.declared.command.Command.{Command}
 use Rattle.wx_command.specs.declared.spawnable.Spawnable.{Spawnable}
+use Rattle.wx_command.specs.Spawnables.{spawnable_of}
 use Rattle.wx_config.specs.declared.runtime.RuntimeError.{RuntimeError}
 use Rattle.wx_control.specs.declared.ask.Ask.{Ask as AnAsk}
 use Rattle.wx_control.specs.declared.id.Id.{Id}
@@ -15,7 +16,7 @@ use Rattle.wx_journal.specs.declared.entry.Entry.TheVariants.{Filter, Show, Hand
 use Rattle.wx_journal.specs.declared.wish.Wish.{Wish}
 use Rattle.wx_journal.specs.declared.wish.Wish.TheVariants.{Nothing}
 use Rattle.wx_journal.specs.Names.{creates, next_job}
-use Rattle.wx_job.specs.History.{same}
+use Rattle.wx_job.specs.History.{same, command}
 use Rattle.wx_action.specs.Handled.{with_quit}
 use Rattle.wx_action.specs.Jobs.{is_seen, next_created}
 use Rattle.wx_engine.specs.Answered.{Calls, IsAnswered, answered_by}
@@ -82,15 +83,14 @@ hook_count [] = 0
 hook_count (Hook job n left ∷ p) = hook_count p + 1
 hook_count (_ ∷ p) = hook_count p
 
--- a spawn hook left these words behind those that it was given, and all else as it was
-abbrev pub Appends : List (List ℕ) → Result Spawnable Memory → Type 0
-Appends words (Ok left) = (given : Spawnable) × (left ≡ record given { words = given.words ++ words })
-Appends words (Err memory) = ⊥
+-- these words stand behind those of what is spawned
+abbrev pub with_words : List (List ℕ) → Spawnable → Spawnable
+with_words words what = record what { words = what.words ++ words }
 
--- an entry, after these, left the words of its line so, if it is the call of a spawn hook: those of the first line in the first
--- call, and so on, and none where no line is left
+-- An entry, after these, is as its line asks, if it is the call of a spawn hook: it left what the job was created to run, with
+-- the words of the first line behind in the first call, and so on, and with none behind where no line is left.
 abbrev pub IsHooked : List (List (List ℕ)) → List Entry → Entry → Type 0
-IsHooked lines p (Hook job n left) = Appends (get_or lines (hook_count p) []) left
+IsHooked lines p (Hook job n left) = (created : Command) → command job p ≡ Some created → left ≡ Ok (with_words (get_or lines (hook_count p) []) (spawnable_of created))
 IsHooked lines p (_) = Unit {0}
 
 -- each call did

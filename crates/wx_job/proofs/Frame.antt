@@ -10,7 +10,7 @@ use Rattle.wx_control.specs.declared.level.Level.{Level}
 use Rattle.wx_journal.specs.declared.child.SpawnTag.{SpawnTag}
 use Rattle.wx_journal.specs.declared.child.HostFault.{HostFault}
 use Rattle.wx_journal.specs.declared.entry.Entry.{Entry}
-use Rattle.wx_journal.specs.declared.entry.Entry.TheVariants.{Turn as Turned, Made, Asked, Pick, Spawn, Wait, Dropped, Gone, Hook}
+use Rattle.wx_journal.specs.declared.entry.Entry.TheVariants.{Turn as Turned, Hand, Made, Asked, Pick, Spawn, Wait, Dropped, Gone, Hook}
 use Rattle.wx_journal.specs.declared.entry.TurnKind.TheVariants as turn
 use Rattle.wx_journal.specs.Names.{moment}
 use Rattle.wx_job.specs.declared.state.CommandState.{CommandState}
@@ -21,7 +21,7 @@ use Rattle.wx_job.specs.Stands.{child_of}
 use Rattle.wx_job.proofs.Owners.{other-is, child_owner, state_owner}
 
 pub same_history : (i : Id) (p : List Entry) → SameHistory i p p
-same_history i p = record { lives_same = refl; waits_same = λ level. refl; child_same = refl; kept_same = refl; state_same = refl; previous_same = refl; hook_same = refl; tag_same = refl }
+same_history i p = record { lives_same = refl; waits_same = λ level. refl; child_same = refl; kept_same = refl; state_same = refl; previous_same = refl; hook_same = refl; tag_same = refl; command_same = refl }
 
 pub history_then : (i : Id) (p q r : List Entry) → SameHistory i p q → SameHistory i q r → SameHistory i p r
 history_then i p q r a b = record {
@@ -33,30 +33,32 @@ history_then i p q r a b = record {
   previous_same = b.previous_same ∙ a.previous_same;
   hook_same = b.hook_same ∙ a.hook_same;
   tag_same = b.tag_same ∙ a.tag_same;
+  command_same = b.command_same ∙ a.command_same;
 }
 
 -- entries that name a job
 pub frame_pick : (i id : Id) (t : ℕ) (p : List Entry) → i ≢ id → SameHistory i p (Pick id t ∷ p)
-frame_pick i id t p ne = record { lives_same = refl; waits_same = λ level. rw (other-is i id ne) refl; child_same = refl; kept_same = refl; state_same = refl; previous_same = refl; hook_same = rw (other-is i id ne) refl; tag_same = rw (other-is i id ne) refl }
+frame_pick i id t p ne = record { lives_same = refl; waits_same = λ level. rw (other-is i id ne) refl; child_same = refl; kept_same = refl; state_same = refl; previous_same = refl; hook_same = rw (other-is i id ne) refl; tag_same = rw (other-is i id ne) refl; command_same = refl }
 
 pub frame_asked : (i id : Id) (t : ℕ) (level : Level) (control : Control) (p : List Entry) → i ≢ id → SameHistory i p (Asked t id level control ∷ p)
-frame_asked i id t level control p ne = record { lives_same = refl; waits_same = λ l. rw (other-is i id ne) refl; child_same = refl; kept_same = refl; state_same = refl; previous_same = refl; hook_same = refl; tag_same = refl }
+frame_asked i id t level control p ne = record { lives_same = refl; waits_same = λ l. rw (other-is i id ne) refl; child_same = refl; kept_same = refl; state_same = refl; previous_same = refl; hook_same = refl; tag_same = refl; command_same = refl }
 
 pub frame_spawn_ok : (i id : Id) (c : ℕ) (tag : SpawnTag) (what : Spawnable) (a : Unit {0}) (p : List Entry) → i ≢ id → SameHistory i p (Spawn c id tag what (Ok a) ∷ p)
-frame_spawn_ok i id c tag what a p ne = record { lives_same = refl; waits_same = λ l. refl; child_same = rw (other-is i id ne) refl; kept_same = rw (other-is i id ne) refl; state_same = rw (other-is i id ne) refl; previous_same = rw (other-is i id ne) refl; hook_same = refl; tag_same = refl }
+frame_spawn_ok i id c tag what a p ne = record { lives_same = refl; waits_same = λ l. refl; child_same = rw (other-is i id ne) refl; kept_same = rw (other-is i id ne) refl; state_same = rw (other-is i id ne) refl; previous_same = rw (other-is i id ne) refl; hook_same = refl; tag_same = refl; command_same = refl }
 
 pub frame_spawn_err : (i id : Id) (c : ℕ) (tag : SpawnTag) (what : Spawnable) (a : HostFault) (p : List Entry) → i ≢ id → SameHistory i p (Spawn c id tag what (Err a) ∷ p)
-frame_spawn_err i id c tag what a p ne = record { lives_same = refl; waits_same = λ l. refl; child_same = refl; kept_same = refl; state_same = rw (other-is i id ne) refl; previous_same = rw (other-is i id ne) refl; hook_same = refl; tag_same = refl }
+frame_spawn_err i id c tag what a p ne = record { lives_same = refl; waits_same = λ l. refl; child_same = refl; kept_same = refl; state_same = rw (other-is i id ne) refl; previous_same = rw (other-is i id ne) refl; hook_same = refl; tag_same = refl; command_same = refl }
 
 pub frame_hook : (i id : Id) (n : ℕ) (a : Result Spawnable Memory) (p : List Entry) → i ≢ id → SameHistory i p (Hook id n a ∷ p)
-frame_hook i id n a p ne = record { lives_same = refl; waits_same = λ l. refl; child_same = refl; kept_same = refl; state_same = rw (other-is i id ne) refl; previous_same = rw (other-is i id ne) refl; hook_same = refl; tag_same = refl }
+frame_hook i id n a p ne = record { lives_same = refl; waits_same = λ l. refl; child_same = refl; kept_same = refl; state_same = rw (other-is i id ne) refl; previous_same = rw (other-is i id ne) refl; hook_same = refl; tag_same = refl; command_same = refl }
 
 pub frame_gone : (i id : Id) (p : List Entry) → i ≢ id → SameHistory i p (Gone id ∷ p)
-frame_gone i id p ne = record { lives_same = rw (other-is i id ne) refl; waits_same = λ l. rw (other-is i id ne) refl; child_same = refl; kept_same = rw (other-is i id ne) refl; state_same = refl; previous_same = refl; hook_same = refl; tag_same = refl }
+frame_gone i id p ne = record { lives_same = rw (other-is i id ne) refl; waits_same = λ l. rw (other-is i id ne) refl; child_same = refl; kept_same = rw (other-is i id ne) refl; state_same = refl; previous_same = refl; hook_same = refl; tag_same = refl; command_same = refl }
 
 -- entries that name nothing of a job
 abbrev pub is_silent : Entry → Bool
 is_silent (Turned t) = false
+is_silent (Hand n names acts) = false
 is_silent (Made job) = false
 is_silent (Asked ticket job level control) = false
 is_silent (Pick job ticket) = false
@@ -69,6 +71,7 @@ is_silent (_) = true
 
 pub frame_silent : (i : Id) (e : Entry) (p : List Entry) → is_silent e ≡ true → SameHistory i p (e ∷ p)
 frame_silent i (Turned t) p s = absurd cc
+frame_silent i (Hand n names acts) p s = absurd cc
 frame_silent i (Made job) p s = absurd cc
 frame_silent i (Asked ticket job level control) p s = absurd cc
 frame_silent i (Pick job ticket) p s = absurd cc
@@ -77,10 +80,10 @@ frame_silent i (Wait c answer) p s = absurd cc
 frame_silent i (Dropped c) p s = absurd cc
 frame_silent i (Gone job) p s = absurd cc
 frame_silent i (Hook job n answer) p s = absurd cc
-frame_silent i (_) p s = record { lives_same = refl; waits_same = λ l. refl; child_same = refl; kept_same = refl; state_same = refl; previous_same = refl; hook_same = refl; tag_same = refl }
+frame_silent i (_) p s = record { lives_same = refl; waits_same = λ l. refl; child_same = refl; kept_same = refl; state_same = refl; previous_same = refl; hook_same = refl; tag_same = refl; command_same = refl }
 
 pub frame_turn : (i : Id) (at : ℕ) (id : Id) (p : List Entry) → SameHistory i p (Turned (record { at = at; kind = turn.Job id }) ∷ p)
-frame_turn i at id p = record { lives_same = refl; waits_same = λ l. refl; child_same = refl; kept_same = refl; state_same = refl; previous_same = refl; hook_same = refl; tag_same = refl }
+frame_turn i at id p = record { lives_same = refl; waits_same = λ l. refl; child_same = refl; kept_same = refl; state_same = refl; previous_same = refl; hook_same = refl; tag_same = refl; command_same = refl }
 
 -- entries that name a child of another job
 pub not_child : (o : Option ℕ) (d : ℕ) → (o ≡ Some d → ⊥) → (is_child d o ≡ false) × (unless d o ≡ o)
@@ -109,16 +112,17 @@ frame_wait_ok i id d status p ne own runs =
       previous_same = refl;
       hook_same = refl;
       tag_same = refl;
+      command_same = refl;
     }
 
 pub frame_wait_err : (i id : Id) (d : ℕ) (fault : HostFault) (p : List Entry) → i ≢ id → NamesChildren p → child id p ≡ Some d → SameHistory i p (Wait d (Err fault) ∷ p)
 frame_wait_err i id d fault p ne own runs =
     let its = child_owner id d p own runs in
     let never = not_child (child i p) d (λ e. apart i id d _ ne its (child_owner i d p own e)) in
-    record { lives_same = refl; waits_same = λ l. refl; child_same = refl; kept_same = rw never.0 refl; state_same = refl; previous_same = refl; hook_same = refl; tag_same = refl }
+    record { lives_same = refl; waits_same = λ l. refl; child_same = refl; kept_same = rw never.0 refl; state_same = refl; previous_same = refl; hook_same = refl; tag_same = refl; command_same = refl }
 
 pub frame_drop : (i id : Id) (d : ℕ) (p : List Entry) → i ≢ id → NamesChildren p → child id p ≡ Some d → SameHistory i p (Dropped d ∷ p)
 frame_drop i id d p ne own runs =
     let its = child_owner id d p own runs in
     let never = not_child (child i p) d (λ e. apart i id d _ ne its (child_owner i d p own e)) in
-    record { lives_same = refl; waits_same = λ l. refl; child_same = never.1; kept_same = refl; state_same = refl; previous_same = refl; hook_same = refl; tag_same = refl }
+    record { lives_same = refl; waits_same = λ l. refl; child_same = never.1; kept_same = refl; state_same = refl; previous_same = refl; hook_same = refl; tag_same = refl; command_same = refl }

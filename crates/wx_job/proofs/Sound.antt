@@ -200,6 +200,7 @@ frame i id (Dropped c) p ne named s = frame_drop i id c p ne named s
 frame i id (Gone job) p ne named s = rw s.0 (frame_gone i id p ne)
 frame i id (Hook job n answer) p ne named s = rw s.0 (frame_hook i id n answer p ne)
 frame i id (Turned t) p ne named s = absurd s
+frame i id (Hand n names acts) p ne named s = absurd s
 frame i id (Made job) p ne named s = absurd s
 frame i id (e) p ne named s = frame_silent i e p refl
 

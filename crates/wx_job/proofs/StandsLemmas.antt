@@ -18,7 +18,7 @@ use Rattle.wx_journal.specs.Names.{moment}
 use Rattle.wx_job.specs.declared.state.CommandState.{CommandState}
 use Rattle.wx_job.specs.declared.state.CommandState.TheVariants.{Pending, Running, Finished}
 use Rattle.wx_job.specs.declared.task.JobTask.{JobTask}
-use Rattle.wx_job.specs.History.{lives, waits, child, finish, before_spawn, picked_control, set_hook, set_tag, SameHistory}
+use Rattle.wx_job.specs.History.{lives, waits, child, finish, before_spawn, picked_control, set_hook, set_tag, is_in_hand, SameHistory}
 use Rattle.wx_job.specs.Table.{leave, end_plan}
 use Rattle.wx_job.specs.Stands.{Stands, child_of, id_of}
 use Rattle.wx_job.proofs.Owners.{self}
@@ -37,6 +37,7 @@ stands_history k p p' h s = record {
   previous_kept = s.previous_kept ∙ sym h.previous_same;
   hook_kept = s.hook_kept ∙ sym h.hook_same;
   tag_kept = s.tag_kept ∙ sym h.tag_same;
+  runs_kept = λ created is. s.runs_kept created (sym h.command_same ∙ is);
 }
 
 -- entries that say nothing of a job
@@ -67,6 +68,7 @@ stands-wait-ok k p c status s here runs =
       previous_kept = s.previous_kept;
       hook_kept = s.hook_kept;
       tag_kept = s.tag_kept;
+      runs_kept = s.runs_kept;
     }
 
 pub stands-wait-err : (k : JobTask) (p : List Entry) (c : ℕ) (fault : HostFault) → Stands k p → k.gone ≡ false → child_of k.state ≡ Some c → Stands (record k { kept = false }) (Wait c (Err fault) ∷ p)
@@ -84,6 +86,7 @@ stands-wait-err k p c fault s here runs =
       previous_kept = s.previous_kept;
       hook_kept = s.hook_kept;
       tag_kept = s.tag_kept;
+      runs_kept = s.runs_kept;
     }
 
 pub stands-spawn-ok : (k : JobTask) (p : List Entry) (c : ℕ) (tag : SpawnTag) (what : Spawnable) (a : Unit {0}) (before : CommandState) → Stands k p → k.gone ≡ false → before ≡ before_spawn k.id p → Stands (record k { state = Running c (moment p); previous = Some before; kept = false }) (Spawn c k.id tag what (Ok a) ∷ p)
@@ -98,6 +101,7 @@ stands-spawn-ok k p c tag what a before s here is = record {
   previous_kept = rw (self k.id) (ap (λ x. Some x) is);
   hook_kept = s.hook_kept;
   tag_kept = s.tag_kept;
+  runs_kept = s.runs_kept;
 }
 
 pub stands-spawn-err : (k : JobTask) (p : List Entry) (c : ℕ) (tag : SpawnTag) (what : Spawnable) (fault : HostFault) (before : CommandState) → Stands k p → k.gone ≡ false → child_of k.state ≡ None → before ≡ before_spawn k.id p → Stands (record k { state = Pending; previous = Some before }) (Spawn c k.id tag what (Err fault) ∷ p)
@@ -112,6 +116,7 @@ stands-spawn-err k p c tag what fault before s here none is = record {
   previous_kept = rw (self k.id) (ap (λ x. Some x) is);
   hook_kept = s.hook_kept;
   tag_kept = s.tag_kept;
+  runs_kept = s.runs_kept;
 }
 
 pub stands-hook : (k : JobTask) (p : List Entry) (n : ℕ) (a : Result Spawnable Memory) → Stands k p → k.gone ≡ false → child_of k.state ≡ None → Stands (record k { state = Pending; previous = Some k.state }) (Hook k.id n a ∷ p)
@@ -126,6 +131,7 @@ stands-hook k p n a s here none = record {
   previous_kept = rw (self k.id) (ap (λ x. Some x) s.state_kept);
   hook_kept = s.hook_kept;
   tag_kept = s.tag_kept;
+  runs_kept = s.runs_kept;
 }
 
 -- these hold what waits at each level
@@ -153,6 +159,7 @@ stands-asked k k' p t level control s here joins fields =
       previous_kept = s.previous_kept;
       hook_kept = s.hook_kept;
       tag_kept = s.tag_kept;
+      runs_kept = s.runs_kept;
     } in
     rw fields stood
 
@@ -224,11 +231,16 @@ stands-picked k k' p x s heads level fields =
       previous_kept = s.previous_kept;
       hook_kept = rw (self k.id, control) (ap (set_hook (Some x.control)) s.hook_kept);
       tag_kept = rw (self k.id, control) (ap (set_tag (Some x.control)) s.tag_kept);
+      runs_kept = s.runs_kept;
     } in
     rw fields stood
+
+-- a ticket that is picked is in hand
+pub picked-in-hand : (id : Id) (t : ℕ) (p : List Entry) → is_in_hand t (Pick id t ∷ p) ≡ true
+picked-in-hand id t p = let found : (t == t) ≡ true = eq-eqb t t refl in rw found refl
 
 -- what the end of a job owes, by what the task keeps
 pub end-is : (k : JobTask) (p : List Entry) (c : Option ℕ) → Stands k p → k.gone ≡ false → c ≡ child_of k.state → end_plan k.id p ≡ leave k.id c
 end-is k p c s here is = let alive : lives k.id p ≡ true = sym s.lives_kept ∙ rw here refl in let runs : child k.id p ≡ child_of k.state = sym s.child_kept ∙ rw here refl in rw (alive, runs, is) refl
 
-pub ruleset stands = (stands-asked, stands-picked, stands-silent, stands-wait-ok, stands-wait-err, stands-spawn-ok, stands-spawn-err, stands-hook)
+pub ruleset stands = (picked-in-hand, stands-asked, stands-picked, stands-silent, stands-wait-ok, stands-wait-err, stands-spawn-ok, stands-spawn-err, stands-hook)

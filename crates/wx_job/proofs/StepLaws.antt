@@ -70,11 +70,11 @@ stepped_gave id command p a hooks p' b hooks' g = record {
 -- what stopped from any way here stopped on the way from here
 pub stops : {H K Fixed : Type 0} (k : Plan) (p : List Entry) (a : Seen Fixed) (hooks : Option (List Entry)) (p' : List Entry) (b : Seen Fixed) (hooks' : Option (List Entry)) (t t' : JobTask) (j j' : Written) (h h' : H) (x x' : K) → Stops t j h x t' j' h' x' (GivesUp k p a hooks p' b hooks') → Stops t j h x t' j' h' x' (GaveUp k p a hooks p' b hooks')
 stops k p a hooks p' b hooks' t t' j j' h h' x x' (Before undone same) = Before undone same
-stops k p a hooks p' b hooks' t t' j j' h h' x x' (Behind pending gives) = Behind pending (gives k p a hooks (ran-none k p a hooks))
+stops k p a hooks p' b hooks' t t' j j' h h' x x' (Behind pending held gives) = Behind pending held (gives k p a hooks (ran-none k p a hooks))
 
 stepped_stop : {H K Fixed : Type 0} (seen : H → Seen Fixed) (heard : K → Option (List Entry)) (id : Id) (command : Command) (k k' : JobTask) (j j' : Written) (h h' : H) (x x' : K) → Stops k j h x k' j' h' x' (GaveUp (step_plan id command j.past) j.past (seen h) (heard x) j'.past (seen h') (heard x')) → Stepped id j.past (seen h).shown.faults j'.past (seen h').shown.faults
 stepped_stop seen heard id command k k' j j' h h' x x' (Before undone hooks) = rw (undone.journal, undone.host) (record { left = left_same id j.past; counted = counted_none j.past (seen h).shown.faults })
-stepped_stop seen heard id command k k' j j' h h' x x' (Behind pending gave) = stepped_gave id command j.past (seen h) (heard x) j'.past (seen h') (heard x') gave
+stepped_stop seen heard id command k k' j j' h h' x x' (Behind pending held gave) = stepped_gave id command j.past (seen h) (heard x) j'.past (seen h') (heard x') gave
 
 pub stepped : {A E H K Fixed : Type 0} (seen : H → Seen Fixed) (heard : K → Option (List Entry)) (r : Result A E) (id : Id) (command : Command) (k k' : JobTask) (j j' : Written) (h h' : H) (x x' : K) → OnOk r (Follows (step_plan id command j.past) j.past (seen h) (heard x) Done j'.past (seen h') (heard x')) → OnErr r (Stops k j h x k' j' h' x' (GivesUp (step_plan id command j.past) j.past (seen h) (heard x) j'.past (seen h') (heard x'))) → Stepped id j.past (seen h).shown.faults j'.past (seen h').shown.faults
 stepped seen heard (Ok a) id command k k' j j' h h' x x' ok err = stepped_ran id command j.past (seen h) (heard x) j'.past (seen h') (heard x') (ok (step_plan id command j.past) j.past (seen h) (heard x) (ran-none (step_plan id command j.past) j.past (seen h) (heard x)))

@@ -1,14 +1,14 @@
 -- A task stands for the journal with a turn on top, or with what another job added.
-use Rattle.std.proofs.Common.{◌≢◌, ℕ, List, [], ◌∷◌, refl}
+use Rattle.std.proofs.Common.{◌≡◌, ◌≢◌, ℕ, Some, List, [], ◌∷◌, refl}
 use Rattle.wx_command.specs.declared.command.Command.{Command}
 use Rattle.wx_control.specs.declared.id.Id.{Id}
 use Rattle.wx_journal.specs.declared.entry.Entry.{Entry}
 use Rattle.wx_journal.specs.declared.entry.Entry.TheVariants.{Turn as Turned, Hand, Made}
-use Rattle.wx_journal.specs.Acts.{JournalAct as Act}
 use Rattle.wx_journal.specs.declared.entry.Act.TheVariants.{Create}
 use Rattle.wx_journal.specs.Names.{NamesItsOwn}
 use Rattle.wx_journal.specs.declared.entry.TurnKind.TheVariants as turn
 use Rattle.wx_job.specs.declared.task.JobTask.{JobTask}
+use Rattle.wx_job.specs.History.{RunsOnly}
 use Rattle.wx_job.specs.Laws.{LeavesOthers}
 use Rattle.wx_job.specs.Stands.{Stands, IsEnding, id_of}
 use Rattle.wx_job.proofs.Owners.{self, other-is}
@@ -28,11 +28,22 @@ stands_left k id p p' l ne s = stands_history k p p' (l.others (id_of k) ne) s
 
 -- another job is made
 pub stands_made : (k : JobTask) (id : Id) (p : List Entry) → id_of k ≢ id → Stands k p → Stands k (Made id ∷ p)
-stands_made k id p ne s = stands_history k p (Made id ∷ p) (record { lives_same = rw (other-is (id_of k) id ne) refl; waits_same = λ l. rw (other-is (id_of k) id ne) refl; child_same = rw (other-is (id_of k) id ne) refl; kept_same = rw (other-is (id_of k) id ne) refl; state_same = rw (other-is (id_of k) id ne) refl; previous_same = rw (other-is (id_of k) id ne) refl; hook_same = rw (other-is (id_of k) id ne) refl; tag_same = rw (other-is (id_of k) id ne) refl }) s
+stands_made k id p ne s =
+    let other = other-is (id_of k) id ne in
+    stands_history k p (Made id ∷ p) (record { lives_same = rw other refl; waits_same = λ l. rw other refl; child_same = rw other refl; kept_same = rw other refl; state_same = rw other refl; previous_same = rw other refl; hook_same = rw other refl; tag_same = rw other refl; command_same = refl }) s
 
 -- another job is created and made
-pub stands_created : (k : JobTask) (id : Id) (n : ℕ) (names : List ℕ) (acts : List Act) (p : List Entry) → id_of k ≢ id → Stands k p → Stands k (Made id ∷ Hand n names acts ∷ p)
-stands_created k id n names acts p ne s = stands_made k id (Hand n names acts ∷ p) ne (stands_history k p (Hand n names acts ∷ p) (record { lives_same = refl; waits_same = λ l. refl; child_same = refl; kept_same = refl; state_same = refl; previous_same = refl; hook_same = refl; tag_same = refl }) s)
+pub stands_created : (k : JobTask) (id : Id) (command : Command) (n : ℕ) (names : List ℕ) (p : List Entry) → id_of k ≢ id → Stands k p → Stands k (Made id ∷ Hand n names (Create id command ∷ []) ∷ p)
+stands_created k id command n names p ne s =
+    let other = other-is (id_of k) id ne in
+    stands_made k id (Hand n names (Create id command ∷ []) ∷ p) ne (stands_history k p (Hand n names (Create id command ∷ []) ∷ p) (record { lives_same = refl; waits_same = λ l. refl; child_same = refl; kept_same = refl; state_same = refl; previous_same = refl; hook_same = refl; tag_same = refl; command_same = rw other refl }) s)
+
+-- where nothing was created, and where it was
+pub never_created : (id : Id) (command : Command) → RunsOnly id command []
+never_created id command created is = absurd cc
+
+pub created_runs : (id : Id) (command : Command) (n : ℕ) (names : List ℕ) (p : List Entry) → RunsOnly id command (Hand n names (Create id command ∷ []) ∷ p)
+created_runs id command n names p created is = let here : Some command ≡ Some created = rw (self id) at is in cc
 
 pub names_created : (id : Id) (command : Command) (n : ℕ) (p : List Entry) → NamesItsOwn p → NamesItsOwn (Made id ∷ Hand n [] (Create id command ∷ []) ∷ p)
 names_created id command n p own = (rw (self id) refl, (tt, own))

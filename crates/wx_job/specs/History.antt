@@ -1,6 +1,7 @@
 -- What a journal says of a job. The history of a job begins at its last Made.
-use Rattle.std.specs.Prelude.{◌≡◌, ℕ, Bool, false, not, ◌&&◌, ◌||◌, ◌==◌, if◌then◌else◌, Option, None, Some, Ok, Err, List, [], ◌∷◌, ◌++◌}
+use Rattle.std.specs.Prelude.{◌≡◌, ℕ, Bool, true, false, not, ◌&&◌, ◌||◌, ◌==◌, if◌then◌else◌, Option, None, Some, Ok, Err, List, [], ◌∷◌, ◌++◌}
 use Rattle.wx_events.specs.declared.process.ProcessEnd.{ProcessEnd}
+use Rattle.wx_command.specs.declared.command.Command.{Command}
 use Rattle.wx_control.specs.declared.id.Id.{Id}
 use Rattle.wx_control.specs.declared.control.Control.{Control}
 use Rattle.wx_control.specs.declared.control.Control.TheVariants.{SetSyncSpawnHook, UnsetSpawnHook, SetSpawnFn, SetSpawnChildFn, ClearSpawnFn}
@@ -8,9 +9,11 @@ use Rattle.wx_control.specs.declared.level.Level.{Level}
 use Rattle.wx_control.specs.declared.level.Level.TheVariants.{Normal, High, Urgent}
 use Rattle.wx_control.specs.Levels.{rank}
 use Rattle.wx_journal.specs.declared.child.SpawnTag.{SpawnTag}
-use Rattle.wx_journal.specs.declared.child.SpawnTag.TheVariants.{Default, Command, Child}
+use Rattle.wx_journal.specs.declared.child.SpawnTag.TheVariants as spawning
+use Rattle.wx_journal.specs.Acts.{JournalAct as Act}
+use Rattle.wx_journal.specs.declared.entry.Act.TheVariants.{Create, Ask, Quit}
 use Rattle.wx_journal.specs.declared.entry.Entry.{Entry}
-use Rattle.wx_journal.specs.declared.entry.Entry.TheVariants.{Turn as Turned, Made, Asked, Pick, Spawn, Wait, Dropped, Gone, Hook}
+use Rattle.wx_journal.specs.declared.entry.Entry.TheVariants.{Turn as Turned, Hand, Made, Asked, Pick, Spawn, Wait, Dropped, Raise, Gone, Hook}
 use Rattle.wx_journal.specs.declared.entry.TurnKind.TheVariants as turn
 use Rattle.wx_journal.specs.declared.entry.TurnKind.{TurnKind}
 use Rattle.wx_journal.specs.Names.{moment}
@@ -125,6 +128,17 @@ found ticket (x ∷ xs) = if x.0 == ticket then Some x.1 else found ticket xs
 abbrev pub picked_control : Id → ℕ → List Entry → Option Control
 picked_control id ticket p = found ticket (waits id Urgent p ++ waits id High p ++ waits id Normal p)
 
+-- the ticket is in hand: it was picked, and wasn't raised since
+abbrev pub is_in_hand : ℕ → List Entry → Bool
+is_in_hand ticket [] = false
+is_in_hand ticket (Pick job picked ∷ p) = picked == ticket || is_in_hand ticket p
+is_in_hand ticket (Raise raised ∷ p) = not (raised == ticket) && is_in_hand ticket p
+is_in_hand ticket (_ ∷ p) = is_in_hand ticket p
+
+-- what was in hand is so still
+abbrev pub StaysInHand : List Entry → List Entry → Type 0
+StaysInHand p p' = (ticket : ℕ) → is_in_hand ticket p ≡ true → is_in_hand ticket p' ≡ true
+
 -- what a control that is picked leaves of the spawn hook, and of what spawns
 abbrev pub set_hook : Option Control → Option ℕ → Option ℕ
 set_hook (Some (SetSyncSpawnHook n)) before = Some n
@@ -132,9 +146,9 @@ set_hook (Some UnsetSpawnHook) before = None
 set_hook (_) before = before
 
 abbrev pub set_tag : Option Control → SpawnTag → SpawnTag
-set_tag (Some (SetSpawnFn n)) before = Command n
-set_tag (Some (SetSpawnChildFn n)) before = Child n
-set_tag (Some ClearSpawnFn) before = Default
+set_tag (Some (SetSpawnFn n)) before = spawning.Command n
+set_tag (Some (SetSpawnChildFn n)) before = spawning.Child n
+set_tag (Some ClearSpawnFn) before = spawning.Default
 set_tag (_) before = before
 
 -- the spawn hook that is set, by the controls that were picked
@@ -146,10 +160,30 @@ hook id (_ ∷ p) = hook id p
 
 -- what spawns, by the controls that were picked
 abbrev pub tag : Id → List Entry → SpawnTag
-tag id [] = Default
-tag id (Made job ∷ p) = if same job id then Default else tag id p
+tag id [] = spawning.Default
+tag id (Made job ∷ p) = if same job id then spawning.Default else tag id p
 tag id (Pick job ticket ∷ p) = if same job id then set_tag (picked_control id ticket p) (tag id p) else tag id p
 tag id (_ ∷ p) = tag id p
+
+-- what a job runs, by the acts that create it
+abbrev pub creation : Id → List Act → Option Command
+creation id [] = None
+creation id (Create job command ∷ acts) = if same job id then Some command else creation id acts
+creation id (Ask job ask ∷ acts) = creation id acts
+creation id (Quit ∷ acts) = creation id acts
+
+abbrev pub or_else : Option Command → Option Command → Option Command
+or_else None other = other
+or_else (Some command) other = Some command
+
+abbrev pub command : Id → List Entry → Option Command
+command id [] = None
+command id (Hand n names acts ∷ p) = or_else (creation id acts) (command id p)
+command id (_ ∷ p) = command id p
+
+-- the job was created to run this, where the journal lists that it was created
+abbrev pub RunsOnly : Id → Command → List Entry → Type 0
+RunsOnly id what p = (created : Command) → command id p ≡ Some created → created ≡ what
 
 -- the job that spawned the child of this name
 abbrev pub owner : ℕ → List Entry → Option Id
@@ -167,3 +201,4 @@ pub record SameHistory (id : Id) (p p' : List Entry) : Type 0 where
   pub previous_same : previous id p' ≡ previous id p
   pub hook_same : hook id p' ≡ hook id p
   pub tag_same : tag id p' ≡ tag id p
+  pub command_same : command id p' ≡ command id p

@@ -12,8 +12,9 @@ use Rattle.wx_job.specs.declared.state.CommandState.{CommandState}
 use Rattle.wx_job.specs.declared.state.CommandState.TheVariants.{Pending, Running, Finished}
 use Rattle.wx_job.specs.declared.task.JobTask.{JobTask}
 use Rattle.wx_job.specs.declared.choice.Choice.{Choice}
+use Rattle.wx_job.specs.declared.choice.Choice.TheVariants.{Next}
 use Rattle.wx_job.specs.Table.{Kit, choose}
-use Rattle.wx_job.specs.History.{lives, waits, child, kept, state, previous, hook, tag}
+use Rattle.wx_job.specs.History.{lives, waits, child, kept, state, previous, hook, tag, is_in_hand, RunsOnly}
 
 -- the child of a state
 abbrev pub child_of : CommandState → Option ℕ
@@ -47,6 +48,7 @@ pub record Stands (k : JobTask) (p : List Entry) : Type 0 where
   pub previous_kept : k.previous ≡ previous k.id p
   pub hook_kept : k.hook ≡ hook k.id p
   pub tag_kept : k.tag ≡ tag k.id p
+  pub runs_kept : RunsOnly k.id k.command p
 
 -- two tasks of one job
 pub record SameJob (k k' : JobTask) : Type 0 where
@@ -58,12 +60,6 @@ pub record Undone {Host : Type 0} (k : JobTask) (j : Written) (h : Host) (k' : J
   pub task : k' ≡ k
   pub journal : j' ≡ j
   pub host : h' ≡ h
-
--- A step that answers want of memory: nothing was done, also to the hooks, or the case was given up behind a call of a hook,
--- and the state is Pending.
-pub data Stops {Host Hooks : Type 0} (k : JobTask) (j : Written) (h : Host) (x : Hooks) (k' : JobTask) (j' : Written) (h' : Host) (x' : Hooks) (GaveUp : Type 0) : Type 0 where
-  Before : Undone k j h k' j' h' → x' ≡ x → Stops k j h x k' j' h' x' GaveUp
-  Behind : k'.state ≡ Pending → GaveUp → Stops k j h x k' j' h' x' GaveUp
 
 -- all that a task keeps is the same, but for the room for controls
 pub record SameTask (k k' : JobTask) : Type 0 where
@@ -87,3 +83,14 @@ kit_of k = record { command = k.command; hook = k.hook; tag = k.tag }
 -- what a step of the task picks
 abbrev pub choice_of : JobTask → Choice
 choice_of k = choose (running_of k) k.kept (first_of false k.waiting)
+
+-- the ticket of what was picked is in hand
+abbrev pub HasInHand : Choice → List Entry → Type 0
+HasInHand (Next ticket control) p = is_in_hand ticket p ≡ true
+HasInHand (_) p = ⊥
+
+-- A step that answers want of memory: nothing was done, also to the hooks, or the case was given up behind a call of a hook,
+-- the state is Pending, and the ticket of the case is in hand.
+pub data Stops {Host Hooks : Type 0} (k : JobTask) (j : Written) (h : Host) (x : Hooks) (k' : JobTask) (j' : Written) (h' : Host) (x' : Hooks) (GaveUp : Type 0) : Type 0 where
+  Before : Undone k j h k' j' h' → x' ≡ x → Stops k j h x k' j' h' x' GaveUp
+  Behind : k'.state ≡ Pending → HasInHand (choice_of k) j'.past → GaveUp → Stops k j h x k' j' h' x' GaveUp

@@ -11,7 +11,7 @@ ghost use Rattle.wx_journal.specs.Names.{moment};
 ghost use Rattle.wx_journal.specs.Told.{tell};
 ghost use Rattle.wx_job.specs.declared.state.CommandState.TheVariants.{Pending};
 ghost use Rattle.wx_job.specs.declared.choice.Choice.TheVariants.{End, Next};
-ghost use Rattle.wx_job.specs.History.{finish, before_spawn, set_hook, set_tag};
+ghost use Rattle.wx_job.specs.History.{finish, before_spawn, set_hook, set_tag, StaysInHand};
 ghost use Rattle.wx_job.specs.Table.{Plan, Done, Words, Kills, Waits, Owes, adds, reap, spawn, fresh, row, ended, spawns, is_spawning, case};
 ghost use Rattle.wx_job.specs.Prepared.{prepared};
 ghost use Rattle.wx_job.specs.Case.{FollowsHost, Follows, GivesUp, HookedOnly, words_of};
@@ -189,6 +189,7 @@ impl JobTask {
         ensures past { IfOk result (λ two. journal.new.past ≡ Entry.Hook self.old.id n (Ok two.0) ∷ journal.old.past) }
         ensures told { IfOk result (λ two. (K.seen hooks.new).told ≡ tell (Entry.Hook self.old.id n (Ok two.0)) (K.seen hooks.old).told) }
         ensures err { OnErr result (HookedOnly self.old.id n journal.old.past (K.seen hooks.old).told journal.new.past (K.seen hooks.new).told) }
+        ensures in_hand { OnErr result (StaysInHand journal.old.past journal.new.past) }
         ensures fields { self.new ≡ record self.old { state = Pending; previous = Some self.old.state } }
         ensures keeps { KeepsOn K.seen K.rule K.stands hooks.old journal.old.past hooks.new journal.new.past }
         ensures now { moment journal.new.past ≡ moment journal.old.past }
@@ -198,7 +199,7 @@ impl JobTask {
         self.previous = Some(self.state);
         self.state = CommandState::Pending;
         let cx = JobTaskContext {
-            command: &self.command,
+            command: self.command.get(),
             current: &self.state,
             previous: self.previous.as_ref(),
         };
@@ -244,6 +245,7 @@ impl JobTask {
         ensures ok { OnOk result ((k : Plan) → Follows (fresh self.old.id (kit_of self.old) k) journal.old.past (H.seen host.old) (K.seen hooks.old).told k journal.new.past (H.seen host.new) (K.seen hooks.new).told) }
         ensures err { OnErr result ((k : Plan) → GivesUp (fresh self.old.id (kit_of self.old) k) journal.old.past (H.seen host.old) (K.seen hooks.old).told journal.new.past (H.seen host.new) (K.seen hooks.new).told) }
         ensures pending { OnErr result (self.new.state ≡ Pending) }
+        ensures in_hand { OnErr result (StaysInHand journal.old.past journal.new.past) }
         ensures fields { self.new ≡ record self.old { state = self.new.state; previous = self.new.previous; kept = self.new.kept } }
         ensures keeps { KeepsOn K.seen K.rule K.stands hooks.old journal.old.past hooks.new journal.new.past }
         ensures spends { Spends 2 journal.old (H.seen host.old) journal.new (H.seen host.new) }
@@ -282,6 +284,7 @@ impl JobTask {
         ensures err { OnErr result (GivesUp (row self.old.id (kit_of self.old) picked.now.ticket Start (child_of self.old.state)) journal.old.past (H.seen host.old) (K.seen hooks.old).told journal.new.past (H.seen host.new) (K.seen hooks.new).told) }
         ensures memory { OnErr result (child_of self.old.state ≡ None) }
         ensures pending { OnErr result (self.new.state ≡ Pending) }
+        ensures in_hand { OnErr result (StaysInHand journal.old.past journal.new.past) }
         ensures fields { self.new ≡ record self.old { state = self.new.state; previous = self.new.previous; kept = self.new.kept } }
         ensures keeps { KeepsOn K.seen K.rule K.stands hooks.old journal.old.past hooks.new journal.new.past }
         ensures spends { Spends 3 journal.old (H.seen host.old) journal.new (H.seen host.new) }
@@ -363,8 +366,8 @@ impl JobTask {
     {
         match (control, child_of(self.state)) {
             (Control::Start, None) => {
-                let what = self.command.to_spawnable(alloc)?;
-                let listed = self.command.to_spawnable(alloc)?;
+                let what = self.command.get().to_spawnable(alloc)?;
+                let listed = self.command.get().to_spawnable(alloc)?;
                 Ok(Some((what, listed)))
             }
             (Control::Start, Some(_))
@@ -425,6 +428,7 @@ impl JobTask {
         ensures err { OnErr result (GivesUp (row self.old.id (kit_of self.old) picked.now.ticket control (child_of self.old.state)) journal.old.past (H.seen host.old) (K.seen hooks.old).told journal.new.past (H.seen host.new) (K.seen hooks.new).told) }
         ensures memory { OnErr result (spawns control (child_of self.old.state) ≡ true) }
         ensures pending { OnErr result (self.new.state ≡ Pending) }
+        ensures in_hand { OnErr result (StaysInHand journal.old.past journal.new.past) }
         ensures fields { self.new ≡ record self.old { state = self.new.state; previous = self.new.previous; kept = self.new.kept } }
         ensures keeps { KeepsOn K.seen K.rule K.stands hooks.old journal.old.past hooks.new journal.new.past }
         ensures spends { Spends 4 journal.old (H.seen host.old) journal.new (H.seen host.new) }

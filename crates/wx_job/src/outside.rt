@@ -4,6 +4,7 @@ ghost use Rattle.wx_command.specs.Spawnables.{spawnable_of};
 ghost use Rattle.wx_journal.specs.declared.entry.Entry.{Entry, Entry as AnEntry};
 ghost use Rattle.wx_journal.specs.Names.{NamesItsOwn};
 ghost use Rattle.wx_journal.specs.Told.{tell, is_hooks};
+ghost use Rattle.wx_job.specs.History.{RunsOnly};
 ghost use Rattle.wx_job.specs.Seen.{Seen, Hooked};
 ghost use Rattle.wx_job.specs.Kept.{Keeps, OnlyHooksRoom, left_by};
 ghost use Rattle.wx_job.specs.Steady.{OnlyRoom, Tells};
@@ -104,7 +105,7 @@ pub trait JobHooks {
         ensures same { OnErr result (what.new ≡ what.old) }
         ensures told { (seen self.new).told ≡ tell (Entry.Hook job n (left_by result what.new)) (seen self.old).told }
         ensures spare { (seen self.old).spare ≤ (seen self.new).spare + 1 }
-        ensures keeps { (p : List AnEntry) → Keeps seen rule stands self.old p (Entry.Hook job n (left_by result what.new)) self.new };
+        ensures keeps { (p : List AnEntry) → RunsOnly job cx.now.command.now p → Keeps seen rule stands self.old p (Entry.Hook job n (left_by result what.new)) self.new };
 
     /// What is no call on it leaves what it stands for.
     ghost stands_other: { (x : Self) (p : List Entry) (e : Entry) → NamesItsOwn p → is_hooks e ≡ false → stands x p → stands x (e ∷ p) };

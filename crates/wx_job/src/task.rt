@@ -5,7 +5,7 @@ ghost use Rattle.wx_journal.specs.declared.entry.Entry.{Entry};
 ghost use Rattle.wx_journal.specs.declared.entry.Entry.TheVariants.{Turn as Turned, Made};
 ghost use Rattle.wx_journal.specs.declared.entry.TurnKind.TheVariants.{Ended};
 ghost use Rattle.wx_journal.specs.Names.{moment, NamesItsOwn};
-ghost use Rattle.wx_job.specs.History.{child as running, state, previous};
+ghost use Rattle.wx_job.specs.History.{child as running, state, previous, RunsOnly};
 ghost use Rattle.wx_job.specs.Table.{Plan, Done, adds, asks, send_plan, pick, is_spawning, answer_of, step_plan, leave, end_plan};
 ghost use Rattle.wx_job.specs.Case.{Ran, FollowsHost, FollowsAlone, Follows, GaveUp, GivesUp};
 ghost use Rattle.wx_job.specs.Faults.{Counted};
@@ -19,7 +19,7 @@ use crate::choice::{Choice, Stepped};
 use crate::outside::{Host, JobHooks};
 use crate::state::CommandState;
 use std::alloc::Global;
-use wx_command::Command;
+use wx_command::{Command, SharedCommand};
 use wx_control::{Ask, Control, Flag, Id, Job, Level, ThreeLists, Ticket};
 use wx_events::{Copies, Memory};
 use wx_journal::{Entry, Journal, SpawnTag};
@@ -28,7 +28,7 @@ use wx_journal::{Entry, Journal, SpawnTag};
 #[derive(Drop, Debug)]
 pub struct JobTask {
     pub(crate) id: Id,
-    pub(crate) command: Command,
+    pub(crate) command: SharedCommand,
     /// Raised when the job is gone.
     pub(crate) flag: Flag,
     pub(crate) waiting: ThreeLists,
@@ -44,12 +44,13 @@ pub struct JobTask {
 }
 
 /// A job of this name that runs this command, and a handle on it. It stands for its job behind the entry that it was
-/// made. It fails only for want of memory.
+/// made, in a journal that doesn't list that it was created to run another command. It fails only for want of memory.
 pub fn start_job(alloc: Global, id: Id, command: Command) -> Result<(Job, JobTask), Memory>
     ensures handle { IfOk result (λ made. (made.0.id ≡ id) × (made.0.command ≡ command)) }
     ensures task { IfOk result (λ made. (id_of made.1 ≡ id) × (command_of made.1 ≡ command) × (gone_of made.1 ≡ false)) }
-    ensures stands { IfOk result (λ made. (p : List Entry) → Stands made.1 (Made id ∷ p)) }
+    ensures stands { IfOk result (λ made. (p : List Entry) → RunsOnly id command p → Stands made.1 (Made id ∷ p)) }
 {
+    let command = SharedCommand::new(alloc, command)?;
     let flag = Flag::new(alloc, false)?;
     let job = Job::new(id, command.copy(alloc)?, flag.copy(alloc)?);
     let task = JobTask {

@@ -13,7 +13,7 @@ use crate::task::{JobTask, start_job};
 use std::alloc::Global;
 use wx_command::{Command, Program, SpawnOptions, Spawnable};
 use wx_control::{Ask, Control, Flag, Id, Ticket};
-use wx_events::{List, Memory, ProcessEnd, Text};
+use wx_events::{Copies, List, Memory, ProcessEnd, Text};
 use wx_journal::{Act, Entry, HostFault, Journal, SpawnTag, Turn, TurnKind, put_entry};
 
 /// A host that tells its entries. Of its calls to spawn, kill and wait, counted from 0, the one of the number `bad` fails
@@ -213,7 +213,7 @@ pub(crate) fn command_of(alloc: Global, prog: &[u8]) -> Result<Command, Memory> 
 }
 
 /// A job of this name is created, which runs this program, and made.
-#[tactic(auto, using(crate::proofs::Turns::names_created))]
+#[tactic(auto, using(crate::proofs::Turns::names_created, crate::proofs::Turns::created_runs))]
 pub(crate) fn make_job(
     alloc: Global,
     id: Id,
@@ -226,8 +226,9 @@ pub(crate) fn make_job(
     ensures others { NamesItsOwn world.old.journal.past → (k : the-JobTask) → id_of k ≢ id → Stands k world.old.journal.past → Stands k world.new.journal.past }
 {
     world.journal.reserve(2)?;
-    let acts = vec![in alloc; Act::Create(id, command_of(alloc, prog)?)]?;
-    let (_handle, task) = start_job(alloc, id, command_of(alloc, prog)?)?;
+    let command = command_of(alloc, prog)?;
+    let acts = vec![in alloc; Act::Create(id, command.copy(alloc)?)]?;
+    let (_handle, task) = start_job(alloc, id, command)?;
     world.journal.push(Entry::Hand {
         n: 0,
         names: List::new(alloc),

@@ -698,6 +698,7 @@ fn two_jobs(rt: HostRuntime) -> Result<(), Fail> {
 }
 
 #[test]
+#[tactic(auto, using(crate::proofs::Turns::never_created))]
 fn handles_and_laws(rt: HostRuntime) -> Result<(), Fail> {
     let alloc = rt.alloc();
     let mut journal = Journal::new(alloc)?;
