@@ -54,7 +54,7 @@ NoneIsToGo Ends = Unit {0}
 NoneIsToGo Breaks = Unit {0}
 
 -- The places at which want of memory may cut a run: behind a turn, and where no event is to be shown and no window is to be
--- handed. So there is no cut between a Take and its Filter, nor between an event that passed and a Hand that is due.
+-- handed. So there is no cut between a Take and its Filter, nor between the passing of an event and the Hand that it makes due.
 abbrev pub MemoryCuts : Start → List Entry → Type 0
 MemoryCuts s p = IsBehindTurn p ⊎ NoneIsToGo (agenda s p)
 
