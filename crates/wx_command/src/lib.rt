@@ -11,8 +11,6 @@ mod shared;
 mod shell;
 mod shell_words;
 mod spawnable;
-#[cfg(test)]
-mod tests;
 
 pub use command::{Command, SpawnOptions};
 pub use execable::is_execable;

@@ -9,8 +9,6 @@ mod or_none;
 mod priority;
 mod process;
 mod source;
-#[cfg(test)]
-mod tests;
 
 pub use event::{Event, Tag};
 pub use file_type::FileType;

@@ -15,8 +15,6 @@ mod rows;
 mod signed;
 mod spelled;
 mod switches;
-#[cfg(test)]
-mod tests;
 mod text;
 mod texts;
 mod tuples;

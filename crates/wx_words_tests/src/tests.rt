@@ -1,13 +1,8 @@
 // Lines and values by the rules of the words: the expected values are worked out by hand.
-use crate::cursor::Words;
-use crate::list::{List, Memory, copy_twice};
-use crate::path::TextPath;
-use crate::rows::take_literal;
-use crate::spelled::Spelled;
-use crate::text::Text;
 use std::alloc::Global;
 use std::num::{NonZeroI32, NonZeroI64};
 use std::test::Fail;
+use wx_words::{List, Memory, Spelled, Text, TextPath, Words, copy_twice, take_literal};
 
 /// The words of this value with one space between them.
 fn line_of<T: Spelled>(alloc: Global, value: &T) -> Result<Text, Memory> {

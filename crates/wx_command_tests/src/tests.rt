@@ -1,12 +1,8 @@
 // Commands by the rules of their words: the expected values are worked out by hand.
-use crate::command::{Command, SpawnOptions};
-use crate::execable::is_execable;
-use crate::program::Program;
-use crate::shell::Shell;
-use crate::spawnable::Spawnable;
 use std::alloc::Global;
 use std::hash::{DefaultHasher, Hash, Hasher};
 use std::test::Fail;
+use wx_command::{Command, Program, Shell, SpawnOptions, Spawnable, is_execable};
 use wx_events::{Copies, List, Memory, Spelled, Text, Words};
 
 /// The words of this value with one space between them.

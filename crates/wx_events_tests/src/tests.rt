@@ -1,17 +1,13 @@
 // What events are written with, by the rules of the words: the expected values are worked out by hand.
 //
 // Cases stand in tables that are texts, a case a line. Where a word has a value, ` = ` and the value's fields follow.
-use crate::event::{Event, Tag};
-use crate::file_type::FileType;
-use crate::keyboard::{Keyboard, Modifiers};
-use crate::kind::FileEventKind;
-use crate::priority::Priority;
-use crate::process::{ProcessEnd, Signal};
-use crate::source::Source;
 use std::alloc::Global;
 use std::fmt;
 use std::process::Abort;
 use std::test::Fail;
+use wx_events::{
+    Event, FileEventKind, FileType, Keyboard, Modifiers, Priority, ProcessEnd, Signal, Source, Tag,
+};
 use wx_words::{Copies, List, Memory, Spelled, Text, Words};
 
 /// The value whose words are this whole line.
