@@ -50,12 +50,12 @@ def sizes_of(crate):
 
 def main():
     total = dict.fromkeys(COLUMNS, 0)
-    print(f"{'crate':14}" + "".join(f"{it:>13}" for it in COLUMNS))
+    print(f"{'crate':18}" + "".join(f"{it:>13}" for it in COLUMNS))
     for crate in sorted(glob.glob("crates/*")):
         sizes = sizes_of(crate)
         total = {it: total[it] + sizes[it] for it in COLUMNS}
-        print(f"{os.path.basename(crate):14}" + "".join(f"{sizes[it]:>13}" for it in COLUMNS))
-    print(f"{'all':14}" + "".join(f"{total[it]:>13}" for it in COLUMNS))
+        print(f"{os.path.basename(crate):18}" + "".join(f"{sizes[it]:>13}" for it in COLUMNS))
+    print(f"{'all':18}" + "".join(f"{total[it]:>13}" for it in COLUMNS))
 
 
 if __name__ == "__main__":

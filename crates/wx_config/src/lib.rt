@@ -8,8 +8,6 @@ mod notify_fault;
 mod runtime;
 mod scan_fault;
 mod source_errors;
-#[cfg(test)]
-mod tests;
 mod watched;
 
 pub use config::{Changeable, Config};

@@ -1,9 +1,13 @@
 // Tests of a world and hooks that follow a script, and of an engine. Scripts are read from their lines.
+//
+// What is long, as a script, a world or an engine, is lent to a helper and dropped by generic code, which is quicker to
+// prove than to drop it where calls may fail.
 ghost use Rattle.std.specs.Prelude.{◌≡◌, ◌∷◌, [], ◌≤◌, IfOk};
 ghost use Rattle.wx_action.specs.Start.{IsSize};
 ghost use Rattle.wx_engine.specs.Follows.{IsScript};
 
 use std::alloc::Global;
+use std::process::Abort;
 use std::test::Fail;
 use wx_action::{Hooks, Host, JobHooks, World, print_journal};
 use wx_command::{SpawnOptions, Spawnable};
@@ -31,7 +35,17 @@ const TURNS: &[u8] =
 /// A world that follows the script `TURNS`.
 fn world_of(alloc: Global) -> Result<ScriptWorld, Fail> {
     let script = script_of(alloc, TURNS)?;
-    Ok(ScriptWorld::new(alloc, &script)?)
+    let world = ScriptWorld::new(alloc, &script);
+    drop(script);
+    Ok(world?)
+}
+
+/// Hooks that follow the script of these lines.
+fn hooks_of(alloc: Global, lines: &[u8]) -> Result<ScriptHooks, Fail> {
+    let script = script_of(alloc, lines)?;
+    let hooks = ScriptHooks::new(alloc, &script);
+    drop(script);
+    Ok(hooks?)
 }
 
 /// The sort of a turn: 0 for an event, 1 for work, 2 for a last turn, 3 for one of a job.
@@ -53,40 +67,67 @@ fn next<W: World>(world: &mut W) -> Result<Result<(u64, u32), u32>, Memory> {
     })
 }
 
-#[test]
-fn the_turns_come_in_order(rt: HostRuntime) -> Result<(), Fail> {
-    let mut world = world_of(rt.alloc())?;
+/// Holds the turns of the world to those of `TURNS`.
+fn expect_turns<W: World>(rt: &impl Abort, world: &mut W) -> Result<(), Fail> {
     let turns = [Ok((5, 0)), Err(3), Ok((8, 1)), Ok((8, 2)), Ok((8, 2))];
     for turn in turns {
-        assert_eq!(rt; next(&mut world)?, turn);
+        assert_eq!(rt; next(world)?, turn);
     }
     Ok(())
 }
 
 #[test]
+fn the_turns_come_in_order(rt: HostRuntime) -> Result<(), Fail> {
+    let mut world = world_of(rt.alloc())?;
+    let held = expect_turns(&rt, &mut world);
+    drop(world);
+    held
+}
+
+#[test]
 fn hooks_are_made(rt: HostRuntime) -> Result<(), Fail> {
-    let script = script_of(rt.alloc(), TURNS)?;
-    let mut hooks = ScriptHooks::new(rt.alloc(), &script)?;
-    hooks.reserve(2)?;
-    assert!(rt; !hooks.short());
+    let mut hooks = hooks_of(rt.alloc(), TURNS)?;
+    let reserved = hooks.reserve(2);
+    let short = hooks.short();
+    drop(hooks);
+    reserved?;
+    assert!(rt; !short);
+    Ok(())
+}
+
+/// What a filter answered, as a word.
+fn word_of(answer: Result<bool, RuntimeError>) -> &'static str {
+    let word = match &answer {
+        Ok(true) => "pass",
+        Ok(false) => "reject",
+        Err(RuntimeError::Exit) => "exit",
+        Err(_) => "fail",
+    };
+    drop(answer);
+    word
+}
+
+/// Holds what the filter answers to three events: the script has two answers.
+fn expect_answers(rt: &impl Abort, alloc: Global, hooks: &mut ScriptHooks) -> Result<(), Fail> {
+    let event = Event {
+        tags: List::new(alloc),
+    };
+    hooks.reserve(3)?;
+    let first = word_of(hooks.check_event(0, 0, &event, Priority::Low));
+    assert_eq!(rt; first, "reject");
+    let second = word_of(hooks.check_event(0, 1, &event, Priority::Low));
+    assert_eq!(rt; second, "exit");
+    let third = word_of(hooks.check_event(0, 2, &event, Priority::Low));
+    assert_eq!(rt; third, "pass");
     Ok(())
 }
 
 #[test]
 fn the_filter_answers_in_order(rt: HostRuntime) -> Result<(), Fail> {
-    let script = script_of(rt.alloc(), b"filter reject\nfilter fail exit\n")?;
-    let mut hooks = ScriptHooks::new(rt.alloc(), &script)?;
-    let event = Event {
-        tags: List::new(rt.alloc()),
-    };
-    hooks.reserve(3)?;
-    let first = hooks.check_event(0, 0, &event, Priority::Low);
-    assert!(rt; matches!(first, Ok(false)));
-    let second = hooks.check_event(0, 1, &event, Priority::Low);
-    assert!(rt; matches!(second, Err(RuntimeError::Exit)));
-    let third = hooks.check_event(0, 2, &event, Priority::Low);
-    assert!(rt; matches!(third, Ok(true)));
-    Ok(())
+    let mut hooks = hooks_of(rt.alloc(), b"filter reject\nfilter fail exit\n")?;
+    let held = expect_answers(&rt, rt.alloc(), &mut hooks);
+    drop(hooks);
+    held
 }
 
 /// Spawns child 0 for job 1, kills it and waits for it, and answers whether each call went well.
@@ -108,20 +149,26 @@ fn let_go<W: Host>(world: &mut W, flag: &Flag)
     world.gone(Id(1), flag);
 }
 
-#[test]
-fn calls_on_children_go_well(rt: HostRuntime) -> Result<(), Fail> {
-    let alloc = rt.alloc();
+/// Calls on a child, lets go of it, and holds the next turn to the first of `TURNS`.
+fn expect_calls(rt: &impl Abort, alloc: Global, world: &mut ScriptWorld) -> Result<(), Fail> {
     let what = Spawnable {
         words: List::new(alloc),
         options: SpawnOptions::default(),
     };
-    let mut world = world_of(alloc)?;
     world.reserve(3)?;
-    assert!(rt; child_ends(&mut world, what));
+    assert!(rt; child_ends(world, what));
     world.reserve(3)?;
-    let_go(&mut world, &Flag::new(alloc, false)?);
-    assert_eq!(rt; next(&mut world)?, Ok((5, 0)));
+    let_go(world, &Flag::new(alloc, false)?);
+    assert_eq!(rt; next(world)?, Ok((5, 0)));
     Ok(())
+}
+
+#[test]
+fn calls_on_children_go_well(rt: HostRuntime) -> Result<(), Fail> {
+    let mut world = world_of(rt.alloc())?;
+    let held = expect_calls(&rt, rt.alloc(), &mut world);
+    drop(world);
+    held
 }
 
 /// The topmost folder.
@@ -142,6 +189,28 @@ pub(crate) fn engine_with(alloc: Global, throttle: u64, size: u32) -> Result<Wat
     Watchexec::with_config(alloc, config, folder)
 }
 
+/// The text of a run of this engine in this world.
+fn text_in<H: Hooks>(
+    alloc: Global,
+    engine: Watchexec,
+    world: &mut ScriptWorld,
+    hooks: &mut H,
+) -> Result<Text, Memory> {
+    match Journal::new(alloc) {
+        Ok(mut journal) => {
+            let answer = engine.main(alloc, world, hooks, &mut journal);
+            let text = print_journal(alloc, &journal, &answer);
+            drop(answer);
+            drop(journal);
+            text
+        }
+        Err(want) => {
+            drop(engine);
+            Err(want)
+        }
+    }
+}
+
 /// The text of a run of this engine, in a world that follows the script.
 pub(crate) fn run_text<H: Hooks>(
     alloc: Global,
@@ -151,26 +220,48 @@ pub(crate) fn run_text<H: Hooks>(
 ) -> Result<Text, Memory>
     requires { IsScript script.now }
 {
-    let mut world = ScriptWorld::new(alloc, script)?;
-    let mut journal = Journal::new(alloc)?;
-    let answer = engine.main(alloc, &mut world, hooks, &mut journal);
-    print_journal(alloc, &journal, &answer)
+    match ScriptWorld::new(alloc, script) {
+        Ok(mut world) => {
+            let text = text_in(alloc, engine, &mut world, hooks);
+            drop(world);
+            text
+        }
+        Err(want) => {
+            drop(engine);
+            Err(want)
+        }
+    }
 }
 
 /// An urgent event arrives behind another one, and is handed first and at once.
 const HURRIES: &[u8] = b"turn 0 arrive low 0\nturn 3 arrive urgent 0\nturn 4 work\n";
 
-/// The text of a run with the default settings and action handler 7.
-fn text_of_defaults(alloc: Global) -> Result<Text, Fail> {
-    let script = script_of(alloc, HURRIES)?;
-    let mut hooks = ScriptHooks::new(alloc, &script)?;
+/// The text of a run of this script with the default settings and action handler 7.
+fn text_of_defaults(alloc: Global, script: &Script, hooks: &mut ScriptHooks) -> Result<Text, Memory>
+    requires { IsScript script.now }
+{
     let engine = Watchexec::new(alloc, 7, root(alloc)?)?;
-    Ok(run_text(alloc, engine, &script, &mut hooks)?)
+    run_text(alloc, engine, script, hooks)
+}
+
+/// The text of such a run of the script `HURRIES`, with hooks that follow it.
+fn text_of_hurries(alloc: Global) -> Result<Text, Fail> {
+    let script = script_of(alloc, HURRIES)?;
+    let text = match ScriptHooks::new(alloc, &script) {
+        Ok(mut hooks) => {
+            let text = text_of_defaults(alloc, &script, &mut hooks);
+            drop(hooks);
+            text
+        }
+        Err(want) => Err(want),
+    };
+    drop(script);
+    Ok(text?)
 }
 
 #[test]
 fn an_engine_begins_with_the_default_settings(rt: HostRuntime) -> Result<(), Fail> {
-    let text = text_of_defaults(rt.alloc())?;
+    let text = text_of_hurries(rt.alloc())?;
     let (begin, rest) = cut(text.as_slice(), 10).ok_or("a beginning")?;
     let settings =
         b"begin throttle 50000000 size 4096 errors 64 keyboard off follow on jobsignals off watcher native cwd / paths 0";
@@ -198,7 +289,9 @@ fn a_full_queue_hands_the_event_back(rt: HostRuntime) -> Result<(), Fail> {
         tags: List::new(alloc),
     };
     let mut engine = engine_with(alloc, 0, 1)?;
-    assert!(rt; engine.send_event(untagged, Priority::Low).is_ok());
-    assert!(rt; is_handed_back(&mut engine, Event { tags }));
+    let sent = engine.send_event(untagged, Priority::Low).is_ok();
+    let back = is_handed_back(&mut engine, Event { tags });
+    drop(engine);
+    assert!(rt; sent && back);
     Ok(())
 }

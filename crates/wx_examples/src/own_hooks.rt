@@ -1,5 +1,6 @@
 // Hooks as a user writes them, and runs with them: their texts are worked out by hand.
 ghost use Rattle.std.specs.Prelude.{◌≡◌, ◌^◌, [], false, None, OnErr};
+ghost use Rattle.wx_engine.specs.Follows.{IsScript};
 
 use crate::engine_tests::{engine_with, run_text, script_of};
 use std::alloc::Global;
@@ -8,6 +9,7 @@ use wx_action::{ActionHandler, ErrorHook, Hooks, JobHooks};
 use wx_command::{Command, Program, SpawnOptions, Spawnable};
 use wx_config::{CriticalError, RuntimeError};
 use wx_control::{Id, Job};
+use wx_engine::Script;
 use wx_events::{Copies, Event, List, Memory, Priority, Text, cut};
 use wx_job::{CommandState, JobTaskContext};
 use wx_journal::{Entry, put_entry};
@@ -183,6 +185,14 @@ fn command_of(alloc: Global, prog: &[u8]) -> Result<Command, Memory> {
     })
 }
 
+/// Whether the job runs this program, with no argument.
+fn runs(alloc: Global, job: &Job, prog: &[u8]) -> Result<bool, Memory> {
+    let want = command_of(alloc, prog)?;
+    let is = job.command() == &want;
+    drop(want);
+    Ok(is)
+}
+
 /// Creates a job that runs this program, and answers the handle on it, where the job has this id and this command.
 fn created(alloc: Global, id: Id, prog: &[u8], handler: &mut ActionHandler<'_>) -> Option<Job>
     ensures past { handler.new.past ≡ handler.old.past }
@@ -190,13 +200,14 @@ fn created(alloc: Global, id: Id, prog: &[u8], handler: &mut ActionHandler<'_>) 
     ensures handed { handler.new.handed ≡ handler.old.handed }
 {
     let command = command_of(alloc, prog).ok()?;
-    let want = command.copy(alloc).ok()?;
     let Ok((made, job)) = handler.create_job(alloc, command) else {
         return None;
     };
-    if made == id && job.id() == id && job.command() == &want {
+    let runs = runs(alloc, &job, prog).unwrap_or(false);
+    if made == id && job.id() == id && runs {
         Some(job)
     } else {
+        drop(job);
         None
     }
 }
@@ -211,12 +222,14 @@ fn restart(alloc: Global, handler: &mut ActionHandler<'_>) -> Option<bool>
         Some(id) => handler.get_job(alloc, id).ok()??,
         None => created(alloc, Id(0), b"a", handler)?,
     };
-    if handler.job_running(job.id()) {
+    let started = if handler.job_running(job.id()) {
         handler.quit();
+        true
     } else {
-        let _started = job.start(alloc, handler).ok()?;
-    }
-    Some(true)
+        job.start(alloc, handler).is_ok()
+    };
+    drop(job);
+    if started { Some(true) } else { None }
 }
 
 /// Creates a job whose spawn hook is the one of the number 3.
@@ -225,8 +238,12 @@ fn hooked(alloc: Global, handler: &mut ActionHandler<'_>) -> Option<Job>
     ensures names { handler.new.names ≡ handler.old.names }
 {
     let job = created(alloc, Id(0), b"make", handler)?;
-    let _set = job.set_spawn_hook(alloc, handler, 3).ok()?;
-    Some(job)
+    if job.set_spawn_hook(alloc, handler, 3).is_ok() {
+        Some(job)
+    } else {
+        drop(job);
+        None
+    }
 }
 
 /// Starts the job, which is created where there is none.
@@ -239,8 +256,9 @@ fn start_hooked(alloc: Global, handler: &mut ActionHandler<'_>) -> Option<bool>
         Some(id) => handler.get_job(alloc, id).ok()??,
         None => hooked(alloc, handler)?,
     };
-    let _started = job.start(alloc, handler).ok()?;
-    Some(true)
+    let started = job.start(alloc, handler).is_ok();
+    drop(job);
+    if started { Some(true) } else { None }
 }
 
 /// Creates two jobs, starts the first, stops the second, and quits twice.
@@ -250,12 +268,16 @@ fn ask_two(alloc: Global, handler: &mut ActionHandler<'_>) -> Option<()>
     ensures handed { handler.new.handed ≡ handler.old.handed }
 {
     let a = created(alloc, Id(0), b"a", handler)?;
-    let b = created(alloc, Id(1), b"b", handler)?;
-    let _started = a.start(alloc, handler).ok()?;
-    let _stopped = b.stop(alloc, handler).ok()?;
+    let b = created(alloc, Id(1), b"b", handler);
+    let asked = match &b {
+        Some(b) => a.start(alloc, handler).is_ok() && b.stop(alloc, handler).is_ok(),
+        None => false,
+    };
+    drop(a);
+    drop(b);
     handler.quit();
     handler.quit();
-    Some(())
+    if asked { Some(()) } else { None }
 }
 
 /// The line of the hand that asks for what `ask_two` does.
@@ -288,10 +310,12 @@ fn is_not_shown(alloc: Global, handler: &mut ActionHandler<'_>) -> Option<bool>
     ensures past { handler.new.past ≡ handler.old.past }
     ensures names { handler.new.names ≡ handler.old.names }
 {
-    let _job = created(alloc, Id(0), b"a", handler)?;
+    drop(created(alloc, Id(0), b"a", handler)?);
     let found = handler.get_job(alloc, Id(0)).ok()?;
+    let is_found = found.is_some();
+    drop(found);
     let listed = handler.list_jobs().next();
-    Some(found.is_none() && listed.is_none() && !handler.job_running(Id(0)))
+    Some(!is_found && listed.is_none() && !handler.job_running(Id(0)))
 }
 
 /// The first batch creates the job, the second starts it again after its child ended, the third finds it running.
@@ -310,7 +334,16 @@ const ASKED_TWO: &[u8] =
 const LOOKED: &[u8] =
     b"turn 0 arrive urgent 0\noffer 0 - queued urgent 0\nturn 0 work\ntake 0\nhand 0 1 0 create 0 exec ---- 1 a\nmade 0\nturn 0 last\ngone 0\nend ok lost 0\n";
 
-/// Whether hooks that do this saw what is right, and the run that follows these lines has this text behind its first line.
+/// The text of a run of this script with these hooks.
+fn own_text(alloc: Global, script: &Script, hooks: &mut Own) -> Result<Text, Memory>
+    requires { IsScript script.now }
+{
+    let engine = engine_with(alloc, 50_000_000, 4)?;
+    run_text(alloc, engine, script, hooks)
+}
+
+/// Whether hooks that do this saw what is right, and the run that follows these lines has this text behind its first line. A
+/// script is dropped by generic code, which is quicker to prove; so are jobs and commands above.
 fn runs_so(alloc: Global, does: Does, lines: &[u8], want: &[u8]) -> Result<bool, Fail> {
     let script = script_of(alloc, lines)?;
     let mut hooks = Own {
@@ -318,8 +351,9 @@ fn runs_so(alloc: Global, does: Does, lines: &[u8], want: &[u8]) -> Result<bool,
         does,
         is_right: false,
     };
-    let engine = engine_with(alloc, 50_000_000, 4)?;
-    let text = run_text(alloc, engine, &script, &mut hooks)?;
+    let text = own_text(alloc, &script, &mut hooks);
+    drop(script);
+    let text = text?;
     let rest = cut(text.as_slice(), 10).map(|parts| parts.1);
     Ok(hooks.is_right && rest == Some(want))
 }

@@ -10,4 +10,3 @@ pub mod Sound
 pub mod Forms
 pub mod StepLaws
 pub mod LifeLaws
-pub mod Turns

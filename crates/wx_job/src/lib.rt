@@ -4,16 +4,10 @@
 mod case;
 mod choice;
 mod context;
-#[cfg(test)]
-mod journal_tests;
 mod laws;
 mod outside;
 mod state;
 mod task;
-#[cfg(test)]
-mod test_world;
-#[cfg(test)]
-mod tests;
 
 pub use choice::Stepped;
 pub use context::JobTaskContext;

@@ -4,11 +4,12 @@ use Rattle.wx_command.specs.declared.command.Command.{Command}
 use Rattle.wx_control.specs.declared.id.Id.{Id}
 use Rattle.wx_journal.specs.declared.entry.Entry.{Entry}
 use Rattle.wx_journal.specs.declared.entry.Entry.TheVariants.{Turn as Turned, Hand, Made}
+use Rattle.wx_journal.specs.Acts.{JournalAct as Act}
 use Rattle.wx_journal.specs.declared.entry.Act.TheVariants.{Create}
 use Rattle.wx_journal.specs.Names.{NamesItsOwn}
 use Rattle.wx_journal.specs.declared.entry.TurnKind.TheVariants as turn
 use Rattle.wx_job.specs.declared.task.JobTask.{JobTask}
-use Rattle.wx_job.specs.History.{RunsOnly}
+use Rattle.wx_job.specs.History.{command, RunsOnly}
 use Rattle.wx_job.specs.Laws.{LeavesOthers}
 use Rattle.wx_job.specs.Stands.{Stands, IsEnding, id_of}
 use Rattle.wx_job.proofs.Owners.{self, other-is}
@@ -33,17 +34,18 @@ stands_made k id p ne s =
     stands_history k p (Made id ∷ p) (record { lives_same = rw other refl; waits_same = λ l. rw other refl; child_same = rw other refl; kept_same = rw other refl; state_same = rw other refl; previous_same = rw other refl; hook_same = rw other refl; tag_same = rw other refl; command_same = refl }) s
 
 -- another job is created and made
-pub stands_created : (k : JobTask) (id : Id) (command : Command) (n : ℕ) (names : List ℕ) (p : List Entry) → id_of k ≢ id → Stands k p → Stands k (Made id ∷ Hand n names (Create id command ∷ []) ∷ p)
-stands_created k id command n names p ne s =
+pub stands_created : (k : JobTask) (id : Id) (what : Command) (n : ℕ) (names : List ℕ) (acts : List Act) (p : List Entry) → acts ≡ Create id what ∷ [] → id_of k ≢ id → Stands k p → Stands k (Made id ∷ Hand n names acts ∷ p)
+stands_created k id what n names acts p one ne s =
     let other = other-is (id_of k) id ne in
-    stands_made k id (Hand n names (Create id command ∷ []) ∷ p) ne (stands_history k p (Hand n names (Create id command ∷ []) ∷ p) (record { lives_same = refl; waits_same = λ l. refl; child_same = refl; kept_same = refl; state_same = refl; previous_same = refl; hook_same = refl; tag_same = refl; command_same = rw other refl }) s)
+    let kept : command (id_of k) (Hand n names (Create id what ∷ []) ∷ p) ≡ command (id_of k) p = rw other refl in
+    stands_made k id (Hand n names acts ∷ p) ne (stands_history k p (Hand n names acts ∷ p) (record { lives_same = refl; waits_same = λ l. refl; child_same = refl; kept_same = refl; state_same = refl; previous_same = refl; hook_same = refl; tag_same = refl; command_same = rw one kept }) s)
 
 -- where nothing was created, and where it was
-pub never_created : (id : Id) (command : Command) → RunsOnly id command []
-never_created id command created is = absurd cc
+pub never_created : (id : Id) (what : Command) (p : List Entry) → p ≡ [] → RunsOnly id what p
+never_created id what p empty created is = let none : command id [] ≡ Some created = rw empty at is in absurd cc
 
-pub created_runs : (id : Id) (command : Command) (n : ℕ) (names : List ℕ) (p : List Entry) → RunsOnly id command (Hand n names (Create id command ∷ []) ∷ p)
-created_runs id command n names p created is = let here : Some command ≡ Some created = rw (self id) at is in cc
+pub created_runs : (id : Id) (what : Command) (n : ℕ) (names : List ℕ) (p : List Entry) → RunsOnly id what (Hand n names (Create id what ∷ []) ∷ p)
+created_runs id what n names p created is = let here : Some what ≡ Some created = rw (self id) at is in cc
 
-pub names_created : (id : Id) (command : Command) (n : ℕ) (p : List Entry) → NamesItsOwn p → NamesItsOwn (Made id ∷ Hand n [] (Create id command ∷ []) ∷ p)
-names_created id command n p own = (rw (self id) refl, (tt, own))
+pub names_created : (id : Id) (what : Command) (n : ℕ) (p : List Entry) → NamesItsOwn p → NamesItsOwn (Made id ∷ Hand n [] (Create id what ∷ []) ∷ p)
+names_created id what n p own = (rw (self id) refl, (tt, own))

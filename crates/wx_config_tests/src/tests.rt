@@ -3,15 +3,15 @@
 //
 // Cases stand in tables that are texts, a case a line. Where a line has a value, ` = ` and the beginning of the value's
 // fields follow.
-use crate::{
-    Changeable, Config, CriticalError, EntryKind, Filterer, FsWatcherError, NotifyFault,
-    RuntimeError, ScanFault, WatchedPath, Watcher,
-};
 use std::alloc::Global;
 use std::fmt;
 use std::hash::{DefaultHasher, Hash, Hasher};
 use std::process::Abort;
 use std::test::Fail;
+use wx_config::{
+    Changeable, Config, CriticalError, EntryKind, Filterer, FsWatcherError, NotifyFault,
+    RuntimeError, ScanFault, WatchedPath, Watcher,
+};
 use wx_events::{Copies, Event, List, Memory, Priority, Spelled, Text, TextPath, Words};
 
 /// The value whose words are this whole line.

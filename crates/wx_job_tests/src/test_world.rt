@@ -5,20 +5,16 @@ ghost use Rattle.wx_journal.specs.Told.{Counts};
 ghost use Rattle.wx_job.specs.declared.task.JobTask.{JobTask as the-JobTask};
 ghost use Rattle.wx_job.specs.Stands.{Stands, id_of, running_of};
 
-use crate::choice::Stepped;
-use crate::context::JobTaskContext;
-use crate::outside::{Host, JobHooks, Outside};
-use crate::state::CommandState;
-use crate::task::{JobTask, start_job};
 use std::alloc::Global;
 use wx_command::{Command, Program, SpawnOptions, Spawnable};
 use wx_control::{Ask, Control, Flag, Id, Ticket};
 use wx_events::{Copies, List, Memory, ProcessEnd, Text};
+use wx_job::{CommandState, Host, JobHooks, JobTask, JobTaskContext, Outside, Stepped, start_job};
 use wx_journal::{Act, Entry, HostFault, Journal, SpawnTag, Turn, TurnKind, put_entry};
 
 /// A host that tells its entries. Of its calls to spawn, kill and wait, counted from 0, the one of the number `bad` fails
 /// with code 7. Children end as the last of `ends` says, or else with success.
-#[derive(Drop, Debug)]
+#[derive(Drop)]
 pub(crate) struct TestHost {
     told: Journal,
     calls: u64,
@@ -125,7 +121,7 @@ impl Host for TestHost {
 
 /// Hooks that tell nothing. A spawn hook adds the last of these words to what is spawned, but the one of the number 9 has
 /// no memory. The states of the last context that was shown are kept.
-#[derive(Drop, Debug)]
+#[derive(Drop)]
 pub(crate) struct TestHooks {
     pub(crate) words: Vec<Text>,
     pub(crate) shown: Option<(CommandState, Option<CommandState>)>,
@@ -167,7 +163,7 @@ impl JobHooks for TestHooks {
 }
 
 /// A host, hooks and the journal of a run.
-#[derive(Drop, Debug)]
+#[derive(Drop)]
 pub(crate) struct World {
     pub(crate) host: TestHost,
     pub(crate) hooks: TestHooks,
@@ -228,7 +224,8 @@ pub(crate) fn make_job(
     world.journal.reserve(2)?;
     let command = command_of(alloc, prog)?;
     let acts = vec![in alloc; Act::Create(id, command.copy(alloc)?)]?;
-    let (_handle, task) = start_job(alloc, id, command)?;
+    let (handle, task) = start_job(alloc, id, command)?;
+    drop(handle);
     world.journal.push(Entry::Hand {
         n: 0,
         names: List::new(alloc),
@@ -291,10 +288,11 @@ fn step_now(
     task.step(alloc, at, host, hooks, journal)
 }
 
-/// A turn in which the job takes a step.
+/// A turn in which the job, which has this id, takes a step.
 #[tactic(auto, using(crate::proofs::Turns::stands_turn))]
 pub(crate) fn step(
     task: &mut JobTask,
+    id: Id,
     alloc: Global,
     at: u64,
     world: &mut World,
@@ -306,7 +304,7 @@ pub(crate) fn step(
     ensures others { NamesItsOwn world.old.journal.past → (k : the-JobTask) → id_of k ≢ id_of task.old → Stands k world.old.journal.past → Stands k world.new.journal.past }
 {
     make_room(world)?;
-    let kind = TurnKind::Job(task.id);
+    let kind = TurnKind::Job(id);
     world.journal.push(Entry::Turn(Turn { at, kind }));
     step_now(task, alloc, at, world)
 }

@@ -145,15 +145,13 @@ fn command(alloc: Global) -> Result<Command, Memory> {
     })
 }
 
-/// The line of a batch of event 0 that was handed to the first handler, which asked for these acts.
-fn hand_line(alloc: Global, acts: Vec<Act>) -> Result<Text, Memory> {
-    let names = vec![in alloc; 0]?;
-    let entry = Entry::Hand {
+/// A batch of these events that was handed to the first handler, which asked for these acts.
+fn hand(names: Vec<u64>, acts: Vec<Act>) -> Entry {
+    Entry::Hand {
         n: 0,
         names: List::from_vec(names),
         acts: List::from_vec(acts),
-    };
-    line_of(alloc, &entry)
+    }
 }
 
 #[test]
@@ -212,12 +210,16 @@ fn filter(answer: Result<bool, RuntimeError>) -> Entry {
     }
 }
 
+/// The error of a filter of globs that has a bad rule.
+fn bad_rule(alloc: Global) -> Result<RuntimeError, Memory> {
+    let kind = Text::from_slice(alloc, b"glob")?;
+    let err = Text::from_slice(alloc, b"bad rule")?;
+    Ok(RuntimeError::Filterer { kind, err })
+}
+
 #[test]
 fn entries_of_filters(rt: HostRuntime) -> Result<(), Fail> {
     let alloc = rt.alloc();
-    let kind = Text::from_slice(alloc, b"glob")?;
-    let err = Text::from_slice(alloc, b"bad rule")?;
-    let bad = RuntimeError::Filterer { kind, err };
     expect_line(&rt, alloc, filter(Ok(true)), b"filter 1 3 pass")?;
     expect_line(&rt, alloc, filter(Ok(false)), b"filter 1 3 reject")?;
     expect_line(
@@ -227,7 +229,7 @@ fn entries_of_filters(rt: HostRuntime) -> Result<(), Fail> {
         b"filter 1 3 fail exit",
     )?;
     let line = b"filter 1 3 fail filterer glob bad%20rule";
-    expect_line(&rt, alloc, filter(Err(bad)), line)?;
+    expect_line(&rt, alloc, filter(Err(bad_rule(alloc)?)), line)?;
     Ok(())
 }
 
@@ -281,17 +283,23 @@ fn what_filters_answer(rt: HostRuntime) -> Result<(), Fail> {
     Ok(())
 }
 
+/// A job is created and asked to start, and a quit.
+fn three_acts(alloc: Global) -> Result<Vec<Act>, Memory> {
+    let mut acts = Vec::new(alloc);
+    acts.push(Act::Create(Id(0), command(alloc)?))?;
+    acts.push(Act::Ask(Id(0), Ask::One(Control::Start)))?;
+    acts.push(Act::Quit)?;
+    Ok(acts)
+}
+
 #[test]
 fn entries_of_batches(rt: HostRuntime) -> Result<(), Fail> {
     let alloc = rt.alloc();
-    let none = hand_line(alloc, Vec::new(alloc))?;
-    assert!(rt; none.as_slice() == b"hand 0 1 0".as_slice());
-    let create = Act::Create(Id(0), command(alloc)?);
-    let start = Act::Ask(Id(0), Ask::One(Control::Start));
-    let all = hand_line(alloc, vec![in alloc; create, start, Act::Quit]?)?;
-    assert!(rt;
-        all.as_slice() == b"hand 0 1 0 create 0 exec ---- 2 1 a ask 0 start quit".as_slice()
-    );
+    let none = hand(vec![in alloc; 0]?, Vec::new(alloc));
+    expect_line(&rt, alloc, none, b"hand 0 1 0")?;
+    let all = hand(vec![in alloc; 0]?, three_acts(alloc)?);
+    let line = b"hand 0 1 0 create 0 exec ---- 2 1 a ask 0 start quit";
+    expect_line(&rt, alloc, all, line)?;
     Ok(())
 }
 
@@ -482,44 +490,65 @@ fn is_answer<T: Spelled>(alloc: Global, line: &[u8]) -> Result<bool, Memory> {
     Ok(words.is_done() && text.as_slice().strip_prefix(b" ") == Some(line))
 }
 
-/// Holds each line to be an answer, written so again, or none, as the table says.
+/// Holds the first lines to be answers, written so again, and the others to be none.
 fn expect_answers<T: Spelled>(
     rt: &impl Abort,
     alloc: Global,
-    table: &[(&[u8], bool)],
+    lines: &str,
+    others: &str,
 ) -> Result<(), Memory> {
-    for (line, is) in table {
-        assert_eq!(rt; is_answer::<T>(alloc, line)?, *is, "at {line:?}");
+    for line in lines.lines() {
+        assert!(rt; is_answer::<T>(alloc, line.as_bytes())?, "at {line}");
+    }
+    for line in others.lines() {
+        assert!(rt; !is_answer::<T>(alloc, line.as_bytes())?, "at {line}");
     }
     Ok(())
 }
 
+const DONE: &str = "\
+ok
+fault 0
+fault 4294967295
+";
+
+// The first line is empty.
+const NOT_DONE: &str = "
+fault 4294967296
+fault
+oka
+success
+";
+
+const ENDS: &str = "\
+success
+error.-7
+signal.custom.64
+continued
+fault 5
+";
+
+const NO_ENDS: &str = "\
+fault x
+error.0
+ok
+";
+
 #[test]
 fn answers_as_words(rt: HostRuntime) -> Result<(), Fail> {
-    let alloc = rt.alloc();
-    let done: [(&[u8], bool); 8] = [
-        (b"ok", true),
-        (b"fault 0", true),
-        (b"fault 4294967295", true),
-        (b"fault 4294967296", false),
-        (b"fault", false),
-        (b"oka", false),
-        (b"success", false),
-        (b"", false),
-    ];
-    expect_answers::<()>(&rt, alloc, &done)?;
-    let ends: [(&[u8], bool); 8] = [
-        (b"success", true),
-        (b"error.-7", true),
-        (b"signal.custom.64", true),
-        (b"continued", true),
-        (b"fault 5", true),
-        (b"fault x", false),
-        (b"error.0", false),
-        (b"ok", false),
-    ];
-    expect_answers::<ProcessEnd>(&rt, alloc, &ends)?;
+    expect_answers::<()>(&rt, rt.alloc(), DONE, NOT_DONE)?;
+    expect_answers::<ProcessEnd>(&rt, rt.alloc(), ENDS, NO_ENDS)?;
     Ok(())
+}
+
+/// Whether the answer at the front of these words is this one.
+fn is_next<T: Spelled + PartialEq>(
+    alloc: Global,
+    words: &mut Words,
+    want: Option<Result<T, HostFault>>,
+) -> Result<bool, Memory> {
+    let found: Option<Result<T, HostFault>> = read_result(alloc, words)?;
+    Ok(found == want)
 }
 
 #[test]
@@ -527,14 +556,11 @@ fn answers_by_value(rt: HostRuntime) -> Result<(), Fail> {
     let alloc = rt.alloc();
     let stop = NonZeroI32::new(19).ok_or("nineteen")?;
     let mut words = Words::new(b"ok fault 7 stop.19 fault");
-    let first: Option<Result<(), HostFault>> = read_result(alloc, &mut words)?;
-    assert_eq!(rt; first, Some(Ok(())));
-    let second: Option<Result<(), HostFault>> = read_result(alloc, &mut words)?;
-    assert_eq!(rt; second, Some(Err(HostFault(7))));
-    let third: Option<Result<ProcessEnd, HostFault>> = read_result(alloc, &mut words)?;
-    assert_eq!(rt; third, Some(Ok(ProcessEnd::ExitStop(stop))));
-    let fourth: Option<Result<ProcessEnd, HostFault>> = read_result(alloc, &mut words)?;
-    assert_eq!(rt; fourth, None);
+    assert!(rt; is_next::<()>(alloc, &mut words, Some(Ok(())))?);
+    assert!(rt; is_next::<()>(alloc, &mut words, Some(Err(HostFault(7))))?);
+    let end = Some(Ok(ProcessEnd::ExitStop(stop)));
+    assert!(rt; is_next::<ProcessEnd>(alloc, &mut words, end)?);
+    assert!(rt; is_next::<ProcessEnd>(alloc, &mut words, None)?);
     Ok(())
 }
 

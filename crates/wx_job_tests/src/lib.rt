@@ -1,0 +1,7 @@
+//! Tests of `wx_job`, whose proofs are done without them: a crate with tests is proved once more with them.
+#![tactic(auto)]
+
+#[cfg(test)]
+mod test_world;
+#[cfg(test)]
+mod tests;

@@ -1,0 +1,800 @@
+// Tests of jobs: their journals and states are worked out by hand.
+//
+// A test plays moves, which stand in a text with commas between them: a control that is asked, `step` or `ended` and a
+// moment, or `end`. What is seen of the job behind them is held to a text.
+ghost use Rattle.std.specs.Prelude.{◌≡◌, ◌≢◌, ◌≤◌, [], IfOk};
+ghost use Rattle.wx_journal.specs.Names.{NamesItsOwn};
+ghost use Rattle.wx_job.specs.Stands.{Stands, id_of};
+
+use crate::test_world::{
+    TestHost, World, ask, command_of, end_child, end_job, lines_of, make_job, new_world, step,
+};
+use std::alloc::Global;
+use std::num::NonZeroI64;
+use std::process::Abort;
+use std::test::Fail;
+use wx_control::{Ask, Control, Flag, Id, Job};
+use wx_events::{Memory, ProcessEnd, Spelled, Text, Words};
+use wx_job::{CommandState, JobTask, Stepped, children_are_reaped, start_job};
+use wx_journal::{Entry, Journal};
+
+/// What a test does with its job.
+#[derive(Clone, Copy)]
+enum Move {
+    Ask(Control),
+    /// A turn of the job at this moment.
+    Step(u64),
+    /// A turn at this moment that tells the end of the running child.
+    Ended(u64),
+    End,
+}
+
+/// The value whose words are these.
+fn read<T: Spelled>(alloc: Global, words: &[u8]) -> Result<Option<T>, Memory> {
+    let mut words = Words::new(words);
+    let found = T::take(alloc, &mut words)?;
+    if words.is_done() { Ok(found) } else { Ok(None) }
+}
+
+/// The move of these words.
+fn read_move(alloc: Global, words: &[u8]) -> Result<Option<Move>, Memory> {
+    if words == b"end".as_slice() {
+        return Ok(Some(Move::End));
+    }
+    if let Some(at) = words.strip_prefix(b"step ") {
+        return Ok(read::<u64>(alloc, at)?.map(|at| Move::Step(at)));
+    }
+    if let Some(at) = words.strip_prefix(b"ended ") {
+        return Ok(read::<u64>(alloc, at)?.map(|at| Move::Ended(at)));
+    }
+    Ok(read::<Control>(alloc, words)?.map(|control| Move::Ask(control)))
+}
+
+/// Job 0, which runs the program `a`, in a world of its own.
+#[derive(Drop)]
+struct One {
+    task: JobTask,
+    world: World,
+    ghost stands: { Stands task world.journal.past },
+}
+
+/// Job 0 as it was made, with this host. What is long is dropped by generic code here, which is quicker to prove.
+fn one_job(alloc: Global, host: TestHost) -> Result<One, Memory> {
+    let mut world = new_world(alloc, host)?;
+    match make_job(alloc, Id(0), b"a", &mut world) {
+        Ok(task) => Ok(One { task, world }),
+        Err(want) => {
+            drop(world);
+            Err(want)
+        }
+    }
+}
+
+impl One {
+    /// Makes one move, and gives what a step answered.
+    fn play(&mut self, alloc: Global, with: Move) -> Result<Option<Stepped>, Memory> {
+        match with {
+            Move::Ask(control) => {
+                let _ticket = ask(&mut self.task, alloc, control, &mut self.world)?;
+                Ok(None)
+            }
+            Move::Step(at) => Ok(Some(step(&mut self.task, Id(0), alloc, at, &mut self.world)?)),
+            Move::Ended(at) => Ok(Some(end_child(&mut self.task, alloc, at, &mut self.world)?)),
+            Move::End => {
+                end_job(&mut self.task, &mut self.world)?;
+                Ok(None)
+            }
+        }
+    }
+
+    /// Makes these moves, and gives how many of them had no memory.
+    fn play_through(&mut self, alloc: Global, moves: &str) -> Result<u64, Fail> {
+        let mut failed = 0u64;
+        for words in moves.as_bytes().split(|byte| *byte == b',') {
+            let with = read_move(alloc, words)?.ok_or("a move")?;
+            if self.play(alloc, with).is_err() {
+                failed = failed.saturating_add(1);
+            }
+        }
+        Ok(failed)
+    }
+
+    /// Makes these moves, and gives what the last of them answered.
+    fn play_all(&mut self, alloc: Global, moves: &str) -> Result<Option<Stepped>, Fail> {
+        let mut last = None;
+        for words in moves.as_bytes().split(|byte| *byte == b',') {
+            let with = read_move(alloc, words)?.ok_or("a move")?;
+            last = self.play(alloc, with)?;
+        }
+        Ok(last)
+    }
+}
+
+/// A host that fails at the call `bad`, and whose children end with success.
+fn host(alloc: Global, bad: Option<u64>) -> Result<TestHost, Memory> {
+    TestHost::new(alloc, bad, Vec::new(alloc))
+}
+
+/// Whether the journal has just these lines behind the first one.
+fn is_journal(alloc: Global, job: &One, lines: &str) -> Result<bool, Memory> {
+    let text = lines_of(alloc, &job.world)?;
+    Ok(text.as_slice().strip_prefix(b"made 0\n") == Some(lines.as_bytes()))
+}
+
+/// The state and the one before, with a space between them.
+fn states_of(alloc: Global, task: &JobTask) -> Result<String, Fail> {
+    let state = task.state();
+    let previous = task.previous();
+    Ok(format!(in alloc; "{state:?} {previous:?}")?)
+}
+
+/// Whether what the last move answered, the state and the one before are shown by this text.
+fn is_seen(alloc: Global, task: &JobTask, last: Option<Stepped>, seen: &str) -> Result<bool, Fail> {
+    let states = states_of(alloc, task)?;
+    let shown = format!(in alloc; "{last:?} {states}")?;
+    Ok(shown.as_str() == seen)
+}
+
+const LIFE: &str = "asked 0 0 normal start\n\
+    asked 1 0 normal stop\n\
+    turn 1 job 0\npick 0 0\nspawn 0 0 default ---- 1 a ok\nraise 0\n\
+    turn 3 job 0\npick 0 1\nkill 0 ok\nwait 0 error.1\nraise 1\n\
+    gone 0\n\
+    turn 4 job 0\n";
+
+/// Whether the child that runs, whether the job is gone, whether its state is pending, running and finished, and how many
+/// tickets are parked are shown by this text.
+fn is_told(alloc: Global, task: &JobTask, told: &str) -> Result<bool, Fail> {
+    let child = task.running_child();
+    let gone = task.is_gone();
+    let state = task.state();
+    let sort = (state.is_pending(), state.is_running(), state.is_finished());
+    let parked = task.parked();
+    let shown = format!(in alloc; "{child:?} {gone} {sort:?} {parked}")?;
+    Ok(shown.as_str() == told)
+}
+
+/// Plays these moves, and holds what is then seen and told of the job to these texts.
+fn expect_seen(
+    rt: &impl Abort,
+    alloc: Global,
+    job: &mut One,
+    moves: &str,
+    seen: &str,
+    told: &str,
+) -> Result<(), Fail> {
+    let last = job.play_all(alloc, moves)?;
+    assert!(rt; is_seen(alloc, &job.task, last, seen)?, "at {moves}");
+    assert!(rt; is_told(alloc, &job.task, told)?, "at {moves}");
+    Ok(())
+}
+
+/// The job asked to start and to stop, and so on to its end.
+const SEEN: [(&str, &str, &str); 4] = [
+    (
+        "start,stop",
+        "None Pending None",
+        "None false (true, false, false) 0",
+    ),
+    (
+        "step 1",
+        "Some(Did) Running { child: 0, started: 1 } Some(Pending)",
+        "Some(0) false (false, true, false) 0",
+    ),
+    (
+        "step 3",
+        "Some(Did) Finished { status: ExitError(1), started: 1, finished: 3 } Some(Pending)",
+        "None false (false, false, true) 0",
+    ),
+    (
+        "end,start,end,step 4",
+        "Some(Gone) Finished { status: ExitError(1), started: 1, finished: 3 } Some(Pending)",
+        "None true (false, false, true) 0",
+    ),
+];
+
+/// Job 0 as it was made, with a host whose child ends with error 1.
+fn failing_job(alloc: Global) -> Result<One, Fail> {
+    let status = ProcessEnd::ExitError(NonZeroI64::new(1).ok_or("one")?);
+    let host = TestHost::new(alloc, None, vec![in alloc; status]?)?;
+    Ok(one_job(alloc, host)?)
+}
+
+/// Plays the moves of `SEEN`, and holds what comes to it.
+fn expect_life(rt: &impl Abort, alloc: Global, job: &mut One) -> Result<(), Fail> {
+    for (moves, seen, told) in SEEN {
+        expect_seen(rt, alloc, job, moves, seen, told)?;
+    }
+    assert!(rt; is_journal(alloc, job, LIFE)?);
+    Ok(())
+}
+
+#[test]
+fn a_job_starts_and_stops(rt: HostRuntime) -> Result<(), Fail> {
+    let mut job = failing_job(rt.alloc())?;
+    let held = expect_life(&rt, rt.alloc(), &mut job);
+    drop(job);
+    held
+}
+
+/// Plays these moves, and holds the lines of the journal behind its first one and what is seen to these.
+fn expect_played(
+    rt: &impl Abort,
+    alloc: Global,
+    job: &mut One,
+    moves: &str,
+    lines: &str,
+    seen: &str,
+) -> Result<(), Fail> {
+    let last = job.play_all(alloc, moves)?;
+    assert!(rt; is_journal(alloc, job, lines)?, "at {moves}");
+    assert!(rt; is_seen(alloc, &job.task, last, seen)?, "at {moves}");
+    Ok(())
+}
+
+/// The same of a job that was just made, with a host that fails at the call `bad`.
+fn expect_case(
+    rt: &impl Abort,
+    alloc: Global,
+    bad: Option<u64>,
+    moves: &str,
+    lines: &str,
+    seen: &str,
+) -> Result<(), Fail> {
+    let mut job = one_job(alloc, host(alloc, bad)?)?;
+    let held = expect_played(rt, alloc, &mut job, moves, lines, seen);
+    drop(job);
+    held
+}
+
+const STARTED: &str = "asked 0 0 normal start\n\
+    turn 1 job 0\npick 0 0\nspawn 0 0 default ---- 1 a ok\nraise 0\n";
+
+const TWICE: &str = "asked 0 0 normal start\nasked 1 0 normal start\n\
+    turn 1 job 0\npick 0 0\nspawn 0 0 default ---- 1 a ok\nraise 0\n\
+    turn 2 job 0\npick 0 1\nraise 1\n";
+
+#[test]
+fn steps(rt: HostRuntime) -> Result<(), Fail> {
+    let alloc = rt.alloc();
+    let idle = "turn 5 job 0\nword idle\n";
+    expect_case(&rt, alloc, None, "step 5", idle, "Some(Idle) Pending None")?;
+    let stopped = "asked 0 0 normal stop\nturn 5 job 0\npick 0 0\nraise 0\n";
+    expect_case(
+        &rt,
+        alloc,
+        None,
+        "stop,step 5",
+        stopped,
+        "Some(Did) Pending None",
+    )?;
+    let runs = "Some(Did) Running { child: 0, started: 1 } Some(Pending)";
+    expect_case(&rt, alloc, None, "start,step 1", STARTED, runs)?;
+    expect_case(&rt, alloc, None, "start,start,step 1,step 2", TWICE, runs)
+}
+
+const ENDED: &str = "asked 0 0 normal start\n\
+    turn 1 job 0\npick 0 0\nspawn 0 0 default ---- 1 a ok\nraise 0\n\
+    turn 2 ended 0\nwait 0 success\n";
+
+const ENDED_FIRST: &str = "asked 0 0 normal start\n\
+    turn 1 job 0\npick 0 0\nspawn 0 0 default ---- 1 a ok\nraise 0\n\
+    asked 1 0 normal stop\n\
+    turn 2 ended 0\nwait 0 success\n\
+    turn 3 job 0\npick 0 1\nraise 1\n";
+
+const NOT_WAITED: &str = "asked 0 0 normal start\n\
+    turn 1 job 0\npick 0 0\nspawn 0 0 default ---- 1 a ok\nraise 0\n\
+    turn 2 ended 0\nwait 0 fault 7\n\
+    turn 3 job 0\nword idle\n";
+
+/// The child that runs behind these moves, with a host that fails at the call `bad`.
+fn child_behind(alloc: Global, bad: Option<u64>, moves: &str) -> Result<Option<u64>, Fail> {
+    let mut job = one_job(alloc, host(alloc, bad)?)?;
+    let played = job.play_all(alloc, moves);
+    let child = job.task.running_child();
+    drop(job);
+    played?;
+    Ok(child)
+}
+
+#[test]
+fn ends_of_children(rt: HostRuntime) -> Result<(), Fail> {
+    let alloc = rt.alloc();
+    let alone = "start,step 1,ended 2";
+    let first = "start,step 1,stop,ended 2,step 3";
+    let later = "start,step 1,ended 2,step 3";
+    let ended = "Some(Did) Finished { status: Success, started: 1, finished: 2 } Some(Pending)";
+    let runs = "Some(Idle) Running { child: 0, started: 1 } Some(Pending)";
+    expect_case(&rt, alloc, None, alone, ENDED, ended)?;
+    expect_case(&rt, alloc, None, first, ENDED_FIRST, ended)?;
+    expect_case(&rt, alloc, Some(1), later, NOT_WAITED, runs)?;
+    assert_eq!(rt; child_behind(alloc, Some(1), alone)?, Some(0));
+    Ok(())
+}
+
+/// Four controls are asked, and then four steps done.
+const RUN: &str = "start,stop,start,stop,step 1,step 2,step 3,step 4";
+
+const ASKED: &[u8] = b"made 0\nasked 0 0 normal start\nasked 1 0 normal stop\n\
+    asked 2 0 normal start\nasked 3 0 normal stop\n\
+    turn 1 job 0\npick 0 0\n";
+
+const ALL_WELL: &str = "spawn 0 0 default ---- 1 a ok\nraise 0\n\
+    turn 2 job 0\npick 0 1\nkill 0 ok\nwait 0 success\nraise 1\n\
+    turn 3 job 0\npick 0 2\nspawn 1 0 default ---- 1 a ok\nraise 2\n\
+    turn 4 job 0\npick 0 3\nkill 1 ok\nwait 1 success\nraise 3\n";
+
+const NO_SPAWN: &str = "spawn 0 0 default ---- 1 a fault 7\nraise 0\n\
+    turn 2 job 0\npick 0 1\nraise 1\n\
+    turn 3 job 0\npick 0 2\nspawn 1 0 default ---- 1 a ok\nraise 2\n\
+    turn 4 job 0\npick 0 3\nkill 1 ok\nwait 1 success\nraise 3\n";
+
+const NO_KILL: &str = "spawn 0 0 default ---- 1 a ok\nraise 0\n\
+    turn 2 job 0\npick 0 1\nkill 0 fault 7\nraise 1\n\
+    turn 3 job 0\npick 0 2\nraise 2\n\
+    turn 4 job 0\npick 0 3\nkill 0 ok\nwait 0 success\nraise 3\n";
+
+const NO_WAIT: &str = "spawn 0 0 default ---- 1 a ok\nraise 0\n\
+    turn 2 job 0\npick 0 1\nkill 0 ok\nwait 0 fault 7\nraise 1\n\
+    turn 3 job 0\npick 0 2\nraise 2\n\
+    turn 4 job 0\npick 0 3\nkill 0 ok\nwait 0 success\nraise 3\n";
+
+const NO_SECOND: &str = "spawn 0 0 default ---- 1 a ok\nraise 0\n\
+    turn 2 job 0\npick 0 1\nkill 0 ok\nwait 0 success\nraise 1\n\
+    turn 3 job 0\npick 0 2\nspawn 1 0 default ---- 1 a fault 7\nraise 2\n\
+    turn 4 job 0\npick 0 3\nraise 3\n";
+
+const NO_SECOND_KILL: &str = "spawn 0 0 default ---- 1 a ok\nraise 0\n\
+    turn 2 job 0\npick 0 1\nkill 0 ok\nwait 0 success\nraise 1\n\
+    turn 3 job 0\npick 0 2\nspawn 1 0 default ---- 1 a ok\nraise 2\n\
+    turn 4 job 0\npick 0 3\nkill 1 fault 7\nraise 3\n";
+
+const NO_SECOND_WAIT: &str = "spawn 0 0 default ---- 1 a ok\nraise 0\n\
+    turn 2 job 0\npick 0 1\nkill 0 ok\nwait 0 success\nraise 1\n\
+    turn 3 job 0\npick 0 2\nspawn 1 0 default ---- 1 a ok\nraise 2\n\
+    turn 4 job 0\npick 0 3\nkill 1 ok\nwait 1 fault 7\nraise 3\n";
+
+/// Plays `RUN`, and holds the lines of the journal behind `ASKED` and what is seen to these.
+fn expect_ran(
+    rt: &impl Abort,
+    alloc: Global,
+    job: &mut One,
+    lines: &str,
+    seen: &str,
+) -> Result<(), Fail> {
+    let last = job.play_all(alloc, RUN)?;
+    let text = lines_of(alloc, &job.world)?;
+    let behind = text.as_slice().strip_prefix(ASKED);
+    assert!(rt; behind == Some(lines.as_bytes()), "for {seen}");
+    assert!(rt; is_seen(alloc, &job.task, last, seen)?, "for {seen}");
+    Ok(())
+}
+
+/// The same of a job that was just made, with a host that fails at the call `bad`.
+fn expect_run(
+    rt: &impl Abort,
+    alloc: Global,
+    bad: Option<u64>,
+    lines: &str,
+    seen: &str,
+) -> Result<(), Fail> {
+    let mut job = one_job(alloc, host(alloc, bad)?)?;
+    let held = expect_ran(rt, alloc, &mut job, lines, seen);
+    drop(job);
+    held
+}
+
+/// The call that fails, the lines behind `ASKED`, and what is seen.
+const FAILS: [(u64, &str, &str); 6] = [
+    (
+        0,
+        NO_SPAWN,
+        "Some(Did) Finished { status: Success, started: 3, finished: 4 } Some(Pending)",
+    ),
+    (
+        1,
+        NO_KILL,
+        "Some(Did) Finished { status: Success, started: 1, finished: 4 } Some(Pending)",
+    ),
+    (
+        2,
+        NO_WAIT,
+        "Some(Did) Finished { status: Success, started: 1, finished: 4 } Some(Pending)",
+    ),
+    (
+        3,
+        NO_SECOND,
+        "Some(Did) Pending Some(Finished { status: Success, started: 1, finished: 2 })",
+    ),
+    (
+        4,
+        NO_SECOND_KILL,
+        "Some(Did) Running { child: 1, started: 3 } Some(Finished { status: Success, started: 1, finished: 2 })",
+    ),
+    (
+        5,
+        NO_SECOND_WAIT,
+        "Some(Did) Running { child: 1, started: 3 } Some(Finished { status: Success, started: 1, finished: 2 })",
+    ),
+];
+
+#[test]
+fn calls_that_fail(rt: HostRuntime) -> Result<(), Fail> {
+    let well =
+        "Some(Did) Finished { status: Success, started: 3, finished: 4 } Some(Finished { status: Success, started: 1, finished: 2 })";
+    expect_run(&rt, rt.alloc(), None, ALL_WELL, well)?;
+    for (bad, lines, seen) in FAILS {
+        expect_run(&rt, rt.alloc(), Some(bad), lines, seen)?;
+    }
+    Ok(())
+}
+
+/// Plays these moves, where the first spawn hook with memory adds the word -v. Holds the lines of the journal behind its
+/// first one to these. How many moves had no memory, the state, the one before, and the states that the last spawn hook was
+/// shown are held to a text.
+fn expect_hooks(
+    rt: &impl Abort,
+    alloc: Global,
+    job: &mut One,
+    moves: &str,
+    lines: &str,
+    seen: &str,
+) -> Result<(), Fail> {
+    job.world.hooks.words = vec![in alloc; Text::from_slice(alloc, b"-v")?]?;
+    let failed = job.play_through(alloc, moves)?;
+    assert!(rt; is_journal(alloc, job, lines)?, "at {moves}");
+    assert!(rt; is_hooked(alloc, job, failed, seen)?, "at {moves}");
+    Ok(())
+}
+
+/// The same of a job that was just made.
+fn expect_hooked(
+    rt: &impl Abort,
+    alloc: Global,
+    moves: &str,
+    lines: &str,
+    seen: &str,
+) -> Result<(), Fail> {
+    let mut job = one_job(alloc, host(alloc, None)?)?;
+    let held = expect_hooks(rt, alloc, &mut job, moves, lines, seen);
+    drop(job);
+    held
+}
+
+/// Whether these are shown by this text.
+fn is_hooked(alloc: Global, job: &One, failed: u64, seen: &str) -> Result<bool, Fail> {
+    let states = states_of(alloc, &job.task)?;
+    let hook = &job.world.hooks.shown;
+    let shown = format!(in alloc; "{failed} {states} {hook:?}")?;
+    Ok(shown.as_str() == seen)
+}
+
+const HOOKS: &str = "start,stop,sethook 2,setspawn 7,start,step 1,step 2,step 3,step 4,step 5";
+
+const HOOKED: &str = "asked 0 0 normal start\nasked 1 0 normal stop\n\
+    asked 2 0 normal sethook 2\nasked 3 0 normal setspawn 7\nasked 4 0 normal start\n\
+    turn 1 job 0\npick 0 0\nspawn 0 0 default ---- 1 a ok\nraise 0\n\
+    turn 2 job 0\npick 0 1\nkill 0 ok\nwait 0 success\nraise 1\n\
+    turn 3 job 0\npick 0 2\nraise 2\n\
+    turn 4 job 0\npick 0 3\nraise 3\n\
+    turn 5 job 0\npick 0 4\nhook 0 2 ---- 2 a -v\nspawn 1 0 command.7 ---- 2 a -v ok\nraise 4\n";
+
+const UNHOOKS: &str = "sethook 2,unsethook,start,step 1,step 2,step 3";
+
+const UNHOOKED: &str =
+    "asked 0 0 normal sethook 2\nasked 1 0 normal unsethook\nasked 2 0 normal start\n\
+    turn 1 job 0\npick 0 0\nraise 0\n\
+    turn 2 job 0\npick 0 1\nraise 1\n\
+    turn 3 job 0\npick 0 2\nspawn 0 0 default ---- 1 a ok\nraise 2\n";
+
+const FUNCTIONS: &str =
+    "setspawn 7,setchild 5,start,stop,setspawn 1,clearspawn,start,step 1,step 2,step 3,step 4,step 5,step 6,step 7";
+
+const TAGGED: &str =
+    "asked 0 0 normal setspawn 7\nasked 1 0 normal setchild 5\nasked 2 0 normal start\n\
+    asked 3 0 normal stop\nasked 4 0 normal setspawn 1\nasked 5 0 normal clearspawn\nasked 6 0 normal start\n\
+    turn 1 job 0\npick 0 0\nraise 0\n\
+    turn 2 job 0\npick 0 1\nraise 1\n\
+    turn 3 job 0\npick 0 2\nspawn 0 0 child.5 ---- 1 a ok\nraise 2\n\
+    turn 4 job 0\npick 0 3\nkill 0 ok\nwait 0 success\nraise 3\n\
+    turn 5 job 0\npick 0 4\nraise 4\n\
+    turn 6 job 0\npick 0 5\nraise 5\n\
+    turn 7 job 0\npick 0 6\nspawn 1 0 default ---- 1 a ok\nraise 6\n";
+
+#[test]
+fn spawn_hooks_and_functions(rt: HostRuntime) -> Result<(), Fail> {
+    let hooked =
+        "0 Running { child: 1, started: 5 } Some(Finished { status: Success, started: 1, finished: 2 }) Some((Pending, Some(Finished { status: Success, started: 1, finished: 2 })))";
+    expect_hooked(&rt, rt.alloc(), HOOKS, HOOKED, hooked)?;
+    let unhooked = "0 Running { child: 0, started: 3 } Some(Pending) None";
+    expect_hooked(&rt, rt.alloc(), UNHOOKS, UNHOOKED, unhooked)?;
+    let tagged =
+        "0 Running { child: 1, started: 7 } Some(Finished { status: Success, started: 3, finished: 4 }) None";
+    expect_hooked(&rt, rt.alloc(), FUNCTIONS, TAGGED, tagged)
+}
+
+/// The hook of number 9 has no memory.
+const GIVES_UP: &str = "start,stop,sethook 9,start,step 1,step 2,step 3,step 4";
+
+const GIVEN_UP: &str = "asked 0 0 normal start\nasked 1 0 normal stop\n\
+    asked 2 0 normal sethook 9\nasked 3 0 normal start\n\
+    turn 1 job 0\npick 0 0\nspawn 0 0 default ---- 1 a ok\nraise 0\n\
+    turn 2 job 0\npick 0 1\nkill 0 ok\nwait 0 success\nraise 1\n\
+    turn 3 job 0\npick 0 2\nraise 2\n\
+    turn 4 job 0\npick 0 3\nhook 0 9 memory\n";
+
+const GOES_ON: &str = "sethook 9,start,start,sethook 2,start,step 1,step 2,step 3,step 4,step 5";
+
+const GONE_ON: &str = "asked 0 0 normal sethook 9\nasked 1 0 normal start\nasked 2 0 normal start\n\
+    asked 3 0 normal sethook 2\nasked 4 0 normal start\n\
+    turn 1 job 0\npick 0 0\nraise 0\n\
+    turn 2 job 0\npick 0 1\nhook 0 9 memory\n\
+    turn 3 job 0\npick 0 2\nhook 0 9 memory\n\
+    turn 4 job 0\npick 0 3\nraise 3\n\
+    turn 5 job 0\npick 0 4\nhook 0 2 ---- 2 a -v\nspawn 0 0 default ---- 2 a -v ok\nraise 4\n";
+
+#[test]
+fn spawn_hooks_without_memory(rt: HostRuntime) -> Result<(), Fail> {
+    let given_up =
+        "1 Pending Some(Finished { status: Success, started: 1, finished: 2 }) Some((Pending, Some(Finished { status: Success, started: 1, finished: 2 })))";
+    expect_hooked(&rt, rt.alloc(), GIVES_UP, GIVEN_UP, given_up)?;
+    let gone_on = "2 Running { child: 0, started: 5 } Some(Pending) Some((Pending, Some(Pending)))";
+    expect_hooked(&rt, rt.alloc(), GOES_ON, GONE_ON, gone_on)
+}
+
+const LET_GO: &str = "asked 0 0 normal start\n\
+    turn 1 job 0\npick 0 0\nspawn 0 0 default ---- 1 a ok\nraise 0\n\
+    asked 1 0 normal stop\n\
+    drop 0\ngone 0\n\
+    turn 2 job 0\n";
+
+/// Starts the job, asks it to stop and ends it, and holds what is seen then to what it should be.
+fn expect_end(rt: &impl Abort, alloc: Global, job: &mut One) -> Result<(), Fail> {
+    job.play_all(alloc, "start,step 1,stop,end")?;
+    assert!(rt; job.task.is_gone());
+    assert_eq!(rt; job.task.running_child(), None);
+    assert_eq!(rt; job.play(alloc, Move::Step(2))?, Some(Stepped::Gone));
+    assert!(rt; is_journal(alloc, job, LET_GO)?);
+    Ok(())
+}
+
+#[test]
+fn the_end_of_a_job(rt: HostRuntime) -> Result<(), Fail> {
+    let mut job = one_job(rt.alloc(), host(rt.alloc(), None)?)?;
+    let held = expect_end(&rt, rt.alloc(), &mut job);
+    drop(job);
+    held?;
+    let never = "asked 0 0 normal start\ngone 0\nturn 2 job 0\n";
+    let seen = "Some(Gone) Pending None";
+    expect_case(&rt, rt.alloc(), None, "start,end,step 2", never, seen)
+}
+
+const START: Move = Move::Ask(Control::Start);
+
+const STOP: Move = Move::Ask(Control::Stop);
+
+/// The state in which child 0 runs, which was spawned at moment 1.
+const RUNS: CommandState = CommandState::Running {
+    child: 0,
+    started: 1,
+};
+
+const BOTH: &str = "made 0\nmade 1\n\
+    asked 0 0 normal start\nasked 1 1 normal start\nasked 2 0 normal stop\n\
+    turn 1 job 1\npick 1 1\nspawn 0 1 default ---- 1 b ok\nraise 1\n\
+    turn 2 job 0\npick 0 0\nspawn 1 0 default ---- 1 a ok\nraise 0\n\
+    asked 3 1 normal stop\n\
+    turn 3 job 0\npick 0 2\nkill 1 ok\nwait 1 success\nraise 2\n\
+    drop 0\ngone 1\n\
+    turn 4 job 0\nword idle\n";
+
+/// Makes one move of the job of this id beside another one. The end of its child isn't told here.
+fn play_beside(
+    task: &mut JobTask,
+    other: &JobTask,
+    id: Id,
+    alloc: Global,
+    with: Move,
+    world: &mut World,
+) -> Result<Option<Stepped>, Memory>
+    requires stands { Stands task.old world.old.journal.past }
+    requires other { Stands other.now world.old.journal.past }
+    requires names { NamesItsOwn world.old.journal.past }
+    requires apart { id_of other.now ≢ id_of task.old }
+    requires back { id_of task.old ≢ id_of other.now }
+    ensures stands { Stands task.new world.new.journal.past }
+    ensures other { Stands other.now world.new.journal.past }
+    ensures names { NamesItsOwn world.new.journal.past }
+    ensures apart { id_of other.now ≢ id_of task.new }
+    ensures back { id_of task.new ≢ id_of other.now }
+{
+    let _ = &other;
+    match with {
+        Move::Ask(control) => {
+            let _ticket = ask(task, alloc, control, world)?;
+            Ok(None)
+        }
+        Move::Step(at) => Ok(Some(step(task, id, alloc, at, world)?)),
+        Move::Ended(_) => Ok(None),
+        Move::End => {
+            end_job(task, world)?;
+            Ok(None)
+        }
+    }
+}
+
+/// Makes one move of the second job, or of the first.
+fn play_one(
+    a: &mut JobTask,
+    b: &mut JobTask,
+    alloc: Global,
+    with: (bool, Move),
+    world: &mut World,
+) -> Result<(), Memory>
+    requires stands { Stands a.old world.old.journal.past }
+    requires other { Stands b.old world.old.journal.past }
+    requires names { NamesItsOwn world.old.journal.past }
+    requires apart { id_of b.old ≢ id_of a.old }
+    requires back { id_of a.old ≢ id_of b.old }
+    ensures stands { Stands a.new world.new.journal.past }
+    ensures other { Stands b.new world.new.journal.past }
+    ensures names { NamesItsOwn world.new.journal.past }
+    ensures apart { id_of b.new ≢ id_of a.new }
+    ensures back { id_of a.new ≢ id_of b.new }
+{
+    if with.0 {
+        play_beside(b, a, Id(1), alloc, with.1, world)?;
+    } else {
+        play_beside(a, b, Id(0), alloc, with.1, world)?;
+    }
+    Ok(())
+}
+
+/// Makes three moves of two jobs, each of the second one where it says so.
+fn play_three(
+    a: &mut JobTask,
+    b: &mut JobTask,
+    alloc: Global,
+    moves: [(bool, Move); 3],
+    world: &mut World,
+) -> Result<(), Memory>
+    requires stands { Stands a.old world.old.journal.past }
+    requires other { Stands b.old world.old.journal.past }
+    requires names { NamesItsOwn world.old.journal.past }
+    requires apart { id_of b.old ≢ id_of a.old }
+    requires back { id_of a.old ≢ id_of b.old }
+    ensures stands { Stands a.new world.new.journal.past }
+    ensures other { Stands b.new world.new.journal.past }
+    ensures names { NamesItsOwn world.new.journal.past }
+    ensures apart { id_of b.new ≢ id_of a.new }
+    ensures back { id_of a.new ≢ id_of b.new }
+{
+    play_one(a, b, alloc, moves[0], world)?;
+    play_one(a, b, alloc, moves[1], world)?;
+    play_one(a, b, alloc, moves[2], world)
+}
+
+/// Both jobs start, the second one first. Then the first one stops and the second one ends.
+fn play_both(
+    rt: &impl Abort,
+    alloc: Global,
+    a: &mut JobTask,
+    b: &mut JobTask,
+    world: &mut World,
+) -> Result<(), Memory>
+    requires stands { Stands a.old world.old.journal.past }
+    requires other { Stands b.old world.old.journal.past }
+    requires names { NamesItsOwn world.old.journal.past }
+    requires apart { id_of b.old ≢ id_of a.old }
+    requires back { id_of a.old ≢ id_of b.old }
+{
+    let asked = [(false, START), (true, START), (false, STOP)];
+    play_three(a, b, alloc, asked, world)?;
+    let started = [(true, Move::Step(1)), (false, Move::Step(2)), (true, STOP)];
+    play_three(a, b, alloc, started, world)?;
+    assert_eq!(rt; b.state(), &RUNS);
+    let ended = [
+        (false, Move::Step(3)),
+        (true, Move::End),
+        (false, Move::Step(4)),
+    ];
+    play_three(a, b, alloc, ended, world)
+}
+
+/// Holds the two jobs and the journal to what they should be when both were played.
+fn expect_both(
+    rt: &impl Abort,
+    alloc: Global,
+    a: &mut JobTask,
+    b: &mut JobTask,
+    world: &mut World,
+) -> Result<(), Fail>
+    requires stands { Stands a.old world.old.journal.past }
+    requires other { Stands b.old world.old.journal.past }
+    requires names { NamesItsOwn world.old.journal.past }
+    requires apart { id_of b.old ≢ id_of a.old }
+    requires back { id_of a.old ≢ id_of b.old }
+{
+    play_both(rt, alloc, a, b, world)?;
+    let finished = CommandState::Finished {
+        status: ProcessEnd::Success,
+        started: 2,
+        finished: 3,
+    };
+    assert_eq!(rt; a.state(), &finished);
+    assert_eq!(rt; (a.is_gone(), b.is_gone()), (false, true));
+    assert_eq!(rt; lines_of(alloc, world)?.as_slice(), BOTH.as_bytes());
+    Ok(())
+}
+
+/// Makes two jobs, and plays both.
+fn expect_two(rt: &impl Abort, alloc: Global, world: &mut World) -> Result<(), Fail>
+    requires { world.old.journal.past ≡ [] }
+{
+    let mut a = make_job(alloc, Id(0), b"a", world)?;
+    let held = match make_job(alloc, Id(1), b"b", world) {
+        Ok(mut b) => {
+            let held = expect_both(rt, alloc, &mut a, &mut b, world);
+            drop(b);
+            held
+        }
+        Err(want) => Err(Fail::from(want)),
+    };
+    drop(a);
+    held
+}
+
+#[test]
+fn two_jobs(rt: HostRuntime) -> Result<(), Fail> {
+    let mut world = new_world(rt.alloc(), host(rt.alloc(), None)?)?;
+    let held = expect_two(&rt, rt.alloc(), &mut world);
+    drop(world);
+    held
+}
+
+/// Sends a control to a job that is held by a task, and holds what the journal has then to what it should have.
+fn expect_sent(
+    rt: &impl Abort,
+    alloc: Global,
+    task: &mut JobTask,
+    journal: &mut Journal,
+) -> Result<(), Memory>
+    requires { Stands task.old journal.old.past }
+{
+    let flag = Flag::new(alloc, false)?;
+    let _ticket = task.send(alloc, Ask::One(Control::Stop), Some(flag), journal)?;
+    assert_eq!(rt; (journal.len(), journal.tickets()), (2, 1));
+    Ok(())
+}
+
+/// Whether this is a handle on job 4, which runs the program `a`.
+fn is_handle(alloc: Global, job: &Job) -> Result<bool, Memory> {
+    let want = command_of(alloc, b"a")?;
+    Ok(job.id() == Id(4) && job.command() == &want)
+}
+
+/// Starts a job, lists in an empty journal that it was made, and sends it a control.
+#[tactic(auto, using(crate::proofs::Turns::never_created))]
+fn expect_started(rt: &impl Abort, alloc: Global, journal: &mut Journal) -> Result<(), Memory>
+    requires room { 1 ≤ journal.old.spare }
+    requires empty { journal.old.past ≡ [] }
+{
+    let (job, mut task) = start_job(alloc, Id(4), command_of(alloc, b"a")?)?;
+    let right = is_handle(alloc, &job);
+    drop(job);
+    journal.push(Entry::Made(Id(4)));
+    let held = expect_sent(rt, alloc, &mut task, journal);
+    drop(task);
+    assert!(rt; right?);
+    held
+}
+
+#[test]
+fn handles_and_laws(rt: HostRuntime) -> Result<(), Fail> {
+    let mut journal = Journal::new(rt.alloc())?;
+    journal.reserve(1)?;
+    expect_started(&rt, rt.alloc(), &mut journal)?;
+    children_are_reaped();
+    Ok(())
+}
