@@ -14,11 +14,11 @@ use Rattle.wx_action.specs.Start.{Start}
 use Rattle.wx_journal.specs.Names.{moment}
 use Rattle.wx_action.specs.Journal.{is_urgent_named, passes_unseen, ending, named, bag, window, is_over}
 use Rattle.wx_action.specs.Due.{agenda, Open, Filters, Shows, Hands, Ends, settle, is_quitting, after_pass, after_show}
-use Rattle.wx_action.specs.Answer.{NoneIsToGo, MemoryCuts, BreaksOff, BreaksHere, Fails}
+use Rattle.wx_action.specs.Answer.{NoneIsToGo, MemoryCuts, BreaksOff, Fails}
 use Rattle.wx_action.specs.Laws.{NoneUrgentWaits}
 use Rattle.wx_action.specs.Leads.{Follows, FollowsHooks}
 use Rattle.wx_action.specs.Serves.{LeavesOff}
-use Rattle.wx_action.specs.Stands.{AtTurn, AtWork, AddsTake, MayShow, HasDropped, Collects, IsToShow}
+use Rattle.wx_action.specs.Stands.{AtTurn, AtWork, AddsTake, MayShow, HasDropped, Collects}
 use Rattle.wx_action.specs.declared.work_turn.Collected.TheVariants as collected
 use Rattle.wx_action.proofs.TurnLaws.{calm_after}
 

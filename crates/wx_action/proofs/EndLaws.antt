@@ -9,6 +9,7 @@ use Rattle.wx_journal.specs.declared.entry.Entry.TheVariants.{Dropped, Gone}
 use Rattle.wx_journal.specs.Names.{NamesItsOwn}
 use Rattle.wx_journal.specs.Told.{tell_if, is_world, is_hooks, anywhere}
 use Rattle.wx_job.specs.History.{same, lives, child, unless, command}
+use Rattle.wx_job.specs.TicketLaws.{IsPlaced}
 use Rattle.wx_job.specs.Table.{Plan, Done, adds, drop_plan, end_plan}
 use Rattle.wx_job.specs.Case.{Admits as Follows, next, Leads as Led, Here, Then as OneMore}
 use Rattle.wx_job.proofs.Owners.{self}
@@ -22,7 +23,7 @@ use Rattle.wx_action.specs.Laws.{IsBatched, AreBatches, NoneUrgentWaits, NoneUns
 use Rattle.wx_job.specs.Kept.{StaysQuiet, More}
 use Rattle.wx_action.specs.Leads.{Follows as LeadsOn, Then}
 use Rattle.wx_action.specs.Turns.{SameTurns, StaysInTurn}
-use Rattle.wx_action.proofs.PlanLaws.{of_end, end_is_plan, names_end}
+use Rattle.wx_action.proofs.PlanLaws.{of_end, end_is_plan, end_placed, names_end}
 use Rattle.wx_action.specs.Lawful.{IsOfEnd}
 use Rattle.wx_action.specs.Orderly.{GoneRunNone}
 use Rattle.wx_action.proofs.RunLaws.{gone_gone, gone_by_end}
@@ -38,6 +39,7 @@ pub record KeepsAll (s : Start) (q p : List Entry) : Type 0 where
   pub shows : NoneUnseenIsShown q → NoneUnseenIsShown p
   pub shows_open : NoneIsShownClosed q → NoneIsShownClosed p
   pub made_once : AreMadeOnce q → AreMadeOnce p
+  pub placed : IsPlaced q → IsPlaced p
   pub served : AreServed s q → AreServed s p
   pub same_window : window p ≡ window q
   pub turns : StaysInTurn q p
@@ -55,6 +57,7 @@ keeps_one s p (Dropped c) o own = record {
   shows = λ h. h;
   shows_open = λ h. h;
   made_once = λ h. h;
+  placed = end_placed (Dropped c) p tt;
   served = λ h. h;
   same_window = refl;
   turns = λ p₀ h. turns_plan (Dropped c) p₀ p tt h;
@@ -71,6 +74,7 @@ keeps_one s p (Gone job) o own = record {
   shows = λ h. h;
   shows_open = λ h. h;
   made_once = λ h. h;
+  placed = end_placed (Gone job) p tt;
   served = λ h. h;
   same_window = refl;
   turns = λ p₀ h. turns_plan (Gone job) p₀ p tt h;
@@ -90,6 +94,7 @@ keeps_then s q p r a b = record {
   shows = λ h. b.shows (a.shows h);
   shows_open = λ h. b.shows_open (a.shows_open h);
   made_once = λ h. b.made_once (a.made_once h);
+  placed = λ h. b.placed (a.placed h);
   served = λ h. b.served (a.served h);
   same_window = b.same_window ∙ a.same_window;
   turns = λ p₀ h. b.turns p₀ (a.turns p₀ h);
@@ -102,7 +107,7 @@ keeps_then s q p r a b = record {
 
 pub dying_keeps : (s : Start) (q p : List Entry) → Dying q p → KeepsAll s q p
 dying_keeps s q p l = elim l as (λ p _. KeepsAll s q p) [
-  | Alive ↦ record { batched = λ h. h; batches = λ h. h; calm = λ h. h; shows = λ h. h; shows_open = λ h. h; made_once = λ h. h; served = λ h. h; same_window = refl; turns = λ p₀ h. h; own = λ h. h; quiet = λ p₀ a. a; same_set = refl; commands = λ id. refl; gone = λ id h. h }
+  | Alive ↦ record { batched = λ h. h; batches = λ h. h; calm = λ h. h; shows = λ h. h; shows_open = λ h. h; made_once = λ h. h; placed = λ h. h; served = λ h. h; same_window = refl; turns = λ p₀ h. h; own = λ h. h; quiet = λ p₀ a. a; same_set = refl; commands = λ id. refl; gone = λ id h. h }
   | Dies e p (l → h) d ↦ keeps_then s q p (e ∷ p) h (keeps_one s p e (of_end p e d) (λ own. (names_end p e own d, own)))
 ]
 

@@ -8,7 +8,7 @@ use Rattle.wx_journal.specs.Told.{is_world}
 use Rattle.wx_job.specs.History.{lives}
 use Rattle.wx_job.specs.Table.{Plan, Done, end_plan}
 use Rattle.wx_job.specs.Case.{Admits as Lets, Leads as LeadsOn, Here as Stays, Then as Goes_on}
-use Rattle.wx_job.specs.Laws.{LeavesOthers}
+use Rattle.wx_job.specs.Leaves.{LeavesOthers}
 use Rattle.wx_action.specs.declared.worker_state.Held.{Held}
 use Rattle.wx_action.specs.Start.{Start}
 use Rattle.wx_action.specs.Jobs.{set, jobs}

@@ -8,7 +8,8 @@ use Rattle.wx_words.specs.OptionLaws.{neither}
 use Rattle.wx_command.specs.declared.command.Command.{Command}
 use Rattle.wx_control.specs.declared.id.Id.{Id}
 use Rattle.wx_control.specs.declared.ask.Ask.{Ask}
-use Rattle.wx_control.specs.declared.ask.Ask.TheVariants.{One}
+use Rattle.wx_control.specs.declared.control.Control.{Control}
+use Rattle.wx_control.specs.declared.level.Level.{Level}
 use Rattle.wx_control.specs.Asks.{sends_of}
 use Rattle.wx_journal.specs.Acts.{JournalAct as Act}
 use Rattle.wx_journal.specs.declared.entry.Act.TheVariants.{Create}
@@ -17,7 +18,7 @@ use Rattle.wx_journal.specs.declared.entry.Entry.TheVariants.{Begin, Turn as Tur
 use Rattle.wx_journal.specs.Names.{creates, is_created, above, next_job, NamesItsOwn}
 use Rattle.wx_journal.specs.Told.{tell_if, is_world, is_hooks, is_turn}
 use Rattle.wx_job.specs.History.{same, lives, child, is_child, creation, or_else, command}
-use Rattle.wx_job.specs.Table.{Plan, Done, step_plan, ask_plan, end_plan}
+use Rattle.wx_job.specs.Table.{Plan, Done, step_plan, ask_second, ask_plan, end_plan}
 use Rattle.wx_job.specs.Case.{Admits as Follows, next, Leads as Led, Here, Then as OneMore}
 use Rattle.wx_job.proofs.Owners.{either, same-is, children_named, child_owner}
 use Rattle.wx_job.proofs.Always.{Always, always_now, always_next, always_also}
@@ -279,8 +280,12 @@ agenda_plan s p (_) o = refl
 abbrev pub CallsNone : List Entry → Plan → Type 0
 CallsNone p k = Always (λ q e j. is_hooks e ≡ false) p k
 
+calls_none_second : (id : Id) (level : Level) (second : Option Control) (p : List Entry) → CallsNone p (ask_second id level second Done)
+calls_none_second id level None p = tt
+calls_none_second id level (Some control) p = λ a. (refl, tt)
+
 pub calls_none_ask : (id : Id) (ask : Ask) (p : List Entry) → CallsNone p (ask_plan id (sends_of ask) Done)
-calls_none_ask id (One control) p = λ a. (refl, tt)
+calls_none_ask id ask p = λ a. (refl, calls_none_second id (sends_of ask).level (sends_of ask).second _)
 
 -- a journal has its own turns
 pub same_turns : (p : List Entry) → SameTurns p p
@@ -325,7 +330,7 @@ rest_plans p Done more e d = absurd d
 rest_plans p (k) more e d = refl
 
 fit_lawful : (p : List Entry) (k : Plan) (more : Agenda) → IsFit p (settle p (plans k more)) → Lawful p k
-fit_lawful p Done more f = tt
+fit_lawful p Done more f = record { each = tt; placed = tt }
 fit_lawful p (k) more f = f.0
 
 led_one : (s : Start) (more : Agenda) (k₀ : Plan) (p : List Entry) (host hooks : Option (List Entry)) (k : Plan) (q : List Entry) (host' hooks' : Option (List Entry)) (e : Entry) → Follows q k e → IsLed s more k₀ p host hooks k q host' hooks' → IsLed s more k₀ p host hooks (next k e) (e ∷ q) (tell_if (is_world q e) e host') (tell_if (is_hooks e) e hooks')
@@ -371,8 +376,12 @@ sound_makes_none id p k s = always_also (λ q. Unit {0}) (IsSound id) (λ q e j.
 pub none_by_step : (id : Id) (command : Command) (p : List Entry) → MakesNone p (step_plan id command p)
 none_by_step id command p = sound_makes_none id p (step_plan id command p) (sound_step id command p)
 
+none_by_second : (id : Id) (level : Level) (second : Option Control) (p : List Entry) → MakesNone p (ask_second id level second Done)
+none_by_second id level None p = tt
+none_by_second id level (Some control) p = λ a. (tt, tt)
+
 pub none_by_ask : (id : Id) (ask : Ask) (p : List Entry) → MakesNone p (ask_plan id (sends_of ask) Done)
-none_by_ask id (One control) p = λ a. (tt, tt)
+none_by_ask id ask p = λ a. (tt, none_by_second id (sends_of ask).level (sends_of ask).second _)
 
 pub none_by_end : (id : Id) (p : List Entry) → MakesNone p (end_plan id p)
 none_by_end id p = sound_makes_none id p (end_plan id p) (sound_end id p)

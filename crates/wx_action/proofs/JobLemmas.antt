@@ -16,10 +16,10 @@ use Rattle.wx_job.specs.declared.task.JobTask.{JobTask}
 use Rattle.wx_job.specs.History.{lives, child, same, is_child, command}
 use Rattle.wx_job.specs.Table.{Plan, Done, send_plan, step_plan, ask_plan}
 use Rattle.wx_job.specs.Case.{IsCut, GaveUp, FollowsAlone as FollowsPlan, Leads as LeadsOn, Here as Stays}
-use Rattle.wx_job.specs.Laws.{LeavesOthers}
+use Rattle.wx_job.specs.Leaves.{LeavesOthers}
 use Rattle.wx_journal.specs.Written.{Written}
 use Rattle.wx_job.specs.Seen.{Seen}
-use Rattle.wx_job.specs.Stands.{Stops, Before as AllAsBefore, Behind as BehindHook, Stands as TaskStands, SameJob, IsEnding, id_of, command_of, gone_of, running_of}
+use Rattle.wx_job.specs.Stands.{Stops, Before as AllAsBefore, Behind as BehindHook, Stands as TaskStands, SameJob, IsEnding, id_of, command_of, gone_of, running_of, parked_count}
 use Rattle.wx_job.proofs.Owners.{self, same-is}
 use Rattle.wx_action.specs.declared.worker_state.Held.{Held}
 use Rattle.wx_action.specs.declared.worker_state.Worker.{Worker}
@@ -34,7 +34,7 @@ use Rattle.wx_action.specs.Turns.{StaysInTurn}
 use Rattle.wx_action.proofs.RunLaws.{orderly_turn}
 use Rattle.wx_action.proofs.JobLaws.{calls_none_ask, IsIn, is_child_some, none_by_ask, none_by_step, parent_is, parent_is_none}
 use Rattle.wx_action.proofs.TurnLaws.{at_end_of_none, other_over_end}
-use Rattle.wx_action.specs.HeldJobs.{is_of, runs_child, handle_id, task_of, with_task}
+use Rattle.wx_action.specs.HeldJobs.{is_of, runs_child, handle_id, task_of, with_task, parked_in, parked_at}
 use Rattle.wx_action.specs.Stands.{Stands, AtTurn, IsStepOf, HeldStands, held_id}
 use Rattle.wx_action.proofs.JobListLemmas.{placed, with_put, none_at, also, some_alive, held_some, task_held, id_held, none_held}
 use Rattle.wx_action.proofs.HeldLemmas.{alive_is}
@@ -65,6 +65,14 @@ pub lent : (s : Start) (w : Worker) (p : List Entry) (id : Id) (task : JobTask) 
 lent s w p id task stands e =
     let h = task_held (find (is_of id) w.jobs) task e in
     subst (Lent p w.jobs id) h.2 (of_found p w.jobs id h.0 stands.tasks_kept h.1)
+
+-- how many tickets its task has parked
+parked_found : (o : Option Held) (task : JobTask) → option_map task_of o ≡ Some task → parked_in o ≡ parked_count task
+parked_found None task e = absurd cc
+parked_found (Some h) task e = let is : h.task ≡ task = cc in ap parked_count is
+
+pub parked_lent : (hs : List Held) (id : Id) (task : JobTask) → option_map task_of (find (is_of id) hs) ≡ Some task → parked_at id hs ≡ parked_count task
+parked_lent hs id task e = parked_found (find (is_of id) hs) task e
 
 -- ---- controls are asked
 
@@ -158,9 +166,9 @@ step_gave s w w' at id task task' p p' a b hooks hooks' stands step l fields job
     let d = step_at_plan s w w' at id task task' gave.rest p p' a.shown.told b.shown.told hooks hooks' a.shown.faults b.shown.faults stands step l fields jobs same stood leaves gave.ran.led in
     record { stands = d.stands; follows = d.follows; turns = d.turns; leaves = inr (record { rest = gave.rest; cut = gave.cut; due = d.done ∙ cut_plans gave.rest gave.cut }) }
 
-pub step_stopped : {Host Hooks Fixed : Type 0} (seen : Host → Seen Fixed) (told : Hooks → Option (List Entry)) (s : Start) (w w' : Worker) (at : ℕ) (id : Id) (task task' : JobTask) (j j' : Written) (host host' : Host) (x x' : Hooks) → Stands s w j.past → IsStepOf s id at j.past → Lent j.past w.jobs id task
+pub step_stopped : {Host Hooks Fixed Held : Type 0} (seen : Host → Seen Fixed) (told : Hooks → Option (List Entry)) (s : Start) (w w' : Worker) (at : ℕ) (id : Id) (task task' : JobTask) (j j' : Written) (host host' : Host) (x x' : Hooks) → Stands s w j.past → IsStepOf s id at j.past → Lent j.past w.jobs id task
     → w' ≡ record w { jobs = w'.jobs } → w'.jobs ≡ with_task id w.jobs task' → SameJob task task' → TaskStands task' j'.past → LeavesOthers (id_of task) j.past j'.past
-    → Stops task j host x task' j' host' x' (GaveUp (step_plan (id_of task) (command_of task) j.past) j.past (seen host) (told x) j'.past (seen host') (told x'))
+    → Stops task j host x task' j' host' x' (GaveUp (step_plan (id_of task) (command_of task) j.past) j.past (seen host) (told x) j'.past (seen host') (told x') × Held)
     → StepStopped s w' j.past j'.past (seen host).shown.told (seen host').shown.told (told x) (told x')
 step_stopped seen told s w w' at id task task' j j' host host' x x' stands step l fields jobs same stood leaves (AllAsBefore undone hooks) = record {
   stands = same_lent s w w' id task task' j.past j'.past stands (ap (λ k. k.past) undone.journal) l fields jobs same stood;
@@ -168,8 +176,8 @@ step_stopped seen told s w w' at id task task' j j' host host' x x' stands step 
   turns = λ p₀ t. rw undone.journal t;
   leaves = inl (ap (λ k. k.past) undone.journal);
 }
-step_stopped seen told s w w' at id task task' j j' host host' x x' stands step l fields jobs same stood leaves (BehindHook pending held gave) =
-    step_gave s w w' at id task task' j.past j'.past (seen host) (seen host') (told x) (told x') stands step l fields jobs same stood leaves gave
+step_stopped seen told s w w' at id task task' j j' host host' x x' stands step l fields jobs same stood leaves (BehindHook pending gave) =
+    step_gave s w w' at id task task' j.past j'.past (seen host) (seen host') (told x) (told x') stands step l fields jobs same stood leaves gave.0
 
 -- where want of memory is answered
 pub steps_left : {X E : Type 0} (s : Start) (p p' : List Entry) (result : Result X E) → is_err result ≡ true → LeavesOff s p p' → Steps result s p p'

@@ -1,5 +1,5 @@
 -- What the acts of a batch ask for is done.
-use Rattle.std.proofs.Common.{◌≡◌, ◌≢◌, ℕ, ◌<◌, Bool, true, false, cond, List, [], ◌∷◌, ◌++◌, length, inl, inr, arith, refl, ap, sym, subst, ◌∙◌}
+use Rattle.std.proofs.Common.{◌≡◌, ◌≢◌, ℕ, ◌<◌, ◌+◌, Bool, true, false, cond, List, [], ◌∷◌, ◌++◌, length, inl, inr, arith, refl, ap, sym, subst, ◌∙◌}
 use Rattle.std.specs.Prelude.{Option, None, Some, map, ◌||◌, ◌⊎◌}
 use Rattle.std.specs.List.{AllByRecursion}
 use Rattle.wx_words.specs.EachLaws.{each_weaker}
@@ -7,7 +7,6 @@ use Rattle.wx_command.specs.declared.command.Command.{Command}
 use Rattle.wx_control.specs.declared.id.Id.{Id}
 use Rattle.wx_control.specs.declared.flag.Flag.{Flag}
 use Rattle.wx_control.specs.declared.ask.Ask.{Ask as AnAsk}
-use Rattle.wx_control.specs.declared.ask.Ask.TheVariants.{One}
 use Rattle.wx_control.specs.declared.control.Control.{Control}
 use Rattle.wx_control.specs.declared.level.Level.{Level}
 use Rattle.wx_control.specs.Asks.{sends_of}
@@ -18,9 +17,9 @@ use Rattle.wx_journal.specs.declared.entry.Entry.TheVariants.{Word as Said, Made
 use Rattle.wx_journal.specs.declared.entry.Word.TheVariants.{Ignored}
 use Rattle.wx_journal.specs.Names.{ticket_count}
 use Rattle.wx_job.specs.History.{same, lives, command, RunsOnly, SameHistory}
-use Rattle.wx_job.specs.Table.{Plan, Done, adds, asks, ask_plan, send_plan}
+use Rattle.wx_job.specs.Table.{Plan, Done, adds, asks, ask_second, ask_plan, send_plan}
 use Rattle.wx_job.specs.Case.{Admits as Lets, next, Leads as LeadsOn, Here as Stays, Then as Goes_on, FollowsAlone as FollowsPlan}
-use Rattle.wx_job.specs.Laws.{LeavesOthers}
+use Rattle.wx_job.specs.Leaves.{LeavesOthers}
 use Rattle.wx_job.specs.declared.task.JobTask.{JobTask}
 use Rattle.wx_job.specs.Stands.{Stands as TaskStands, SameJob, id_of}
 use Rattle.wx_job.proofs.Owners.{other-is}
@@ -30,7 +29,7 @@ use Rattle.wx_action.specs.declared.worker_state.Held.{Held}
 use Rattle.wx_action.specs.declared.worker_state.Worker.{Worker}
 use Rattle.wx_action.specs.Start.{Start}
 use Rattle.wx_action.specs.Jobs.{set, act_plan}
-use Rattle.wx_action.specs.Due.{Agenda, Open, settle, agenda, plans, rest, Admits, Due}
+use Rattle.wx_action.specs.Due.{Agenda, Open, settle, agenda, plans, rest, after_acts, is_quitting, Admits, Due}
 use Rattle.wx_action.specs.Todo.{IsNew, AreTodo}
 use Rattle.wx_action.specs.Perform.{AreCommanded, OwesActs}
 use Rattle.wx_job.specs.Kept.{StaysQuiet, More}
@@ -88,6 +87,9 @@ over_made i id p ne = record {
   previous_same = rw (other-is i id ne) refl;
   hook_same = rw (other-is i id ne) refl;
   tag_same = rw (other-is i id ne) refl;
+  grace_same = rw (other-is i id ne) refl;
+  parked_same = rw (other-is i id ne) refl;
+  tickets_later = omega arith;
   command_same = refl;
 }
 
@@ -173,51 +175,117 @@ ignored_one s w id ask done rests more p p' owes stands gone grown =
       owes = record { acts = f.acts; is_todo = f.is_todo; commanded = commanded_same p (Said Ignored ∷ p) f.acts (λ i. refl) f.commanded; due = ap (λ (a : Agenda). settle (Said Ignored ∷ p) (rest (Said Ignored) a)) owed; then = owes.then };
     })
 
--- one control was asked, or nothing yet
-AskedSo : (id : Id) (level : Level) (control : Control) (p : List Entry) (k' : Plan) (p' : List Entry) → Type 0
-AskedSo id level control p k' p' = ((k' ≡ asks id level control Done) × (p' ≡ p)) ⊎ ((k' ≡ Done) × (p' ≡ Asked (ticket_count p) id level control ∷ p))
+-- the entries of an ask: one for each of its controls
+asked_all : Id → Level → Control → Option Control → List Entry → List Entry
+asked_all id level first None p = Asked (ticket_count p) id level first ∷ p
+asked_all id level first (Some second) p = Asked (ticket_count p + 1) id level second ∷ Asked (ticket_count p) id level first ∷ p
 
-asked_more : (id : Id) (level : Level) (control : Control) (p : List Entry) (k : Plan) (q : List Entry) (e : Entry) → Lets q k e → AskedSo id level control p k q → AskedSo id level control p (next k e) (e ∷ q)
-unfolding AskedSo
-asked_more id level control p k q e d (inl h) =
-    let is : e ≡ Asked (ticket_count q) id level control = (subst (λ (j : Plan). Lets q j e) h.0 d).1 in
-    inr (ap (λ (j : Plan). next j e) h.0 ∙ ap (λ (x : Entry). next (asks id level control Done) x) is, ap (λ (x : Entry). x ∷ q) is ∙ ap (λ (r : List Entry). Asked (ticket_count r) id level control ∷ r) h.1)
-asked_more id level control p k q e d (inr h) = absurd (subst (λ (j : Plan). Lets q j e) h.0 d)
+-- both controls were asked, or one, or nothing yet
+abbrev AskedSo : Id → Level → Control → Option Control → List Entry → Plan → List Entry → Type 0
+AskedSo id level first second p k' p' = ((k' ≡ asks id level first (ask_second id level second Done)) × (p' ≡ p)) ⊎ (((k' ≡ ask_second id level second Done) × (p' ≡ Asked (ticket_count p) id level first ∷ p)) ⊎ ((k' ≡ Done) × (p' ≡ asked_all id level first second p)))
 
-asked_so : (id : Id) (level : Level) (control : Control) (p : List Entry) (world hooks : Option (List Entry)) (n : ℕ) (k' : Plan) (p' : List Entry) (world' hooks' : Option (List Entry)) (n' : ℕ) → LeadsOn (asks id level control Done) p world hooks n k' p' world' hooks' n' → AskedSo id level control p k' p'
-unfolding AskedSo
-asked_so id level control p world hooks n k' p' world' hooks' n' l = elim l as (λ k' p' world' hooks' n' _. AskedSo id level control p k' p') [
+asked_first : (id : Id) (level : Level) (first : Control) (second : Option Control) (p : List Entry) (k : Plan) (q : List Entry) (e : Entry) → Lets q k e → k ≡ asks id level first (ask_second id level second Done) → q ≡ p → AskedSo id level first second p (next k e) (e ∷ q)
+asked_first id level first second p k q e d plan_is same =
+    let is : e ≡ Asked (ticket_count q) id level first = (subst (λ (j : Plan). Lets q j e) plan_is d).1 in
+    inr (inl (ap (λ (j : Plan). next j e) plan_is ∙ ap (λ (x : Entry). next (asks id level first (ask_second id level second Done)) x) is, ap (λ (x : Entry). x ∷ q) is ∙ ap (λ (r : List Entry). Asked (ticket_count r) id level first ∷ r) same))
+
+asked_then : (id : Id) (level : Level) (first : Control) (second : Option Control) (p : List Entry) (k : Plan) (q : List Entry) (e : Entry) → Lets q k e → k ≡ ask_second id level second Done → q ≡ Asked (ticket_count p) id level first ∷ p → AskedSo id level first second p (next k e) (e ∷ q)
+unfolding asked_all
+asked_then id level first None p k q e d plan_is same = absurd (subst (λ (j : Plan). Lets q j e) plan_is d)
+asked_then id level first (Some second) p k q e d plan_is same =
+    let is : e ≡ Asked (ticket_count q) id level second = (subst (λ (j : Plan). Lets q j e) plan_is d).1 in
+    inr (inr (ap (λ (j : Plan). next j e) plan_is ∙ ap (λ (x : Entry). next (asks id level second Done) x) is, ap (λ (x : Entry). x ∷ q) is ∙ ap (λ (r : List Entry). Asked (ticket_count r) id level second ∷ r) same))
+
+asked_more : (id : Id) (level : Level) (first : Control) (second : Option Control) (p : List Entry) (k : Plan) (q : List Entry) (e : Entry) → Lets q k e → AskedSo id level first second p k q → AskedSo id level first second p (next k e) (e ∷ q)
+asked_more id level first second p k q e d (inl h) = asked_first id level first second p k q e d h.0 h.1
+asked_more id level first second p k q e d (inr (inl h)) = asked_then id level first second p k q e d h.0 h.1
+asked_more id level first second p k q e d (inr (inr h)) = absurd (subst (λ (j : Plan). Lets q j e) h.0 d)
+
+asked_so : (id : Id) (level : Level) (first : Control) (second : Option Control) (p : List Entry) (world hooks : Option (List Entry)) (n : ℕ) (k' : Plan) (p' : List Entry) (world' hooks' : Option (List Entry)) (n' : ℕ) → LeadsOn (asks id level first (ask_second id level second Done)) p world hooks n k' p' world' hooks' n' → AskedSo id level first second p k' p'
+asked_so id level first second p world hooks n k' p' world' hooks' n' l = elim l as (λ k' p' world' hooks' n' _. AskedSo id level first second p k' p') [
   | Stays ↦ inl (refl, refl)
-  | Goes_on e k₁ p₁ world₁ hooks₁ n₁ n₂ (l → h) d counts ↦ asked_more id level control p k₁ p₁ e d h
+  | Goes_on e k₁ p₁ world₁ hooks₁ n₁ n₂ (l → h) d counts ↦ asked_more id level first second p k₁ p₁ e d h
 ]
 
-asked_done : (id : Id) (level : Level) (control : Control) (p p' : List Entry) → AskedSo id level control p Done p' → p' ≡ Asked (ticket_count p) id level control ∷ p
-unfolding AskedSo
-asked_done id level control p p' (inl h) = let e = h.0 in absurd cc
-asked_done id level control p p' (inr h) = h.1
+asked_done : (id : Id) (level : Level) (first : Control) (second : Option Control) (p p' : List Entry) → AskedSo id level first second p Done p' → p' ≡ asked_all id level first second p
+unfolding asked_all
+asked_done id level first second p p' (inl h) = let e = h.0 in absurd cc
+asked_done id level first None p p' (inr (inl h)) = h.1
+asked_done id level first (Some second) p p' (inr (inl h)) = let e = h.0 in absurd cc
+asked_done id level first second p p' (inr (inr h)) = h.1
+
+-- what is known of a run to which the entries of an ask were added that was owed before this plan
+record Asks (s : Start) (k : Plan) (p p' : List Entry) : Type 0 where
+  orderly : IsOrderly s p → IsOrderly s p'
+  follows : FollowsAlone s p p'
+  quiet : StaysQuiet p p'
+  turns : StaysInTurn p p'
+  due : agenda s p' ≡ settle p' (plans k Open)
+  quits : is_quitting p' ≡ is_quitting p
+  commands : (i : Id) → command i p' ≡ command i p
+  acts_same : (acts : List Act) → act_plan (λ job. lives job p') acts ≡ act_plan (λ job. lives job p) acts
+
+asks_one : (s : Start) (p : List Entry) (id : Id) (level : Level) (control : Control) (k : Plan) → agenda s p ≡ settle p (plans (asks id level control k) Open) → Asks s k p (Asked (ticket_count p) id level control ∷ p)
+asks_one s p id level control k owed =
+    let e = Asked (ticket_count p) id level control in
+    let due : Due s p e = subst (λ (a : Agenda). Admits s p a e) (sym owed) (tt, refl) in record {
+      orderly = λ o. orderly_more s e p due o;
+      follows = λ world hooks p₀ world₀ hooks₀ l. Then e p world hooks l due;
+      quiet = λ p₀ a. More e p a refl;
+      turns = turns_over e p refl;
+      due = ap (λ (a : Agenda). settle (e ∷ p) (rest e a)) owed;
+      quits = refl;
+      commands = λ i. refl;
+      acts_same = λ acts. refl;
+    }
+
+asks_then : (s : Start) (k k' : Plan) (p q r : List Entry) → Asks s k p q → Asks s k' q r → Asks s k' p r
+asks_then s k k' p q r a b = record {
+  orderly = λ o. b.orderly (a.orderly o);
+  follows = λ world hooks p₀ world₀ hooks₀ l. b.follows world hooks p₀ world₀ hooks₀ (a.follows world hooks p₀ world₀ hooks₀ l);
+  quiet = λ p₀ h. b.quiet p₀ (a.quiet p₀ h);
+  turns = λ p₀ h. b.turns p₀ (a.turns p₀ h);
+  due = b.due;
+  quits = b.quits ∙ a.quits;
+  commands = λ i. b.commands i ∙ a.commands i;
+  acts_same = λ acts. b.acts_same acts ∙ a.acts_same acts;
+}
+
+asks_all : (s : Start) (p : List Entry) (id : Id) (level : Level) (first : Control) (second : Option Control) (k : Plan) → agenda s p ≡ settle p (plans (asks id level first (ask_second id level second k)) Open) → Asks s k p (asked_all id level first second p)
+unfolding asked_all
+asks_all s p id level first None k owed = asks_one s p id level first k owed
+asks_all s p id level first (Some second) k owed =
+    let one = asks_one s p id level first (asks id level second k) owed in
+    asks_then s (asks id level second k) k p _ _ one (asks_one s (Asked (ticket_count p) id level first ∷ p) id level second k one.due)
 
 pub asked_one : (s : Start) (w w' : Worker) (id : Id) (task task' : JobTask) (ask : AnAsk) (done : Flag) (rests : List Todo) (more : Agenda) (p p' : List Entry) → OwesActs s p (todo.Ask id ask done ∷ rests) more → Stands s w p → lives id p ≡ true → Lent p w.jobs id task → w' ≡ record w { jobs = w'.jobs }
     → w'.jobs ≡ with_task id w.jobs task' → SameJob task task' → TaskStands task' p' → LeavesOthers (id_of task) p p' → FollowsPlan (send_plan (id_of task) (sends_of ask) p) p Done p' → OneDone s w' rests more p p'
-asked_one s w w' id task task' (One control) done rests more p p' owes stands alive l fields jobs same task_stands leaves follows =
-    let f = first_ask s p id (One control) done rests owes.acts owes.is_todo owes.commanded owes.due in
-    let h = l.held in
-    let h' = record l.held { task = task' } in
+asked_one s w w' id task task' ask done rests more p p' owes stands alive l fields jobs same task_stands leaves follows =
+    let f = first_ask s p id ask done rests owes.acts owes.is_todo owes.commanded owes.due in
+    let sends = sends_of ask in
+    let k : Plan = act_plan (λ job. lives job p) f.acts in
     let change = changed p p' w.jobs w'.jobs id task task' l jobs same task_stands in
     let id_is : id_of task ≡ id = ap id_of (sym l.task_is) ∙ l.id_is in
-    let owed : agenda s p ≡ settle p (plans (ask_plan id (sends_of (One control)) (act_plan (λ job. lives job p) f.acts)) Open) = f.due ∙ ap (λ (b : Bool). settle p (plans (cond b (ask_plan id (sends_of (One control)) (act_plan (λ job. lives job p) f.acts)) (adds (Said Ignored) (act_plan (λ job. lives job p) f.acts))) Open)) alive in
-    let plan_is : send_plan (id_of task) (sends_of (One control)) p ≡ ask_plan id (sends_of (One control)) Done = rw (id_is, alive) refl in
-    let led : LeadsOn (ask_plan id (sends_of (One control)) Done) p None None 0 Done p' None None 0 = rw (← plan_is) (follows _ p None None 0 None None 0 Stays) in
-    let grown = asked_done id _ control p p' (asked_so id _ control p None None 0 Done p' None None 0 led) in
-    let due : Due s p (Asked (ticket_count p) id (sends_of (One control)).level control) = subst (λ (a : Agenda). Admits s p a (Asked (ticket_count p) id (sends_of (One control)).level control)) (sym owed) (tt, refl) in
-    let still = (still_led (ask_plan id (sends_of (One control)) Done) p None None 0 Done p' None None 0 (none_by_ask id (One control) p) led).still in
-    let j = jobs_change p p' w.jobs w'.jobs change.0 h h' (jobs_stand s w p stands) still (rw l.task_is leaves) change.1 in
-    let stood : Stands s w' (Asked (ticket_count p) id (sends_of (One control)).level control ∷ p) = subst (Stands s w') grown (stands_quiet s w w' p p' stands (subst (IsOrderly s) (sym grown) (orderly_more s _ p due stands.orderly)) still fields j.0 j.1) in
+    let owed : agenda s p ≡ settle p (plans (ask_plan id sends k) Open) = f.due ∙ ap (λ (b : Bool). settle p (plans (cond b (ask_plan id sends k) (adds (Said Ignored) k)) Open)) alive in
+    let plan_is : send_plan (id_of task) sends p ≡ ask_plan id sends Done = rw (id_is, alive) refl in
+    let led : LeadsOn (ask_plan id sends Done) p None None 0 Done p' None None 0 = rw (← plan_is) (follows _ p None None 0 None None 0 Stays) in
+    let grown = asked_done id sends.level sends.first sends.second p p' (asked_so id sends.level sends.first sends.second p None None 0 Done p' None None 0 led) in
+    let ran = asks_all s p id sends.level sends.first sends.second k owed in
+    let still = (still_led (ask_plan id sends Done) p None None 0 Done p' None None 0 (none_by_ask id ask p) led).still in
+    let j = jobs_change p p' w.jobs w'.jobs change.0 l.held (record l.held { task = task' }) (jobs_stand s w p stands) still (rw l.task_is leaves) change.1 in
+    let stood : Stands s w' (asked_all id sends.level sends.first sends.second p) = subst (Stands s w') grown (stands_quiet s w w' p p' stands (subst (IsOrderly s) (sym grown) (ran.orderly stands.orderly)) still fields j.0 j.1) in
     rw grown (record {
       stands = stood;
-      follows = λ world hooks p₀ world₀ hooks₀ l. Then (Asked (ticket_count p) id (sends_of (One control)).level control) p world hooks l due;
-      quiet = λ p₀ a. More (Asked (ticket_count p) id (sends_of (One control)).level control) p a refl;
-      turns = turns_over _ _ refl;
-      owes = record { acts = f.acts; is_todo = f.is_todo; commanded = commanded_same p (Asked (ticket_count p) id (sends_of (One control)).level control ∷ p) f.acts (λ i. refl) f.commanded; due = ap (λ (a : Agenda). settle (Asked (ticket_count p) id (sends_of (One control)).level control ∷ p) (rest (Asked (ticket_count p) id (sends_of (One control)).level control) a)) owed; then = owes.then };
+      follows = ran.follows;
+      quiet = ran.quiet;
+      turns = ran.turns;
+      owes = record {
+        acts = f.acts;
+        is_todo = f.is_todo;
+        commanded = commanded_same p (asked_all id sends.level sends.first sends.second p) f.acts ran.commands f.commanded;
+        due = ran.due ∙ ap (λ (i : Plan). settle (asked_all id sends.level sends.first sends.second p) (plans i Open)) (sym (ran.acts_same f.acts));
+        then = ap after_acts ran.quits ∙ owes.then;
+      };
     })
 
 -- ---- nothing is left to be done

@@ -6,9 +6,9 @@ use Rattle.wx_words.specs.EachLaws.{each_weaker}
 use Rattle.wx_control.specs.declared.id.Id.{Id}
 use Rattle.wx_journal.specs.declared.entry.Entry.{Entry}
 use Rattle.wx_journal.specs.declared.entry.Entry.TheVariants.{Begin, Sent, Turn as Turned, TurnFault, Offer, Take, Filter, Show, Hand, Made}
-use Rattle.wx_job.specs.Table.{Plan, Done}
+use Rattle.wx_job.specs.Table.{Plan}
 use Rattle.wx_job.specs.Case.{Leads as LeadsOn, Here as Stays, Then as Goes_on}
-use Rattle.wx_job.specs.Laws.{LeavesOthers}
+use Rattle.wx_job.specs.Leaves.{LeavesOthers}
 use Rattle.wx_job.specs.Stands.{Stands as TaskStands, SameJob}
 use Rattle.wx_job.proofs.Frame.{same_history}
 use Rattle.wx_job.proofs.Always.{always_now, always_next}

@@ -1,8 +1,8 @@
 -- The window of a journal that is read in the order of its entries.
-use Rattle.std.proofs.Common.{◌≡◌, ℕ, suc, ◌+◌, ◌<◌, Bool, List, [], ◌∷◌, ◌++◌, length, reverse, take, get_or, arith, refl, ap, sym, ◌∙◌}
+use Rattle.std.proofs.Common.{◌≡◌, ℕ, ◌+◌, ◌<◌, Bool, List, [], ◌∷◌, ◌++◌, length, reverse, take, get_or, refl, ap, sym, ◌∙◌}
 use Rattle.std.proofs.lemmas.List.{take_more}
 use Rattle.std.proofs.lemmas.Grind.{reverse_onto}
-use Rattle.std.specs.Prelude.{Option, None, Some}
+use Rattle.std.specs.Prelude.{Option}
 use Rattle.wx_journal.specs.declared.entry.Entry.{Entry}
 use Rattle.wx_action.specs.Journal.{passes_unseen}
 use Rattle.wx_action.specs.Printed.{or_before}

@@ -3,13 +3,14 @@ use Rattle.std.proofs.Common.{◌≡◌, ℕ, Bool, true, false, cond, List, [],
 use Rattle.std.specs.Prelude.{Option, None, Some, ◌&&◌, ◌||◌, not}
 use Rattle.wx_control.specs.declared.id.Id.{Id}
 use Rattle.wx_journal.specs.declared.entry.Entry.{Entry}
-use Rattle.wx_journal.specs.declared.entry.Entry.TheVariants.{Made, Spawn, Kill, Wait, Dropped, Gone}
+use Rattle.wx_journal.specs.declared.entry.Entry.TheVariants.{Made, Spawn, Signal, Kill, Wait, Dropped, Gone}
 use Rattle.wx_journal.specs.Names.{NamesItsOwn}
 use Rattle.wx_job.specs.History.{same, lives, child, unless, is_child}
 use Rattle.wx_job.specs.Table.{Plan, Done, adds, drop_plan}
 use Rattle.wx_job.specs.Case.{Admits as Follows, next}
 use Rattle.wx_job.specs.Laws.{unreaped, AreReaped, IsReaping, AfterFaults}
 use Rattle.wx_job.proofs.Owners.{self, same-is}
+use Rattle.wx_job.proofs.Graces.{over_without}
 use Rattle.wx_job.proofs.Sound.{Goes, goes_gone, gone_child}
 use Rattle.wx_config.specs.declared.error.CriticalError.TheVariants.{IoError, Memory}
 use Rattle.wx_action.specs.Start.{Start}
@@ -157,9 +158,11 @@ run_reaped s (e ∷ p) r = let o = orderly s p r.1 in reaps_on s p e o.own o.fit
 after_fault : (e : Entry) (p : List Entry) → IsFree p e → AfterFaults p → AfterFaults (e ∷ p)
 after_fault (Spawn c id tag what (Err fault)) p f h = (rw (self id) refl, h)
 after_fault (Spawn c id tag what (Ok done)) p f h = h
-after_fault (Kill c (Err fault)) p f h = (f, h)
+after_fault (Signal c number (Err fault)) p f h = (f, (λ id. refl), h)
+after_fault (Signal c number (Ok done)) p f h = h
+after_fault (Kill c (Err fault)) p f h = (f, (λ id runs over. over_without id p over), h)
 after_fault (Kill c (Ok done)) p f h = h
-after_fault (Wait c (Err fault)) p f h = (f, h)
+after_fault (Wait c (Err fault)) p f h = (f, (λ id runs over. over_without id p over), h)
 after_fault (Wait c (Ok status)) p f h = h
 after_fault (_) p f h = h
 

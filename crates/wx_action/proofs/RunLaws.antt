@@ -17,7 +17,7 @@ use Rattle.wx_control.specs.declared.id.Id.{Id}
 use Rattle.wx_control.specs.declared.ask.Ask.{Ask as AnAsk}
 use Rattle.wx_control.specs.Asks.{sends_of}
 use Rattle.wx_journal.specs.declared.entry.Entry.{Entry}
-use Rattle.wx_journal.specs.declared.entry.Entry.TheVariants.{Begin, Sent, Turn as Turned, TurnFault, Offer, Take, Filter, Show, Hand, Made, Spawn, Wait, Dropped, Gone}
+use Rattle.wx_journal.specs.declared.entry.Entry.TheVariants.{Begin, Sent, Turn as Turned, TurnFault, Offer, Word as Said, Take, Filter, Show, Hand, Made, Spawn, Wait, Dropped, Gone}
 use Rattle.wx_journal.specs.Acts.{JournalAct as Act}
 use Rattle.wx_journal.specs.declared.entry.Named.{Named}
 use Rattle.wx_journal.specs.declared.entry.Offered.{Offered}
@@ -28,10 +28,11 @@ use Rattle.wx_journal.specs.declared.entry.Word.TheVariants.{Idle, Ignored}
 use Rattle.wx_journal.specs.Names.{moment, event_count, creates, is_created, next_job, NamesItem, NamesItsOwn}
 use Rattle.wx_journal.specs.Told.{is_hand}
 use Rattle.wx_job.specs.History.{same, lives, child, unless}
+use Rattle.wx_job.specs.TicketLaws.{IsPlaced}
 use Rattle.wx_job.specs.Table.{Plan, Done, adds, drop_plan, step_plan, ask_plan}
 use Rattle.wx_job.specs.Case.{Admits as Lets, next}
 use Rattle.wx_job.proofs.Owners.{either, same-is}
-use Rattle.wx_job.proofs.Always.{always_next}
+use Rattle.wx_job.proofs.Places.{placed_none, placed_silent}
 use Rattle.wx_action.specs.Start.{Start}
 use Rattle.wx_action.specs.Jobs.{living, parent, jobs, first_end, end, AreLawful, act_plan}
 use Rattle.wx_action.specs.Journal.{listed, passes_unseen, lets_pass, closed, ending, named, bag, one_if, and_one, is_among, unhanded, passed, window, batches, is_over, is_urgent_named, is_urgent_in}
@@ -40,8 +41,8 @@ use Rattle.wx_action.proofs.BagLaws.{AreBelow, bag_facts}
 use Rattle.wx_action.specs.Leads.{Leads, Here, Then, Follows}
 use Rattle.wx_action.specs.Orderly.{IsQuiet, IsFit, IsGoing, GoneRunNone, IsOrderly}
 use Rattle.wx_action.proofs.SettleLaws.{fit_settle, going_calm, going_plans, quitting_over}
-use Rattle.wx_action.proofs.PlanLaws.{lawful_now, lawful_step, lawful_ask, lawful_acts, of_end, end_is_plan, end_in_order, names_end}
-use Rattle.wx_action.specs.Lawful.{IsOfPlan, IsOfEnd, IsFree, MadeInOrder, IsLawful, Lawful}
+use Rattle.wx_action.proofs.PlanLaws.{lawful_now, placed_now, lawful_next, lawful_step, lawful_ask, lawful_acts, of_end, end_is_plan, end_placed, end_in_order, names_end}
+use Rattle.wx_action.specs.Lawful.{IsOfPlan, IsOfEnd, IsFree, MadeInOrder, Lawful}
 use Rattle.wx_action.specs.Last.{last_is, last_added}
 use Rattle.wx_action.specs.Laws.{joined, IsBatched, NoneUrgent, UrgentLast, urgent_in, IsBatch, AreBatches, NoneUrgentWaits, NoneUnseenIsShown, NoneIsShownClosed, AreServed}
 
@@ -190,17 +191,17 @@ fit_sends : (p : List Entry) (xs : List (Event × Priority)) → IsFit p (sends 
 fit_sends p [] = tt
 fit_sends p (x ∷ xs) = tt
 
-fit_job : (p : List Entry) (id : Id) (command : Option Command) → NamesItsOwn p → IsFit p (job_turn id command p)
-fit_job p id None own = tt
-fit_job p id (Some command) own = fit_plans p (step_plan id command p) Open (lawful_step id command p own) tt
+fit_job : (p : List Entry) (id : Id) (command : Option Command) → NamesItsOwn p → IsPlaced p → IsFit p (job_turn id command p)
+fit_job p id None own h = tt
+fit_job p id (Some command) own h = fit_plans p (step_plan id command p) Open (lawful_step id command p own h) tt
 
-fit_ended : (p : List Entry) (id : Option Id) → NamesItsOwn p → IsFit p (ended_turn id p)
-fit_ended p None own = tt
-fit_ended p (Some id) own = fit_job p id (living id p) own
+fit_ended : (p : List Entry) (id : Option Id) → NamesItsOwn p → IsPlaced p → IsFit p (ended_turn id p)
+fit_ended p None own h = tt
+fit_ended p (Some id) own h = fit_job p id (living id p) own h
 
-fit_ask : (p : List Entry) (id : Id) (ask : AnAsk) (b : Bool) → lives id p ≡ b → NamesItsOwn p → IsFit p (cond b (plans (ask_plan id (sends_of ask) Done) Open) (Says Ignored Open))
-fit_ask p id ask true alive own = fit_plans p (ask_plan id (sends_of ask) Done) Open (lawful_ask id ask p own alive) tt
-fit_ask p id ask false alive own = tt
+fit_ask : (p : List Entry) (id : Id) (ask : AnAsk) (b : Bool) → lives id p ≡ b → NamesItsOwn p → IsPlaced p → IsFit p (cond b (plans (ask_plan id (sends_of ask) Done) Open) (Says Ignored Open))
+fit_ask p id ask true alive own h = fit_plans p (ask_plan id (sends_of ask) Done) Open (lawful_ask id ask p own h alive) tt
+fit_ask p id ask false alive own h = tt
 
 -- a window that isn't empty, where the throttle is over
 window_some : (names : List ℕ) (b : Bool) → (not (length names == 0) && b) ≡ true → 0 < length names
@@ -217,18 +218,18 @@ fit_work s p at false true empty c o = window_some (window p) _ o
 fit_work s p at false false true c o = tt
 fit_work s p at false false false c o = c
 
-fit_turn : (s : Start) (p : List Entry) (kind : TurnKind) (at : ℕ) → NamesItsOwn p → IsFit p (turn_agenda s kind at p)
-fit_turn s p (Arrive event priority) at own = tt
-fit_turn s p Work at own = fit_work s p at (closed p) (is_over s p at) (length (bag p) == 0) refl refl
-fit_turn s p (Job id) at own = fit_job p id (living id p) own
-fit_turn s p (Ended c) at own = fit_ended p (parent c p) own
-fit_turn s p (Ask id ask) at own = fit_ask p id ask (lives id p) refl own
-fit_turn s p Last at own = tt
+fit_turn : (s : Start) (p : List Entry) (kind : TurnKind) (at : ℕ) → NamesItsOwn p → IsPlaced p → IsFit p (turn_agenda s kind at p)
+fit_turn s p (Arrive event priority) at own h = tt
+fit_turn s p Work at own h = fit_work s p at (closed p) (is_over s p at) (length (bag p) == 0) refl refl
+fit_turn s p (Job id) at own h = fit_job p id (living id p) own h
+fit_turn s p (Ended c) at own h = fit_ended p (parent c p) own h
+fit_turn s p (Ask id ask) at own h = fit_ask p id ask (lives id p) refl own h
+fit_turn s p Last at own h = tt
 
-fit_hand : (p : List Entry) (n : ℕ) (names : List ℕ) (acts : List Act) → AreLawful (next_job p) acts → IsFit (Hand n names acts ∷ p) (after_hand acts p)
-fit_hand p n names acts lawful =
+fit_hand : (p : List Entry) (n : ℕ) (names : List ℕ) (acts : List Act) → AreLawful (next_job p) acts → IsPlaced (Hand n names acts ∷ p) → IsFit (Hand n names acts ∷ p) (after_hand acts p)
+fit_hand p n names acts lawful h =
     fit_plans (Hand n names acts ∷ p) (act_plan (λ id. lives id p) acts) _
-    (lawful_acts (λ id. lives id p) acts (Hand n names acts ∷ p) (λ id e. or_left (creates id acts) (is_created id p) e) lawful)
+    (lawful_acts acts (Hand n names acts ∷ p) (λ id e. or_left (creates id acts) (is_created id p) e) lawful h)
     tt
 
 -- the window, with an event that joins it
@@ -276,7 +277,7 @@ fit_rest s p (Filters m) e d other f = tt
 fit_rest s p (Shows m) e d other f = tt
 fit_rest s p Breaks e d other f = absurd d
 fit_rest s p Hands e d other f = absurd (other refl)
-fit_rest s p (Plans k more) e d other f = fit_plans (e ∷ p) (next k e) more (always_next IsLawful p k e d f.0) f.1
+fit_rest s p (Plans k more) e d other f = fit_plans (e ∷ p) (next k e) more (lawful_next p k e d f.0) f.1
 fit_rest s p Ends e d other f = tt
 
 -- a turn is no entry of a plan
@@ -289,20 +290,21 @@ no_turn (_) o i = i
 record IsNext (p : List Entry) (e : Entry) : Type 0 where
   own : NamesItsOwn (e ∷ p)
   in_order : MadeInOrder (e ∷ p)
+  placed : IsPlaced p → IsPlaced (e ∷ p)
 
 next_own : (s : Start) (p : List Entry) (k : Agenda) (e : Entry) → IsOfPlan e → Admits s p k e → IsFit p k → NamesItsOwn p → MadeInOrder p → IsNext p e
 next_own s p Begins e o d f own made = absurd (subst IsOfPlan d o)
 next_own s p (Sends v q more) e o d f own made = absurd (subst IsOfPlan d o)
 next_own s p Open e o d f own made = absurd (no_turn e o d)
 next_own s p (Offers v q more) e o d f own made = absurd (subst IsOfPlan d o)
-next_own s p (Says word more) e o d f own made = rw d (record { own = (tt, own); in_order = (tt, made) })
+next_own s p (Says word more) e o d f own made = rw d (record { own = (tt, own); in_order = (tt, made); placed = placed_silent (Said word) p tt })
 next_own s p Takes e o d f own made = absurd (subst IsOfPlan d.1 o)
 next_own s p (Filters m) e o d f own made = absurd (subst IsOfPlan d.1 o)
 next_own s p (Shows m) e o d f own made = absurd (subst IsOfPlan d.1 o)
 next_own s p Breaks e o d f own made = absurd d
 next_own s p Hands e o d f own made = absurd (subst IsOfPlan d.1 o)
-next_own s p (Plans k more) e o d f own made = let h = lawful_now p k e d f.0 in record { own = (h.names, own); in_order = (h.in_order, made) }
-next_own s p Ends e o d f own made = record { own = (names_end p e own d, own); in_order = (end_in_order e p (of_end p e d), made) }
+next_own s p (Plans k more) e o d f own made = let h = lawful_now p k e d f.0 in record { own = (h.names, own); in_order = (h.in_order, made); placed = λ _. placed_now p k e d f.0 }
+next_own s p Ends e o d f own made = record { own = (names_end p e own d, own); in_order = (end_in_order e p (of_end p e d), made); placed = end_placed e p (of_end p e d) }
 
 -- ---- no child runs whose job is gone
 
@@ -395,26 +397,36 @@ open_at_turn s p Ends e i d f = absurd (no_turn e (end_is_plan e (of_end p e d))
 -- ---- a journal is orderly, and stays so
 
 pub orderly_none : (s : Start) → IsOrderly s []
-orderly_none s = record { own = tt; in_order = tt; idle = λ id e. refl; fit = tt; going = refl }
+orderly_none s = record { own = tt; in_order = tt; idle = λ id e. refl; placed = placed_none; fit = tt; going = refl }
 
 pub orderly_turn : (s : Start) (t : Turn) (p : List Entry) → IsOrderly s p → IsOrderly s (Turned t ∷ p)
-orderly_turn s t p h = record { own = (tt, h.own); in_order = (tt, h.in_order); idle = h.idle; fit = fit_settle (Turned t ∷ p) _ (fit_turn s (Turned t ∷ p) t.kind t.at (tt, h.own)); going = going_calm (Turned t ∷ p) _ refl }
+orderly_turn s t p h =
+    let placed = placed_silent (Turned t) p tt h.placed in record {
+      own = (tt, h.own);
+      in_order = (tt, h.in_order);
+      idle = h.idle;
+      placed = placed;
+      fit = fit_settle (Turned t ∷ p) _ (fit_turn s (Turned t ∷ p) t.kind t.at (tt, h.own) placed);
+      going = going_calm (Turned t ∷ p) _ refl;
+    }
 
 pub orderly_more : (s : Start) (e : Entry) (p : List Entry) → Due s p e → IsOrderly s p → IsOrderly s (e ∷ p)
-orderly_more s (Begin t z e f g j w c paths) p d h = record { own = (tt, h.own); in_order = (tt, h.in_order); idle = h.idle; fit = fit_settle (Begin t z e f g j w c paths ∷ p) _ (fit_sends (Begin t z e f g j w c paths ∷ p) s.events); going = going_calm (Begin t z e f g j w c paths ∷ p) _ (unquit s p (agenda s p) (Begin t z e f g j w c paths) (λ o. o) d h.fit h.going) }
+orderly_more s (Begin t z e f g j w c paths) p d h = record { own = (tt, h.own); in_order = (tt, h.in_order); idle = h.idle; placed = placed_silent (Begin t z e f g j w c paths) p tt h.placed; fit = fit_settle (Begin t z e f g j w c paths ∷ p) _ (fit_sends (Begin t z e f g j w c paths ∷ p) s.events); going = going_calm (Begin t z e f g j w c paths ∷ p) _ (unquit s p (agenda s p) (Begin t z e f g j w c paths) (λ o. o) d h.fit h.going) }
 orderly_more s (Sent name event priority) p d h = record {
   own = (admits_sent s p (agenda s p) name event priority d h.fit, h.own);
   in_order = (tt, h.in_order);
   idle = h.idle;
+  placed = placed_silent (Sent name event priority) p tt h.placed;
   fit = fit_settle (Sent name event priority ∷ p) _ (fit_rest s p (agenda s p) (Sent name event priority) d (no_batch s p (agenda s p) (Sent name event priority) refl d) h.fit);
   going = going_calm (Sent name event priority ∷ p) _ (unquit s p (agenda s p) (Sent name event priority) (λ o. o) d h.fit h.going);
 }
 orderly_more s (Turned t) p d h = orderly_turn s t p h
-orderly_more s (TurnFault code) p d h = record { own = (tt, h.own); in_order = (tt, h.in_order); idle = h.idle; fit = tt; going = tt }
+orderly_more s (TurnFault code) p d h = record { own = (tt, h.own); in_order = (tt, h.in_order); idle = h.idle; placed = placed_silent (TurnFault code) p tt h.placed; fit = tt; going = tt }
 orderly_more s (Offer name item result event priority) p d h = record {
   own = (admits_offer s p (agenda s p) name item result event priority d h.fit, h.own);
   in_order = (tt, h.in_order);
   idle = h.idle;
+  placed = placed_silent (Offer name item result event priority) p tt h.placed;
   fit = fit_settle (Offer name item result event priority ∷ p) _ (fit_rest s p (agenda s p) (Offer name item result event priority) d (no_batch s p (agenda s p) (Offer name item result event priority) refl d) h.fit);
   going = going_calm (Offer name item result event priority ∷ p) _ (unquit s p (agenda s p) (Offer name item result event priority) (λ o. o) d h.fit h.going);
 }
@@ -423,6 +435,7 @@ orderly_more s (Take name) p d h =
       own = (below, h.own);
       in_order = (tt, h.in_order);
       idle = h.idle;
+      placed = placed_silent (Take name) p tt h.placed;
       fit = fit_settle (Take name ∷ p) _ (fit_take p name (passes_unseen name p) (is_urgent_named name p || is_over s (Take name ∷ p) (moment p)) refl below (admits_take s p (agenda s p) name d h.fit).1);
       going = going_calm (Take name ∷ p) _ (unquit s p (agenda s p) (Take name) (λ o. o) d h.fit h.going);
     }
@@ -431,6 +444,7 @@ orderly_more s (Filter n name answer) p d h =
       own = (shown.0, h.own);
       in_order = (tt, h.in_order);
       idle = h.idle;
+      placed = placed_silent (Filter n name answer) p tt h.placed;
       fit = fit_settle (Filter n name answer ∷ p) _ (fit_filter p n name answer (lets_pass answer) (is_urgent_named name p || is_over s (Filter n name answer ∷ p) (moment p)) refl shown.2);
       going = going_calm (Filter n name answer ∷ p) _ (unquit s p (agenda s p) (Filter n name answer) (λ o. o) d h.fit h.going);
     }
@@ -438,15 +452,18 @@ orderly_more s (Show n error wish) p d h = record {
   own = (tt, h.own);
   in_order = (tt, h.in_order);
   idle = h.idle;
+  placed = placed_silent (Show n error wish) p tt h.placed;
   fit = fit_settle (Show n error wish ∷ p) _ (fit_show (Show n error wish ∷ p) (ending error wish));
   going = going_calm (Show n error wish ∷ p) _ (unquit s p (agenda s p) (Show n error wish) (λ o. o) d h.fit h.going);
 }
 orderly_more s (Hand n names acts) p d h =
-    let a = admits_hand s p (agenda s p) n names acts d h.fit in record {
+    let a = admits_hand s p (agenda s p) n names acts d h.fit in
+    let placed = placed_silent (Hand n names acts) p tt h.placed in record {
       own = (subst (AllByRecursion (λ name. name < event_count p)) (sym a.0) (window_below p h.own), h.own);
       in_order = (tt, h.in_order);
       idle = h.idle;
-      fit = fit_settle (Hand n names acts ∷ p) _ (fit_hand p n names acts a.2);
+      placed = placed;
+      fit = fit_settle (Hand n names acts ∷ p) _ (fit_hand p n names acts a.2 placed);
       going = going_plans (Hand n names acts ∷ p) (act_plan (λ id. lives id p) acts) Open tt;
     }
 orderly_more s (e) p d h =
@@ -454,6 +471,7 @@ orderly_more s (e) p d h =
       own = g.own;
       in_order = g.in_order;
       idle = idle_more s p e d h.fit h.idle;
+      placed = g.placed h.placed;
       fit = fit_settle (e ∷ p) _ (fit_rest s p (agenda s p) e d (no_batch s p (agenda s p) e refl d) h.fit);
       going = going_rest p (agenda s p) e tt h.fit h.going;
     }

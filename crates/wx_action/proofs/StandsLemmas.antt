@@ -9,7 +9,7 @@ use Rattle.prio_channel.specs.SameBag.{SameBag}
 use Rattle.prio_channel.proofs.BagLaws.{same-trans, add-bag, same-length}
 use Rattle.wx_control.specs.declared.id.Id.{Id}
 use Rattle.wx_journal.specs.declared.entry.Entry.{Entry}
-use Rattle.wx_journal.specs.declared.entry.Entry.TheVariants.{Sent, Offer, Turn as Turned, TurnFault, Word as Said, Hand, Made, Asked, Pick, Spawn, Wait, Dropped, Gone, Hook}
+use Rattle.wx_journal.specs.declared.entry.Entry.TheVariants.{Sent, Offer, Turn as Turned, TurnFault, Word as Said, Hand, Made, Asked, Pick, GraceOver, Spawn, Signal, Wait, Dropped, Raise, Gone, Hook}
 use Rattle.wx_journal.specs.declared.entry.Named.{Named}
 use Rattle.wx_journal.specs.declared.entry.Offered.{Offered}
 use Rattle.wx_journal.specs.declared.entry.Offered.TheVariants.{Queued, Full, Closed}
@@ -48,7 +48,10 @@ IsOfNone (Hand n names acts) = ⊥
 IsOfNone (Made job) = ⊥
 IsOfNone (Asked ticket job level control) = ⊥
 IsOfNone (Pick job ticket) = ⊥
+IsOfNone (GraceOver job) = ⊥
 IsOfNone (Spawn child job tag what answer) = ⊥
+IsOfNone (Signal child number answer) = ⊥
+IsOfNone (Raise ticket) = ⊥
 IsOfNone (Wait child answer) = ⊥
 IsOfNone (Dropped child) = ⊥
 IsOfNone (Gone job) = ⊥
@@ -61,16 +64,19 @@ over_none (Hand n names acts) p h = absurd h
 over_none (Made job) p h = absurd h
 over_none (Asked ticket job level control) p h = absurd h
 over_none (Pick job ticket) p h = absurd h
+over_none (GraceOver job) p h = absurd h
 over_none (Spawn child job tag what answer) p h = absurd h
+over_none (Signal child number answer) p h = absurd h
+over_none (Raise ticket) p h = absurd h
 over_none (Wait child answer) p h = absurd h
 over_none (Dropped child) p h = absurd h
 over_none (Gone job) p h = absurd h
 over_none (Hook job n answer) p h = absurd h
-over_none (_) p h = λ i. record { lives_same = refl; waits_same = λ l. refl; child_same = refl; kept_same = refl; state_same = refl; previous_same = refl; hook_same = refl; tag_same = refl; command_same = refl }
+over_none (_) p h = λ i. record { lives_same = refl; waits_same = λ l. refl; child_same = refl; kept_same = refl; state_same = refl; previous_same = refl; hook_same = refl; tag_same = refl; grace_same = refl; parked_same = refl; tickets_later = omega arith; command_same = refl }
 
 -- a batch changes what its acts create
 pub over_hand : (n : ℕ) (names : List ℕ) (acts : List Act) (p : List Entry) (i : Id) → command i (Hand n names acts ∷ p) ≡ command i p → SameHistory i p (Hand n names acts ∷ p)
-over_hand n names acts p i kept = record { lives_same = refl; waits_same = λ l. refl; child_same = refl; kept_same = refl; state_same = refl; previous_same = refl; hook_same = refl; tag_same = refl; command_same = kept }
+over_hand n names acts p i kept = record { lives_same = refl; waits_same = λ l. refl; child_same = refl; kept_same = refl; state_same = refl; previous_same = refl; hook_same = refl; tag_same = refl; grace_same = refl; parked_same = refl; tickets_later = omega arith; command_same = kept }
 
 -- ---- one of several that are held
 

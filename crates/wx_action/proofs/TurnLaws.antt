@@ -53,6 +53,11 @@ task_over k t p other stands = record {
   previous_kept = stands.previous_kept;
   hook_kept = stands.hook_kept;
   tag_kept = stands.tag_kept;
+  grace_kept = stands.grace_kept;
+  parked_kept = stands.parked_kept;
+  parked_room = stands.parked_room;
+  held_once = stands.held_once;
+  held_named = stands.held_named;
   runs_kept = stands.runs_kept;
 }
 

@@ -6,7 +6,7 @@ use Rattle.wx_events.specs.declared.event.Event.{Event}
 use Rattle.wx_events.specs.declared.priority.Priority.{Priority}
 use Rattle.prio_channel.specs.Channel.{AllAtMost}
 use Rattle.wx_journal.specs.declared.entry.Entry.{Entry}
-use Rattle.wx_journal.specs.declared.entry.Entry.TheVariants.{Begin, Sent, Turn as Turned, TurnFault, Offer, Word as Said, Take, Filter, Show, Hand, Made, Asked, Pick, Spawn, Kill, Wait, Dropped, Raise, Gone, Hook}
+use Rattle.wx_journal.specs.declared.entry.Entry.TheVariants.{Begin, Sent, Turn as Turned, TurnFault, Offer, Word as Said, Take, Filter, Show, Hand, Made, Asked, Pick, GraceOver, Spawn, Signal, Kill, Wait, Dropped, Raise, Gone, Hook}
 use Rattle.wx_journal.specs.Acts.{JournalAct as Act}
 use Rattle.wx_journal.specs.declared.entry.Act.TheVariants.{Create, Ask as Asks, Quit}
 use Rattle.wx_journal.specs.declared.entry.Named.{Named}
@@ -164,7 +164,9 @@ owed s (Hand n names acts) p before = after_hand acts p
 owed s (Made id) p before = rest (Made id) before
 owed s (Asked ticket id level control) p before = rest (Asked ticket id level control) before
 owed s (Pick id ticket) p before = rest (Pick id ticket) before
+owed s (GraceOver id) p before = rest (GraceOver id) before
 owed s (Spawn child id tag what answer) p before = rest (Spawn child id tag what answer) before
+owed s (Signal child number answer) p before = rest (Signal child number answer) before
 owed s (Kill child answer) p before = rest (Kill child answer) before
 owed s (Wait child answer) p before = rest (Wait child answer) before
 owed s (Dropped child) p before = rest (Dropped child) before

@@ -7,7 +7,7 @@ use Rattle.wx_journal.specs.declared.entry.Entry.{Entry}
 use Rattle.wx_journal.specs.Names.{next_job}
 use Rattle.wx_job.specs.declared.task.JobTask.{JobTask}
 use Rattle.wx_job.specs.History.{same, child, is_child, command}
-use Rattle.wx_job.specs.Stands.{gone_of, running_of}
+use Rattle.wx_job.specs.Stands.{gone_of, running_of, parked_count}
 use Rattle.wx_action.specs.declared.worker_state.Held.{Held}
 use Rattle.wx_action.specs.Jobs.{set}
 
@@ -75,3 +75,11 @@ pub record AreShown (p : List Entry) (held : List Held) : Type 0 where
   pub seen : AreSeen p (handles held)
   pub below : AreBelow (next_job p) (set p)
   pub running : (id : Id) → runs (find (is_of id) held) ≡ is_some (child id p)
+
+-- how many tickets are parked at the job of this id
+abbrev pub parked_in : Option Held → ℕ
+parked_in None = 0
+parked_in (Some h) = parked_count h.task
+
+abbrev pub parked_at : Id → List Held → ℕ
+parked_at id held = parked_in (find (is_of id) held)

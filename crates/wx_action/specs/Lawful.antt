@@ -2,13 +2,14 @@
 use Rattle.std.specs.Prelude.{◌≡◌, true, List, [], ◌∷◌, None, Some}
 use Rattle.wx_control.specs.declared.id.Id.{Id}
 use Rattle.wx_journal.specs.declared.entry.Entry.{Entry}
-use Rattle.wx_journal.specs.declared.entry.Entry.TheVariants.{Begin, Sent, Turn as Turned, TurnFault, Offer, Word as Said, Take, Filter, Show, Hand, Made, Asked, Pick, Spawn, Kill, Wait, Dropped, Raise, Gone, Hook}
+use Rattle.wx_journal.specs.declared.entry.Entry.TheVariants.{Begin, Sent, Turn as Turned, TurnFault, Offer, Word as Said, Take, Filter, Show, Hand, Made, Asked, Pick, GraceOver, Spawn, Signal, Kill, Wait, Dropped, Raise, Gone, Hook}
 use Rattle.wx_journal.specs.Names.{Names, next_job, IsNextJob}
 use Rattle.wx_job.specs.History.{lives, child}
 use Rattle.wx_job.specs.Table.{Plan}
 use Rattle.wx_job.specs.Laws.{Runs}
 use Rattle.wx_job.proofs.Always.{Always}
 use Rattle.wx_job.proofs.Sound.{Goes}
+use Rattle.wx_job.proofs.Placing.{Placing}
 
 -- the entries of plans
 abbrev pub IsOfPlan : Entry → Type 0
@@ -25,7 +26,9 @@ IsOfPlan (Hand n names acts) = ⊥
 IsOfPlan (Made job) = Unit {0}
 IsOfPlan (Asked ticket job level control) = Unit {0}
 IsOfPlan (Pick job ticket) = Unit {0}
+IsOfPlan (GraceOver job) = Unit {0}
 IsOfPlan (Spawn child job tag what answer) = Unit {0}
+IsOfPlan (Signal child number answer) = Unit {0}
 IsOfPlan (Kill child answer) = Unit {0}
 IsOfPlan (Wait child answer) = Unit {0}
 IsOfPlan (Dropped child) = Unit {0}
@@ -48,7 +51,9 @@ IsOfEnd (Hand n names acts) = ⊥
 IsOfEnd (Made job) = ⊥
 IsOfEnd (Asked ticket job level control) = ⊥
 IsOfEnd (Pick job ticket) = ⊥
+IsOfEnd (GraceOver job) = ⊥
 IsOfEnd (Spawn child job tag what answer) = ⊥
+IsOfEnd (Signal child number answer) = ⊥
 IsOfEnd (Kill child answer) = ⊥
 IsOfEnd (Wait child answer) = ⊥
 IsOfEnd (Dropped child) = Unit {0}
@@ -56,7 +61,7 @@ IsOfEnd (Raise ticket) = ⊥
 IsOfEnd (Gone job) = Unit {0}
 IsOfEnd (Hook job n answer) = ⊥
 
--- where a child is spawned its job lives and no child of it runs, one that is killed or waited for runs, and where a job is
+-- where a child is spawned its job lives and no child of it runs, one that is sent a signal, killed or waited for runs, and where a job is
 -- gone no child of it runs
 abbrev pub IsFree : List Entry → Entry → Type 0
 IsFree p (Begin throttle size errors keyboard follow jobsignals watcher cwd paths) = Unit {0}
@@ -72,7 +77,9 @@ IsFree p (Hand n names acts) = Unit {0}
 IsFree p (Made job) = Unit {0}
 IsFree p (Asked ticket job level control) = Unit {0}
 IsFree p (Pick job ticket) = Unit {0}
+IsFree p (GraceOver job) = Unit {0}
 IsFree p (Spawn c job tag what answer) = (lives job p ≡ true) × (child job p ≡ None)
+IsFree p (Signal c number answer) = Runs c p
 IsFree p (Kill c answer) = Runs c p
 IsFree p (Wait c answer) = Runs c p
 IsFree p (Dropped child) = Unit {0}
@@ -100,7 +107,9 @@ InOrder p (Hand n names acts) = Unit {0}
 InOrder p (Made job) = IsNextJob (next_job p) job
 InOrder p (Asked ticket job level control) = Unit {0}
 InOrder p (Pick job ticket) = Unit {0}
+InOrder p (GraceOver job) = Unit {0}
 InOrder p (Spawn child job tag what answer) = Unit {0}
+InOrder p (Signal child number answer) = Unit {0}
 InOrder p (Kill child answer) = Unit {0}
 InOrder p (Wait child answer) = Unit {0}
 InOrder p (Dropped child) = Unit {0}
@@ -120,5 +129,7 @@ pub record IsLawful (p : List Entry) (e : Entry) (k : Plan) : Type 0 where
   pub of_plan : IsOfPlan e
   pub lets_go : LetsGo p e k
 
-abbrev pub Lawful : List Entry → Plan → Type 0
-Lawful p k = Always IsLawful p k
+-- each entry that a plan of a run brings is lawful, and the tickets stay placed
+pub record Lawful (p : List Entry) (k : Plan) : Type 0 where
+  pub each : Always IsLawful p k
+  pub placed : Always Placing p k

@@ -4,6 +4,7 @@ use Rattle.wx_control.specs.declared.id.Id.{Id}
 use Rattle.wx_journal.specs.declared.entry.Entry.{Entry}
 use Rattle.wx_journal.specs.Names.{event_count, NamesItsOwn}
 use Rattle.wx_job.specs.History.{lives, child}
+use Rattle.wx_job.specs.TicketLaws.{IsPlaced}
 use Rattle.wx_action.specs.Start.{Start}
 use Rattle.wx_action.specs.Journal.{passes_unseen, closed, window}
 use Rattle.wx_action.specs.Due.{Agenda, Begins, Sends, Open, Offers, Says, Takes, Filters, Shows, Hands, Plans, Ends, Breaks, agenda, is_quitting}
@@ -42,10 +43,12 @@ abbrev pub GoneRunNone : List Entry → Type 0
 GoneRunNone p = (id : Id) → lives id p ≡ false → child id p ≡ None
 
 -- It names only what its own entries made, makes jobs in the order of their ids, lets no child of a job run that doesn't
--- live, and owes what fits. The empty journal is such, and each that is stays so with an entry that is due, or with a turn.
+-- live, has its tickets placed, and owes what fits. The empty journal is such, and each that is stays so with an entry that is
+-- due, or with a turn.
 pub record IsOrderly (s : Start) (p : List Entry) : Type 0 where
   pub own : NamesItsOwn p
   pub in_order : MadeInOrder p
   pub idle : GoneRunNone p
+  pub placed : IsPlaced p
   pub fit : IsFit p (agenda s p)
   pub going : IsGoing p (agenda s p)

@@ -10,7 +10,7 @@ ghost use Rattle.wx_job.specs.Faults.{CountsOn};
 ghost use Rattle.wx_job.specs.Steady.{IsSteady};
 ghost use Rattle.wx_action.specs.Answer.{Dying};
 ghost use Rattle.wx_action.specs.Due.{agenda, Ends};
-ghost use Rattle.wx_action.specs.HeldJobs.{is_of, is_here, is_alive, runs_child, handles, handle_id, task_of};
+ghost use Rattle.wx_action.specs.HeldJobs.{is_of, is_here, is_alive, runs_child, handles, handle_id, task_of, parked_at};
 ghost use Rattle.wx_action.specs.Jobs.{jobs};
 ghost use Rattle.wx_action.specs.Leads.{Follows};
 ghost use Rattle.wx_action.specs.LentTask.{LendsTask};
@@ -79,6 +79,16 @@ impl JobList {
         match self.get(id) {
             Some(held) => held.is_here(),
             None => false,
+        }
+    }
+
+    /// How many tickets are parked at the job of this id: none, where it isn't held.
+    pub fn parked(&self, id: Id) -> u64
+        ensures { result ≡ parked_at id self.now }
+    {
+        match self.get(id) {
+            Some(held) => held.task.parked(),
+            None => 0,
         }
     }
 

@@ -1,5 +1,5 @@
 // The turns of jobs.
-ghost use Rattle.std.specs.Prelude.{◌≡◌, ℕ, [], ◌+◌, ◌<◌, ◌≤◌, List, Option, IfSome, IfNone, OnOk, OnErr};
+ghost use Rattle.std.specs.Prelude.{◌≡◌, ℕ, [], ◌+◌, ◌<◌, ◌≤◌, List, Option, IfSome, IfNone, IfOk, OnOk, OnErr};
 ghost use Rattle.wx_journal.specs.declared.entry.Entry.{Entry as AnEntry};
 ghost use Rattle.wx_journal.specs.Told.{is_world};
 ghost use Rattle.wx_journal.specs.declared.entry.TurnKind.TheVariants.{Ask as AsksTurn, Job as JobTurn, Ended as EndedTurn};
@@ -7,6 +7,7 @@ ghost use Rattle.wx_journal.specs.declared.entry.Word.TheVariants.{Ignored};
 ghost use Rattle.wx_job.specs.Steady.{IsSteady};
 ghost use Rattle.wx_action.specs.Serves.{Grows, Continues, Steps, Settles};
 ghost use Rattle.wx_action.specs.Start.{Start};
+ghost use Rattle.wx_action.specs.HeldJobs.{parked_at};
 ghost use Rattle.wx_action.specs.Jobs.{jobs};
 ghost use Rattle.wx_action.specs.Due.{agenda, Says, Open, Ends};
 ghost use Rattle.wx_action.specs.Answer.{Dying};
@@ -60,8 +61,8 @@ fn step_of<W: Host, H: Hooks>(
     ghost start: { Start }
     requires due { IsStepOf start id at journal.old.past }
     requires stands { Stands start worker.old journal.old.past }
-    requires room { 16 + end_room worker.old ≤ journal.old.spare }
-    requires host_room { 16 + end_room worker.old ≤ (W.seen host.old).spare }
+    requires room { 16 + parked_at id worker.old.jobs + end_room worker.old ≤ journal.old.spare }
+    requires host_room { 16 + parked_at id worker.old.jobs + end_room worker.old ≤ (W.seen host.old).spare }
     requires hooks_room { 16 ≤ (H.seen hooks.old).spare }
     ensures continues { Continues H.seen H.rule H.stands start journal.old.past (W.seen host.old) hooks.old worker.new journal.new.past (W.seen host.new) hooks.new }
     ensures steps { Steps result start journal.old.past journal.new.past }
@@ -70,6 +71,14 @@ fn step_of<W: Host, H: Hooks>(
     let task = worker.jobs.task_mut(id);
     task.step(alloc, at, host, hooks, journal)?;
     Ok(())
+}
+
+/// The room for a step of the job of this id: 16 entries, and one for each ticket that is parked. It fails where that is no
+/// number of 64 bits.
+fn step_room(worker: &Worker, id: Id) -> Result<u64, Memory>
+    ensures { IfOk result (λ n. n ≡ 16 + parked_at id worker.now.jobs) }
+{
+    worker.jobs.parked(id).checked_add(16).ok_or(Memory)
 }
 
 /// The step of the job of this id, which is owed, once room is taken for it. It fails only for want of memory: then no
@@ -91,8 +100,9 @@ fn take_step<W: Host, H: Hooks>(
     ensures steps { Steps result start journal.old.past journal.new.past }
     ensures room { HasRoom worker.old journal.old.spare (W.seen host.old).spare → HasRoom worker.new journal.new.spare (W.seen host.new).spare }
 {
-    worker.reserve(16, journal)?;
-    worker.reserve_host(16, host)?;
+    let room = step_room(worker, id)?;
+    worker.reserve(room, journal)?;
+    worker.reserve_host(room, host)?;
     hooks.reserve(16)?;
     step_of(alloc, worker, id, at, host, hooks, journal)
 }

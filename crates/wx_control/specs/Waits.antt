@@ -1,5 +1,5 @@
 -- The controls that wait for a job, and which is picked first.
-use Rattle.std.specs.Prelude.{◌≡◌, ℕ, Bool, if◌then◌else◌, Option, None, Some, List, [], ◌∷◌, ◌++◌}
+use Rattle.std.specs.Prelude.{◌≡◌, ℕ, ◌+◌, Bool, if◌then◌else◌, Option, None, Some, List, [], ◌∷◌, ◌++◌, length}
 use Rattle.wx_control.specs.declared.control.Control.{Control}
 use Rattle.wx_control.specs.declared.level.Level.{Level}
 use Rattle.wx_control.specs.declared.level.Level.TheVariants.{Normal, High, Urgent}
@@ -20,6 +20,10 @@ ticketed w = (w.ticket, w.control)
 
 abbrev pub picked : Picked → ℕ × Control
 picked x = (x.ticket, x.control)
+
+-- how many wait at all levels
+abbrev pub waiting_count : Waits → ℕ
+waiting_count w = length w.urgent + length w.high + length w.normal
 
 -- none waits
 pub record IsEmpty (w : Waits) : Type 0 where

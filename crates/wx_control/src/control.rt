@@ -2,7 +2,7 @@
 ghost use Rattle.std.specs.Prelude.{◌≡◌};
 
 use std::alloc::Global;
-use wx_events::{Copies, Memory, Spelled, Text, Words};
+use wx_events::{Copies, Memory, Signal, Spelled, Text, Words};
 use wx_words::{put_row, put_word, read_rows};
 
 /// What is asked of a job by one message.
@@ -12,6 +12,20 @@ pub enum Control {
     Start,
     /// Kill its child and wait for it, where one runs.
     Stop,
+    /// Signal its child, where one runs, and kill it where it still runs once the grace is over.
+    GracefulStop { signal: Signal, grace: u64 },
+    /// Stop its child and start it afresh, where one runs.
+    TryRestart,
+    /// Signal its child, where one runs, and start it afresh once it ended, or was killed at the end of the grace.
+    TryGracefulRestart { signal: Signal, grace: u64 },
+    /// Stop its child, where one runs, and start it afresh in any case.
+    ContinueTryGracefulRestart,
+    /// Signal its child, where one runs.
+    Signal(Signal),
+    /// Let its child go, where one runs, and be gone.
+    Delete,
+    /// Be done when its child has ended, at once where it has.
+    NextEnding,
     /// Call the spawn hook of this number before each spawn.
     SetSyncSpawnHook(u32),
     /// Call no spawn hook.
@@ -40,6 +54,17 @@ impl Spelled for Control {
         match self {
             Control::Start => put_word(b"start", out),
             Control::Stop => put_word(b"stop", out),
+            Control::GracefulStop { signal, grace } => {
+                put_row(b"gracefulstop", &&(*signal, *grace), out)
+            }
+            Control::TryRestart => put_word(b"tryrestart", out),
+            Control::TryGracefulRestart { signal, grace } => {
+                put_row(b"trygracefulrestart", &&(*signal, *grace), out)
+            }
+            Control::ContinueTryGracefulRestart => put_word(b"continue", out),
+            Control::Signal(signal) => put_row(b"signal", &signal, out),
+            Control::Delete => put_word(b"delete", out),
+            Control::NextEnding => put_word(b"nextending", out),
             Control::SetSyncSpawnHook(n) => put_row(b"sethook", &n, out),
             Control::UnsetSpawnHook => put_word(b"unsethook", out),
             Control::SetSpawnFn(n) => put_row(b"setspawn", &n, out),
@@ -52,6 +77,13 @@ impl Spelled for Control {
         read_rows!(alloc, line;
             b"start" => Control::Start,
             b"stop" => Control::Stop,
+            b"gracefulstop" (signal, grace) => Control::GracefulStop { signal, grace },
+            b"tryrestart" => Control::TryRestart,
+            b"trygracefulrestart" (signal, grace) => Control::TryGracefulRestart { signal, grace },
+            b"continue" => Control::ContinueTryGracefulRestart,
+            b"signal" (signal) => Control::Signal(signal),
+            b"delete" => Control::Delete,
+            b"nextending" => Control::NextEnding,
             b"sethook" (n) => Control::SetSyncSpawnHook(n),
             b"unsethook" => Control::UnsetSpawnHook,
             b"setspawn" (n) => Control::SetSpawnFn(n),

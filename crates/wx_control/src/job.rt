@@ -1,7 +1,7 @@
 // Handles on jobs.
 ghost use Rattle.std.specs.Prelude.{◌≡◌};
-ghost use Rattle.wx_control.specs.declared.control.Control.TheVariants.{Start, Stop, SetSyncSpawnHook, UnsetSpawnHook, SetSpawnFn, SetSpawnChildFn, ClearSpawnFn};
-ghost use Rattle.wx_control.specs.declared.ask.Ask.TheVariants.{One};
+ghost use Rattle.wx_control.specs.declared.control.Control.TheVariants.{Start, Stop, GracefulStop, TryRestart, TryGracefulRestart, Signal as Signals, SetSyncSpawnHook, UnsetSpawnHook, SetSpawnFn, SetSpawnChildFn, ClearSpawnFn};
+ghost use Rattle.wx_control.specs.declared.ask.Ask.TheVariants.{One, Restart, RestartWithSignal, Delete, DeleteNow, ToWait};
 ghost use Rattle.wx_control.specs.Sent.{sent};
 
 use crate::ask::Ask;
@@ -11,7 +11,7 @@ use crate::id::Id;
 use crate::sink::{Controls, Refused};
 use std::alloc::Global;
 use wx_command::{Command, SharedCommand};
-use wx_events::{Copies, Memory};
+use wx_events::{Copies, Memory, Signal};
 
 /// A handle on a job: its name, what it runs, which all handles share, and the flag that tells that it is gone.
 #[derive(Drop, Debug)]
@@ -75,6 +75,93 @@ impl Job {
         ensures { C.sink c.new ≡ sent result self.now.id (One Stop) (C.sink c.old) }
     {
         self.control(alloc, c, Control::Stop)
+    }
+
+    /// Asks for a graceful stop, as `control` does.
+    pub fn stop_with_signal<C: Controls>(
+        &self,
+        alloc: Global,
+        c: &mut C,
+        signal: Signal,
+        grace: u64,
+    ) -> Result<Ticket, Refused>
+        ensures { C.sink c.new ≡ sent result self.now.id (One (GracefulStop signal grace)) (C.sink c.old) }
+    {
+        self.control(alloc, c, Control::GracefulStop { signal, grace })
+    }
+
+    /// Asks for a stop and then a start, by one send. It answers as `control` does, with the ticket of the start.
+    pub fn restart<C: Controls>(&self, alloc: Global, c: &mut C) -> Result<Ticket, Refused>
+        ensures { C.sink c.new ≡ sent result self.now.id Restart (C.sink c.old) }
+    {
+        c.send(alloc, self, Ask::Restart)
+    }
+
+    /// Asks for a graceful stop and then a start, as `restart` does.
+    pub fn restart_with_signal<C: Controls>(
+        &self,
+        alloc: Global,
+        c: &mut C,
+        signal: Signal,
+        grace: u64,
+    ) -> Result<Ticket, Refused>
+        ensures { C.sink c.new ≡ sent result self.now.id (RestartWithSignal signal grace) (C.sink c.old) }
+    {
+        c.send(alloc, self, Ask::RestartWithSignal { signal, grace })
+    }
+
+    /// Asks for a restart of a child that runs, as `control` does.
+    pub fn try_restart<C: Controls>(&self, alloc: Global, c: &mut C) -> Result<Ticket, Refused>
+        ensures { C.sink c.new ≡ sent result self.now.id (One TryRestart) (C.sink c.old) }
+    {
+        self.control(alloc, c, Control::TryRestart)
+    }
+
+    /// Asks for a graceful restart of a child that runs, as `control` does.
+    pub fn try_restart_with_signal<C: Controls>(
+        &self,
+        alloc: Global,
+        c: &mut C,
+        signal: Signal,
+        grace: u64,
+    ) -> Result<Ticket, Refused>
+        ensures { C.sink c.new ≡ sent result self.now.id (One (TryGracefulRestart signal grace)) (C.sink c.old) }
+    {
+        self.control(alloc, c, Control::TryGracefulRestart { signal, grace })
+    }
+
+    /// Asks for a signal to a child that runs, as `control` does.
+    pub fn signal<C: Controls>(
+        &self,
+        alloc: Global,
+        c: &mut C,
+        sig: Signal,
+    ) -> Result<Ticket, Refused>
+        ensures { C.sink c.new ≡ sent result self.now.id (One (Signals sig)) (C.sink c.old) }
+    {
+        self.control(alloc, c, Control::Signal(sig))
+    }
+
+    /// Asks for a stop and then the deletion, by one send. It answers as `control` does, with the ticket of the
+    /// deletion.
+    pub fn delete<C: Controls>(&self, alloc: Global, c: &mut C) -> Result<Ticket, Refused>
+        ensures { C.sink c.new ≡ sent result self.now.id Delete (C.sink c.old) }
+    {
+        c.send(alloc, self, Ask::Delete)
+    }
+
+    /// Asks for a stop and then the deletion, before all that waits at a lower level, as `delete` does.
+    pub fn delete_now<C: Controls>(&self, alloc: Global, c: &mut C) -> Result<Ticket, Refused>
+        ensures { C.sink c.new ≡ sent result self.now.id DeleteNow (C.sink c.old) }
+    {
+        c.send(alloc, self, Ask::DeleteNow)
+    }
+
+    /// Asks to be told of the next end of its child, by one send. It answers as `control` does.
+    pub fn to_wait<C: Controls>(&self, alloc: Global, c: &mut C) -> Result<Ticket, Refused>
+        ensures { C.sink c.new ≡ sent result self.now.id ToWait (C.sink c.old) }
+    {
+        c.send(alloc, self, Ask::ToWait)
     }
 
     /// Asks that the spawn hook of this number be called before each spawn, as `control` does.

@@ -1,7 +1,7 @@
 // Words, asks and sends: the expected values are worked out by hand.
 ghost use Rattle.std.specs.Prelude.{Some, []};
 
-use crate::ask::{Ask, Sends};
+use crate::ask::Ask;
 use crate::control::Control;
 use crate::flag::{Flag, Ticket};
 use crate::id::Id;
@@ -12,9 +12,11 @@ use crate::sink::{Controls, Refused};
 use crate::three_lists::{Picked, ThreeLists};
 use std::alloc::Global;
 use std::cmp::Ordering;
+use std::fmt;
+use std::process::Abort;
 use std::test::Fail;
 use wx_command::{Command, Program, SharedCommand, SpawnOptions};
-use wx_events::{Copies, List, Memory, Spelled, Text, Words};
+use wx_events::{Copies, List, Memory, Signal, Spelled, Text, Words};
 
 /// A sink that keeps the asks that it takes, counts all sends, and refuses each where it is told to.
 #[derive(Drop, Debug)]
@@ -121,47 +123,128 @@ fn levels_as_words(rt: HostRuntime) -> Result<(), Fail> {
     Ok(())
 }
 
-#[test]
-fn controls_and_asks_as_words(rt: HostRuntime) -> Result<(), Fail> {
-    let alloc = rt.alloc();
-    let table: [(Control, &[u8]); 7] = [
-        (Control::Start, b"start"),
-        (Control::Stop, b"stop"),
-        (Control::SetSyncSpawnHook(0), b"sethook 0"),
-        (Control::UnsetSpawnHook, b"unsethook"),
-        (Control::SetSpawnFn(7), b"setspawn 7"),
-        (
-            Control::SetSpawnChildFn(4_294_967_295),
-            b"setchild 4294967295",
-        ),
-        (Control::ClearSpawnFn, b"clearspawn"),
-    ];
-    for (control, word) in table {
-        let line = line_of(alloc, &control)?;
-        assert_eq!(rt; line.as_slice(), word);
-        let found: Option<Control> = read_line(alloc, word)?;
-        assert_eq!(rt; found, Some(control));
-        let line = line_of(alloc, &Ask::One(control))?;
-        assert_eq!(rt; line.as_slice(), word);
-        let found: Option<Ask> = read_line(alloc, word)?;
-        assert_eq!(rt; found, Some(Ask::One(control)));
+/// Whether this line is read as the value with these fields, which is written by the line.
+fn is_line<T: Spelled + fmt::Debug>(alloc: Global, line: &str, fields: &str) -> Result<bool, Fail> {
+    match read_line::<T>(alloc, line.as_bytes())? {
+        Some(value) => {
+            let shown = format!(in alloc; "{value:?}")?;
+            let written = line_of(alloc, &value)?;
+            Ok(shown.as_str() == fields && written.as_slice() == line.as_bytes())
+        }
+        None => Ok(false),
     }
-    let words: [&[u8]; 9] = [
-        b"Start",
-        b"stop 1",
-        b"",
-        b"starts",
-        b"one start",
-        b"sethook",
-        b"sethook 4294967296",
-        b"unsethook 1",
-        b"setchild -1",
-    ];
-    for word in words {
-        let found: Option<Control> = read_line(alloc, word)?;
-        assert_eq!(rt; found, None);
-        let found: Option<Ask> = read_line(alloc, word)?;
-        assert_eq!(rt; found, None);
+}
+
+/// Each line of the table is read as the value with the fields behind ` = `, and is what it is written as.
+fn each_is_read<T: Spelled + fmt::Debug>(
+    rt: &impl Abort,
+    alloc: Global,
+    table: &str,
+) -> Result<(), Fail> {
+    for case in table.lines() {
+        let (line, fields) = case.split_once(" = ").ok_or("a line and fields")?;
+        assert!(rt; is_line::<T>(alloc, line, fields)?, "at {case}");
+    }
+    Ok(())
+}
+
+/// No line of the table is a value of this type.
+fn each_is_refused<T: Spelled>(rt: &impl Abort, alloc: Global, table: &str) -> Result<(), Fail> {
+    for line in table.lines() {
+        let found: Option<T> = read_line(alloc, line.as_bytes())?;
+        assert!(rt; found.is_none(), "at {line}");
+    }
+    Ok(())
+}
+
+const CONTROLS: &str = "\
+start = Start
+stop = Stop
+gracefulstop terminate 0 = GracefulStop { signal: Terminate, grace: 0 }
+gracefulstop custom.-3 18446744073709551615 = GracefulStop { signal: Custom(-3), grace: 18446744073709551615 }
+tryrestart = TryRestart
+trygracefulrestart user1 5000000 = TryGracefulRestart { signal: User1, grace: 5000000 }
+continue = ContinueTryGracefulRestart
+signal suspend = Signal(TerminalSuspend)
+delete = Delete
+nextending = NextEnding
+sethook 0 = SetSyncSpawnHook(0)
+unsethook = UnsetSpawnHook
+setspawn 7 = SetSpawnFn(7)
+setchild 4294967295 = SetSpawnChildFn(4294967295)
+clearspawn = ClearSpawnFn
+";
+
+#[test]
+fn controls_as_words(rt: HostRuntime) -> Result<(), Fail> {
+    each_is_read::<Control>(&rt, rt.alloc(), CONTROLS)
+}
+
+const ASKS: &str = "\
+restart = Restart
+restartsignal interrupt 18446744073709551615 = RestartWithSignal { signal: Interrupt, grace: 18446744073709551615 }
+stopdelete = Delete
+deletenow = DeleteNow
+towait = ToWait
+";
+
+#[test]
+fn asks_as_words(rt: HostRuntime) -> Result<(), Fail> {
+    each_is_read::<Ask>(&rt, rt.alloc(), ASKS)?;
+    for case in CONTROLS.lines() {
+        let (line, fields) = case.split_once(" = ").ok_or("a line and fields")?;
+        let one = format!(in rt.alloc(); "One({fields})")?;
+        assert!(rt;
+            is_line::<Ask>(rt.alloc(), line, one.as_str())?,
+            "at {case}"
+        );
+    }
+    Ok(())
+}
+
+const BAD_ASKS: &str = "
+Start
+stop 1
+starts
+one start
+gracefulstop
+gracefulstop terminate
+gracefulstop 5 terminate
+gracefulstop terminate 5 5
+gracefulstop terminate 18446744073709551616
+gracefulstop terminate -1
+gracefulstop none 5
+trygracefulrestart user1
+tryrestart 1
+continue terminate 5
+signal
+signal none
+signal 15
+delete 0
+nextending 0
+sethook
+sethook 4294967296
+unsethook 1
+setchild -1
+restart 1
+restartsignal
+restartsignal terminate
+restartsignal 5
+restartsignal terminate 05
+stopdelete 1
+delete now
+deletenow 0
+towait 1
+";
+
+#[test]
+fn refuses_bad_controls_and_asks(rt: HostRuntime) -> Result<(), Fail> {
+    each_is_refused::<Ask>(&rt, rt.alloc(), BAD_ASKS)?;
+    each_is_refused::<Control>(&rt, rt.alloc(), BAD_ASKS)?;
+    for case in ASKS.lines() {
+        let (line, _) = case.split_once(" = ").ok_or("a line and a text")?;
+        let found: Option<Control> = read_line(rt.alloc(), line.as_bytes())?;
+        assert!(rt; found.is_none(), "at {case}");
     }
     Ok(())
 }
@@ -196,28 +279,54 @@ fn a_name_a_level_and_a_control(rt: HostRuntime) -> Result<(), Fail> {
     Ok(())
 }
 
+/// Appends the controls that an ask sends, then their level.
+fn put_sends(ask: &Ask, out: &mut Text) -> Result<(), Memory> {
+    let sends = ask.controls();
+    sends.first.put(out)?;
+    if let Some(second) = sends.second {
+        out.append(b", ")?;
+        second.put(out)?;
+    }
+    out.append(b"; ")?;
+    sends.level.put(out)
+}
+
+/// Whether the ask that this line spells sends what this text says: its controls, then their level.
+fn is_sent(alloc: Global, line: &str, text: &str) -> Result<bool, Fail> {
+    let ask: Ask = read_line(alloc, line.as_bytes())?.ok_or("an ask")?;
+    let mut sent = Text::new(alloc);
+    put_sends(&ask, &mut sent)?;
+    Ok(sent.as_slice() == text.as_bytes())
+}
+
+/// What the asks of this sink send, with a bar behind each.
+fn sends_of(alloc: Global, sink: &Kept) -> Result<Text, Memory> {
+    let mut line = Text::new(alloc);
+    for (_, ask) in sink.asks.as_slice() {
+        put_sends(ask, &mut line)?;
+        line.append(b" | ")?;
+    }
+    Ok(line)
+}
+
+const SENDS: &str = "\
+restart = stop, start; normal
+restartsignal user2 7 = gracefulstop user2 7, start; normal
+stopdelete = stop, delete; normal
+deletenow = stop, delete; urgent
+towait = nextending; high
+";
+
 #[test]
 fn asks_and_their_controls(rt: HostRuntime) -> Result<(), Fail> {
-    let table = [
-        (
-            Ask::One(Control::Start),
-            Sends {
-                first: Control::Start,
-                second: None,
-                level: Level::Normal,
-            },
-        ),
-        (
-            Ask::One(Control::Stop),
-            Sends {
-                first: Control::Stop,
-                second: None,
-                level: Level::Normal,
-            },
-        ),
-    ];
-    for (ask, sends) in table {
-        assert_eq!(rt; ask.controls(), sends);
+    for case in SENDS.lines() {
+        let (line, text) = case.split_once(" = ").ok_or("an ask and its controls")?;
+        assert!(rt; is_sent(rt.alloc(), line, text)?, "at {case}");
+    }
+    for case in CONTROLS.lines() {
+        let (line, _) = case.split_once(" = ").ok_or("a line and fields")?;
+        let alone = format!(in rt.alloc(); "{line}; normal")?;
+        assert!(rt; is_sent(rt.alloc(), line, alone.as_str())?, "at {case}");
     }
     Ok(())
 }
@@ -261,10 +370,58 @@ fn senders_for_spawning(rt: HostRuntime) -> Result<(), Fail> {
 }
 
 #[test]
+fn senders_of_stops_and_restarts(rt: HostRuntime) -> Result<(), Fail> {
+    let alloc = rt.alloc();
+    let one = job(alloc, 3)?;
+    let mut sink = sink(alloc, None);
+    let user1 = Signal::User1;
+    assert!(rt; one.stop_with_signal(alloc, &mut sink, user1, 0).is_ok());
+    assert!(rt; one.restart(alloc, &mut sink).is_ok());
+    assert!(rt; one.restart_with_signal(alloc, &mut sink, user1, 5).is_ok());
+    assert!(rt; one.try_restart(alloc, &mut sink).is_ok());
+    assert!(rt;
+        one.try_restart_with_signal(alloc, &mut sink, user1, 6)
+            .is_ok()
+    );
+    assert!(rt; one.signal(alloc, &mut sink, user1).is_ok());
+    let asks = asks_of(alloc, &sink)?;
+    let expected = "3 gracefulstop user1 0,3 restart,3 restartsignal user1 5,3 tryrestart,\
+        3 trygracefulrestart user1 6,3 signal user1,";
+    assert_eq!(rt; asks.as_slice(), expected.as_bytes());
+    let sends = sends_of(alloc, &sink)?;
+    let expected =
+        "gracefulstop user1 0; normal | stop, start; normal | gracefulstop user1 5, start; normal | \
+        tryrestart; normal | trygracefulrestart user1 6; normal | signal user1; normal | ";
+    assert_eq!(rt; sends.as_slice(), expected.as_bytes());
+    assert_eq!(rt; sink.sends, 6);
+    Ok(())
+}
+
+#[test]
+fn senders_of_ends(rt: HostRuntime) -> Result<(), Fail> {
+    let alloc = rt.alloc();
+    let one = job(alloc, 3)?;
+    let mut sink = sink(alloc, None);
+    assert!(rt; one.delete(alloc, &mut sink).is_ok());
+    assert!(rt; one.delete_now(alloc, &mut sink).is_ok());
+    assert!(rt; one.to_wait(alloc, &mut sink).is_ok());
+    assert!(rt; one.control(alloc, &mut sink, Control::Delete).is_ok());
+    let asks = asks_of(alloc, &sink)?;
+    let expected = b"3 stopdelete,3 deletenow,3 towait,3 delete,".as_slice();
+    assert_eq!(rt; asks.as_slice(), expected);
+    let sends = sends_of(alloc, &sink)?;
+    let expected =
+        b"stop, delete; normal | stop, delete; urgent | nextending; high | delete; normal | ";
+    assert_eq!(rt; sends.as_slice(), expected.as_slice());
+    assert_eq!(rt; sink.sends, 4);
+    Ok(())
+}
+
+#[test]
 fn refused_sends_leave_nothing(rt: HostRuntime) -> Result<(), Fail> {
     let alloc = rt.alloc();
     let one = job(alloc, 3)?;
-    for (refusal, fulls) in [(Refused::Full, 3), (Refused::Memory, 0)] {
+    for (refusal, fulls) in [(Refused::Full, 4), (Refused::Memory, 0)] {
         let mut sink = sink(alloc, Some(refusal));
         assert_eq!(rt; one.start(alloc, &mut sink).err(), Some(refusal));
         assert_eq!(rt; one.stop(alloc, &mut sink).err(), Some(refusal));
@@ -272,8 +429,9 @@ fn refused_sends_leave_nothing(rt: HostRuntime) -> Result<(), Fail> {
             one.control(alloc, &mut sink, Control::Stop).err(),
             Some(refusal)
         );
+        assert_eq!(rt; one.delete_now(alloc, &mut sink).err(), Some(refusal));
         assert!(rt; sink.asks.is_empty());
-        assert_eq!(rt; sink.sends, 3);
+        assert_eq!(rt; sink.sends, 4);
         assert_eq!(rt; sink.fulls, fulls);
     }
     Ok(())
@@ -390,6 +548,7 @@ fn picks_of(alloc: Global, lists: &mut ThreeLists, graces: &[bool]) -> Result<Te
 #[test]
 fn the_most_pressing_is_picked_first(rt: HostRuntime) -> Result<(), Fail> {
     let mut lists = waiting(rt.alloc())?;
+    assert_eq!(rt; lists.count(), Some(7));
     let graces = [
         false, true, true, false, true, false, false, true, false, false,
     ];
@@ -417,7 +576,9 @@ fn what_is_put_behind_a_pick_waits_behind(rt: HostRuntime) -> Result<(), Fail> {
     lists.put(9, Flag::new(alloc, false)?, Control::Start, Level::Normal)?;
     assert_eq!(rt; lists.pick(false).map(|x| x.ticket), Some(8));
     assert_eq!(rt; lists.first(false), Some((9, Control::Start)));
+    assert_eq!(rt; lists.count(), Some(1));
     lists.clear();
+    assert_eq!(rt; lists.count(), Some(0));
     assert_eq!(rt; lists.first(false), None);
     assert!(rt; lists.pick(false).is_none());
     Ok(())

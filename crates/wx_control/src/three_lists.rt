@@ -1,6 +1,6 @@
 // The controls that wait for a job.
 ghost use Rattle.std.specs.Prelude.{◌≡◌, ◌∷◌, ◌++◌, [], ◌+◌, ◌≤◌, ◌<◌, ◌==◌, vec_len, vec_capacity, false, OnOk, OnErr, IfSome, IfNone, option_map};
-ghost use Rattle.wx_control.specs.Waits.{IsEmpty, ticketed, picked, joined, headed, first_of, first_level};
+ghost use Rattle.wx_control.specs.Waits.{IsEmpty, ticketed, picked, joined, headed, first_of, first_level, waiting_count};
 
 use crate::control::Control;
 use crate::flag::Flag;
@@ -153,6 +153,14 @@ impl ThreeLists {
             return None;
         }
         Some(take_first(&mut self.normal, Level::Normal))
+    }
+
+    /// How many wait at all levels, where that is a number of 64 bits.
+    pub fn count(&self) -> Option<u64>
+        ensures { IfSome result (λ n. n ≡ waiting_count self.now) }
+    {
+        let pressing = (self.urgent.len() as u64).checked_add(self.high.len() as u64)?;
+        pressing.checked_add(self.normal.len() as u64)
     }
 
     /// None waits any more.

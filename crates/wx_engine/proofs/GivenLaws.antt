@@ -1,5 +1,5 @@
 -- One turn more is given.
-use Rattle.std.proofs.Common.{◌≡◌, ℕ, zero, suc, ◌+◌, ◌<◌, ◌≤◌, min, Option, None, Some, Result, Ok, inl, inr, ◌⊎◌, List, [], ◌∷◌, length, drop, get_or, slice_get, refl, sym, ap, ◌∙◌, arith}
+use Rattle.std.proofs.Common.{◌≡◌, ℕ, zero, suc, ◌+◌, ◌<◌, ◌≤◌, min, Option, None, Some, Result, Ok, inl, inr, ◌⊎◌, List, [], ◌∷◌, length, drop, get_or, slice_get, refl, sym, ap, ◌∙◌, arith, ℤ}
 use Rattle.std.proofs.lemmas.Bool.{cases_lt}
 use Rattle.std.proofs.lemmas.List.{get_or_past}
 use Rattle.wx_events.specs.declared.process.ProcessEnd.{ProcessEnd}
@@ -9,14 +9,14 @@ use Rattle.wx_control.specs.declared.id.Id.{Id}
 use Rattle.wx_journal.specs.declared.child.HostFault.{HostFault}
 use Rattle.wx_journal.specs.declared.child.SpawnTag.{SpawnTag}
 use Rattle.wx_journal.specs.declared.entry.Entry.{Entry}
-use Rattle.wx_journal.specs.declared.entry.Entry.TheVariants.{Turn as Turned, Spawn, Kill, Wait}
+use Rattle.wx_journal.specs.declared.entry.Entry.TheVariants.{Turn as Turned, Spawn, Signal, Kill, Wait}
 use Rattle.wx_journal.specs.declared.entry.TurnKind.TheVariants.{Last}
 use Rattle.wx_engine.specs.declared.script.ScriptTurn.{ScriptTurn}
 use Rattle.wx_engine.specs.declared.script.ScriptTurn.TheVariants.{Turn, Fault}
 use Rattle.wx_engine.specs.declared.answers.Answers.{Answers}
 use Rattle.wx_engine.specs.declared.answers.Used.{Used}
 use Rattle.wx_engine.specs.Answered.{answers_of, Answered, answered_by}
-use Rattle.wx_engine.specs.HostCalls.{Spawns, Kills, Waits, reply, UsesAnswers}
+use Rattle.wx_engine.specs.HostCalls.{Spawns, Signals, Kills, Waits, reply, UsesAnswers}
 use Rattle.wx_engine.specs.Turns.{entry_of, entry_or_last, given, newest, turns_of, FollowsGiven}
 
 -- the next of the turns that are left, and those after it
@@ -88,6 +88,11 @@ pub spawn_more : (answers : Answers) (used : Used) (n : ℕ) (p : List Entry) (c
     → answer ≡ get_or answers.spawns used.spawns (Ok tt) → n ≡ min (used.spawns + 1) (length answers.spawns) → UsesAnswers answers used p → UsesAnswers answers (record used { spawns = n }) (Spawn child job tag what answer ∷ p)
 spawn_more answers used n p child job tag what answer is next all Spawns = answered_more (λ e. reply e Spawns) (Ok tt) answers.spawns used.spawns n p (Spawn child job tag what answer) answer refl is next (all Spawns)
 spawn_more answers used n p child job tag what answer is next all k = all k
+
+pub signal_more : (answers : Answers) (used : Used) (n : ℕ) (p : List Entry) (child : ℕ) (number : ℤ) (answer : Result (Unit {0}) HostFault)
+    → answer ≡ get_or answers.signals used.signals (Ok tt) → n ≡ min (used.signals + 1) (length answers.signals) → UsesAnswers answers used p → UsesAnswers answers (record used { signals = n }) (Signal child number answer ∷ p)
+signal_more answers used n p child number answer is next all Signals = answered_more (λ e. reply e Signals) (Ok tt) answers.signals used.signals n p (Signal child number answer) answer refl is next (all Signals)
+signal_more answers used n p child number answer is next all k = all k
 
 pub kill_more : (answers : Answers) (used : Used) (n : ℕ) (p : List Entry) (child : ℕ) (answer : Result (Unit {0}) HostFault)
     → answer ≡ get_or answers.kills used.kills (Ok tt) → n ≡ min (used.kills + 1) (length answers.kills) → UsesAnswers answers used p → UsesAnswers answers (record used { kills = n }) (Kill child answer ∷ p)

@@ -4,6 +4,8 @@ use Rattle.std.specs.Prelude.{IfErr}
 use Rattle.wx_journal.specs.declared.entry.Entry.{Entry}
 use Rattle.wx_journal.specs.declared.entry.Entry.TheVariants.{Show, Dropped, Gone}
 use Rattle.wx_journal.specs.Told.{Rose, tell_if, tells, anywhere, is_world, is_hooks}
+use Rattle.wx_job.specs.TicketLaws.{Throughout, GracesNeedChildren, IsPlaced}
+use Rattle.wx_job.proofs.Graces.{graces_need_children}
 use Rattle.wx_action.specs.Start.{Start}
 use Rattle.wx_config.specs.declared.error.CriticalError.{CriticalError}
 use Rattle.wx_config.specs.declared.error.CriticalError.TheVariants.{IoError, Memory}
@@ -101,3 +103,13 @@ ran_makes_once s p (inr broken) = (dying_keeps s broken.before p broken.dying).m
 pub ran_is_served : (s : Start) (p : List Entry) → Ran s p → AreServed s p
 ran_is_served s p (inl complete) = run_is_served s p complete.run
 ran_is_served s p (inr broken) = (dying_keeps s broken.before p broken.dying).served (run_is_served s broken.before broken.run)
+
+-- the tickets of the jobs are placed
+pub ran_is_placed : (s : Start) (p : List Entry) → Ran s p → IsPlaced p
+ran_is_placed s p (inl complete) = (orderly s p complete.run).placed
+ran_is_placed s p (inr broken) = (dying_keeps s broken.before p broken.dying).placed (orderly s broken.before broken.run).placed
+
+-- no grace of a journal stands without a child
+pub graces_have_children : (p : List Entry) → Throughout GracesNeedChildren p
+graces_have_children [] = graces_need_children []
+graces_have_children (e ∷ p) = (graces_need_children (e ∷ p), graces_have_children p)

@@ -1,7 +1,6 @@
 -- The acts of a script, the answers of its filter, and the words of its spawn hooks; and the rule of hooks that follow it.
-use Rattle.std.specs.Prelude.{◌≡◌, ℕ, ◌+◌, ◌-◌, ◌^◌, min, Bool, true, nat_lt, ◌||◌, if◌then◌else◌, Option, None, Some, Result, Ok, Err, List, [], ◌∷◌, ◌++◌, length, get_or}
+use Rattle.std.specs.Prelude.{◌≡◌, ℕ, ◌+◌, ◌-◌, ◌^◌, min, Bool, true, nat_lt, ◌||◌, if◌then◌else◌, Option, None, Some, Result, Ok, List, [], ◌∷◌, ◌++◌, length, get_or}
 use Rattle.std.specs.List.{list_any}
-use Rattle.wx_words.specs.declared.list.Memory.{Memory}
 use Rattle.wx_command.specs.declared.command.Command.{Command}
 use Rattle.wx_command.specs.declared.spawnable.Spawnable.{Spawnable}
 use Rattle.wx_command.specs.Spawnables.{spawnable_of}

@@ -5,7 +5,7 @@ use Rattle.wx_events.specs.declared.process.ProcessEnd.{ProcessEnd}
 use Rattle.wx_events.specs.declared.process.ProcessEnd.TheVariants.{Success}
 use Rattle.wx_journal.specs.declared.child.HostFault.{HostFault}
 use Rattle.wx_journal.specs.declared.entry.Entry.{Entry}
-use Rattle.wx_journal.specs.declared.entry.Entry.TheVariants.{Spawn, Kill, Wait}
+use Rattle.wx_journal.specs.declared.entry.Entry.TheVariants.{Spawn, Signal, Kill, Wait}
 use Rattle.wx_engine.specs.declared.answers.Answers.{Answers}
 use Rattle.wx_engine.specs.declared.answers.Used.{Used}
 use Rattle.wx_engine.specs.Answered.{Calls, AreAnswered, Answered, answered_by}
@@ -13,6 +13,7 @@ use Rattle.wx_engine.specs.Answered.{Calls, AreAnswered, Answered, answered_by}
 -- the kinds
 pub data HostCall : Type 0 where
   Spawns : HostCall
+  Signals : HostCall
   Kills : HostCall
   Waits : HostCall
 
@@ -26,19 +27,21 @@ pub record Kind : Type 1 where
 
 abbrev pub row : HostCall → Kind
 row Spawns = record { Reply = Result (Unit {0}) HostFault; lines = λ a. a.spawns; usual = Ok tt; used = λ u. u.spawns }
+row Signals = record { Reply = Result (Unit {0}) HostFault; lines = λ a. a.signals; usual = Ok tt; used = λ u. u.signals }
 row Kills = record { Reply = Result (Unit {0}) HostFault; lines = λ a. a.kills; usual = Ok tt; used = λ u. u.kills }
 row Waits = record { Reply = Result ProcessEnd HostFault; lines = λ a. a.waits; usual = Ok Success; used = λ u. u.waits }
 
 -- what an entry was answered, if it is a call of this kind
 abbrev pub reply : Entry → (k : HostCall) → Option (row k).Reply
 reply (Spawn child job tag what answer) Spawns = Some answer
+reply (Signal child number answer) Signals = Some answer
 reply (Kill child answer) Kills = Some answer
 reply (Wait child answer) Waits = Some answer
 reply (_) (_) = None
 
 -- a script that answers no call
 abbrev pub no_answers : Answers
-no_answers = record { spawns = []; kills = []; waits = [] }
+no_answers = record { spawns = []; signals = []; kills = []; waits = [] }
 
 -- ---- of all kinds
 

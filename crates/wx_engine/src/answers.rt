@@ -11,6 +11,8 @@ use wx_journal::HostFault;
 pub struct Answers {
     /// To the spawns of children.
     pub spawns: List<Result<(), HostFault>>,
+    /// To the signals that are sent to them.
+    pub signals: List<Result<(), HostFault>>,
     /// To their kills.
     pub kills: List<Result<(), HostFault>>,
     /// To the waits for them.
@@ -24,6 +26,7 @@ impl Answers {
     {
         Answers {
             spawns: List::new(alloc),
+            signals: List::new(alloc),
             kills: List::new(alloc),
             waits: List::new(alloc),
         }
@@ -34,6 +37,7 @@ impl Copies for Answers {
     fn copy(&self, alloc: Global) -> Result<Answers, Memory> {
         Ok(Answers {
             spawns: copied(alloc, &self.spawns)?,
+            signals: copied(alloc, &self.signals)?,
             kills: copied(alloc, &self.kills)?,
             waits: copied(alloc, &self.waits)?,
         })
@@ -51,6 +55,7 @@ fn copied<T: Copy>(alloc: Global, answers: &List<T>) -> Result<List<T>, Memory>
 #[derive(Clone, Copy, Default, Debug)]
 pub(crate) struct Used {
     pub(crate) spawns: usize,
+    pub(crate) signals: usize,
     pub(crate) kills: usize,
     pub(crate) waits: usize,
 }

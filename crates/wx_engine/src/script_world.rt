@@ -105,6 +105,17 @@ impl Host for ScriptWorld {
         answer
     }
 
+    fn signal(&mut self, child: u64, number: i32) -> Result<(), HostFault> {
+        let answer = next(&self.answers.signals, &mut self.used.signals, Ok(()));
+        self.host_faults = counted(self.host_faults, answer.is_err());
+        self.told.push(Entry::Signal {
+            child,
+            number,
+            answer,
+        });
+        answer
+    }
+
     fn kill(&mut self, child: u64) -> Result<(), HostFault> {
         let answer = next(&self.answers.kills, &mut self.used.kills, Ok(()));
         self.host_faults = counted(self.host_faults, answer.is_err());

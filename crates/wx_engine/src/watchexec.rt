@@ -6,6 +6,7 @@ ghost use Rattle.wx_control.specs.declared.id.Id.{Id as AnId};
 ghost use Rattle.wx_journal.specs.Told.{is_world, is_hooks, is_turn, anywhere, tells, Obeys, Rose};
 ghost use Rattle.wx_job.specs.History.{child};
 ghost use Rattle.wx_job.specs.Laws.{IsReaping, AfterFaults};
+ghost use Rattle.wx_job.specs.TicketLaws.{Throughout, AreInOnePlace, AreRaisedLast, WaitForGraces, GracesNeedChildren};
 ghost use Rattle.wx_config.specs.Defaults.{default_config};
 ghost use Rattle.wx_action.specs.Start.{Start, IsSize, IsStart, is_absolute};
 ghost use Rattle.wx_action.specs.Journal.{turn_count, early_count};
@@ -130,14 +131,23 @@ impl Watchexec {
         ensures count { turn_count journal.new.past ≤ (W.seen world.old).progress.left + 1 }
         ensures one_more { early_count journal.new.past ≤ (W.seen world.old).progress.left }
 
-        // The count of failed calls on children rose with each. A job whose spawn failed is pending, and a child that
-        // could not be killed or waited for runs.
+        // The count of failed calls on children rose with each. A job whose spawn failed is pending. A child that could
+        // not be sent a signal, killed or waited for runs, without a grace where this was at the end of one.
         ensures host_faults { Counted [] (W.seen world.old).shown.faults journal.new.past (W.seen world.new).shown.faults }
         ensures after_faults { AfterFaults journal.new.past }
 
         // Each child of a job is reaped, and none runs.
         ensures children { (id : AnId) → IsReaping id journal.new.past }
         ensures none_runs { (id : AnId) → child id journal.new.past ≡ None }
+
+        // At each moment a ticket of a job that lives waits, is in hand, is parked or was raised, and just one of these. It
+        // is raised once at most, behind the other calls of its case.
+        ensures tickets { Throughout AreInOnePlace journal.new.past }
+        ensures raised_last { AreRaisedLast journal.new.past }
+
+        // A grace stands only while a child runs, and holds back the controls of the level Normal.
+        ensures graces { Throughout GracesNeedChildren journal.new.past }
+        ensures pressing { WaitForGraces journal.new.past }
 
         // The laws of runs.
         ensures batched { IsBatched journal.new.past }

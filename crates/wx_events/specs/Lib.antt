@@ -1,6 +1,7 @@
 pub mod Priority
 pub mod Events
 pub mod Ends
+pub mod Natives
 pub mod FileTypes
 pub mod Keys
 pub mod KeyLaws

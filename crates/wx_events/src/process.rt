@@ -2,6 +2,7 @@
 ghost use Rattle.std.specs.Prelude.{◌≡◌, ◌++◌, OnOk};
 ghost use Rattle.wx_words.specs.Dotted.{dotted};
 ghost use Rattle.wx_events.specs.Ends.{signal_word, signal_parts, end_parts};
+ghost use Rattle.wx_events.specs.Natives.{native};
 
 use std::alloc::Global;
 use std::fmt;
@@ -53,6 +54,25 @@ impl Copies for ProcessEnd {
 }
 
 impl Signal {
+    /// The number of this signal on the system. One by its number has none where that is not from 1 to 31.
+    pub fn native(&self) -> Option<i32>
+        ensures { result ≡ native self.now }
+    {
+        match self {
+            Signal::Hangup => Some(1),
+            Signal::Interrupt => Some(2),
+            Signal::Quit => Some(3),
+            Signal::ForceStop => Some(9),
+            Signal::User1 => Some(10),
+            Signal::User2 => Some(12),
+            Signal::Terminate => Some(15),
+            Signal::Continue => Some(18),
+            Signal::TerminalSuspend => Some(20),
+            Signal::Custom(n) if 1 <= *n && *n <= 31 => Some(*n),
+            Signal::Custom(_) => None,
+        }
+    }
+
     /// The first part of the word of this signal.
     fn word(self) -> &'static str
         ensures { result.now ≡ signal_word self }

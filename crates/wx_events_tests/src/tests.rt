@@ -397,6 +397,38 @@ fn refuses_bad_signals(rt: HostRuntime) -> Result<(), Fail> {
     each_is_refused::<Signal>(&rt, rt.alloc(), BAD_SIGNALS)
 }
 
+const NATIVES: &str = "\
+hangup = Some(1)
+interrupt = Some(2)
+quit = Some(3)
+forcestop = Some(9)
+user1 = Some(10)
+user2 = Some(12)
+terminate = Some(15)
+continue = Some(18)
+suspend = Some(20)
+custom.1 = Some(1)
+custom.31 = Some(31)
+custom.0 = None
+custom.32 = None
+custom.-1 = None
+custom.2147483647 = None
+custom.-2147483648 = None
+";
+
+#[test]
+fn numbers_of_signals(rt: HostRuntime) -> Result<(), Fail> {
+    for case in NATIVES.lines() {
+        let (line, number) = case.split_once(" = ").ok_or("a signal and its number")?;
+        let signal: Signal = read_line(rt.alloc(), line.as_bytes())?.ok_or("a signal")?;
+        assert!(rt;
+            has_fields(rt.alloc(), &signal.native(), number)?,
+            "at {case}"
+        );
+    }
+    Ok(())
+}
+
 const ENDS: &str = "\
 success = Success
 error.1 = ExitError(1)

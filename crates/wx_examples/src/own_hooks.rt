@@ -27,6 +27,8 @@ enum Does {
     SetsVariable,
     /// The same, but the spawn hook has no memory.
     WantsMemory,
+    /// A batch that is shown no job creates one and deletes it. One that is shown a job, which is gone by then, restarts it.
+    Deletes,
     /// The filter fails, and the error handler wishes this, one after the other.
     Wishes(&'static [Says]),
 }
@@ -115,6 +117,7 @@ fn act(alloc: Global, does: Does, handler: &mut ActionHandler<'_>) -> Option<boo
         Does::AsksTwo => is_handed(alloc, handler),
         Does::Looks => is_not_shown(alloc, handler),
         Does::SetsVariable | Does::WantsMemory => start_hooked(alloc, handler),
+        Does::Deletes => delete(alloc, handler),
         Does::Wishes(_) => None,
     }
 }
@@ -261,6 +264,37 @@ fn start_hooked(alloc: Global, handler: &mut ActionHandler<'_>) -> Option<bool>
     if started { Some(true) } else { None }
 }
 
+/// Creates a job.
+fn new_job(alloc: Global, handler: &mut ActionHandler<'_>) -> Option<Job>
+    ensures past { handler.new.past ≡ handler.old.past }
+    ensures names { handler.new.names ≡ handler.old.names }
+{
+    let command = command_of(alloc, b"a").ok()?;
+    match handler.create_job(alloc, command) {
+        Ok((_, job)) => Some(job),
+        Err(_) => None,
+    }
+}
+
+/// Creates a job and deletes it where none is shown, and else restarts the one that is shown. No child may run.
+fn delete(alloc: Global, handler: &mut ActionHandler<'_>) -> Option<bool>
+    ensures past { handler.new.past ≡ handler.old.past }
+    ensures names { handler.new.names ≡ handler.old.names }
+{
+    let first = handler.list_jobs().next().map(|item| item.0);
+    let job = match first {
+        Some(id) => handler.get_job(alloc, id).ok()??,
+        None => new_job(alloc, handler)?,
+    };
+    let asked = match first {
+        Some(_) => job.restart(alloc, handler).is_ok(),
+        None => job.delete_now(alloc, handler).is_ok(),
+    };
+    let runs = handler.job_running(job.id());
+    drop(job);
+    Some(asked && !runs)
+}
+
 /// Creates two jobs, starts the first, stops the second, and quits twice.
 fn ask_two(alloc: Global, handler: &mut ActionHandler<'_>) -> Option<()>
     ensures past { handler.new.past ≡ handler.old.past }
@@ -395,6 +429,19 @@ const WANTED: &[u8] =
 #[test]
 fn a_hook_without_memory_ends_the_run(rt: HostRuntime) -> Result<(), Fail> {
     assert!(rt; runs_so(rt.alloc(), Does::WantsMemory, STARTS, WANTED)?);
+    Ok(())
+}
+
+/// The first batch creates the job. The second is shown it, though it is gone. The third is shown none, and creates the next.
+const DELETES: &[u8] =
+    b"turn 0 arrive urgent 0\nturn 0 work\nturn 0 job 0\nturn 0 job 0\nturn 1 arrive urgent 0\nturn 1 work\nturn 2 arrive urgent 0\nturn 2 work\nturn 2 job 0\n";
+
+const DELETED: &[u8] =
+    b"turn 0 arrive urgent 0\noffer 0 - queued urgent 0\nturn 0 work\ntake 0\nhand 0 1 0 create 0 exec ---- 1 a ask 0 deletenow\nmade 0\nasked 0 0 urgent stop\nasked 1 0 urgent delete\nturn 0 job 0\npick 0 0\nraise 0\nturn 0 job 0\npick 0 1\nraise 1\ngone 0\nturn 1 arrive urgent 0\noffer 1 - queued urgent 0\nturn 1 work\ntake 1\nhand 0 1 1 ask 0 restart\nword ignored\nturn 2 arrive urgent 0\noffer 2 - queued urgent 0\nturn 2 work\ntake 2\nhand 0 1 2 create 1 exec ---- 1 a ask 1 deletenow\nmade 1\nasked 2 1 urgent stop\nasked 3 1 urgent delete\nturn 2 job 0\nword ignored\nturn 2 last\ngone 1\nend ok lost 0\n";
+
+#[test]
+fn a_job_that_is_gone_is_shown_once_more(rt: HostRuntime) -> Result<(), Fail> {
+    assert!(rt; runs_so(rt.alloc(), Does::Deletes, DELETES, DELETED)?);
     Ok(())
 }
 

@@ -1,5 +1,6 @@
 -- One entry more on the way that a plan leads, by its kind.
 use Rattle.std.proofs.Common.{◌≡◌, ℕ, ◌≤◌, Bool, true, false, cond, List, ◌∷◌, Option, Some, Result, Ok, Err, refl, arith}
+use Rattle.std.specs.Prelude.{ℤ, OnErr}
 use Rattle.wx_words.specs.declared.list.Memory.{Memory}
 use Rattle.wx_events.specs.declared.process.ProcessEnd.{ProcessEnd}
 use Rattle.wx_command.specs.declared.command.Command.{Command}
@@ -10,10 +11,10 @@ use Rattle.wx_control.specs.declared.level.Level.{Level}
 use Rattle.wx_journal.specs.declared.child.SpawnTag.{SpawnTag}
 use Rattle.wx_journal.specs.declared.child.HostFault.{HostFault}
 use Rattle.wx_journal.specs.declared.entry.Entry.{Entry}
-use Rattle.wx_journal.specs.declared.entry.Entry.TheVariants.{Asked, Spawn, Kill, Wait, Hook}
+use Rattle.wx_journal.specs.declared.entry.Entry.TheVariants.{Asked, Spawn, Signal, Kill, Wait, Hook}
 use Rattle.wx_journal.specs.Names.{ticket_count, child_count}
 use Rattle.wx_journal.specs.Told.{tell, tell_if, is_world, is_hooks, Counts}
-use Rattle.wx_job.specs.Table.{Words, Left, Call, Adds, Spawns, Kills, Waits, Asks, Hooks, Plan, Done, GivenUp, Owes, adds, spawn, fresh_by}
+use Rattle.wx_job.specs.Table.{Words, Left, Call, Adds, Spawns, Signals, Kills, Waits, Asks, Hooks, Plan, Done, GivenUp, Owes, adds, spawn, fresh_by}
 use Rattle.wx_job.specs.Seen.{Seen}
 use Rattle.wx_job.specs.Steady.{Tells}
 use Rattle.wx_job.specs.Case.{Answer, entry, words_of, is_fault, fails, Leads, Here, Then, Ran, FollowsHost, Follows, GaveUp, HookedOnly}
@@ -40,6 +41,9 @@ brings-spawn p c id tag words what a same is = record { answer = a; is = rw (sam
 pub brings-hook : (p : List Entry) (id : Id) (n : ℕ) (a : Result Spawnable Memory) → Brings p (Hooks id n) (Hook id n a)
 brings-hook p id n a = record { answer = a; is = refl }
 
+pub brings-signal : (p : List Entry) (c : ℕ) (number : ℤ) (a : Result (Unit {0}) HostFault) → Brings p (Signals c number) (Signal c number a)
+brings-signal p c number a = record { answer = a; is = refl }
+
 pub brings-kill : (p : List Entry) (c : ℕ) (a : Result (Unit {0}) HostFault) → Brings p (Kills c) (Kill c a)
 brings-kill p c a = record { answer = a; is = refl }
 
@@ -63,6 +67,11 @@ leads-heard : (wants : Bool) (k : Plan) (p : List Entry) (host hooks : Option (L
 leads-heard wants k p host hooks n e call k' f p' host' hooks' n' calm goes world mine g b =
     let on : Leads k p host hooks n (cond (fails e) f k') (e ∷ p') (tell_if (is_world p' e) e host') (tell_if (is_hooks e) e hooks') n' = Then e _ _ _ _ _ _ g (b.answer, b.is) (rw calm (no_fault n' n' (omega arith))) in
     rw (goes, world, mine) at on
+
+-- what an answer that failed says, by what it says besides
+pub on_err : {A E : Type 0} {P Q R : Type 0} (r : Result A E) → OnErr r P → OnErr r Q → (P → Q → R) → OnErr r R
+on_err (Ok a) p q h = tt
+on_err (Err e) p q h = h p q
 
 -- ---- the same over what is seen of the host
 
@@ -102,4 +111,4 @@ gave_up k p a hooks id n (Err none) tag k' p' b hooks' r = record { rest = Given
 pub gives-up : {Fixed : Type 0} (k : Plan) (p : List Entry) (a : Seen Fixed) (hooks : Option (List Entry)) (id : Id) (n : ℕ) (tag : SpawnTag) (k' : Plan) (p' p'' : List Entry) (b : Seen Fixed) (hooks' hooks'' : Option (List Entry)) → HookedOnly id n p' hooks' p'' hooks'' → Ran k p a hooks (Owes (Hooks id n) (spawn id tag Left k') GivenUp) p' b hooks' → GaveUp k p a hooks p'' b hooks''
 gives-up k p a hooks id n tag k' p' p'' b hooks' hooks'' only r = rw (only.past, only.told) (gave_up k p a hooks id n only.answer tag k' p' b hooks' r)
 
-pub ruleset leads = (Here, leads-says, ran-none, ran-says, ran-tells, ran-ok, ran-err, ran-calls, gives-up, brings-adds, brings-ask, brings-spawn, brings-kill, brings-wait)
+pub ruleset leads = (Here, leads-says, ran-none, ran-says, ran-tells, ran-ok, ran-err, ran-calls, gives-up, brings-adds, brings-ask, brings-spawn, brings-signal, brings-kill, brings-wait)

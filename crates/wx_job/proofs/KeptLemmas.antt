@@ -47,6 +47,12 @@ kept-one seen rule stands x₀ p₀ x e p other k = Past x p (e ∷ p) k (More e
 pub quiet-followed : {Fixed : Type 0} (k : Plan) (p : List Entry) (a : Seen Fixed) (k' : Plan) (p' : List Entry) (b : Seen Fixed) → FollowsHost k p a k' p' b → Quiet p p'
 quiet-followed k p a k' p' b led = quiet_led k p _ _ k' p' _ _ (led k p a (Some []) (Some []) (ran-none k p a (Some []))).led
 
+pub quiet_then : (p q r : List Entry) → Quiet p q → Quiet q r → Quiet p r
+quiet_then p q _ a Same = a
+quiet_then p q _ a (More e r b other) = More e r (quiet_then p q r a b) other
+
+pub ruleset quiets = (quiet_then)
+
 pub kept-past : {K Fixed : Type 0} (seen : K → Hooked Fixed) (rule : Fixed → List Entry → Entry → Type 0) (stands : K → List Entry → Type 0) (x₀ : K) (p₀ : List Entry) (x : K) (p p' : List Entry) → Quiet p p' → Kept seen rule stands x₀ p₀ x p → Kept seen rule stands x₀ p₀ x p'
 kept-past seen rule stands x₀ p₀ x p p' quiet k = Past x p p' k quiet
 

@@ -1,6 +1,7 @@
 -- A task stands for the journal with one entry more.
-use Rattle.std.proofs.Common.{◌≡◌, ℕ, true, false, List, [], ◌∷◌, ◌++◌, Option, Some, None, Result, Ok, Err, refl, ap, sym, ◌∙◌, eq-eqb}
-use Rattle.std.specs.Prelude.{◌==◌}
+use Rattle.std.proofs.Common.{◌≡◌, ℕ, ◌+◌, ◌≤◌, ◌<◌, Bool, true, false, List, [], ◌∷◌, ◌++◌, length, Option, Some, None, Result, Ok, Err, refl, arith, ap, sym, ◌∙◌, eq-eqb, ne_eqb}
+use Rattle.std.specs.Prelude.{◌==◌, ℤ, option_map, is_some}
+use Rattle.std.proofs.lemmas.Bool.{eqb-true}
 use Rattle.wx_words.specs.declared.list.Memory.{Memory}
 use Rattle.wx_events.specs.declared.process.ProcessEnd.{ProcessEnd}
 use Rattle.wx_command.specs.declared.spawnable.Spawnable.{Spawnable}
@@ -9,20 +10,23 @@ use Rattle.wx_control.specs.declared.control.Control.{Control}
 use Rattle.wx_control.specs.declared.level.Level.{Level}
 use Rattle.wx_control.specs.declared.level.Level.TheVariants.{Normal, High, Urgent}
 use Rattle.wx_control.specs.declared.three_lists.Picked.{Picked}
-use Rattle.wx_control.specs.Waits.{Waits, picked, joined, headed, level_of, first_level}
+use Rattle.wx_control.specs.Waits.{Waits, picked, joined, headed, level_of, first_of, first_level, waiting_count}
 use Rattle.wx_journal.specs.declared.child.SpawnTag.{SpawnTag}
 use Rattle.wx_journal.specs.declared.child.HostFault.{HostFault}
 use Rattle.wx_journal.specs.declared.entry.Entry.{Entry}
-use Rattle.wx_journal.specs.declared.entry.Entry.TheVariants.{Asked, Pick, Spawn, Wait, Hook}
-use Rattle.wx_journal.specs.Names.{moment}
+use Rattle.wx_journal.specs.declared.entry.Entry.TheVariants.{Asked, Pick, GraceOver, Spawn, Signal, Wait, Raise, Hook}
+use Rattle.wx_journal.specs.Names.{moment, ticket_count}
 use Rattle.wx_job.specs.declared.state.CommandState.{CommandState}
 use Rattle.wx_job.specs.declared.state.CommandState.TheVariants.{Pending, Running, Finished}
 use Rattle.wx_job.specs.declared.task.JobTask.{JobTask}
-use Rattle.wx_job.specs.History.{lives, waits, child, finish, before_spawn, picked_control, set_hook, set_tag, is_in_hand, SameHistory}
-use Rattle.wx_job.specs.Table.{leave, end_plan}
-use Rattle.wx_job.specs.Stands.{Stands, child_of, id_of}
-use Rattle.wx_job.proofs.Owners.{self}
+use Rattle.wx_job.specs.History.{lives, waits, child, kept, state, previous, hook, tag, command, parked, is_child, grace, without_ticket, parks, just_picked, begins_by, finish, before_spawn, picked_control, set_hook, set_tag, SameHistory}
+use Rattle.wx_job.specs.declared.grace.Standing.{Standing}
+use Rattle.wx_job.specs.Parkings.{Tickets}
+use Rattle.wx_job.specs.Table.{leave, end_plan, is_parking, row, kit_after}
+use Rattle.wx_job.specs.Stands.{Stands, child_of, id_of, kit_of, grace_of, once, times, times_waits, holds}
+use Rattle.wx_job.proofs.Owners.{self, either}
 use Rattle.wx_job.proofs.Frame.{is_silent, frame_silent}
+use Rattle.wx_job.proofs.Times.{joined_times, times_append, unheld_without, parks-not, parks-one}
 
 -- what leaves the history of its job leaves a task
 pub stands_history : (k : JobTask) (p p' : List Entry) → SameHistory (id_of k) p p' → Stands k p → Stands k p'
@@ -37,6 +41,11 @@ stands_history k p p' h s = record {
   previous_kept = s.previous_kept ∙ sym h.previous_same;
   hook_kept = s.hook_kept ∙ sym h.hook_same;
   tag_kept = s.tag_kept ∙ sym h.tag_same;
+  grace_kept = s.grace_kept ∙ sym h.grace_same;
+  parked_kept = s.parked_kept ∙ sym h.parked_same;
+  parked_room = s.parked_room;
+  held_once = s.held_once;
+  held_named = λ t le. s.held_named t (let later = h.tickets_later in omega (arith, later, le));
   runs_kept = λ created is. s.runs_kept created (sym h.command_same ∙ is);
 }
 
@@ -53,7 +62,7 @@ finish-child c status at Pending e = cc
 finish-child c status at (Running d started) e = let is : d ≡ c = cc in rw (eq-eqb d c is) refl
 finish-child c status at (Finished before started finished) e = cc
 
-pub stands-wait-ok : (k : JobTask) (p : List Entry) (c : ℕ) (status : ProcessEnd) → Stands k p → k.gone ≡ false → child_of k.state ≡ Some c → Stands (record k { state = finish c status (moment p) k.state; kept = false }) (Wait c (Ok status) ∷ p)
+pub stands-wait-ok : (k : JobTask) (p : List Entry) (c : ℕ) (status : ProcessEnd) → Stands k p → k.gone ≡ false → child_of k.state ≡ Some c → Stands (record k { state = finish c status (moment p) k.state; kept = false; grace = None }) (Wait c (Ok status) ∷ p)
 stands-wait-ok k p c status s here runs =
     let is : child k.id p ≡ Some c = child-is k p c s here runs in
     let found : (c == c) ≡ true = eq-eqb c c refl in
@@ -68,6 +77,11 @@ stands-wait-ok k p c status s here runs =
       previous_kept = s.previous_kept;
       hook_kept = s.hook_kept;
       tag_kept = s.tag_kept;
+      grace_kept = rw (is, found) refl;
+      parked_kept = s.parked_kept;
+      parked_room = s.parked_room;
+      held_once = λ t. (let h = s.held_once t in omega (arith, h));
+      held_named = λ t le. (let h = s.held_named t le in omega (arith, h));
       runs_kept = s.runs_kept;
     }
 
@@ -86,6 +100,11 @@ stands-wait-err k p c fault s here runs =
       previous_kept = s.previous_kept;
       hook_kept = s.hook_kept;
       tag_kept = s.tag_kept;
+      grace_kept = s.grace_kept;
+      parked_kept = s.parked_kept;
+      parked_room = s.parked_room;
+      held_once = s.held_once;
+      held_named = s.held_named;
       runs_kept = s.runs_kept;
     }
 
@@ -101,6 +120,11 @@ stands-spawn-ok k p c tag what a before s here is = record {
   previous_kept = rw (self k.id) (ap (λ x. Some x) is);
   hook_kept = s.hook_kept;
   tag_kept = s.tag_kept;
+  grace_kept = s.grace_kept;
+  parked_kept = s.parked_kept;
+  parked_room = s.parked_room;
+  held_once = s.held_once;
+  held_named = s.held_named;
   runs_kept = s.runs_kept;
 }
 
@@ -116,6 +140,11 @@ stands-spawn-err k p c tag what fault before s here none is = record {
   previous_kept = rw (self k.id) (ap (λ x. Some x) is);
   hook_kept = s.hook_kept;
   tag_kept = s.tag_kept;
+  grace_kept = s.grace_kept;
+  parked_kept = s.parked_kept;
+  parked_room = s.parked_room;
+  held_once = s.held_once;
+  held_named = s.held_named;
   runs_kept = s.runs_kept;
 }
 
@@ -131,6 +160,11 @@ stands-hook k p n a s here none = record {
   previous_kept = rw (self k.id) (ap (λ x. Some x) s.state_kept);
   hook_kept = s.hook_kept;
   tag_kept = s.tag_kept;
+  grace_kept = s.grace_kept;
+  parked_kept = s.parked_kept;
+  parked_room = s.parked_room;
+  held_once = s.held_once;
+  held_named = s.held_named;
   runs_kept = s.runs_kept;
 }
 
@@ -144,10 +178,34 @@ joined_waits w id p t Urgent control alive h = (rw (self id, alive) (ap (λ xs. 
 joined_waits w id p t High control alive h = (rw (self id) h.0, rw (self id, alive) (ap (λ xs. xs ++ (t, control) ∷ []) h.1), rw (self id) h.2)
 joined_waits w id p t Normal control alive h = (rw (self id) h.0, rw (self id) h.1, rw (self id, alive) (ap (λ xs. xs ++ (t, control) ∷ []) h.2))
 
-pub stands-asked : (k k' : JobTask) (p : List Entry) (t : ℕ) (level : Level) (control : Control) → Stands k p → k.gone ≡ false → k'.waiting ≡ record (joined level (t, control) k.waiting) { spare = k'.waiting.spare } → k' ≡ record k { waiting = k'.waiting } → Stands k' (Asked t k.id level control ∷ p)
-stands-asked k k' p t level control s here joins fields =
+joined_length : (x : ℕ × Control) (xs : List (ℕ × Control)) → length (xs ++ x ∷ []) ≡ length xs + 1
+joined_length x [] = refl
+joined_length x (y ∷ ys) = let h = joined_length x ys in omega (arith, h)
+
+joined_held : (w : Waits) (t u : ℕ) (level : Level) (control : Control) → times_waits u (joined level (t, control) w) ≡ times_waits u w + once (t == u)
+joined_held w t u Urgent control = let h = joined_times t u control w.urgent in omega (arith, h)
+joined_held w t u High control = let h = joined_times t u control w.high in omega (arith, h)
+joined_held w t u Normal control = let h = joined_times t u control w.normal in omega (arith, h)
+
+pub joined_count : (w : Waits) (t : ℕ) (level : Level) (control : Control) → waiting_count (joined level (t, control) w) ≡ waiting_count w + 1
+joined_count w t Urgent control = let h = joined_length (t, control) w.urgent in omega (arith, h)
+joined_count w t High control = let h = joined_length (t, control) w.high in omega (arith, h)
+joined_count w t Normal control = let h = joined_length (t, control) w.normal in omega (arith, h)
+
+-- a ticket that is new isn't held, and no other is held more often
+new_once : (t u before after : ℕ) (b : Bool) → (t == u) ≡ b → (t ≡ u → before ≡ 0) → before ≤ 1 → after ≡ before + once b → after ≤ 1
+new_once t u before after true is none le e = let zero_before = none (eqb-true _ _ is) in omega (arith, zero_before, e)
+new_once t u before after false is none le e = omega (arith, le, e)
+
+new_none : (t u before after : ℕ) → t < u → before ≡ 0 → after ≡ before + once (t == u) → after ≡ 0
+new_none t u before after lt none e = let other : (t == u) ≡ false = ne_eqb t u (λ is. omega (arith, lt, is)) in (let e' : after ≡ before + once false = (rw other at e) in omega (arith, none, e'))
+
+pub stands-asked : (k k' : JobTask) (p : List Entry) (t : ℕ) (level : Level) (control : Control) → Stands k p → k.gone ≡ false → t ≡ ticket_count p → waiting_count k.waiting + 1 ≤ k.parked.spare → k'.waiting ≡ record (joined level (t, control) k.waiting) { spare = k'.waiting.spare } → k' ≡ record k { waiting = k'.waiting } → Stands k' (Asked t k.id level control ∷ p)
+stands-asked k k' p t level control s here named room joins fields =
     let alive : lives k.id p ≡ true = sym s.lives_kept ∙ rw here refl in
     let ws = joined_waits k.waiting k.id p t level control alive (s.urgent_kept, s.high_kept, s.normal_kept) in
+    let more : (u : ℕ) → times_waits u k'.waiting ≡ times_waits u k.waiting + once (t == u) = λ u. rw joins (joined_held k.waiting t u level control) in
+    let count : waiting_count k'.waiting ≡ waiting_count k.waiting + 1 = rw joins (joined_count k.waiting t level control) in
     let stood : Stands (record k { waiting = k'.waiting }) (Asked t k.id level control ∷ p) = record {
       lives_kept = s.lives_kept;
       urgent_kept = rw joins ws.0;
@@ -159,6 +217,11 @@ stands-asked k k' p t level control s here joins fields =
       previous_kept = s.previous_kept;
       hook_kept = s.hook_kept;
       tag_kept = s.tag_kept;
+      grace_kept = s.grace_kept;
+      parked_kept = s.parked_kept;
+      parked_room = omega (arith, count, room);
+      held_once = λ u. new_once t u (holds u k) _ (t == u) refl (λ is. s.held_named u (omega (arith, named, is))) (s.held_once u) (let m = more u in omega (arith, m));
+      held_named = λ u le. new_none t u (holds u k) _ (omega (arith, named, le)) (s.held_named u (omega (arith, le))) (let m = more u in omega (arith, m));
       runs_kept = s.runs_kept;
     } in
     rw fields stood
@@ -173,54 +236,66 @@ none_above [] [] normal e = (refl, refl)
 none_above [] (x ∷ high) normal e = cc
 none_above (x ∷ urgent) high normal e = cc
 
-headed_waits : (w w' : Waits) (id : Id) (p : List Entry) (t : ℕ) (level : Level) (control : Control) → w ≡ record (headed level (t, control) w') { spare = w.spare } → first_level false w ≡ Some level → AreWaiting w id p → AreWaiting w' id (Pick id t ∷ p)
-headed_waits w w' id p t Urgent control is level h =
+headed_waits : (b : Bool) (w w' : Waits) (id : Id) (p : List Entry) (t : ℕ) (level : Level) (control : Control) → w ≡ record (headed level (t, control) w') { spare = w.spare } → first_level b w ≡ Some level → AreWaiting w id p → AreWaiting w' id (Pick id t ∷ p)
+headed_waits b w w' id p t Urgent control is level h =
     let found : (t == t) ≡ true = eq-eqb t t refl in
     let urgent : waits id Urgent p ≡ (t, control) ∷ w'.urgent = sym h.0 ∙ ap (λ (v : Waits). v.urgent) is in
     let high : w'.high ≡ waits id High p = sym (ap (λ (v : Waits). v.high) is) ∙ h.1 in
     let normal : w'.normal ≡ waits id Normal p = sym (ap (λ (v : Waits). v.normal) is) ∙ h.2 in
     (rw (self id, urgent, found) refl, rw (self id, urgent, found) high, rw (self id, urgent, found) normal)
-headed_waits w w' id p t High control is level h =
+headed_waits b w w' id p t High control is level h =
     let found : (t == t) ≡ true = eq-eqb t t refl in
-    let none : w.urgent ≡ [] = no_urgent w.urgent w.high w.normal level in
+    let none : w.urgent ≡ [] = no_urgent w.urgent w.high _ level in
     let urgent : waits id Urgent p ≡ [] = sym h.0 ∙ none in
     let high : waits id High p ≡ (t, control) ∷ w'.high = sym h.1 ∙ ap (λ (v : Waits). v.high) is in
     let normal : w'.normal ≡ waits id Normal p = sym (ap (λ (v : Waits). v.normal) is) ∙ h.2 in
     (rw (self id, urgent) (sym (ap (λ (v : Waits). v.urgent) is) ∙ none), rw (self id, urgent, high, found) refl, rw (self id, urgent, high, found) normal)
-headed_waits w w' id p t Normal control is level h =
+headed_waits b w w' id p t Normal control is level h =
     let found : (t == t) ≡ true = eq-eqb t t refl in
-    let none = none_above w.urgent w.high w.normal level in
+    let none = none_above w.urgent w.high _ level in
     let urgent : waits id Urgent p ≡ [] = sym h.0 ∙ none.0 in
     let high : waits id High p ≡ [] = sym h.1 ∙ none.1 in
     let normal : waits id Normal p ≡ (t, control) ∷ w'.normal = sym h.2 ∙ ap (λ (v : Waits). v.normal) is in
     (rw (self id, urgent) (sym (ap (λ (v : Waits). v.urgent) is) ∙ none.0), rw (self id, urgent, high) (sym (ap (λ (v : Waits). v.high) is) ∙ none.1), rw (self id, urgent, high, normal, found) refl)
 
 -- the control that is picked
-headed_picked : (w w' : Waits) (id : Id) (p : List Entry) (t : ℕ) (level : Level) (control : Control) → w ≡ record (headed level (t, control) w') { spare = w.spare } → first_level false w ≡ Some level → AreWaiting w id p → picked_control id t p ≡ Some control
-headed_picked w w' id p t Urgent control is level h =
+headed_picked : (b : Bool) (w w' : Waits) (id : Id) (p : List Entry) (t : ℕ) (level : Level) (control : Control) → w ≡ record (headed level (t, control) w') { spare = w.spare } → first_level b w ≡ Some level → AreWaiting w id p → picked_control id t p ≡ Some control
+headed_picked b w w' id p t Urgent control is level h =
     let found : (t == t) ≡ true = eq-eqb t t refl in
     let urgent : waits id Urgent p ≡ (t, control) ∷ w'.urgent = sym h.0 ∙ ap (λ (v : Waits). v.urgent) is in
     rw (urgent, found) refl
-headed_picked w w' id p t High control is level h =
+headed_picked b w w' id p t High control is level h =
     let found : (t == t) ≡ true = eq-eqb t t refl in
-    let none : w.urgent ≡ [] = no_urgent w.urgent w.high w.normal level in
+    let none : w.urgent ≡ [] = no_urgent w.urgent w.high _ level in
     let urgent : waits id Urgent p ≡ [] = sym h.0 ∙ none in
     let high : waits id High p ≡ (t, control) ∷ w'.high = sym h.1 ∙ ap (λ (v : Waits). v.high) is in
     rw (urgent, high, found) refl
-headed_picked w w' id p t Normal control is level h =
+headed_picked b w w' id p t Normal control is level h =
     let found : (t == t) ≡ true = eq-eqb t t refl in
-    let none = none_above w.urgent w.high w.normal level in
+    let none = none_above w.urgent w.high _ level in
     let urgent : waits id Urgent p ≡ [] = sym h.0 ∙ none.0 in
     let high : waits id High p ≡ [] = sym h.1 ∙ none.1 in
     let normal : waits id Normal p ≡ (t, control) ∷ w'.normal = sym h.2 ∙ ap (λ (v : Waits). v.normal) is in
     rw (urgent, high, normal, found) refl
 
-pub stands-picked : (k k' : JobTask) (p : List Entry) (x : Picked) → Stands k p → k.waiting ≡ record (headed x.level (picked x) k'.waiting) { spare = k.waiting.spare } → first_level false k.waiting ≡ Some x.level → k' ≡ record k { waiting = k'.waiting; hook = set_hook (Some x.control) k.hook; tag = set_tag (Some x.control) k.tag } → Stands k' (Pick k.id x.ticket ∷ p)
-stands-picked k k' p x s heads level fields =
+-- how often the lists hold a ticket once one is picked, and how many wait then
+headed_held : (w w' : Waits) (t u : ℕ) (level : Level) (control : Control) → w ≡ record (headed level (t, control) w') { spare = w.spare } → times_waits u w ≡ times_waits u w' + once (t == u)
+headed_held w w' t u Urgent control is = rw is (omega arith)
+headed_held w w' t u High control is = rw is (omega arith)
+headed_held w w' t u Normal control is = rw is (omega arith)
+
+headed_count : (w w' : Waits) (t : ℕ) (level : Level) (control : Control) → w ≡ record (headed level (t, control) w') { spare = w.spare } → waiting_count w ≡ waiting_count w' + 1
+headed_count w w' t Urgent control is = rw is (omega arith)
+headed_count w w' t High control is = rw is (omega arith)
+headed_count w w' t Normal control is = rw is (omega arith)
+
+-- a control is picked: its ticket is in hand, or parked
+picked_stands : (b : Bool) (k : JobTask) (waiting : Waits) (parking : Tickets) (p : List Entry) (x : Picked) → Stands k p → k.waiting ≡ record (headed x.level (picked x) waiting) { spare = k.waiting.spare } → first_level b k.waiting ≡ Some x.level → parking.tickets ≡ parks (Some x.control) x.ticket k.state k.parked.tickets → waiting_count waiting ≤ parking.spare → ((u : ℕ) → times u parking.tickets ≤ times u k.parked.tickets + once (x.ticket == u)) → Stands (record k { waiting = waiting; parked = parking; hook = set_hook (Some x.control) k.hook; tag = set_tag (Some x.control) k.tag }) (Pick k.id x.ticket ∷ p)
+picked_stands b k waiting parking p x s heads level parks_it room held =
     let were : AreWaiting k.waiting k.id p = (s.urgent_kept, s.high_kept, s.normal_kept) in
-    let ws = headed_waits k.waiting k'.waiting k.id p x.ticket x.level x.control heads level were in
-    let control = headed_picked k.waiting k'.waiting k.id p x.ticket x.level x.control heads level were in
-    let stood : Stands (record k { waiting = k'.waiting; hook = set_hook (Some x.control) k.hook; tag = set_tag (Some x.control) k.tag }) (Pick k.id x.ticket ∷ p) = record {
+    let ws = headed_waits b k.waiting waiting k.id p x.ticket x.level x.control heads level were in
+    let control = headed_picked b k.waiting waiting k.id p x.ticket x.level x.control heads level were in
+    record {
       lives_kept = s.lives_kept;
       urgent_kept = ws.0;
       high_kept = ws.1;
@@ -231,16 +306,168 @@ stands-picked k k' p x s heads level fields =
       previous_kept = s.previous_kept;
       hook_kept = rw (self k.id, control) (ap (set_hook (Some x.control)) s.hook_kept);
       tag_kept = rw (self k.id, control) (ap (set_tag (Some x.control)) s.tag_kept);
+      grace_kept = s.grace_kept;
+      parked_kept = rw (self k.id, control, ← s.state_kept, ← s.parked_kept) parks_it;
+      parked_room = room;
+      held_once = λ u. (let h = s.held_once u in let a = headed_held k.waiting waiting x.ticket u x.level x.control heads in let c = held u in omega (arith, h, a, c));
+      held_named = λ u le. (let h = s.held_named u le in let a = headed_held k.waiting waiting x.ticket u x.level x.control heads in let c = held u in omega (arith, h, a, c));
+      runs_kept = s.runs_kept;
+    }
+
+pub stands-picked : (b : Bool) (k k' : JobTask) (p : List Entry) (x : Picked) → Stands k p → k.waiting ≡ record (headed x.level (picked x) k'.waiting) { spare = k.waiting.spare } → first_level b k.waiting ≡ Some x.level → is_parking x.control k.state ≡ false → k' ≡ record k { waiting = k'.waiting; hook = set_hook (Some x.control) k.hook; tag = set_tag (Some x.control) k.tag } → Stands k' (Pick k.id x.ticket ∷ p)
+stands-picked b k k' p x s heads level in_hand fields =
+    let count = headed_count k.waiting k'.waiting x.ticket x.level x.control heads in
+    let room = s.parked_room in
+    let stood = picked_stands b k k'.waiting k.parked p x s heads level (sym (parks-not x.control x.ticket k.state k.parked.tickets in_hand)) (omega (arith, count, room)) (λ u. omega arith) in
+    rw fields stood
+
+pub stands-parked : (b : Bool) (k k' : JobTask) (p : List Entry) (x : Picked) → Stands k p → k.waiting ≡ record (headed x.level (picked x) k'.waiting) { spare = k.waiting.spare } → first_level b k.waiting ≡ Some x.level → is_parking x.control k.state ≡ true → k'.parked.tickets ≡ k.parked.tickets ++ x.ticket ∷ [] → k.parked.spare ≤ k'.parked.spare + 1 → k' ≡ record k { waiting = k'.waiting; parked = k'.parked; hook = set_hook (Some x.control) k.hook; tag = set_tag (Some x.control) k.tag } → Stands k' (Pick k.id x.ticket ∷ p)
+stands-parked b k k' p x s heads level parking joins spare fields =
+    let count = headed_count k.waiting k'.waiting x.ticket x.level x.control heads in
+    let room = s.parked_room in
+    let stood = picked_stands b k k'.waiting k'.parked p x s heads level (joins ∙ sym (parks-one x.control x.ticket k.state k.parked.tickets parking)) (omega (arith, count, room, spare)) (λ u. (let h : times u k'.parked.tickets ≡ times u k.parked.tickets + once (x.ticket == u) = rw joins (times_append x.ticket u k.parked.tickets) in omega (arith, h))) in
+    rw fields stood
+
+-- the control that is picked is the one that was chosen
+grace_there : (o : Option Standing) → is_some (option_map (λ (s : Standing). s.grace) o) ≡ is_some o
+grace_there None = refl
+grace_there (Some s) = refl
+
+pub same_control : (k : JobTask) (x : Picked) (b : Bool) (t : ℕ) (control : Control) → b ≡ is_some k.grace → Some (picked x) ≡ first_of b k.waiting → first_of (is_some (grace_of k)) k.waiting ≡ Some (t, control) → x.control ≡ control
+same_control k x b t control is found chosen = let both : Some (picked x) ≡ Some (t, control) = (rw (is, ← grace_there k.grace) at found) ∙ chosen in let one : picked x ≡ (t, control) = cc in ap (λ (y : ℕ × Control). y.1) one
+
+-- the ticket that was picked isn't held any more, where it isn't parked
+pub picked-unheld : (k k' : JobTask) (p : List Entry) (x : Picked) → Stands k p → k.waiting ≡ record (headed x.level (picked x) k'.waiting) { spare = k.waiting.spare } → k'.parked.tickets ≡ k.parked.tickets → grace_of k' ≡ grace_of k → holds x.ticket k' ≡ 0
+picked-unheld k k' p x s heads parked_is grace_is =
+    let h = s.held_once x.ticket in
+    let a : times_waits x.ticket k.waiting ≡ times_waits x.ticket k'.waiting + 1 = headed_held k.waiting k'.waiting x.ticket x.ticket x.level x.control heads ∙ rw (eq-eqb x.ticket x.ticket refl) refl in
+    let total : holds x.ticket k ≡ holds x.ticket k' + 1 = rw (parked_is, grace_is) (omega (arith, a)) in
+    omega (arith, h, total)
+
+-- the case of the control that was picked, by what the task keeps then
+pub row-is : (k k' : JobTask) (x : Picked) (t : ℕ) (control : Control) → k' ≡ record k { waiting = k'.waiting; parked = k'.parked; hook = set_hook (Some control) k.hook; tag = set_tag (Some control) k.tag } → k'.parked ≡ k.parked → picked x ≡ (t, control) → row k'.id (kit_of k') x.ticket control (child_of k'.state) ≡ row k.id (kit_after control (kit_of k)) t control (child_of k.state)
+row-is k k' x t control fields parked_is found =
+    let ticket : x.ticket ≡ t = ap (λ (y : ℕ × Control). y.0) found in
+    let by : kit_of k' ≡ kit_after control (kit_of k) = rw fields (rw parked_is refl) in
+    let id : k'.id ≡ k.id = rw fields refl in
+    let running : child_of k'.state ≡ child_of k.state = rw fields refl in
+    rw (by, id, running, ticket) refl
+
+-- ---- tickets that are raised
+
+pub stands-raise : (k : JobTask) (p : List Entry) (t : ℕ) → Stands k p → holds t k ≡ 0 → Stands k (Raise t ∷ p)
+stands-raise k p t s none =
+    let gone : times t k.parked.tickets ≡ 0 = omega (arith, none) in
+    record {
+      lives_kept = s.lives_kept;
+      urgent_kept = s.urgent_kept;
+      high_kept = s.high_kept;
+      normal_kept = s.normal_kept;
+      child_kept = s.child_kept;
+      end_kept = s.end_kept;
+      state_kept = s.state_kept;
+      previous_kept = s.previous_kept;
+      hook_kept = s.hook_kept;
+      tag_kept = s.tag_kept;
+      grace_kept = s.grace_kept;
+      parked_kept = sym (unheld_without t k.parked.tickets gone) ∙ ap (without_ticket t) s.parked_kept;
+      parked_room = s.parked_room;
+      held_once = s.held_once;
+      held_named = s.held_named;
+      runs_kept = s.runs_kept;
+    }
+
+pub stands-raised : (k k' : JobTask) (p : List Entry) (t : ℕ) → Stands k p → k.parked.tickets ≡ t ∷ k'.parked.tickets → k.parked.spare ≤ k'.parked.spare → k' ≡ record k { parked = k'.parked } → Stands k' (Raise t ∷ p)
+stands-raised k k' p t s taken spare fields =
+    let room = s.parked_room in
+    let was : k'.parked.tickets ≡ without_ticket t k.parked.tickets = rw (taken, eq-eqb t t refl) refl in
+    let held : (u : ℕ) → times u k.parked.tickets ≡ once (t == u) + times u k'.parked.tickets = λ u. rw taken refl in
+    let stood : Stands (record k { parked = k'.parked }) (Raise t ∷ p) = record {
+      lives_kept = s.lives_kept;
+      urgent_kept = s.urgent_kept;
+      high_kept = s.high_kept;
+      normal_kept = s.normal_kept;
+      child_kept = s.child_kept;
+      end_kept = s.end_kept;
+      state_kept = s.state_kept;
+      previous_kept = s.previous_kept;
+      hook_kept = s.hook_kept;
+      tag_kept = s.tag_kept;
+      grace_kept = s.grace_kept;
+      parked_kept = was ∙ ap (without_ticket t) s.parked_kept;
+      parked_room = omega (arith, room, spare);
+      held_once = λ u. (let h = s.held_once u in let m = held u in omega (arith, h, m));
+      held_named = λ u le. (let h = s.held_named u le in let m = held u in omega (arith, h, m));
       runs_kept = s.runs_kept;
     } in
     rw fields stood
 
--- a ticket that is picked is in hand
-pub picked-in-hand : (id : Id) (t : ℕ) (p : List Entry) → is_in_hand t (Pick id t ∷ p) ≡ true
-picked-in-hand id t p = let found : (t == t) ≡ true = eq-eqb t t refl in rw found refl
+-- ---- graces
+
+-- all that is asked of the history of a job but the grace is the same
+record SameButGrace (id : Id) (p p' : List Entry) : Type 0 where
+  lives_same : lives id p' ≡ lives id p
+  waits_same : (level : Level) → waits id level p' ≡ waits id level p
+  child_same : child id p' ≡ child id p
+  kept_same : kept id p' ≡ kept id p
+  state_same : state id p' ≡ state id p
+  previous_same : previous id p' ≡ previous id p
+  hook_same : hook id p' ≡ hook id p
+  tag_same : tag id p' ≡ tag id p
+  parked_same : parked id p' ≡ parked id p
+  command_same : command id p' ≡ command id p
+
+-- a grace holds a ticket that nothing else held
+begun_once : (t u before after : ℕ) (b : Bool) → (t == u) ≡ b → (t ≡ u → before ≡ 0) → before ≤ 1 → after ≤ before + once b → after ≤ 1
+begun_once t u before after true is none le e = let zero_before = none (eqb-true _ _ is) in omega (arith, zero_before, e)
+begun_once t u before after false is none le e = omega (arith, le, e)
+
+-- the task with this grace, at a longer journal that says nothing else of it
+grace_stands : (k : JobTask) (standing : Option Standing) (p p' : List Entry) → Stands k p → SameButGrace k.id p p' → option_map (λ (s : Standing). s.grace) standing ≡ grace k.id p' → ((u : ℕ) → holds u (record k { grace = standing }) ≤ 1) → ((u : ℕ) → ticket_count p' ≤ u → holds u (record k { grace = standing }) ≡ 0) → Stands (record k { grace = standing }) p'
+grace_stands k standing p p' s h is once_each named = record {
+  lives_kept = s.lives_kept ∙ sym h.lives_same;
+  urgent_kept = s.urgent_kept ∙ sym (h.waits_same Urgent);
+  high_kept = s.high_kept ∙ sym (h.waits_same High);
+  normal_kept = s.normal_kept ∙ sym (h.waits_same Normal);
+  child_kept = s.child_kept ∙ sym h.child_same;
+  end_kept = s.end_kept ∙ sym h.kept_same;
+  state_kept = s.state_kept ∙ sym h.state_same;
+  previous_kept = s.previous_kept ∙ sym h.previous_same;
+  hook_kept = s.hook_kept ∙ sym h.hook_same;
+  tag_kept = s.tag_kept ∙ sym h.tag_same;
+  grace_kept = is;
+  parked_kept = s.parked_kept ∙ sym h.parked_same;
+  parked_room = s.parked_room;
+  held_once = once_each;
+  held_named = named;
+  runs_kept = λ created is. s.runs_kept created (sym h.command_same ∙ is);
+}
+
+signal_same : (id : Id) (p : List Entry) (c : ℕ) (number : ℤ) (a : Result (Unit {0}) HostFault) → SameButGrace id p (Signal c number a ∷ p)
+signal_same id p c number (Ok a) = record { lives_same = refl; waits_same = λ l. refl; child_same = refl; kept_same = refl; state_same = refl; previous_same = refl; hook_same = refl; tag_same = refl; parked_same = refl; command_same = refl }
+signal_same id p c number (Err a) = record { lives_same = refl; waits_same = λ l. refl; child_same = refl; kept_same = refl; state_same = refl; previous_same = refl; hook_same = refl; tag_same = refl; parked_same = refl; command_same = refl }
+
+-- a signal was sent: where the picked control begins no grace the one that stands stays
+pub stands-signal : (k : JobTask) (p : List Entry) (c : ℕ) (number : ℤ) (a : Result (Unit {0}) HostFault) → Stands k p → begins_by (just_picked k.id p) (moment p) (grace_of k) ≡ grace_of k → Stands k (Signal c number a ∷ p)
+stands-signal k p c number (Ok a) s is =
+    let begun : grace_of k ≡ begins_by (just_picked k.id p) (moment p) (grace k.id p) = rw (← s.grace_kept) (sym is) in
+    grace_stands k k.grace p (Signal c number (Ok a) ∷ p) s (signal_same k.id p c number (Ok a)) (either (λ g. grace_of k ≡ g) (is_child c (child k.id p)) (begins_by (just_picked k.id p) (moment p) (grace k.id p)) (grace k.id p) begun s.grace_kept) s.held_once s.held_named
+stands-signal k p c number (Err a) s is = grace_stands k k.grace p (Signal c number (Err a) ∷ p) s (signal_same k.id p c number (Err a)) s.grace_kept s.held_once s.held_named
+
+-- a signal was sent, and the grace that the picked control begins stands
+pub stands-begun : (k : JobTask) (p : List Entry) (c : ℕ) (number : ℤ) (a : Unit {0}) (standing : Standing) → Stands k p → k.gone ≡ false → child_of k.state ≡ Some c → begins_by (just_picked k.id p) (moment p) (grace_of k) ≡ Some standing.grace → holds standing.grace.ticket k ≡ 0 → standing.grace.ticket < ticket_count p → Stands (record k { grace = Some standing }) (Signal c number (Ok a) ∷ p)
+stands-begun k p c number a standing s here runs begun unheld named =
+    let is : child k.id p ≡ Some c = child-is k p c s here runs in
+    let its : Some standing.grace ≡ begins_by (just_picked k.id p) (moment p) (grace k.id p) = rw (← s.grace_kept) (sym begun) in
+    grace_stands k (Some standing) p (Signal c number (Ok a) ∷ p) s (signal_same k.id p c number (Ok a)) (rw (is, eq-eqb c c refl) its)
+    (λ u. begun_once standing.grace.ticket u (holds u k) _ (standing.grace.ticket == u) refl (λ same. rw (← same) unheld) (s.held_once u) (omega arith))
+    (λ u le. new_none standing.grace.ticket u (times_waits u k.waiting + times u k.parked.tickets) _ (omega (arith, named, le)) (let h = s.held_named u le in omega (arith, h)) (omega arith))
+
+pub stands-over : (k : JobTask) (p : List Entry) → Stands k p → Stands (record k { grace = None }) (GraceOver k.id ∷ p)
+stands-over k p s = grace_stands k None p (GraceOver k.id ∷ p) s (record { lives_same = refl; waits_same = λ l. refl; child_same = refl; kept_same = refl; state_same = refl; previous_same = refl; hook_same = refl; tag_same = refl; parked_same = refl; command_same = refl }) (rw (self k.id) refl) (λ u. (let h = s.held_once u in omega (arith, h))) (λ u le. (let h = s.held_named u le in omega (arith, h)))
 
 -- what the end of a job owes, by what the task keeps
 pub end-is : (k : JobTask) (p : List Entry) (c : Option ℕ) → Stands k p → k.gone ≡ false → c ≡ child_of k.state → end_plan k.id p ≡ leave k.id c
 end-is k p c s here is = let alive : lives k.id p ≡ true = sym s.lives_kept ∙ rw here refl in let runs : child k.id p ≡ child_of k.state = sym s.child_kept ∙ rw here refl in rw (alive, runs, is) refl
 
-pub ruleset stands = (picked-in-hand, stands-asked, stands-picked, stands-silent, stands-wait-ok, stands-wait-err, stands-spawn-ok, stands-spawn-err, stands-hook)
+pub ruleset stands = (stands-asked, stands-picked, stands-parked, picked-unheld, stands-raise, stands-raised, stands-signal, stands-begun, stands-over, stands-silent, stands-wait-ok, stands-wait-err, stands-spawn-ok, stands-spawn-err, stands-hook)

@@ -1,23 +1,30 @@
 -- What a call that followed a plan, or did nothing, leaves.
-use Rattle.std.proofs.Common.{ℕ, List, [], Option, Some, None, Result, Ok, Err, arith, subst, sym}
+use Rattle.std.proofs.Common.{ℕ, List, Option, None, Result, Ok, Err, arith, subst, sym}
 use Rattle.std.specs.Prelude.{◌≡◌, OnOk, OnErr}
 use Rattle.wx_command.specs.declared.command.Command.{Command}
 use Rattle.wx_control.specs.declared.id.Id.{Id}
 use Rattle.wx_control.specs.declared.ask.Ask.{Ask}
 use Rattle.wx_control.specs.Asks.{sends_of}
 use Rattle.wx_journal.specs.declared.entry.Entry.{Entry}
-use Rattle.wx_journal.specs.Names.{NamesItsOwn}
 use Rattle.wx_journal.specs.Written.{Written}
 use Rattle.wx_job.specs.Seen.{Seen}
-use Rattle.wx_job.specs.Table.{Plan, Done, step_plan, end_plan, send_plan}
+use Rattle.wx_job.specs.History.{grace}
+use Rattle.wx_job.specs.Table.{Plan, Done, pick, step_plan, end_plan, send_plan}
 use Rattle.wx_job.specs.Case.{Leads, Here, Ran, IsCut, GaveUp, FollowsHost, FollowsAlone, Follows, GivesUp}
 use Rattle.wx_job.specs.Faults.{Counted}
 use Rattle.wx_job.specs.declared.task.JobTask.{JobTask}
-use Rattle.wx_job.specs.Stands.{Undone, Stops, Before, Behind}
-use Rattle.wx_job.specs.Laws.{LeavesLaws, NamesChildren}
+use Rattle.wx_job.specs.Stands.{Stands, Stops, Before, Behind, HasInHand}
+use Rattle.wx_job.specs.Laws.{NamesChildren}
+use Rattle.wx_job.specs.Leaves.{LeavesLaws}
+use Rattle.wx_job.specs.TicketLaws.{IsPlaced}
 use Rattle.wx_job.proofs.Owners.{children_named}
+use Rattle.wx_job.proofs.Tickets.{tickets_named}
 use Rattle.wx_job.proofs.Frame.{same_history}
 use Rattle.wx_job.proofs.CaseLemmas.{ran-none}
+use Rattle.wx_job.proofs.Always.{Always}
+use Rattle.wx_job.proofs.Placing.{Placing}
+use Rattle.wx_job.proofs.PlacedPlans.{placed_step, placed_send, placed_end, placed_leads}
+use Rattle.wx_job.proofs.GivenUp.{gave_in_hand}
 use Rattle.wx_job.proofs.Sound.{Sound, Goes, cut_goes, follow, leads_counted, sound_step, sound_end, sound_send}
 
 pub record Left (id : Id) (p p' : List Entry) : Type 0 where
@@ -25,26 +32,27 @@ pub record Left (id : Id) (p p' : List Entry) : Type 0 where
   pub children : NamesChildren p → NamesChildren p'
 
 -- what led to a plan by which the job isn't gone next
-left_led : (id : Id) (k : Plan) (p : List Entry) (host hooks : Option (List Entry)) (n : ℕ) (k' : Plan) (p' : List Entry) (host' hooks' : Option (List Entry)) (n' : ℕ) → Leads k p host hooks n k' p' host' hooks' n' → (Goes id k' → ⊥) → Sound id p k → Left id p p'
-left_led id k p host hooks n k' p' host' hooks' n' l stays s =
+left_led : (id : Id) (k : Plan) (p : List Entry) (host hooks : Option (List Entry)) (n : ℕ) (k' : Plan) (p' : List Entry) (host' hooks' : Option (List Entry)) (n' : ℕ) → Leads k p host hooks n k' p' host' hooks' n' → (Goes id k' → ⊥) → Sound id p k → (IsPlaced p → Always Placing p k) → Left id p p'
+left_led id k p host hooks n k' p' host' hooks' n' l stays s placing =
     let f = follow id k p host hooks n k' p' host' hooks' n' l s in record {
       leaves = record {
-        others = λ own. record { own = f.own own; others = f.others (children_named p own) };
+        others = λ own. record { own = f.own own; others = f.others (children_named p own) (tickets_named p own) };
         reaped = λ r. let after = f.reaps (record { each = r.each; last = λ alive goes. r.last alive; none = r.none }) in record { each = after.each; last = λ alive. after.last alive stays; none = after.none };
         failed = f.failing;
+        placed = λ h. (placed_leads k p host hooks n k' p' host' hooks' n' l h (placing h)).placed;
       };
       children = f.children;
     }
 
-pub left_done : (id : Id) (k : Plan) (p : List Entry) (host hooks : Option (List Entry)) (n : ℕ) (p' : List Entry) (host' hooks' : Option (List Entry)) (n' : ℕ) → Leads k p host hooks n Done p' host' hooks' n' → Sound id p k → Left id p p'
-left_done id k p host hooks n p' host' hooks' n' l s = left_led id k p host hooks n Done p' host' hooks' n' l (λ goes. goes) s
+pub left_done : (id : Id) (k : Plan) (p : List Entry) (host hooks : Option (List Entry)) (n : ℕ) (p' : List Entry) (host' hooks' : Option (List Entry)) (n' : ℕ) → Leads k p host hooks n Done p' host' hooks' n' → Sound id p k → (IsPlaced p → Always Placing p k) → Left id p p'
+left_done id k p host hooks n p' host' hooks' n' l s placing = left_led id k p host hooks n Done p' host' hooks' n' l (λ goes. goes) s placing
 
 -- what led to a place where the case was given up
-pub left_gave : (id : Id) (k : Plan) (p : List Entry) (host hooks : Option (List Entry)) (n : ℕ) (rest : Plan) (p' : List Entry) (host' hooks' : Option (List Entry)) (n' : ℕ) → Leads k p host hooks n rest p' host' hooks' n' → IsCut rest → Sound id p k → Left id p p'
-left_gave id k p host hooks n rest p' host' hooks' n' l cut s = left_led id k p host hooks n rest p' host' hooks' n' l (cut_goes id rest cut) s
+pub left_gave : (id : Id) (k : Plan) (p : List Entry) (host hooks : Option (List Entry)) (n : ℕ) (rest : Plan) (p' : List Entry) (host' hooks' : Option (List Entry)) (n' : ℕ) → Leads k p host hooks n rest p' host' hooks' n' → IsCut rest → Sound id p k → (IsPlaced p → Always Placing p k) → Left id p p'
+left_gave id k p host hooks n rest p' host' hooks' n' l cut s placing = left_led id k p host hooks n rest p' host' hooks' n' l (cut_goes id rest cut) s placing
 
 left_same : (id : Id) (p : List Entry) → Left id p p
-left_same id p = record { leaves = record { others = λ own. record { own = own; others = λ i ne. same_history i p }; reaped = λ r. r; failed = λ r. r }; children = λ h. h }
+left_same id p = record { leaves = record { others = λ own. record { own = own; others = λ i ne. same_history i p }; reaped = λ r. r; failed = λ r. r; placed = λ h. h }; children = λ h. h }
 
 counted_none : (p : List Entry) (n : ℕ) → Counted p n p n
 counted_none p n = record { later = omega arith; rose = omega arith }
@@ -57,40 +65,45 @@ pub record Stepped (id : Id) (p : List Entry) (n : ℕ) (p' : List Entry) (n' : 
 
 stepped_ran : {Fixed : Type 0} (id : Id) (command : Command) (p : List Entry) (a : Seen Fixed) (hooks : Option (List Entry)) (p' : List Entry) (b : Seen Fixed) (hooks' : Option (List Entry)) → Ran (step_plan id command p) p a hooks Done p' b hooks' → Stepped id p a.shown.faults p' b.shown.faults
 stepped_ran id command p a hooks p' b hooks' r = record {
-  left = left_done id (step_plan id command p) p _ _ _ p' _ _ _ r.led (sound_step id command p);
+  left = left_done id (step_plan id command p) p _ _ _ p' _ _ _ r.led (sound_step id command p) (placed_step id command p);
   counted = leads_counted (step_plan id command p) p _ _ _ Done p' _ _ _ r.led;
 }
 
 stepped_gave : {Fixed : Type 0} (id : Id) (command : Command) (p : List Entry) (a : Seen Fixed) (hooks : Option (List Entry)) (p' : List Entry) (b : Seen Fixed) (hooks' : Option (List Entry)) → GaveUp (step_plan id command p) p a hooks p' b hooks' → Stepped id p a.shown.faults p' b.shown.faults
 stepped_gave id command p a hooks p' b hooks' g = record {
-  left = left_gave id (step_plan id command p) p _ _ _ g.rest p' _ _ _ g.ran.led g.cut (sound_step id command p);
+  left = left_gave id (step_plan id command p) p _ _ _ g.rest p' _ _ _ g.ran.led g.cut (sound_step id command p) (placed_step id command p);
   counted = leads_counted (step_plan id command p) p _ _ _ g.rest p' _ _ _ g.ran.led;
 }
 
 -- what stopped from any way here stopped on the way from here
-pub stops : {H K Fixed : Type 0} (k : Plan) (p : List Entry) (a : Seen Fixed) (hooks : Option (List Entry)) (p' : List Entry) (b : Seen Fixed) (hooks' : Option (List Entry)) (t t' : JobTask) (j j' : Written) (h h' : H) (x x' : K) → Stops t j h x t' j' h' x' (GivesUp k p a hooks p' b hooks') → Stops t j h x t' j' h' x' (GaveUp k p a hooks p' b hooks')
+stops : {H K Fixed : Type 0} (k : Plan) (p : List Entry) (a : Seen Fixed) (hooks : Option (List Entry)) (p' : List Entry) (b : Seen Fixed) (hooks' : Option (List Entry)) (t t' : JobTask) (j j' : Written) (h h' : H) (x x' : K) → Stops t j h x t' j' h' x' (GivesUp k p a hooks p' b hooks') → Stops t j h x t' j' h' x' (GaveUp k p a hooks p' b hooks')
 stops k p a hooks p' b hooks' t t' j j' h h' x x' (Before undone same) = Before undone same
-stops k p a hooks p' b hooks' t t' j j' h h' x x' (Behind pending held gives) = Behind pending held (gives k p a hooks (ran-none k p a hooks))
+stops k p a hooks p' b hooks' t t' j j' h h' x x' (Behind pending gives) = Behind pending (gives k p a hooks (ran-none k p a hooks))
 
 stepped_stop : {H K Fixed : Type 0} (seen : H → Seen Fixed) (heard : K → Option (List Entry)) (id : Id) (command : Command) (k k' : JobTask) (j j' : Written) (h h' : H) (x x' : K) → Stops k j h x k' j' h' x' (GaveUp (step_plan id command j.past) j.past (seen h) (heard x) j'.past (seen h') (heard x')) → Stepped id j.past (seen h).shown.faults j'.past (seen h').shown.faults
 stepped_stop seen heard id command k k' j j' h h' x x' (Before undone hooks) = rw (undone.journal, undone.host) (record { left = left_same id j.past; counted = counted_none j.past (seen h).shown.faults })
-stepped_stop seen heard id command k k' j j' h h' x x' (Behind pending held gave) = stepped_gave id command j.past (seen h) (heard x) j'.past (seen h') (heard x') gave
+stepped_stop seen heard id command k k' j j' h h' x x' (Behind pending gave) = stepped_gave id command j.past (seen h) (heard x) j'.past (seen h') (heard x') gave
 
 pub stepped : {A E H K Fixed : Type 0} (seen : H → Seen Fixed) (heard : K → Option (List Entry)) (r : Result A E) (id : Id) (command : Command) (k k' : JobTask) (j j' : Written) (h h' : H) (x x' : K) → OnOk r (Follows (step_plan id command j.past) j.past (seen h) (heard x) Done j'.past (seen h') (heard x')) → OnErr r (Stops k j h x k' j' h' x' (GivesUp (step_plan id command j.past) j.past (seen h) (heard x) j'.past (seen h') (heard x'))) → Stepped id j.past (seen h).shown.faults j'.past (seen h').shown.faults
 stepped seen heard (Ok a) id command k k' j j' h h' x x' ok err = stepped_ran id command j.past (seen h) (heard x) j'.past (seen h') (heard x') (ok (step_plan id command j.past) j.past (seen h) (heard x) (ran-none (step_plan id command j.past) j.past (seen h) (heard x)))
 stepped seen heard (Err e) id command k k' j j' h h' x x' ok err = stepped_stop seen heard id command k k' j j' h h' x x' (stops _ _ _ _ _ _ _ k k' j j' h h' x x' err)
 
-pub on_stops : {A E H K Fixed : Type 0} (r : Result A E) (k : Plan) (p : List Entry) (a : Seen Fixed) (hooks : Option (List Entry)) (p' : List Entry) (b : Seen Fixed) (hooks' : Option (List Entry)) (t t' : JobTask) (j j' : Written) (h h' : H) (x x' : K) → OnErr r (Stops t j h x t' j' h' x' (GivesUp k p a hooks p' b hooks')) → OnErr r (Stops t j h x t' j' h' x' (GaveUp k p a hooks p' b hooks'))
-on_stops (Ok u) k p a hooks p' b hooks' t t' j j' h h' x x' s = tt
-on_stops (Err e) k p a hooks p' b hooks' t t' j j' h h' x x' s = stops k p a hooks p' b hooks' t t' j j' h h' x x' s
+-- what stopped from any way here stopped on the way from here, with its ticket in hand
+stops_holding : {H K Fixed : Type 0} (command : Command) (a : Seen Fixed) (hooks : Option (List Entry)) (b : Seen Fixed) (hooks' : Option (List Entry)) (k k' : JobTask) (j j' : Written) (h h' : H) (x x' : K) → Stands k j.past → Stops k j h x k' j' h' x' (GaveUp (step_plan k.id command j.past) j.past a hooks j'.past b hooks') → Stops k j h x k' j' h' x' (GaveUp (step_plan k.id command j.past) j.past a hooks j'.past b hooks' × HasInHand k.id (grace k.id j.past) (pick k.id j.past) j.past j'.past)
+stops_holding command a hooks b hooks' k k' j j' h h' x x' stands (Before undone same) = Before undone same
+stops_holding command a hooks b hooks' k k' j j' h h' x x' stands (Behind pending gave) = Behind pending (gave, gave_in_hand k command j.past _ _ _ gave.rest j'.past _ _ _ stands gave.ran.led gave.cut)
+
+pub on_stops : {A E H K Fixed : Type 0} (r : Result A E) (command : Command) (a : Seen Fixed) (hooks : Option (List Entry)) (b : Seen Fixed) (hooks' : Option (List Entry)) (k k' : JobTask) (j j' : Written) (h h' : H) (x x' : K) → Stands k j.past → OnErr r (Stops k j h x k' j' h' x' (GivesUp (step_plan k.id command j.past) j.past a hooks j'.past b hooks')) → OnErr r (Stops k j h x k' j' h' x' (GaveUp (step_plan k.id command j.past) j.past a hooks j'.past b hooks' × HasInHand k.id (grace k.id j.past) (pick k.id j.past) j.past j'.past))
+on_stops (Ok u) command a hooks b hooks' k k' j j' h h' x x' stands s = tt
+on_stops (Err e) command a hooks b hooks' k k' j j' h h' x x' stands s = stops_holding command a hooks b hooks' k k' j j' h h' x x' stands (stops _ _ _ _ _ _ _ k k' j j' h h' x x' s)
 
 -- ---- the end of a job, and asks
 
 pub end_left : {Fixed : Type 0} (id : Id) (p : List Entry) (a : Seen Fixed) (k : Plan) (p' : List Entry) (b : Seen Fixed) → end_plan id p ≡ k → FollowsHost k p a Done p' b → Left id p p'
 end_left id p a k p' b is led =
-    left_done id (end_plan id p) p a.shown.told None a.shown.faults p' b.shown.told None b.shown.faults (subst (λ (j : Plan). Leads j p a.shown.told None a.shown.faults Done p' b.shown.told None b.shown.faults) (sym is) (led k p a None None (ran-none k p a None)).led) (sound_end id p)
+    left_done id (end_plan id p) p a.shown.told None a.shown.faults p' b.shown.told None b.shown.faults (subst (λ (j : Plan). Leads j p a.shown.told None a.shown.faults Done p' b.shown.told None b.shown.faults) (sym is) (led k p a None None (ran-none k p a None)).led) (sound_end id p) (placed_end id p)
 
 -- whatever is answered
 pub send_left : {A E : Type 0} (r : Result A E) (id : Id) (ask : Ask) (p p' : List Entry) → OnOk r (FollowsAlone (send_plan id (sends_of ask) p) p Done p') → OnErr r (p' ≡ p) → Left id p p'
-send_left (Ok a) id ask p p' ok err = left_done id (send_plan id (sends_of ask) p) p None None 0 p' None None 0 (ok _ p None None 0 None None 0 Here) (sound_send id ask p)
+send_left (Ok a) id ask p p' ok err = left_done id (send_plan id (sends_of ask) p) p None None 0 p' None None 0 (ok _ p None None 0 None None 0 Here) (sound_send id ask p) (placed_send id ask p)
 send_left (Err a) id ask p p' ok err = rw err (left_same id p)

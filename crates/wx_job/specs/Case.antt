@@ -6,17 +6,18 @@ use Rattle.wx_events.specs.declared.process.ProcessEnd.{ProcessEnd}
 use Rattle.wx_control.specs.declared.id.Id.{Id}
 use Rattle.wx_journal.specs.declared.child.HostFault.{HostFault}
 use Rattle.wx_journal.specs.declared.entry.Entry.{Entry}
-use Rattle.wx_journal.specs.declared.entry.Entry.TheVariants.{Begin, Sent, Turn as Turned, TurnFault, Offer, Word as Said, Take, Filter, Show, Hand, Made, Asked, Pick, Spawn, Kill, Wait, Dropped, Raise, Gone, Hook}
+use Rattle.wx_journal.specs.declared.entry.Entry.TheVariants.{Begin, Sent, Turn as Turned, TurnFault, Offer, Word as Said, Take, Filter, Show, Hand, Made, Asked, Pick, GraceOver, Spawn, Signal, Kill, Wait, Dropped, Raise, Gone, Hook}
 use Rattle.wx_journal.specs.Names.{ticket_count, child_count}
 use Rattle.wx_journal.specs.Told.{tell, tell_if, is_world, is_hooks, Counts}
 use Rattle.wx_job.specs.Seen.{Seen}
 use Rattle.wx_job.specs.Steady.{IsSteady}
-use Rattle.wx_job.specs.Table.{Words, Given, Left, Call, Adds, Spawns, Kills, Waits, Asks, Hooks, Plan, Done, GivenUp, Owes}
+use Rattle.wx_job.specs.Table.{Words, Given, Left, Call, Adds, Spawns, Signals, Kills, Waits, Asks, Hooks, Plan, Done, GivenUp, Owes}
 
 -- what may be answered
 abbrev pub Answer : Call → Type 0
 Answer (Adds e) = Unit {0}
 Answer (Spawns id tag words) = Result (Unit {0}) HostFault
+Answer (Signals c number) = Result (Unit {0}) HostFault
 Answer (Kills c) = Result (Unit {0}) HostFault
 Answer (Waits c) = Result ProcessEnd HostFault
 Answer (Asks id level control) = Unit {0}
@@ -35,6 +36,7 @@ words_of p Left = left p
 abbrev pub entry : List Entry → (call : Call) → Answer call → Entry
 entry p (Adds e) a = e
 entry p (Spawns id tag words) a = Spawn (child_count p) id tag (words_of p words) a
+entry p (Signals c number) a = Signal c number a
 entry p (Kills c) a = Kill c a
 entry p (Waits c) a = Wait c a
 entry p (Asks id level control) a = Asked (ticket_count p) id level control
@@ -61,7 +63,9 @@ is_fault (Hand n names acts) = false
 is_fault (Made job) = false
 is_fault (Asked ticket job level control) = false
 is_fault (Pick job ticket) = false
+is_fault (GraceOver job) = false
 is_fault (Spawn c job tag what answer) = is_err answer
+is_fault (Signal c number answer) = is_err answer
 is_fault (Kill c answer) = is_err answer
 is_fault (Wait c answer) = is_err answer
 is_fault (Dropped c) = false
@@ -85,6 +89,7 @@ abbrev pub SpawnsLeft : Call → Type 0
 SpawnsLeft (Adds e) = ⊥
 SpawnsLeft (Spawns id tag (Given what)) = ⊥
 SpawnsLeft (Spawns id tag Left) = Unit {0}
+SpawnsLeft (Signals c number) = ⊥
 SpawnsLeft (Kills c) = ⊥
 SpawnsLeft (Waits c) = ⊥
 SpawnsLeft (Asks id level control) = ⊥

@@ -1,10 +1,10 @@
 -- What a journal says of a job. The history of a job begins at its last Made.
-use Rattle.std.specs.Prelude.{◌≡◌, ℕ, Bool, true, false, not, ◌&&◌, ◌||◌, ◌==◌, if◌then◌else◌, Option, None, Some, Ok, Err, List, [], ◌∷◌, ◌++◌}
+use Rattle.std.specs.Prelude.{◌≡◌, ℕ, ◌+◌, ◌≤◌, Bool, true, false, not, ◌&&◌, ◌||◌, ◌==◌, if◌then◌else◌, Option, None, Some, Ok, Err, List, [], ◌∷◌, ◌++◌}
 use Rattle.wx_events.specs.declared.process.ProcessEnd.{ProcessEnd}
 use Rattle.wx_command.specs.declared.command.Command.{Command}
 use Rattle.wx_control.specs.declared.id.Id.{Id}
 use Rattle.wx_control.specs.declared.control.Control.{Control}
-use Rattle.wx_control.specs.declared.control.Control.TheVariants.{SetSyncSpawnHook, UnsetSpawnHook, SetSpawnFn, SetSpawnChildFn, ClearSpawnFn}
+use Rattle.wx_control.specs.declared.control.Control.TheVariants.{GracefulStop, TryGracefulRestart, NextEnding, SetSyncSpawnHook, UnsetSpawnHook, SetSpawnFn, SetSpawnChildFn, ClearSpawnFn}
 use Rattle.wx_control.specs.declared.level.Level.{Level}
 use Rattle.wx_control.specs.declared.level.Level.TheVariants.{Normal, High, Urgent}
 use Rattle.wx_control.specs.Levels.{rank}
@@ -13,12 +13,14 @@ use Rattle.wx_journal.specs.declared.child.SpawnTag.TheVariants as spawning
 use Rattle.wx_journal.specs.Acts.{JournalAct as Act}
 use Rattle.wx_journal.specs.declared.entry.Act.TheVariants.{Create, Ask, Quit}
 use Rattle.wx_journal.specs.declared.entry.Entry.{Entry}
-use Rattle.wx_journal.specs.declared.entry.Entry.TheVariants.{Turn as Turned, Hand, Made, Asked, Pick, Spawn, Wait, Dropped, Raise, Gone, Hook}
+use Rattle.wx_journal.specs.declared.entry.Entry.TheVariants.{Turn as Turned, Hand, Made, Asked, Pick, GraceOver, Spawn, Signal, Wait, Dropped, Raise, Gone, Hook}
 use Rattle.wx_journal.specs.declared.entry.TurnKind.TheVariants as turn
 use Rattle.wx_journal.specs.declared.entry.TurnKind.{TurnKind}
-use Rattle.wx_journal.specs.Names.{moment}
+use Rattle.wx_journal.specs.Names.{moment, ticket_count}
+use Rattle.wx_job.specs.declared.grace.Grace.{Grace}
 use Rattle.wx_job.specs.declared.state.CommandState.{CommandState}
 use Rattle.wx_job.specs.declared.state.CommandState.TheVariants.{Pending, Running, Finished}
+use Rattle.wx_job.specs.States.{is_finished}
 
 -- an entry that names a job is of this one
 abbrev pub same : Id → Id → Bool
@@ -128,17 +130,6 @@ found ticket (x ∷ xs) = if x.0 == ticket then Some x.1 else found ticket xs
 abbrev pub picked_control : Id → ℕ → List Entry → Option Control
 picked_control id ticket p = found ticket (waits id Urgent p ++ waits id High p ++ waits id Normal p)
 
--- the ticket is in hand: it was picked, and wasn't raised since
-abbrev pub is_in_hand : ℕ → List Entry → Bool
-is_in_hand ticket [] = false
-is_in_hand ticket (Pick job picked ∷ p) = picked == ticket || is_in_hand ticket p
-is_in_hand ticket (Raise raised ∷ p) = not (raised == ticket) && is_in_hand ticket p
-is_in_hand ticket (_ ∷ p) = is_in_hand ticket p
-
--- what was in hand is so still
-abbrev pub StaysInHand : List Entry → List Entry → Type 0
-StaysInHand p p' = (ticket : ℕ) → is_in_hand ticket p ≡ true → is_in_hand ticket p' ≡ true
-
 -- what a control that is picked leaves of the spawn hook, and of what spawns
 abbrev pub set_hook : Option Control → Option ℕ → Option ℕ
 set_hook (Some (SetSyncSpawnHook n)) before = Some n
@@ -185,6 +176,81 @@ command id (_ ∷ p) = command id p
 abbrev pub RunsOnly : Id → Command → List Entry → Type 0
 RunsOnly id what p = (created : Command) → command id p ≡ Some created → created ≡ what
 
+-- ---- graces
+
+-- the control that the newest entry picked for the job, with its ticket
+abbrev pub with_ticket : ℕ → Option Control → Option (ℕ × Control)
+with_ticket ticket None = None
+with_ticket ticket (Some control) = Some (ticket, control)
+
+abbrev pub just_picked : Id → List Entry → Option (ℕ × Control)
+just_picked id (Pick job ticket ∷ p) = if same job id then with_ticket ticket (picked_control id ticket p) else None
+just_picked id (_) = None
+
+-- the grace that stands once a control sent its signal at this moment: its own, where it begins one
+abbrev pub begins : ℕ → Control → ℕ → Option Grace → Option Grace
+begins ticket (GracefulStop signal grace) at before = Some (record { ends = at + grace; ticket = ticket; restarts = false })
+begins ticket (TryGracefulRestart signal grace) at before = Some (record { ends = at + grace; ticket = ticket; restarts = true })
+begins ticket (_) at before = before
+
+abbrev pub begins_by : Option (ℕ × Control) → ℕ → Option Grace → Option Grace
+begins_by None at before = before
+begins_by (Some x) at before = begins x.0 x.1 at before
+
+-- The grace that stands: begun by the last Signal of the running child that answered ok, in the case of a control that begins
+-- one. It ends when the journal says so, when the child was reaped or let go, and when the job is gone.
+abbrev pub grace : Id → List Entry → Option Grace
+grace id [] = None
+grace id (Made job ∷ p) = if same job id then None else grace id p
+grace id (GraceOver job ∷ p) = if same job id then None else grace id p
+grace id (Signal c number (Ok done) ∷ p) = if is_child c (child id p) then begins_by (just_picked id p) (moment p) (grace id p) else grace id p
+grace id (Wait c (Ok status) ∷ p) = if is_child c (child id p) then None else grace id p
+grace id (Dropped c ∷ p) = if is_child c (child id p) then None else grace id p
+grace id (Gone job ∷ p) = if same job id then None else grace id p
+grace id (_ ∷ p) = grace id p
+
+-- ---- tickets
+
+-- these tickets without this one
+abbrev pub without_ticket : ℕ → List ℕ → List ℕ
+without_ticket ticket [] = []
+without_ticket ticket (t ∷ ts) = if t == ticket then ts else t ∷ without_ticket ticket ts
+
+-- the tickets that are parked once this control was picked, in this state: that of NextEnding where no child has ended
+abbrev pub parks : Option Control → ℕ → CommandState → List ℕ → List ℕ
+parks (Some NextEnding) ticket now before = if is_finished now then before else before ++ ticket ∷ []
+parks (_) ticket now before = before
+
+-- the tickets that are parked until the child ends, in the order in which they were picked: those of NextEnding that were picked
+-- while the state wasn't Finished, and not raised
+abbrev pub parked : Id → List Entry → List ℕ
+parked id [] = []
+parked id (Made job ∷ p) = if same job id then [] else parked id p
+parked id (Pick job ticket ∷ p) = if same job id then parks (picked_control id ticket p) ticket (state id p) (parked id p) else parked id p
+parked id (Raise ticket ∷ p) = without_ticket ticket (parked id p)
+parked id (Gone job ∷ p) = if same job id then [] else parked id p
+parked id (_ ∷ p) = parked id p
+
+-- the tickets that are in hand once this control was picked, in this state: its own, where it isn't parked
+abbrev pub takes : Option Control → ℕ → CommandState → List ℕ → List ℕ
+takes (Some NextEnding) ticket now before = if is_finished now then before ++ ticket ∷ [] else before
+takes (_) ticket now before = before ++ ticket ∷ []
+
+-- the tickets in hand: those that were picked, and neither parked nor raised
+abbrev pub in_hand : Id → List Entry → List ℕ
+in_hand id [] = []
+in_hand id (Made job ∷ p) = if same job id then [] else in_hand id p
+in_hand id (Pick job ticket ∷ p) = if same job id then takes (picked_control id ticket p) ticket (state id p) (in_hand id p) else in_hand id p
+in_hand id (Raise ticket ∷ p) = without_ticket ticket (in_hand id p)
+in_hand id (Gone job ∷ p) = if same job id then [] else in_hand id p
+in_hand id (_ ∷ p) = in_hand id p
+
+-- the job of which the ticket of this name was asked
+abbrev pub asked_of : ℕ → List Entry → Option Id
+asked_of ticket [] = None
+asked_of ticket (Asked t job level control ∷ p) = if t == ticket then Some job else asked_of ticket p
+asked_of ticket (_ ∷ p) = asked_of ticket p
+
 -- the job that spawned the child of this name
 abbrev pub owner : ℕ → List Entry → Option Id
 owner c [] = None
@@ -202,3 +268,6 @@ pub record SameHistory (id : Id) (p p' : List Entry) : Type 0 where
   pub hook_same : hook id p' ≡ hook id p
   pub tag_same : tag id p' ≡ tag id p
   pub command_same : command id p' ≡ command id p
+  pub grace_same : grace id p' ≡ grace id p
+  pub parked_same : parked id p' ≡ parked id p
+  pub tickets_later : ticket_count p ≤ ticket_count p'

@@ -1,14 +1,14 @@
 -- What holds of the history of every job.
-use Rattle.std.specs.Prelude.{◌≡◌, ◌≢◌, ℕ, Bool, true, false, if◌then◌else◌, Option, None, Some, Ok, Err, List, [], ◌∷◌}
+use Rattle.std.specs.Prelude.{◌≡◌, ℕ, Bool, true, false, not, ◌&&◌, ◌||◌, if◌then◌else◌, Option, None, Some, Ok, Err, List, [], ◌∷◌}
 use Rattle.wx_command.specs.declared.command.Command.{Command}
 use Rattle.wx_control.specs.declared.id.Id.{Id}
 use Rattle.wx_control.specs.declared.ask.Ask.{Ask}
 use Rattle.wx_control.specs.Asks.{sends_of}
 use Rattle.wx_journal.specs.declared.entry.Entry.{Entry}
-use Rattle.wx_journal.specs.declared.entry.Entry.TheVariants.{Begin, Sent, Turn as Turned, TurnFault, Offer, Word as Said, Take, Filter, Show, Hand, Made, Asked, Pick, Spawn, Kill, Wait, Dropped, Raise, Gone, Hook}
-use Rattle.wx_journal.specs.Names.{NamesItsOwn, child_count}
+use Rattle.wx_journal.specs.declared.entry.Entry.TheVariants.{Begin, Sent, Turn as Turned, TurnFault, Offer, Word as Said, Take, Filter, Show, Hand, Made, Asked, Pick, GraceOver, Spawn, Signal, Kill, Wait, Dropped, Raise, Gone, Hook}
+use Rattle.wx_journal.specs.Names.{ticket_count, child_count}
 use Rattle.wx_job.specs.declared.state.CommandState.TheVariants.{Pending}
-use Rattle.wx_job.specs.History.{same, lives, child, state, unless, owner, SameHistory}
+use Rattle.wx_job.specs.History.{same, lives, child, state, grace, unless, owner}
 use Rattle.wx_job.specs.Table.{Plan, Done, step_plan, send_plan, end_plan}
 use Rattle.wx_job.specs.Case.{Leads, IsCut}
 
@@ -38,12 +38,31 @@ pub record IsReaping (id : Id) (p : List Entry) : Type 0 where
 abbrev pub Runs : ℕ → List Entry → Type 0
 Runs c p = (id : Id) × (child id p ≡ Some c)
 
--- after each failed spawn the state of its job is Pending, and after each failed kill or wait the child still runs
+-- the case of this job is that of the end of its grace: this is the newest of what begins a case, and no turn came since
+abbrev pub ends_grace : Id → List Entry → Bool
+ends_grace id [] = false
+ends_grace id (Turned t ∷ p) = false
+ends_grace id (Made job ∷ p) = not (same job id) && ends_grace id p
+ends_grace id (Pick job ticket ∷ p) = not (same job id) && ends_grace id p
+ends_grace id (GraceOver job ∷ p) = same job id || ends_grace id p
+ends_grace id (_ ∷ p) = ends_grace id p
+
+-- no grace stands behind this call on a child in the case of the end of a grace
+abbrev pub LeavesNoGrace : ℕ → Entry → List Entry → Type 0
+LeavesNoGrace c e p = (id : Id) → child id p ≡ Some c → ends_grace id p ≡ true → grace id (e ∷ p) ≡ None
+
+-- each job has the grace behind this call that it had before
+abbrev pub BeginsNoGrace : Entry → List Entry → Type 0
+BeginsNoGrace e p = (id : Id) → grace id (e ∷ p) ≡ grace id p
+
+-- After each failed spawn the state of its job is Pending. After each failed signal, kill or wait the child still runs, after a
+-- failed signal no grace was begun, and after a failed kill or wait in the case of the end of a grace none stands.
 abbrev pub AfterFaults : List Entry → Type 0
 AfterFaults [] = Unit {0}
 AfterFaults (Spawn c id tag what (Err fault) ∷ p) = (state id (Spawn c id tag what (Err fault) ∷ p) ≡ Pending) × AfterFaults p
-AfterFaults (Kill c (Err fault) ∷ p) = Runs c (Kill c (Err fault) ∷ p) × AfterFaults p
-AfterFaults (Wait c (Err fault) ∷ p) = Runs c (Wait c (Err fault) ∷ p) × AfterFaults p
+AfterFaults (Signal c number (Err fault) ∷ p) = Runs c (Signal c number (Err fault) ∷ p) × BeginsNoGrace (Signal c number (Err fault)) p × AfterFaults p
+AfterFaults (Kill c (Err fault) ∷ p) = Runs c (Kill c (Err fault) ∷ p) × LeavesNoGrace c (Kill c (Err fault)) p × AfterFaults p
+AfterFaults (Wait c (Err fault) ∷ p) = Runs c (Wait c (Err fault) ∷ p) × LeavesNoGrace c (Wait c (Err fault)) p × AfterFaults p
 AfterFaults (_ ∷ p) = AfterFaults p
 
 -- a child of this job
@@ -66,7 +85,9 @@ is_about id p (Hand n names acts) = false
 is_about id p (Made job) = same job id
 is_about id p (Asked ticket job level control) = same job id
 is_about id p (Pick job ticket) = same job id
+is_about id p (GraceOver job) = same job id
 is_about id p (Spawn c job tag what answer) = same job id
+is_about id p (Signal c number answer) = is_owner id (owner c p)
 is_about id p (Kill c answer) = is_owner id (owner c p)
 is_about id p (Wait c answer) = is_owner id (owner c p)
 is_about id p (Dropped c) = is_owner id (owner c p)
@@ -80,6 +101,12 @@ NamesChildren [] = Unit {0}
 NamesChildren (Spawn c job tag what answer ∷ p) = (c ≡ child_count p) × NamesChildren p
 NamesChildren (_ ∷ p) = NamesChildren p
 
+-- each ticket has the next name
+abbrev pub NamesTickets : List Entry → Type 0
+NamesTickets [] = Unit {0}
+NamesTickets (Asked ticket job level control ∷ p) = (ticket ≡ ticket_count p) × NamesTickets p
+NamesTickets (_ ∷ p) = NamesTickets p
+
 -- The life of a job since it was last made: then come asks, whole steps, steps that were given up, and its end, each by its
 -- plan, and between them entries that are not about it. Nothing is asked of other names than those of children.
 pub data Lived (id : Id) (command : Command) : List Entry → Type 0 where
@@ -89,17 +116,6 @@ pub data Lived (id : Id) (command : Command) : List Entry → Type 0 where
   Steps : (p p' : List Entry) (host hooks host' hooks' : Option (List Entry)) (n n' : ℕ) → Lived id command p → Leads (step_plan id command p) p host hooks n Done p' host' hooks' n' → Lived id command p'
   GivesUp : (rest : Plan) (p p' : List Entry) (host hooks host' hooks' : Option (List Entry)) (n n' : ℕ) → Lived id command p → Leads (step_plan id command p) p host hooks n rest p' host' hooks' n' → IsCut rest → Lived id command p'
   Ends : (p p' : List Entry) (host hooks host' hooks' : Option (List Entry)) (n n' : ℕ) → Lived id command p → Leads (end_plan id p) p host hooks n Done p' host' hooks' n' → Lived id command p'
-
--- what calls on one job leave alone: the names are the journal's own, and all other jobs are as they were
-pub record LeavesOthers (id : Id) (p p' : List Entry) : Type 0 where
-  pub own : NamesItsOwn p'
-  pub others : (other : Id) → other ≢ id → SameHistory other p p'
-
--- What calls on one job leave of what holds of the histories. What is said of this job asks nothing of the journal's names.
-pub record LeavesLaws (id : Id) (p p' : List Entry) : Type 0 where
-  pub others : NamesItsOwn p → LeavesOthers id p p'
-  pub reaped : IsReaping id p → IsReaping id p'
-  pub failed : AfterFaults p → AfterFaults p'
 
 -- in the life of a job, since it was last made, each child is reaped before the next spawn, save a last one, and no child
 -- runs after its end

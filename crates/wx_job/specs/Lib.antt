@@ -2,6 +2,7 @@ pub mod States
 pub mod Progress
 pub mod Seen
 pub mod Kept
+pub mod Parkings
 pub mod History
 pub mod Table
 pub mod Case
@@ -9,4 +10,6 @@ pub mod Prepared
 pub mod Faults
 pub mod Stands
 pub mod Laws
+pub mod TicketLaws
+pub mod Leaves
 pub mod Steady

@@ -1,11 +1,31 @@
 -- What is made ready before a case.
-use Rattle.std.specs.Prelude.{ℕ, if◌then◌else◌, Option, None, Some}
+use Rattle.std.specs.Prelude.{ℕ, Bool, true, false, if◌then◌else◌, Option, None, Some}
 use Rattle.wx_command.specs.declared.command.Command.{Command}
 use Rattle.wx_command.specs.declared.spawnable.Spawnable.{Spawnable}
 use Rattle.wx_command.specs.Spawnables.{spawnable_of}
 use Rattle.wx_control.specs.declared.control.Control.{Control}
-use Rattle.wx_job.specs.Table.{spawns}
+use Rattle.wx_job.specs.declared.choice.Choice.{Choice}
+use Rattle.wx_job.specs.declared.grace.Grace.{Grace}
+use Rattle.wx_control.specs.declared.id.Id.{Id}
+use Rattle.wx_job.specs.Table.{Plan, Kit, spawns, is_spawning, reap, waiters, fresh, raises}
 
--- what a case spawns, twice, for the call and for its entry
+-- what a case spawns, twice, for the call and for its entry, where it spawns
+abbrev pub twice : Command → Bool → Option (Spawnable × Spawnable)
+twice command spawning = if spawning then Some (spawnable_of command, spawnable_of command) else None
+
 abbrev pub prepared : Command → Control → Option ℕ → Option (Spawnable × Spawnable)
-prepared command control running = if spawns control running then Some (spawnable_of command, spawnable_of command) else None
+prepared command control running = twice command (spawns control running)
+
+-- the same of what was picked, where this grace stands
+abbrev pub prepared_for : Command → Choice → Option ℕ → Option Grace → Option (Spawnable × Spawnable)
+prepared_for command choice running standing = twice command (is_spawning choice running standing)
+
+-- a fresh child is spawned where that is so, and the ticket is raised
+abbrev pub fresh_or : Bool → Id → Kit → ℕ → Plan
+fresh_or true id by ticket = fresh id by (raises ticket)
+fresh_or false id by ticket = raises ticket
+
+-- a child that runs is reaped, and a fresh one is spawned where that is so
+abbrev pub fresh_in : Id → Kit → ℕ → Bool → Option ℕ → Plan
+fresh_in id by ticket spawning None = fresh_or spawning id by ticket
+fresh_in id by ticket spawning (Some c) = reap c ticket (waiters by.parked (fresh_or spawning id by ticket))

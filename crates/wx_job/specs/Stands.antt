@@ -1,20 +1,25 @@
 -- What is kept of a job stands for it in a journal.
-use Rattle.std.specs.Prelude.{◌≡◌, ℕ, Bool, true, false, not, if◌then◌else◌, Option, None, Some, List, ◌∷◌}
+use Rattle.std.specs.Prelude.{◌≡◌, ℕ, ◌+◌, ◌≤◌, ◌==◌, Bool, true, not, if◌then◌else◌, Option, None, Some, is_some, option_map, List, [], ◌∷◌, length}
 use Rattle.wx_command.specs.declared.command.Command.{Command}
 use Rattle.wx_control.specs.declared.id.Id.{Id}
 use Rattle.wx_control.specs.declared.level.Level.TheVariants.{Normal, High, Urgent}
-use Rattle.wx_control.specs.Waits.{first_of}
+use Rattle.wx_control.specs.declared.control.Control.{Control}
+use Rattle.wx_control.specs.Waits.{Waits, first_of, waiting_count}
 use Rattle.wx_journal.specs.declared.entry.Entry.{Entry}
 use Rattle.wx_journal.specs.declared.entry.Entry.TheVariants.{Turn as Turned}
 use Rattle.wx_journal.specs.declared.entry.TurnKind.TheVariants.{Ended}
+use Rattle.wx_journal.specs.Names.{ticket_count}
 use Rattle.wx_journal.specs.Written.{Written}
+use Rattle.wx_job.specs.States.{is_finished}
+use Rattle.wx_job.specs.declared.grace.Grace.{Grace}
+use Rattle.wx_job.specs.declared.grace.Standing.{Standing}
 use Rattle.wx_job.specs.declared.state.CommandState.{CommandState}
 use Rattle.wx_job.specs.declared.state.CommandState.TheVariants.{Pending, Running, Finished}
 use Rattle.wx_job.specs.declared.task.JobTask.{JobTask}
 use Rattle.wx_job.specs.declared.choice.Choice.{Choice}
-use Rattle.wx_job.specs.declared.choice.Choice.TheVariants.{Next}
+use Rattle.wx_job.specs.declared.choice.Choice.TheVariants.{Over, End, Next, Nothing}
 use Rattle.wx_job.specs.Table.{Kit, choose}
-use Rattle.wx_job.specs.History.{lives, waits, child, kept, state, previous, hook, tag, is_in_hand, RunsOnly}
+use Rattle.wx_job.specs.History.{lives, waits, child, kept, state, previous, hook, tag, grace, parked, in_hand, RunsOnly}
 
 -- the child of a state
 abbrev pub child_of : CommandState → Option ℕ
@@ -36,7 +41,40 @@ gone_of k = k.gone
 abbrev pub running_of : JobTask → Option ℕ
 running_of k = if k.gone then None else child_of k.state
 
--- the task keeps what the journal says of its job
+-- the grace that stands, and the tickets that are parked
+abbrev pub grace_of : JobTask → Option Grace
+grace_of k = option_map (λ (s : Standing). s.grace) k.grace
+
+abbrev pub parked_of : JobTask → List ℕ
+parked_of k = k.parked.tickets
+
+abbrev pub parked_count : JobTask → ℕ
+parked_count k = length (parked_of k)
+
+-- ---- how often a task holds a ticket
+
+abbrev pub once : Bool → ℕ
+once is = if is then 1 else 0
+
+abbrev pub times : ℕ → List ℕ → ℕ
+times ticket [] = 0
+times ticket (t ∷ ts) = once (t == ticket) + times ticket ts
+
+abbrev pub times_waiting : ℕ → List (ℕ × Control) → ℕ
+times_waiting ticket [] = 0
+times_waiting ticket (x ∷ xs) = once (x.0 == ticket) + times_waiting ticket xs
+
+abbrev pub times_waits : ℕ → Waits → ℕ
+times_waits ticket w = times_waiting ticket w.urgent + times_waiting ticket w.high + times_waiting ticket w.normal
+
+abbrev pub times_grace : ℕ → Option Grace → ℕ
+times_grace ticket None = 0
+times_grace ticket (Some g) = once (g.ticket == ticket)
+
+abbrev pub holds : ℕ → JobTask → ℕ
+holds ticket k = times_waits ticket k.waiting + times ticket (parked_of k) + times_grace ticket (grace_of k)
+
+-- the task keeps what the journal says of its job, has room to park what waits, and holds no ticket twice, and none that isn't named yet
 pub record Stands (k : JobTask) (p : List Entry) : Type 0 where
   pub lives_kept : not k.gone ≡ lives k.id p
   pub urgent_kept : k.waiting.urgent ≡ waits k.id Urgent p
@@ -48,6 +86,11 @@ pub record Stands (k : JobTask) (p : List Entry) : Type 0 where
   pub previous_kept : k.previous ≡ previous k.id p
   pub hook_kept : k.hook ≡ hook k.id p
   pub tag_kept : k.tag ≡ tag k.id p
+  pub grace_kept : grace_of k ≡ grace k.id p
+  pub parked_kept : parked_of k ≡ parked k.id p
+  pub parked_room : waiting_count k.waiting ≤ k.parked.spare
+  pub held_once : (ticket : ℕ) → holds ticket k ≤ 1
+  pub held_named : (ticket : ℕ) → ticket_count p ≤ ticket → holds ticket k ≡ 0
   pub runs_kept : RunsOnly k.id k.command p
 
 -- two tasks of one job
@@ -61,9 +104,33 @@ pub record Undone {Host : Type 0} (k : JobTask) (j : Written) (h : Host) (k' : J
   pub journal : j' ≡ j
   pub host : h' ≡ h
 
--- all that a task keeps is the same, but for the room for controls
+-- A step that answers want of memory: nothing was done, also to the hooks, or the case was given up behind a call of a hook,
+-- and the state is Pending.
+pub data Stops {Host Hooks : Type 0} (k : JobTask) (j : Written) (h : Host) (x : Hooks) (k' : JobTask) (j' : Written) (h' : Host) (x' : Hooks) (GaveUp : Type 0) : Type 0 where
+  Before : Undone k j h k' j' h' → x' ≡ x → Stops k j h x k' j' h' x' GaveUp
+  Behind : k'.state ≡ Pending → GaveUp → Stops k j h x k' j' h' x' GaveUp
+
+-- this ticket is in hand
+abbrev pub IsInHand : Id → ℕ → List Entry → Type 0
+IsInHand id ticket p = 1 ≤ times ticket (in_hand id p)
+
+-- the ticket of this grace is in hand still, where it was
+abbrev pub StaysInHand : Id → Option Grace → List Entry → List Entry → Type 0
+StaysInHand id None p p' = Unit {0}
+StaysInHand id (Some g) p p' = IsInHand id g.ticket p → IsInHand id g.ticket p'
+
+-- Behind a case that was given up, of what was picked where this grace stood: the ticket that was picked is in hand, and so is
+-- that of the grace, where the case is one of its end or of the child's.
+abbrev pub HasInHand : Id → Option Grace → Choice → List Entry → List Entry → Type 0
+HasInHand id standing (Over c g) p p' = StaysInHand id (Some g) p p'
+HasInHand id standing (End c) p p' = StaysInHand id standing p p'
+HasInHand id standing (Next ticket control) p p' = IsInHand id ticket p'
+HasInHand id standing Nothing p p' = Unit {0}
+
+-- all that a task keeps is the same, but for the room for controls and for parked tickets
 pub record SameTask (k k' : JobTask) : Type 0 where
-  pub fields : k' ≡ record k { waiting = k'.waiting }
+  pub fields : k' ≡ record k { waiting = k'.waiting; parked = k'.parked }
+  pub parked : k'.parked.tickets ≡ k.parked.tickets
   pub waiting : k'.waiting ≡ record k.waiting { spare = k'.waiting.spare }
 
 -- the task with the end of its child kept
@@ -78,19 +145,8 @@ pub record IsEnding (k : JobTask) (c at : ℕ) (p : List Entry) : Type 0 where
 
 -- what its cases go by
 abbrev pub kit_of : JobTask → Kit
-kit_of k = record { command = k.command; hook = k.hook; tag = k.tag }
+kit_of k = record { command = k.command; hook = k.hook; tag = k.tag; finished = is_finished k.state; grace = grace_of k; parked = parked_of k }
 
--- what a step of the task picks
-abbrev pub choice_of : JobTask → Choice
-choice_of k = choose (running_of k) k.kept (first_of false k.waiting)
-
--- the ticket of what was picked is in hand
-abbrev pub HasInHand : Choice → List Entry → Type 0
-HasInHand (Next ticket control) p = is_in_hand ticket p ≡ true
-HasInHand (_) p = ⊥
-
--- A step that answers want of memory: nothing was done, also to the hooks, or the case was given up behind a call of a hook,
--- the state is Pending, and the ticket of the case is in hand.
-pub data Stops {Host Hooks : Type 0} (k : JobTask) (j : Written) (h : Host) (x : Hooks) (k' : JobTask) (j' : Written) (h' : Host) (x' : Hooks) (GaveUp : Type 0) : Type 0 where
-  Before : Undone k j h k' j' h' → x' ≡ x → Stops k j h x k' j' h' x' GaveUp
-  Behind : k'.state ≡ Pending → HasInHand (choice_of k) j'.past → GaveUp → Stops k j h x k' j' h' x' GaveUp
+-- what a step of the task picks at this moment
+abbrev pub choice_of : JobTask → ℕ → Choice
+choice_of k at = choose (running_of k) (grace_of k) at k.kept (first_of (is_some (grace_of k)) k.waiting)

@@ -1,24 +1,30 @@
 -- What a step of a job owes: the table of cases.
-use Rattle.std.specs.Prelude.{ℕ, Bool, true, false, if◌then◌else◌, Option, None, Some, List}
+use Rattle.std.specs.Prelude.{ℕ, Bool, true, false, nat_le, not, if◌then◌else◌, ℤ, pos, Option, None, Some, is_some, is_none, List, [], ◌∷◌}
+use Rattle.wx_events.specs.declared.process.Signal.{Signal as ASignal}
+use Rattle.wx_events.specs.Natives.{native}
 use Rattle.wx_command.specs.declared.command.Command.{Command}
 use Rattle.wx_command.specs.declared.spawnable.Spawnable.{Spawnable}
 use Rattle.wx_command.specs.Spawnables.{spawnable_of}
 use Rattle.wx_control.specs.declared.id.Id.{Id}
 use Rattle.wx_control.specs.declared.control.Control.{Control}
-use Rattle.wx_control.specs.declared.control.Control.TheVariants.{Start, Stop, SetSyncSpawnHook, UnsetSpawnHook, SetSpawnFn, SetSpawnChildFn, ClearSpawnFn}
+use Rattle.wx_control.specs.declared.control.Control.TheVariants.{Start, Stop, GracefulStop, TryRestart, TryGracefulRestart, ContinueTryGracefulRestart, Signal, Delete, NextEnding, SetSyncSpawnHook, UnsetSpawnHook, SetSpawnFn, SetSpawnChildFn, ClearSpawnFn}
 use Rattle.wx_control.specs.declared.level.Level.{Level}
 use Rattle.wx_control.specs.declared.level.Level.TheVariants.{Normal, High, Urgent}
 use Rattle.wx_control.specs.declared.ask.Sends.{Sends}
 use Rattle.wx_control.specs.Waits.{first}
 use Rattle.wx_journal.specs.declared.child.SpawnTag.{SpawnTag}
 use Rattle.wx_journal.specs.declared.entry.Entry.{Entry}
-use Rattle.wx_journal.specs.declared.entry.Entry.TheVariants.{Word as Said, Pick, Dropped, Raise, Gone}
+use Rattle.wx_journal.specs.declared.entry.Entry.TheVariants.{Word as Said, Pick, GraceOver, Dropped, Raise, Gone}
 use Rattle.wx_journal.specs.declared.entry.Word.TheVariants.{Idle as TheIdle}
+use Rattle.wx_journal.specs.Names.{moment}
+use Rattle.wx_job.specs.declared.grace.Grace.{Grace}
 use Rattle.wx_job.specs.declared.choice.Choice.{Choice}
-use Rattle.wx_job.specs.declared.choice.Choice.TheVariants.{End, Next, Nothing}
+use Rattle.wx_job.specs.declared.choice.Choice.TheVariants.{Over, End, Next, Nothing}
 use Rattle.wx_job.specs.declared.choice.Stepped.{Stepped}
 use Rattle.wx_job.specs.declared.choice.Stepped.TheVariants.{Did, Idle, Gone as IsGone}
-use Rattle.wx_job.specs.History.{lives, waits, child, kept, set_hook, set_tag, hook, tag}
+use Rattle.wx_job.specs.declared.state.CommandState.{CommandState}
+use Rattle.wx_job.specs.States.{is_finished}
+use Rattle.wx_job.specs.History.{lives, waits, child, kept, state, grace, parked, set_hook, set_tag, hook, tag}
 
 -- what is spawned: this, or what the hook left that was called just before
 pub data Words : Type 0 where
@@ -29,8 +35,9 @@ pub data Words : Type 0 where
 pub data Call : Type 0 where
   -- just this entry
   Adds : Entry → Call
-  -- a child is spawned, killed, waited for
+  -- a child is spawned, sent the signal of this number, killed, waited for
   Spawns : Id → SpawnTag → Words → Call
+  Signals : ℕ → ℤ → Call
   Kills : ℕ → Call
   Waits : ℕ → Call
   -- a control is asked
@@ -62,18 +69,22 @@ raises ticket = adds (Raise ticket) Done
 abbrev pub reap : ℕ → ℕ → Plan → Plan
 reap c ticket k = Owes (Kills c) (Owes (Waits c) k (raises ticket)) (raises ticket)
 
--- what the cases of a job go by: its command, the spawn hook that is set, and what spawns
+-- What the cases of a job go by: its command, the spawn hook that is set, and what spawns; whether its child has ended, the
+-- grace that stands, and the tickets that are parked.
 pub record Kit : Type 0 where
   pub command : Command
   pub hook : Option ℕ
   pub tag : SpawnTag
+  pub finished : Bool
+  pub grace : Option Grace
+  pub parked : List ℕ
 
 abbrev pub kit : Id → Command → List Entry → Kit
-kit id command p = record { command = command; hook = hook id p; tag = tag id p }
+kit id command p = record { command = command; hook = hook id p; tag = tag id p; finished = is_finished (state id p); grace = grace id p; parked = parked id p }
 
 -- the same once this control is picked
 abbrev pub kit_after : Control → Kit → Kit
-kit_after control by = record { command = by.command; hook = set_hook (Some control) by.hook; tag = set_tag (Some control) by.tag }
+kit_after control by = record by { hook = set_hook (Some control) by.hook; tag = set_tag (Some control) by.tag }
 
 -- spawn a child, whatever comes of it
 abbrev pub spawn : Id → SpawnTag → Words → Plan → Plan
@@ -86,6 +97,38 @@ fresh_by id command by (Some n) k = Owes (Hooks id n) (spawn id by Left k) Given
 
 abbrev pub fresh : Id → Kit → Plan → Plan
 fresh id by k = fresh_by id by.command by.tag by.hook k
+
+-- each of these tickets is raised, in order
+abbrev pub waiters : List ℕ → Plan → Plan
+waiters [] k = k
+waiters (t ∷ ts) k = adds (Raise t) (waiters ts k)
+
+-- the ticket of a grace is raised
+abbrev pub raise_grace : Option Grace → Plan → Plan
+raise_grace None k = k
+raise_grace (Some g) k = adds (Raise g.ticket) k
+
+-- the number that is sent for a signal: 15 for one without a number on the system
+abbrev pub number_or_15 : Option ℤ → ℤ
+number_or_15 None = pos 15
+number_or_15 (Some n) = n
+
+abbrev pub number_of : ASignal → ℤ
+number_of signal = number_or_15 (native signal)
+
+-- send a signal, and raise the ticket, whatever comes of it
+abbrev pub signalled : ASignal → ℕ → Option ℕ → Plan
+signalled signal ticket None = raises ticket
+signalled signal ticket (Some c) = Owes (Signals c (number_of signal)) (raises ticket) (raises ticket)
+
+-- send a signal: where that is done a grace stands, which holds the ticket
+abbrev pub graceful : ASignal → ℕ → Option ℕ → Plan
+graceful signal ticket None = raises ticket
+graceful signal ticket (Some c) = Owes (Signals c (number_of signal)) Done (raises ticket)
+
+-- reap the child and spawn a fresh one
+abbrev pub restart : Id → Kit → ℕ → ℕ → Plan
+restart id by c ticket = reap c ticket (waiters by.parked (fresh id by (raises ticket)))
 
 -- a child that runs is let go
 abbrev pub drop_plan : Option ℕ → Plan → Plan
@@ -101,50 +144,102 @@ abbrev pub row : Id → Kit → ℕ → Control → Option ℕ → Plan
 row id by ticket Start None = fresh id by (raises ticket)
 row id by ticket Start (Some c) = raises ticket
 row id by ticket Stop None = raises ticket
-row id by ticket Stop (Some c) = reap c ticket (raises ticket)
+row id by ticket Stop (Some c) = reap c ticket (waiters by.parked (raise_grace by.grace (raises ticket)))
+row id by ticket (GracefulStop signal grace) running = graceful signal ticket running
+row id by ticket TryRestart None = raises ticket
+row id by ticket TryRestart (Some c) = restart id by c ticket
+row id by ticket (TryGracefulRestart signal grace) running = graceful signal ticket running
+row id by ticket ContinueTryGracefulRestart None = fresh id by (raises ticket)
+row id by ticket ContinueTryGracefulRestart (Some c) = restart id by c ticket
+row id by ticket (Signal signal) running = signalled signal ticket running
+row id by ticket Delete running = adds (Raise ticket) (leave id running)
+row id by ticket NextEnding running = if by.finished then raises ticket else Done
 row id by ticket (SetSyncSpawnHook n) running = raises ticket
 row id by ticket UnsetSpawnHook running = raises ticket
 row id by ticket (SetSpawnFn n) running = raises ticket
 row id by ticket (SetSpawnChildFn n) running = raises ticket
 row id by ticket ClearSpawnFn running = raises ticket
 
+-- the ticket of a control is parked, in this state
+abbrev pub is_parking : Control → CommandState → Bool
+is_parking NextEnding now = not (is_finished now)
+is_parking _ now = false
+
 -- the case spawns a child
 abbrev pub spawns : Control → Option ℕ → Bool
-spawns Start None = true
-spawns Start (Some c) = false
+spawns Start running = is_none running
 spawns Stop running = false
+spawns (GracefulStop signal grace) running = false
+spawns TryRestart running = is_some running
+spawns (TryGracefulRestart signal grace) running = false
+spawns ContinueTryGracefulRestart running = true
+spawns (Signal signal) running = false
+spawns Delete running = false
+spawns NextEnding running = false
 spawns (SetSyncSpawnHook n) running = false
 spawns UnsetSpawnHook running = false
 spawns (SetSpawnFn n) running = false
 spawns (SetSpawnChildFn n) running = false
 spawns ClearSpawnFn running = false
 
--- the case of the end of a child
-abbrev pub ended : ℕ → Plan
-ended c = Owes (Waits c) Done Done
+-- the case of the end of a grace: the child is reaped, and a fresh one is spawned where the grace is one of a restart
+abbrev pub fresh_over : Id → Kit → Grace → Plan
+fresh_over id by g = if g.restarts then fresh id by (raises g.ticket) else raises g.ticket
 
--- What a step picks, the first that applies: the kept end of the running child; a control that waits, the most pressing
--- first; else nothing.
+abbrev pub over : Id → Kit → ℕ → Grace → Plan
+over id by c g = adds (GraceOver id) (reap c g.ticket (waiters by.parked (fresh_over id by g)))
+
+-- the case of the end of a child
+abbrev pub ended_in : Id → Kit → Grace → Plan
+ended_in id by g = if g.restarts then waiters by.parked (fresh id by (raises g.ticket)) else adds (Raise g.ticket) (waiters by.parked Done)
+
+abbrev pub ended_by : Id → Kit → Option Grace → Plan
+ended_by id by None = waiters by.parked Done
+ended_by id by (Some g) = ended_in id by g
+
+abbrev pub ended : Id → Kit → ℕ → Plan
+ended id by c = Owes (Waits c) (ended_by id by by.grace) Done
+
+-- What a step picks, the first that applies: a grace whose end has come; the kept end of the running child; a control that
+-- waits, the most pressing first, of the level Normal only where no grace stands; else nothing.
 abbrev pub choose_control : Option (ℕ × Control) → Choice
 choose_control None = Nothing
 choose_control (Some x) = Next x.0 x.1
 
-abbrev pub choose : Option ℕ → Bool → Option (ℕ × Control) → Choice
-choose None end x = choose_control x
-choose (Some c) end x = if end then End c else choose_control x
+abbrev pub choose_end : ℕ → Bool → Option (ℕ × Control) → Choice
+choose_end c end x = if end then End c else choose_control x
+
+abbrev pub choose_grace : ℕ → Option Grace → ℕ → Bool → Option (ℕ × Control) → Choice
+choose_grace c None at end x = choose_end c end x
+choose_grace c (Some g) at end x = if nat_le g.ends at then Over c g else choose_end c end x
+
+abbrev pub choose : Option ℕ → Option Grace → ℕ → Bool → Option (ℕ × Control) → Choice
+choose None standing at end x = choose_control x
+choose (Some c) standing at end x = choose_grace c standing at end x
+
+-- the controls of the level Normal that may be picked
+abbrev pub unless_grace : Option Grace → List (ℕ × Control) → List (ℕ × Control)
+unless_grace standing waiting = if is_some standing then [] else waiting
 
 abbrev pub pick : Id → List Entry → Choice
-pick id p = choose (child id p) (kept id p) (first (waits id Urgent p) (waits id High p) (waits id Normal p))
+pick id p = choose (child id p) (grace id p) (moment p) (kept id p) (first (waits id Urgent p) (waits id High p) (unless_grace (grace id p) (waits id Normal p)))
 
--- the case of what is picked spawns a child
-abbrev pub is_spawning : Choice → Option ℕ → Bool
-is_spawning (End c) running = false
-is_spawning (Next ticket control) running = spawns control running
-is_spawning Nothing running = false
+-- a grace is one of a restart
+abbrev pub is_restart : Option Grace → Bool
+is_restart None = false
+is_restart (Some g) = g.restarts
+
+-- the case of what is picked spawns a child, where this child runs and this grace stands
+abbrev pub is_spawning : Choice → Option ℕ → Option Grace → Bool
+is_spawning (Over c g) running standing = g.restarts
+is_spawning (End c) running standing = is_restart standing
+is_spawning (Next ticket control) running standing = spawns control running
+is_spawning Nothing running standing = false
 
 -- what a step that picks this owes
 abbrev pub case : Id → Kit → Option ℕ → Choice → Plan
-case id by running (End c) = ended c
+case id by running (Over c g) = over id by c g
+case id by running (End c) = ended id by c
 case id by running (Next ticket control) = adds (Pick id ticket) (row id (kit_after control by) ticket control running)
 case id by running Nothing = adds (Said TheIdle) Done
 
@@ -152,11 +247,35 @@ case id by running Nothing = adds (Said TheIdle) Done
 abbrev pub step_plan : Id → Command → List Entry → Plan
 step_plan id command p = if lives id p then case id (kit id command p) (child id p) (pick id p) else Done
 
--- what a step answers
+-- the job is gone once this was done
+abbrev pub deletes : Control → Bool
+deletes Start = false
+deletes Stop = false
+deletes (GracefulStop signal grace) = false
+deletes TryRestart = false
+deletes (TryGracefulRestart signal grace) = false
+deletes ContinueTryGracefulRestart = false
+deletes (Signal signal) = false
+deletes Delete = true
+deletes NextEnding = false
+deletes (SetSyncSpawnHook n) = false
+deletes UnsetSpawnHook = false
+deletes (SetSpawnFn n) = false
+deletes (SetSpawnChildFn n) = false
+deletes ClearSpawnFn = false
+
+abbrev pub is_deletion : Choice → Bool
+is_deletion (Over c g) = false
+is_deletion (End c) = false
+is_deletion (Next ticket control) = deletes control
+is_deletion Nothing = false
+
+-- what a step answers: Gone exactly where its job is gone then
 abbrev pub answer_of : Bool → Choice → Stepped
 answer_of true choice = IsGone
+answer_of false (Over c g) = Did
 answer_of false (End c) = Did
-answer_of false (Next ticket control) = Did
+answer_of false (Next ticket control) = if deletes control then IsGone else Did
 answer_of false Nothing = Idle
 
 -- the controls of an ask, and what comes then

@@ -1,271 +1,38 @@
 // The cases of a job: what it does with what it picked.
-ghost use Rattle.std.specs.Prelude.{◌≡◌, ℕ, ◌+◌, ◌<◌, ◌≤◌, ◌∷◌, [], OnOk, OnErr, IfOk, List, Option, Some, None, true, false, map};
-ghost use Rattle.std.specs.Bool.{OnTrue, OnFalse};
-ghost use Rattle.wx_control.specs.declared.control.Control.TheVariants.{Start, Stop};
-ghost use Rattle.wx_control.specs.Waits.{picked};
-ghost use Rattle.wx_command.specs.declared.spawnable.Spawnable.{Spawnable as the-Spawnable};
-ghost use Rattle.wx_command.specs.Spawnables.{spawnable_of};
+ghost use Rattle.std.specs.Prelude.{◌≡◌, ℕ, ◌+◌, ◌<◌, ◌≤◌, ◌∷◌, OnOk, OnErr, IfOk, IfSome, IfNone, Option, Some, None, is_some, true, false, length};
+ghost use Rattle.wx_control.specs.declared.control.Control.TheVariants.{Stop, Delete};
+ghost use Rattle.wx_control.specs.Waits.{picked, first_of};
 ghost use Rattle.wx_journal.specs.declared.entry.Entry.{Entry};
-ghost use Rattle.wx_journal.specs.declared.child.SpawnTag.{SpawnTag as the-SpawnTag};
-ghost use Rattle.wx_journal.specs.Names.{moment};
-ghost use Rattle.wx_journal.specs.Told.{tell};
+ghost use Rattle.wx_journal.specs.Names.{moment, ticket_count};
+ghost use Rattle.wx_job.specs.declared.grace.Grace.{Grace as the-Grace};
 ghost use Rattle.wx_job.specs.declared.state.CommandState.TheVariants.{Pending};
-ghost use Rattle.wx_job.specs.declared.choice.Choice.TheVariants.{End, Next};
-ghost use Rattle.wx_job.specs.History.{finish, before_spawn, set_hook, set_tag, StaysInHand};
-ghost use Rattle.wx_job.specs.Table.{Plan, Done, Words, Kills, Waits, Owes, adds, reap, spawn, fresh, row, ended, spawns, is_spawning, case};
-ghost use Rattle.wx_job.specs.Prepared.{prepared};
-ghost use Rattle.wx_job.specs.Case.{FollowsHost, Follows, GivesUp, HookedOnly, words_of};
+ghost use Rattle.wx_job.specs.History.{before_spawn, just_picked, begins_by, set_hook, set_tag};
+ghost use Rattle.wx_job.specs.Table.{Plan, Done, reap, waiters, row, graceful, signalled, over, ended, number_of, spawns, deletes, is_restart, is_spawning, is_deletion, is_parking, case};
+ghost use Rattle.wx_job.specs.Prepared.{twice, prepared, prepared_for, fresh_or, fresh_in};
+ghost use Rattle.wx_job.specs.Case.{FollowsHost, Follows, GivesUp};
 ghost use Rattle.wx_job.specs.Kept.{Quiet, KeepsOn};
 ghost use Rattle.wx_job.specs.Steady.{AreSpare, Spends};
-ghost use Rattle.wx_job.specs.Stands.{Stands, Stops, kit_of, child_of, running_of, choice_of};
+ghost use Rattle.wx_job.specs.Stands.{Stands, Stops, SameJob, kit_of, child_of, grace_of, holds, choice_of};
 
 use crate::choice::Choice;
-use crate::context::JobTaskContext;
+use crate::grace::{Grace, Standing};
 use crate::outside::{Host, JobHooks};
 use crate::state::CommandState;
 use crate::task::JobTask;
 use std::alloc::Global;
 use wx_command::Spawnable;
 use wx_control::{Control, Flag, Picked};
-use wx_events::{Copies, Memory, ProcessEnd};
-use wx_journal::{Entry, HostFault, Journal, SpawnTag, Word};
+use wx_events::{Memory, Signal};
+use wx_journal::{Entry, Journal, SpawnTag, Word};
 
 #[tactic(auto, using(crate::proofs::Sets::steps))]
 impl JobTask {
-    /// Raises a ticket.
-    fn raise<H: Host>(&self, ticket: u64, done: &Flag, host: &mut H, journal: &mut Journal)
-        requires stands { Stands self.now journal.old.past }
-        requires room { AreSpare 1 journal.old (H.seen host.old) }
-        ensures stands { Stands self.now journal.new.past }
-        ensures follows { (k : Plan) → FollowsHost (adds (Entry.Raise ticket) k) journal.old.past (H.seen host.old) k journal.new.past (H.seen host.new) }
-        ensures quiet { Quiet journal.old.past journal.new.past }
-        ensures spends { Spends 1 journal.old (H.seen host.old) journal.new (H.seen host.new) }
-    {
-        host.raise(ticket, done);
-        journal.push(Entry::Raise(ticket));
-    }
-
-    /// Kills the child.
-    fn kill<H: Host>(
-        &self,
-        child: u64,
-        host: &mut H,
-        journal: &mut Journal,
-    ) -> Result<(), HostFault>
-        requires stands { Stands self.now journal.old.past }
-        requires room { AreSpare 1 journal.old (H.seen host.old) }
-        ensures stands { Stands self.now journal.new.past }
-        ensures ok { OnOk result ((k : Plan) (f : Plan) → FollowsHost (Owes (Kills child) k f) journal.old.past (H.seen host.old) k journal.new.past (H.seen host.new)) }
-        ensures err { OnErr result ((k : Plan) (f : Plan) → FollowsHost (Owes (Kills child) k f) journal.old.past (H.seen host.old) f journal.new.past (H.seen host.new)) }
-        ensures spends { Spends 1 journal.old (H.seen host.old) journal.new (H.seen host.new) }
-    {
-        let answer = host.kill(child);
-        journal.push(Entry::Kill { child, answer });
-        answer
-    }
-
-    /// Waits for the child's end, which is kept no longer.
-    fn wait<H: Host>(
-        &mut self,
-        child: u64,
-        at: u64,
-        host: &mut H,
-        journal: &mut Journal,
-    ) -> Result<ProcessEnd, HostFault>
-        requires stands { Stands self.old journal.old.past }
-        requires runs { child_of self.old.state ≡ Some child }
-        requires here { self.old.gone ≡ false }
-        requires at { moment journal.old.past ≡ at }
-        requires room { AreSpare 1 journal.old (H.seen host.old) }
-        ensures stands { Stands self.new journal.new.past }
-        ensures ok { OnOk result ((k : Plan) (f : Plan) → FollowsHost (Owes (Waits child) k f) journal.old.past (H.seen host.old) k journal.new.past (H.seen host.new)) }
-        ensures err { OnErr result ((k : Plan) (f : Plan) → FollowsHost (Owes (Waits child) k f) journal.old.past (H.seen host.old) f journal.new.past (H.seen host.new)) }
-        ensures fields { self.new ≡ record self.old { state = self.new.state; kept = self.new.kept } }
-        ensures runs { OnErr result (self.new.state ≡ self.old.state) }
-        ensures spends { Spends 1 journal.old (H.seen host.old) journal.new (H.seen host.new) }
-    {
-        let answer = host.wait(child);
-        journal.push(Entry::Wait { child, answer });
-        self.kept = false;
-        if let Ok(status) = answer {
-            self.state = finished(child, status, at, self.state);
-        }
-        answer
-    }
-
-    /// Kills the child and waits for it. It answers whether both were done; where they weren't it raises the ticket.
-    fn reap<H: Host>(
-        &mut self,
-        child: u64,
-        ticket: u64,
-        done: &Flag,
-        at: u64,
-        host: &mut H,
-        journal: &mut Journal,
-    ) -> bool
-        requires stands { Stands self.old journal.old.past }
-        requires runs { child_of self.old.state ≡ Some child }
-        requires here { self.old.gone ≡ false }
-        requires at { moment journal.old.past ≡ at }
-        requires room { AreSpare 3 journal.old (H.seen host.old) }
-        ensures stands { Stands self.new journal.new.past }
-        ensures done { OnTrue result ((k : Plan) → FollowsHost (reap child ticket k) journal.old.past (H.seen host.old) k journal.new.past (H.seen host.new)) }
-        ensures not_done { OnFalse result ((k : Plan) → FollowsHost (reap child ticket k) journal.old.past (H.seen host.old) Done journal.new.past (H.seen host.new)) }
-        ensures fields { self.new ≡ record self.old { state = self.new.state; kept = self.new.kept } }
-        ensures runs { OnFalse result (self.new.state ≡ self.old.state) }
-        ensures spends { Spends 3 journal.old (H.seen host.old) journal.new (H.seen host.new) }
-    {
-        if self.kill(child, host, journal).is_err() {
-            self.raise(ticket, done, host, journal);
-            return false;
-        }
-        if self.wait(child, at, host, journal).is_err() {
-            self.raise(ticket, done, host, journal);
-            return false;
-        }
-        true
-    }
-
-    /// Spawns a child. What is spawned is given twice, for the call and for its entry. `before` is the state before it, or
-    /// before the hook that was called for it.
-    fn spawn<H: Host>(
-        &mut self,
-        what: Spawnable,
-        listed: Spawnable,
-        before: CommandState,
-        at: u64,
-        host: &mut H,
-        journal: &mut Journal,
-    )
-        requires stands { Stands self.old journal.old.past }
-        requires runs { child_of self.old.state ≡ None }
-        requires here { self.old.gone ≡ false }
-        requires at { moment journal.old.past ≡ at }
-        requires listed { listed ≡ what }
-        requires before { before ≡ before_spawn self.old.id journal.old.past }
-        requires room { AreSpare 1 journal.old (H.seen host.old) }
-        ensures stands { Stands self.new journal.new.past }
-        ensures follows { (words : Words) → words_of journal.old.past words ≡ what → (k : Plan) → FollowsHost (spawn self.old.id self.old.tag words k) journal.old.past (H.seen host.old) k journal.new.past (H.seen host.new) }
-        ensures fields { self.new ≡ record self.old { state = self.new.state; previous = self.new.previous; kept = self.new.kept } }
-        ensures quiet { Quiet journal.old.past journal.new.past }
-        ensures spends { Spends 1 journal.old (H.seen host.old) journal.new (H.seen host.new) }
-    {
-        let child = journal.children();
-        let answer = host.spawn(child, self.id, what, self.tag);
-        journal.push(Entry::Spawn {
-            child,
-            job: self.id,
-            tag: self.tag,
-            what: listed,
-            answer,
-        });
-        self.previous = Some(before);
-        if answer.is_ok() {
-            self.state = CommandState::Running { child, started: at };
-            self.kept = false;
-        } else {
-            self.state = CommandState::Pending;
-        }
-    }
-
-    /// Lets the spawn hook of this number change what is spawned, and answers twice what it left. It fails for want of
-    /// memory, and then the case is given up.
-    fn call_hook<K: JobHooks>(
-        &mut self,
-        alloc: Global,
-        n: u32,
-        mut what: Spawnable,
-        hooks: &mut K,
-        journal: &mut Journal,
-    ) -> Result<(Spawnable, Spawnable), Memory>
-        requires stands { Stands self.old journal.old.past }
-        requires runs { child_of self.old.state ≡ None }
-        requires here { self.old.gone ≡ false }
-        requires what { what ≡ spawnable_of self.old.command }
-        requires journal_room { 1 ≤ journal.old.spare }
-        requires hooks_room { 1 ≤ (K.seen hooks.old).spare }
-        ensures stands { Stands self.new journal.new.past }
-        ensures same { IfOk result (λ two. two.1 ≡ two.0) }
-        ensures past { IfOk result (λ two. journal.new.past ≡ Entry.Hook self.old.id n (Ok two.0) ∷ journal.old.past) }
-        ensures told { IfOk result (λ two. (K.seen hooks.new).told ≡ tell (Entry.Hook self.old.id n (Ok two.0)) (K.seen hooks.old).told) }
-        ensures err { OnErr result (HookedOnly self.old.id n journal.old.past (K.seen hooks.old).told journal.new.past (K.seen hooks.new).told) }
-        ensures in_hand { OnErr result (StaysInHand journal.old.past journal.new.past) }
-        ensures fields { self.new ≡ record self.old { state = Pending; previous = Some self.old.state } }
-        ensures keeps { KeepsOn K.seen K.rule K.stands hooks.old journal.old.past hooks.new journal.new.past }
-        ensures now { moment journal.new.past ≡ moment journal.old.past }
-        ensures journal_room { journal.old.spare ≤ journal.new.spare + 1 }
-        ensures hooks_room { (K.seen hooks.old).spare ≤ (K.seen hooks.new).spare + 1 }
-    {
-        self.previous = Some(self.state);
-        self.state = CommandState::Pending;
-        let cx = JobTaskContext {
-            command: self.command.get(),
-            current: &self.state,
-            previous: self.previous.as_ref(),
-        };
-        let answer = hooks.spawn_hook(self.id, n, &mut what, &cx);
-        let job = self.id;
-        match answer {
-            Ok(()) => {
-                let copies = two_copies(alloc, &what);
-                let answer = Ok(what);
-                journal.push(Entry::Hook { job, n, answer });
-                copies
-            }
-            Err(error) => {
-                let answer = Err(error);
-                journal.push(Entry::Hook { job, n, answer });
-                Err(error)
-            }
-        }
-    }
-
-    /// Spawns a fresh child of these words, or of what the spawn hook leaves of them where one is set. It fails only for
-    /// want of memory, behind the call of a hook, and then the case is given up.
-    fn fresh<H: Host, K: JobHooks>(
-        &mut self,
-        alloc: Global,
-        what: Spawnable,
-        listed: Spawnable,
-        at: u64,
-        host: &mut H,
-        hooks: &mut K,
-        journal: &mut Journal,
-    ) -> Result<(), Memory>
-        requires stands { Stands self.old journal.old.past }
-        requires runs { child_of self.old.state ≡ None }
-        requires here { self.old.gone ≡ false }
-        requires at { moment journal.old.past ≡ at }
-        requires what { what ≡ spawnable_of self.old.command }
-        requires listed { listed ≡ what }
-        requires before { before_spawn self.old.id journal.old.past ≡ self.old.state }
-        requires room { AreSpare 2 journal.old (H.seen host.old) }
-        requires hooks_room { 1 ≤ (K.seen hooks.old).spare }
-        ensures stands { Stands self.new journal.new.past }
-        ensures ok { OnOk result ((k : Plan) → Follows (fresh self.old.id (kit_of self.old) k) journal.old.past (H.seen host.old) (K.seen hooks.old).told k journal.new.past (H.seen host.new) (K.seen hooks.new).told) }
-        ensures err { OnErr result ((k : Plan) → GivesUp (fresh self.old.id (kit_of self.old) k) journal.old.past (H.seen host.old) (K.seen hooks.old).told journal.new.past (H.seen host.new) (K.seen hooks.new).told) }
-        ensures pending { OnErr result (self.new.state ≡ Pending) }
-        ensures in_hand { OnErr result (StaysInHand journal.old.past journal.new.past) }
-        ensures fields { self.new ≡ record self.old { state = self.new.state; previous = self.new.previous; kept = self.new.kept } }
-        ensures keeps { KeepsOn K.seen K.rule K.stands hooks.old journal.old.past hooks.new journal.new.past }
-        ensures spends { Spends 2 journal.old (H.seen host.old) journal.new (H.seen host.new) }
-        ensures hooks_room { (K.seen hooks.old).spare ≤ (K.seen hooks.new).spare + 1 }
-    {
-        let before = self.state;
-        let Some(n) = self.hook else {
-            self.spawn(what, listed, before, at, host, journal);
-            return Ok(());
-        };
-        let (what, listed) = self.call_hook(alloc, n, what, hooks, journal)?;
-        self.spawn(what, listed, before, at, host, journal);
-        Ok(())
-    }
-
-    /// The case of Start. What is spawned is given where no child runs.
+    /// Spawns a fresh child, where what it spawns is given, and raises the ticket.
     fn start<H: Host, K: JobHooks>(
         &mut self,
         alloc: Global,
-        picked: &Picked,
+        ticket: u64,
+        done: &Flag,
         what: Option<(Spawnable, Spawnable)>,
         at: u64,
         host: &mut H,
@@ -274,26 +41,27 @@ impl JobTask {
     ) -> Result<(), Memory>
         requires stands { Stands self.old journal.old.past }
         requires here { self.old.gone ≡ false }
+        requires unheld { holds ticket self.old ≡ 0 }
         requires at { moment journal.old.past ≡ at }
-        requires what { what ≡ prepared self.old.command Start (child_of self.old.state) }
+        requires what { what ≡ twice self.old.command (is_some what) }
+        requires runs { IfSome what (λ two. child_of self.old.state ≡ None) }
         requires before { before_spawn self.old.id journal.old.past ≡ self.old.state }
-        requires room { AreSpare 3 journal.old (H.seen host.old) }
+        requires room { AreSpare (3) journal.old (H.seen host.old) }
         requires hooks_room { 1 ≤ (K.seen hooks.old).spare }
         ensures stands { Stands self.new journal.new.past }
-        ensures ok { OnOk result (Follows (row self.old.id (kit_of self.old) picked.now.ticket Start (child_of self.old.state)) journal.old.past (H.seen host.old) (K.seen hooks.old).told Done journal.new.past (H.seen host.new) (K.seen hooks.new).told) }
-        ensures err { OnErr result (GivesUp (row self.old.id (kit_of self.old) picked.now.ticket Start (child_of self.old.state)) journal.old.past (H.seen host.old) (K.seen hooks.old).told journal.new.past (H.seen host.new) (K.seen hooks.new).told) }
-        ensures memory { OnErr result (child_of self.old.state ≡ None) }
+        ensures ok { OnOk result (Follows (fresh_or (is_some what) self.old.id (kit_of self.old) ticket) journal.old.past (H.seen host.old) (K.seen hooks.old).told Done journal.new.past (H.seen host.new) (K.seen hooks.new).told) }
+        ensures err { OnErr result (GivesUp (fresh_or (is_some what) self.old.id (kit_of self.old) ticket) journal.old.past (H.seen host.old) (K.seen hooks.old).told journal.new.past (H.seen host.new) (K.seen hooks.new).told) }
+        ensures memory { OnErr result (is_some what ≡ true) }
         ensures pending { OnErr result (self.new.state ≡ Pending) }
-        ensures in_hand { OnErr result (StaysInHand journal.old.past journal.new.past) }
         ensures fields { self.new ≡ record self.old { state = self.new.state; previous = self.new.previous; kept = self.new.kept } }
         ensures keeps { KeepsOn K.seen K.rule K.stands hooks.old journal.old.past hooks.new journal.new.past }
-        ensures spends { Spends 3 journal.old (H.seen host.old) journal.new (H.seen host.new) }
+        ensures spends { Spends (3) journal.old (H.seen host.old) journal.new (H.seen host.new) }
         ensures hooks_room { (K.seen hooks.old).spare ≤ (K.seen hooks.new).spare + 1 }
     {
         if let Some((what, listed)) = what {
             self.fresh(alloc, what, listed, at, host, hooks, journal)?;
         }
-        self.raise(picked.ticket, &picked.done, host, journal);
+        self.raise(ticket, done, host, journal);
         Ok(())
     }
 
@@ -308,107 +76,110 @@ impl JobTask {
     )
         requires stands { Stands self.old journal.old.past }
         requires here { self.old.gone ≡ false }
+        requires unheld { holds ticket self.old ≡ 0 }
         requires at { moment journal.old.past ≡ at }
-        requires room { AreSpare 4 journal.old (H.seen host.old) }
+        requires room { AreSpare (5 + length self.old.parked.tickets) journal.old (H.seen host.old) }
         ensures stands { Stands self.new journal.new.past }
         ensures follows { FollowsHost (row self.old.id (kit_of self.old) ticket Stop (child_of self.old.state)) journal.old.past (H.seen host.old) Done journal.new.past (H.seen host.new) }
-        ensures fields { self.new ≡ record self.old { state = self.new.state; previous = self.new.previous; kept = self.new.kept } }
-        ensures spends { Spends 4 journal.old (H.seen host.old) journal.new (H.seen host.new) }
+        ensures fields { self.new ≡ record self.old { state = self.new.state; kept = self.new.kept; grace = self.new.grace; parked = self.new.parked } }
+        ensures spends { Spends (5 + length self.old.parked.tickets) journal.old (H.seen host.old) journal.new (H.seen host.new) }
     {
         if let Some(child) = child_of(self.state) {
-            if !self.reap(child, ticket, done, at, host, journal) {
+            let Ok(standing) = self.reap(child, ticket, done, at, host, journal) else {
                 return;
+            };
+            self.raise_parked(host, journal);
+            if let Some(standing) = standing {
+                self.raise(standing.grace.ticket, &standing.done, host, journal);
             }
         }
         self.raise(ticket, done, host, journal);
     }
 
-    /// The case of the end of the child.
-    fn end_child<H: Host>(&mut self, child: u64, at: u64, host: &mut H, journal: &mut Journal)
-        requires stands { Stands self.old journal.old.past }
-        requires runs { child_of self.old.state ≡ Some child }
-        requires here { self.old.gone ≡ false }
-        requires at { moment journal.old.past ≡ at }
-        requires room { AreSpare 1 journal.old (H.seen host.old) }
-        ensures stands { Stands self.new journal.new.past }
-        ensures follows { FollowsHost (ended child) journal.old.past (H.seen host.old) Done journal.new.past (H.seen host.new) }
-        ensures fields { self.new ≡ record self.old { state = self.new.state; kept = self.new.kept } }
-        ensures spends { Spends 1 journal.old (H.seen host.old) journal.new (H.seen host.new) }
-    {
-        let _answer = self.wait(child, at, host, journal);
-    }
-
-    /// What a step picks.
-    pub(crate) fn choose(&self) -> Choice
-        requires here { self.now.gone ≡ false }
-        ensures chosen { result ≡ choice_of self.now }
-        ensures ends { (c : ℕ) → choice_of self.now ≡ End c → child_of self.now.state ≡ Some c }
-    {
-        if self.kept {
-            if let Some(child) = child_of(self.state) {
-                return Choice::End(child);
-            }
-        }
-        match self.waiting.first(false) {
-            Some((ticket, control)) => Choice::Next { ticket, control },
-            None => Choice::Nothing,
-        }
-    }
-
-    /// What the case of a control spawns, twice, where it spawns. It takes no memory where it doesn't.
-    fn prepare(
-        &self,
-        alloc: Global,
-        control: Control,
-    ) -> Result<Option<(Spawnable, Spawnable)>, Memory>
-        ensures ok { IfOk result (λ what. what ≡ prepared self.now.command control (child_of self.now.state)) }
-        ensures err { OnErr result (spawns control (child_of self.now.state) ≡ true) }
-    {
-        match (control, child_of(self.state)) {
-            (Control::Start, None) => {
-                let what = self.command.get().to_spawnable(alloc)?;
-                let listed = self.command.get().to_spawnable(alloc)?;
-                Ok(Some((what, listed)))
-            }
-            (Control::Start, Some(_))
-            | (Control::Stop, _)
-            | (Control::SetSyncSpawnHook(_), _)
-            | (Control::UnsetSpawnHook, _)
-            | (Control::SetSpawnFn(_), _)
-            | (Control::SetSpawnChildFn(_), _)
-            | (Control::ClearSpawnFn, _) => Ok(None),
-        }
-    }
-
-    /// Takes the control that is picked out of those that wait. It sets or clears the spawn hook and what spawns.
-    fn pick(&mut self, ticket: u64, control: Control, journal: &mut Journal) -> Picked
+    /// The cases of GracefulStop and TryGracefulRestart: the child is sent a signal, and is given a grace.
+    #[tactic(auto, using(crate::proofs::Sets::steps, crate::proofs::KeptLemmas::quiets))]
+    fn graceful<H: Host>(
+        &mut self,
+        picked: Picked,
+        signal: Signal,
+        ends: u128,
+        restarts: bool,
+        host: &mut H,
+        journal: &mut Journal,
+    )
         requires stands { Stands self.old journal.old.past }
         requires here { self.old.gone ≡ false }
-        requires chosen { choice_of self.old ≡ Next ticket control }
-        requires journal_room { 1 ≤ journal.old.spare }
+        requires unheld { holds picked.ticket self.old ≡ 0 }
+        requires named { picked.ticket < ticket_count journal.old.past }
+        requires begins { begins_by (just_picked self.old.id journal.old.past) (moment journal.old.past) (grace_of self.old) ≡ Some (record { ends = ends; ticket = picked.ticket; restarts = restarts }) }
+        requires room { AreSpare (2) journal.old (H.seen host.old) }
         ensures stands { Stands self.new journal.new.past }
-        ensures picked { picked result ≡ (ticket, control) }
-        ensures entry { journal.new.past ≡ Entry.Pick self.old.id ticket ∷ journal.old.past }
-        ensures fields { self.new ≡ record self.old { waiting = self.new.waiting; hook = set_hook (Some control) self.old.hook; tag = set_tag (Some control) self.old.tag } }
-        ensures journal_room { journal.old.spare ≤ journal.new.spare + 1 }
+        ensures follows { FollowsHost (graceful signal picked.ticket (child_of self.old.state)) journal.old.past (H.seen host.old) Done journal.new.past (H.seen host.new) }
+        ensures fields { self.new ≡ record self.old { grace = self.new.grace } }
+        ensures quiet { Quiet journal.old.past journal.new.past }
+        ensures spends { Spends (2) journal.old (H.seen host.old) journal.new (H.seen host.new) }
     {
-        let Some(picked) = self.waiting.pick(false) else {
-            unreachable!()
+        let Some(child) = child_of(self.state) else {
+            self.raise(picked.ticket, &picked.done, host, journal);
+            return;
         };
-        journal.push(Entry::Pick {
-            job: self.id,
-            ticket: picked.ticket,
-        });
-        self.hook = hook_after(picked.control, self.hook);
-        self.tag = tag_after(picked.control, self.tag);
-        picked
+        let standing = Standing {
+            grace: Grace {
+                ends,
+                ticket: picked.ticket,
+                restarts,
+            },
+            done: picked.done,
+        };
+        let number = number_of(signal);
+        if let Some(back) = self.begin(child, number, standing, host, journal) {
+            self.raise(back.grace.ticket, &back.done, host, journal);
+        }
     }
 
-    /// The case of a control that was picked.
-    fn control<H: Host, K: JobHooks>(
+    /// Reaps the child, raises the parked tickets, spawns a fresh child where it is given, and raises the ticket.
+    fn restart<H: Host, K: JobHooks>(
         &mut self,
         alloc: Global,
-        control: Control,
+        child: u64,
+        ticket: u64,
+        done: &Flag,
+        what: Option<(Spawnable, Spawnable)>,
+        at: u64,
+        host: &mut H,
+        hooks: &mut K,
+        journal: &mut Journal,
+    ) -> Result<(), Memory>
+        requires stands { Stands self.old journal.old.past }
+        requires here { self.old.gone ≡ false }
+        requires unheld { holds ticket self.old ≡ 0 }
+        requires runs { child_of self.old.state ≡ Some child }
+        requires at { moment journal.old.past ≡ at }
+        requires what { what ≡ twice self.old.command (is_some what) }
+        requires room { AreSpare (6 + length self.old.parked.tickets) journal.old (H.seen host.old) }
+        requires hooks_room { 1 ≤ (K.seen hooks.old).spare }
+        ensures stands { Stands self.new journal.new.past }
+        ensures ok { OnOk result (Follows (reap child ticket (waiters self.old.parked.tickets (fresh_or (is_some what) self.old.id (kit_of self.old) ticket))) journal.old.past (H.seen host.old) (K.seen hooks.old).told Done journal.new.past (H.seen host.new) (K.seen hooks.new).told) }
+        ensures err { OnErr result (GivesUp (reap child ticket (waiters self.old.parked.tickets (fresh_or (is_some what) self.old.id (kit_of self.old) ticket))) journal.old.past (H.seen host.old) (K.seen hooks.old).told journal.new.past (H.seen host.new) (K.seen hooks.new).told) }
+        ensures memory { OnErr result (is_some what ≡ true) }
+        ensures pending { OnErr result (self.new.state ≡ Pending) }
+        ensures fields { self.new ≡ record self.old { state = self.new.state; previous = self.new.previous; kept = self.new.kept; grace = self.new.grace; parked = self.new.parked } }
+        ensures keeps { KeepsOn K.seen K.rule K.stands hooks.old journal.old.past hooks.new journal.new.past }
+        ensures spends { Spends (6 + length self.old.parked.tickets) journal.old (H.seen host.old) journal.new (H.seen host.new) }
+        ensures hooks_room { (K.seen hooks.old).spare ≤ (K.seen hooks.new).spare + 1 }
+    {
+        if self.reap(child, ticket, done, at, host, journal).is_err() {
+            return Ok(());
+        }
+        self.raise_parked(host, journal);
+        self.start(alloc, ticket, done, what, at, host, hooks, journal)
+    }
+
+    /// The cases of TryRestart and ContinueTryGracefulRestart: a child that runs is reaped, and a fresh one is spawned
+    /// where it is given.
+    fn start_afresh<H: Host, K: JobHooks>(
+        &mut self,
+        alloc: Global,
         picked: &Picked,
         what: Option<(Spawnable, Spawnable)>,
         at: u64,
@@ -418,29 +189,311 @@ impl JobTask {
     ) -> Result<(), Memory>
         requires stands { Stands self.old journal.old.past }
         requires here { self.old.gone ≡ false }
+        requires unheld { holds picked.now.ticket self.old ≡ 0 }
         requires at { moment journal.old.past ≡ at }
-        requires what { what ≡ prepared self.old.command control (child_of self.old.state) }
+        requires what { what ≡ twice self.old.command (is_some what) }
         requires before { before_spawn self.old.id journal.old.past ≡ self.old.state }
-        requires room { AreSpare 4 journal.old (H.seen host.old) }
+        requires room { AreSpare (6 + length self.old.parked.tickets) journal.old (H.seen host.old) }
         requires hooks_room { 1 ≤ (K.seen hooks.old).spare }
         ensures stands { Stands self.new journal.new.past }
-        ensures ok { OnOk result (Follows (row self.old.id (kit_of self.old) picked.now.ticket control (child_of self.old.state)) journal.old.past (H.seen host.old) (K.seen hooks.old).told Done journal.new.past (H.seen host.new) (K.seen hooks.new).told) }
-        ensures err { OnErr result (GivesUp (row self.old.id (kit_of self.old) picked.now.ticket control (child_of self.old.state)) journal.old.past (H.seen host.old) (K.seen hooks.old).told journal.new.past (H.seen host.new) (K.seen hooks.new).told) }
+        ensures ok { OnOk result (Follows (fresh_in self.old.id (kit_of self.old) picked.now.ticket (is_some what) (child_of self.old.state)) journal.old.past (H.seen host.old) (K.seen hooks.old).told Done journal.new.past (H.seen host.new) (K.seen hooks.new).told) }
+        ensures err { OnErr result (GivesUp (fresh_in self.old.id (kit_of self.old) picked.now.ticket (is_some what) (child_of self.old.state)) journal.old.past (H.seen host.old) (K.seen hooks.old).told journal.new.past (H.seen host.new) (K.seen hooks.new).told) }
+        ensures memory { OnErr result (is_some what ≡ true) }
+        ensures pending { OnErr result (self.new.state ≡ Pending) }
+        ensures fields { self.new ≡ record self.old { state = self.new.state; previous = self.new.previous; kept = self.new.kept; grace = self.new.grace; parked = self.new.parked } }
+        ensures keeps { KeepsOn K.seen K.rule K.stands hooks.old journal.old.past hooks.new journal.new.past }
+        ensures spends { Spends (6 + length self.old.parked.tickets) journal.old (H.seen host.old) journal.new (H.seen host.new) }
+        ensures hooks_room { (K.seen hooks.old).spare ≤ (K.seen hooks.new).spare + 1 }
+    {
+        let ticket = picked.ticket;
+        let done = &picked.done;
+        match child_of(self.state) {
+            Some(child) => self.restart(alloc, child, ticket, done, what, at, host, hooks, journal),
+            None => self.start(alloc, ticket, done, what, at, host, hooks, journal),
+        }
+    }
+
+    /// The case of Signal.
+    #[tactic(auto, using(crate::proofs::Sets::steps, crate::proofs::KeptLemmas::quiets))]
+    fn send_signal<H: Host>(
+        &mut self,
+        picked: &Picked,
+        signal: Signal,
+        host: &mut H,
+        journal: &mut Journal,
+    )
+        requires stands { Stands self.old journal.old.past }
+        requires here { self.old.gone ≡ false }
+        requires unheld { holds picked.now.ticket self.old ≡ 0 }
+        requires begins { begins_by (just_picked self.old.id journal.old.past) (moment journal.old.past) (grace_of self.old) ≡ grace_of self.old }
+        requires room { AreSpare (2) journal.old (H.seen host.old) }
+        ensures stands { Stands self.new journal.new.past }
+        ensures follows { FollowsHost (signalled signal picked.now.ticket (child_of self.old.state)) journal.old.past (H.seen host.old) Done journal.new.past (H.seen host.new) }
+        ensures fields { self.new ≡ self.old }
+        ensures quiet { Quiet journal.old.past journal.new.past }
+        ensures spends { Spends (2) journal.old (H.seen host.old) journal.new (H.seen host.new) }
+    {
+        if let Some(child) = child_of(self.state) {
+            self.signal(child, number_of(signal), host, journal);
+        }
+        self.raise(picked.ticket, &picked.done, host, journal);
+    }
+
+    /// The case of Delete: the ticket is raised, and the job ends.
+    fn delete<H: Host>(&mut self, picked: &Picked, host: &mut H, journal: &mut Journal)
+        requires stands { Stands self.old journal.old.past }
+        requires here { self.old.gone ≡ false }
+        requires unheld { holds picked.now.ticket self.old ≡ 0 }
+        requires room { AreSpare (3) journal.old (H.seen host.old) }
+        ensures stands { Stands self.new journal.new.past }
+        ensures follows { FollowsHost (row self.old.id (kit_of self.old) picked.now.ticket Delete (child_of self.old.state)) journal.old.past (H.seen host.old) Done journal.new.past (H.seen host.new) }
+        ensures fields { self.new ≡ record self.old { waiting = self.new.waiting; kept = false; gone = true; grace = None; parked = self.new.parked } }
+        ensures spends { Spends (3) journal.old (H.seen host.old) journal.new (H.seen host.new) }
+    {
+        self.raise(picked.ticket, &picked.done, host, journal);
+        self.let_go(child_of(self.state), host, journal);
+    }
+
+    /// The case of the end of a grace: the child is reaped, and a fresh one is spawned where the grace is one of a restart.
+    fn end_grace<H: Host, K: JobHooks>(
+        &mut self,
+        alloc: Global,
+        child: u64,
+        grace: Grace,
+        what: Option<(Spawnable, Spawnable)>,
+        at: u64,
+        host: &mut H,
+        hooks: &mut K,
+        journal: &mut Journal,
+    ) -> Result<(), Memory>
+        requires stands { Stands self.old journal.old.past }
+        requires here { self.old.gone ≡ false }
+        requires runs { child_of self.old.state ≡ Some child }
+        requires stood { grace_of self.old ≡ Some grace }
+        requires at { moment journal.old.past ≡ at }
+        requires what { what ≡ twice self.old.command (grace.restarts) }
+        requires room { AreSpare (7 + length self.old.parked.tickets) journal.old (H.seen host.old) }
+        requires hooks_room { 1 ≤ (K.seen hooks.old).spare }
+        ensures stands { Stands self.new journal.new.past }
+        ensures ok { OnOk result (Follows (over self.old.id (kit_of self.old) child grace) journal.old.past (H.seen host.old) (K.seen hooks.old).told Done journal.new.past (H.seen host.new) (K.seen hooks.new).told) }
+        ensures err { OnErr result (GivesUp (over self.old.id (kit_of self.old) child grace) journal.old.past (H.seen host.old) (K.seen hooks.old).told journal.new.past (H.seen host.new) (K.seen hooks.new).told) }
+        ensures memory { OnErr result (grace.restarts ≡ true) }
+        ensures pending { OnErr result (self.new.state ≡ Pending) }
+        ensures fields { self.new ≡ record self.old { state = self.new.state; previous = self.new.previous; kept = self.new.kept; grace = self.new.grace; parked = self.new.parked } }
+        ensures keeps { KeepsOn K.seen K.rule K.stands hooks.old journal.old.past hooks.new journal.new.past }
+        ensures spends { Spends (7 + length self.old.parked.tickets) journal.old (H.seen host.old) journal.new (H.seen host.new) }
+        ensures hooks_room { (K.seen hooks.old).spare ≤ (K.seen hooks.new).spare + 1 }
+    {
+        let Some(standing) = self.grace.take() else {
+            unreachable!()
+        };
+        journal.push(Entry::GraceOver(self.id));
+        let ticket = standing.grace.ticket;
+        self.restart(
+            alloc,
+            child,
+            ticket,
+            &standing.done,
+            what,
+            at,
+            host,
+            hooks,
+            journal,
+        )
+    }
+
+    /// The case of the end of the child: the parked tickets are raised, and that of a grace that stood, behind a fresh
+    /// spawn where that is one of a restart.
+    fn end_child<H: Host, K: JobHooks>(
+        &mut self,
+        alloc: Global,
+        child: u64,
+        what: Option<(Spawnable, Spawnable)>,
+        at: u64,
+        host: &mut H,
+        hooks: &mut K,
+        journal: &mut Journal,
+    ) -> Result<(), Memory>
+        requires stands { Stands self.old journal.old.past }
+        requires here { self.old.gone ≡ false }
+        requires runs { child_of self.old.state ≡ Some child }
+        requires at { moment journal.old.past ≡ at }
+        requires what { what ≡ twice self.old.command (is_restart (grace_of self.old)) }
+        requires room { AreSpare (4 + length self.old.parked.tickets) journal.old (H.seen host.old) }
+        requires hooks_room { 1 ≤ (K.seen hooks.old).spare }
+        ensures stands { Stands self.new journal.new.past }
+        ensures ok { OnOk result (Follows (ended self.old.id (kit_of self.old) child) journal.old.past (H.seen host.old) (K.seen hooks.old).told Done journal.new.past (H.seen host.new) (K.seen hooks.new).told) }
+        ensures err { OnErr result (GivesUp (ended self.old.id (kit_of self.old) child) journal.old.past (H.seen host.old) (K.seen hooks.old).told journal.new.past (H.seen host.new) (K.seen hooks.new).told) }
+        ensures memory { OnErr result (is_restart (grace_of self.old) ≡ true) }
+        ensures pending { OnErr result (self.new.state ≡ Pending) }
+        ensures fields { self.new ≡ record self.old { state = self.new.state; previous = self.new.previous; kept = self.new.kept; grace = self.new.grace; parked = self.new.parked } }
+        ensures keeps { KeepsOn K.seen K.rule K.stands hooks.old journal.old.past hooks.new journal.new.past }
+        ensures spends { Spends (4 + length self.old.parked.tickets) journal.old (H.seen host.old) journal.new (H.seen host.new) }
+        ensures hooks_room { (K.seen hooks.old).spare ≤ (K.seen hooks.new).spare + 1 }
+    {
+        let Ok(standing) = self.wait(child, at, host, journal) else {
+            return Ok(());
+        };
+        let Some(standing) = standing else {
+            self.raise_parked(host, journal);
+            return Ok(());
+        };
+        let ticket = standing.grace.ticket;
+        if !standing.grace.restarts {
+            self.raise(ticket, &standing.done, host, journal);
+            self.raise_parked(host, journal);
+            return Ok(());
+        }
+        self.raise_parked(host, journal);
+        let done = &standing.done;
+        self.start(alloc, ticket, done, what, at, host, hooks, journal)
+    }
+
+    /// What a step picks at this moment.
+    pub(crate) fn choose(&self, at: u64) -> Choice
+        requires here { self.now.gone ≡ false }
+        ensures chosen { result ≡ choice_of self.now at }
+    {
+        if let Some(child) = child_of(self.state) {
+            if let Some(standing) = &self.grace {
+                if standing.grace.ends <= at as u128 {
+                    return Choice::Over(child, standing.grace);
+                }
+            }
+            if self.kept {
+                return Choice::End(child);
+            }
+        }
+        match self.waiting.first(self.grace.is_some()) {
+            Some((ticket, control)) => Choice::Next { ticket, control },
+            None => Choice::Nothing,
+        }
+    }
+
+    /// What the case of what was picked spawns, twice, where it spawns. It takes no memory where it doesn't.
+    fn prepare(
+        &self,
+        alloc: Global,
+        choice: Choice,
+    ) -> Result<Option<(Spawnable, Spawnable)>, Memory>
+        ensures ok { IfOk result (λ what. what ≡ prepared_for self.now.command choice (child_of self.now.state) (grace_of self.now)) }
+        ensures err { OnErr result (is_spawning choice (child_of self.now.state) (grace_of self.now) ≡ true) }
+    {
+        if !is_spawning(choice, child_of(self.state), self.restarts()) {
+            return Ok(None);
+        }
+        let what = self.command.get().to_spawnable(alloc)?;
+        let listed = self.command.get().to_spawnable(alloc)?;
+        Ok(Some((what, listed)))
+    }
+
+    /// Whether a grace of a restart stands.
+    fn restarts(&self) -> bool
+        ensures { result ≡ is_restart (grace_of self.now) }
+    {
+        match &self.grace {
+            Some(standing) => standing.grace.restarts,
+            None => false,
+        }
+    }
+
+    /// Takes the control that is picked out of those that wait. It sets or clears the spawn hook and what spawns. There is
+    /// none to do where its ticket is parked.
+    fn pick(&mut self, ticket: u64, control: Control, journal: &mut Journal) -> Option<Picked>
+        requires stands { Stands self.old journal.old.past }
+        requires here { self.old.gone ≡ false }
+        requires chosen { first_of (is_some (grace_of self.old)) self.old.waiting ≡ Some (ticket, control) }
+        requires journal_room { 1 ≤ journal.old.spare }
+        ensures stands { Stands self.new journal.new.past }
+        ensures picked { IfSome result (λ x. (picked x ≡ (ticket, control)) × (is_parking control self.old.state ≡ false)) }
+        ensures parks { IfNone result (is_parking control self.old.state ≡ true) }
+        ensures unheld { IfSome result (λ x. holds ticket self.new ≡ 0) }
+        ensures entry { journal.new.past ≡ Entry.Pick self.old.id ticket ∷ journal.old.past }
+        ensures just { just_picked self.old.id journal.new.past ≡ Some (ticket, control) }
+        ensures fields { self.new ≡ record self.old { waiting = self.new.waiting; parked = self.new.parked; hook = set_hook (Some control) self.old.hook; tag = set_tag (Some control) self.old.tag } }
+        ensures kept { IfSome result (λ x. self.new.parked ≡ self.old.parked) }
+        ensures journal_room { journal.old.spare ≤ journal.new.spare + 1 }
+    {
+        let Some(picked) = self.waiting.pick(self.grace.is_some()) else {
+            unreachable!()
+        };
+        journal.push(Entry::Pick {
+            job: self.id,
+            ticket: picked.ticket,
+        });
+        self.hook = hook_after(picked.control, self.hook);
+        self.tag = tag_after(picked.control, self.tag);
+        if is_parking(picked.control, self.state) {
+            self.parked.park(picked.ticket, picked.done);
+            return None;
+        }
+        Some(picked)
+    }
+
+    /// The case of a control that was picked.
+    fn control<H: Host, K: JobHooks>(
+        &mut self,
+        alloc: Global,
+        control: Control,
+        picked: Picked,
+        what: Option<(Spawnable, Spawnable)>,
+        at: u64,
+        host: &mut H,
+        hooks: &mut K,
+        journal: &mut Journal,
+    ) -> Result<(), Memory>
+        requires stands { Stands self.old journal.old.past }
+        requires here { self.old.gone ≡ false }
+        requires unheld { holds picked.ticket self.old ≡ 0 }
+        requires at { moment journal.old.past ≡ at }
+        requires just { just_picked self.old.id journal.old.past ≡ Some (picked.ticket, control) }
+        requires named { picked.ticket < ticket_count journal.old.past }
+        requires in_hand { is_parking control self.old.state ≡ false }
+        requires what { what ≡ prepared self.old.command control (child_of self.old.state) }
+        requires before { before_spawn self.old.id journal.old.past ≡ self.old.state }
+        requires room { AreSpare (6 + length self.old.parked.tickets) journal.old (H.seen host.old) }
+        requires hooks_room { 1 ≤ (K.seen hooks.old).spare }
+        ensures stands { Stands self.new journal.new.past }
+        ensures ok { OnOk result (Follows (row self.old.id (kit_of self.old) picked.ticket control (child_of self.old.state)) journal.old.past (H.seen host.old) (K.seen hooks.old).told Done journal.new.past (H.seen host.new) (K.seen hooks.new).told) }
+        ensures err { OnErr result (GivesUp (row self.old.id (kit_of self.old) picked.ticket control (child_of self.old.state)) journal.old.past (H.seen host.old) (K.seen hooks.old).told journal.new.past (H.seen host.new) (K.seen hooks.new).told) }
         ensures memory { OnErr result (spawns control (child_of self.old.state) ≡ true) }
         ensures pending { OnErr result (self.new.state ≡ Pending) }
-        ensures in_hand { OnErr result (StaysInHand journal.old.past journal.new.past) }
-        ensures fields { self.new ≡ record self.old { state = self.new.state; previous = self.new.previous; kept = self.new.kept } }
+        ensures gone { self.new.gone ≡ deletes control }
+        ensures job { SameJob self.old self.new }
         ensures keeps { KeepsOn K.seen K.rule K.stands hooks.old journal.old.past hooks.new journal.new.past }
-        ensures spends { Spends 4 journal.old (H.seen host.old) journal.new (H.seen host.new) }
+        ensures spends { Spends (6 + length self.old.parked.tickets) journal.old (H.seen host.old) journal.new (H.seen host.new) }
         ensures hooks_room { (K.seen hooks.old).spare ≤ (K.seen hooks.new).spare + 1 }
     {
         match control {
-            Control::Start => self.start(alloc, picked, what, at, host, hooks, journal),
+            Control::Start => {
+                let (ticket, done) = (picked.ticket, &picked.done);
+                self.start(alloc, ticket, done, what, at, host, hooks, journal)
+            }
             Control::Stop => {
                 self.stop(picked.ticket, &picked.done, at, host, journal);
                 Ok(())
             }
-            Control::SetSyncSpawnHook(_)
+            Control::GracefulStop { signal, grace } => {
+                self.graceful(picked, signal, over_at(at, grace), false, host, journal);
+                Ok(())
+            }
+            Control::TryGracefulRestart { signal, grace } => {
+                self.graceful(picked, signal, over_at(at, grace), true, host, journal);
+                Ok(())
+            }
+            Control::TryRestart | Control::ContinueTryGracefulRestart => {
+                self.start_afresh(alloc, &picked, what, at, host, hooks, journal)
+            }
+            Control::Signal(signal) => {
+                self.send_signal(&picked, signal, host, journal);
+                Ok(())
+            }
+            Control::Delete => {
+                self.delete(&picked, host, journal);
+                Ok(())
+            }
+            Control::NextEnding
+            | Control::SetSyncSpawnHook(_)
             | Control::UnsetSpawnHook
             | Control::SetSpawnFn(_)
             | Control::SetSpawnChildFn(_)
@@ -463,30 +516,98 @@ impl JobTask {
     ) -> Result<(), Memory>
         requires stands { Stands self.old journal.old.past }
         requires here { self.old.gone ≡ false }
-        requires chosen { choice ≡ choice_of self.old }
+        requires chosen { choice ≡ choice_of self.old at }
         requires at { moment journal.old.past ≡ at }
-        requires room { AreSpare 5 journal.old (H.seen host.old) }
+        requires room { AreSpare (7 + length self.old.parked.tickets) journal.old (H.seen host.old) }
         requires hooks_room { 1 ≤ (K.seen hooks.old).spare }
-        requires ends { (c : ℕ) → choice ≡ End c → child_of self.old.state ≡ Some c }
         ensures stands { Stands self.new journal.new.past }
         ensures ok { OnOk result (Follows (case self.old.id (kit_of self.old) (child_of self.old.state) choice) journal.old.past (H.seen host.old) (K.seen hooks.old).told Done journal.new.past (H.seen host.new) (K.seen hooks.new).told) }
         ensures err { OnErr result (Stops self.old journal.old host.old hooks.old self.new journal.new host.new hooks.new (GivesUp (case self.old.id (kit_of self.old) (child_of self.old.state) choice) journal.old.past (H.seen host.old) (K.seen hooks.old).told journal.new.past (H.seen host.new) (K.seen hooks.new).told)) }
-        ensures fields { self.new ≡ record self.old { waiting = self.new.waiting; state = self.new.state; previous = self.new.previous; kept = self.new.kept; hook = self.new.hook; tag = self.new.tag } }
-        ensures memory { OnErr result (is_spawning choice (child_of self.old.state) ≡ true) }
+        ensures memory { OnErr result (is_spawning choice (child_of self.old.state) (grace_of self.old) ≡ true) }
+        ensures gone { self.new.gone ≡ is_deletion choice }
+        ensures job { SameJob self.old self.new }
         ensures keeps { KeepsOn K.seen K.rule K.stands hooks.old journal.old.past hooks.new journal.new.past }
-        ensures spends { Spends 5 journal.old (H.seen host.old) journal.new (H.seen host.new) }
+        ensures spends { Spends (7 + length self.old.parked.tickets) journal.old (H.seen host.old) journal.new (H.seen host.new) }
         ensures hooks_room { (K.seen hooks.old).spare ≤ (K.seen hooks.new).spare + 1 }
     {
+        let what = self.prepare(alloc, choice)?;
         match choice {
-            Choice::End(child) => self.end_child(child, at, host, journal),
-            Choice::Next { ticket, control } => {
-                let what = self.prepare(alloc, control)?;
-                let picked = self.pick(ticket, control, journal);
-                self.control(alloc, control, &picked, what, at, host, hooks, journal)?;
+            Choice::Over(child, grace) => {
+                self.end_grace(alloc, child, grace, what, at, host, hooks, journal)
             }
-            Choice::Nothing => journal.push(Entry::Word(Word::Idle)),
+            Choice::End(child) => self.end_child(alloc, child, what, at, host, hooks, journal),
+            Choice::Next { ticket, control } => match self.pick(ticket, control, journal) {
+                Some(picked) => {
+                    self.control(alloc, control, picked, what, at, host, hooks, journal)
+                }
+                None => Ok(()),
+            },
+            Choice::Nothing => {
+                journal.push(Entry::Word(Word::Idle));
+                Ok(())
+            }
         }
-        Ok(())
+    }
+}
+
+/// Whether the case of what was picked spawns a child, where this one runs and a grace of a restart stands or none.
+fn is_spawning(choice: Choice, child: Option<u64>, restarts: bool) -> bool
+    ensures { (standing : Option the-Grace) → restarts ≡ is_restart standing → result ≡ is_spawning choice child standing }
+{
+    match choice {
+        Choice::Over(_, grace) => grace.restarts,
+        Choice::End(_) => restarts,
+        Choice::Next { control, .. } => spawns(control, child),
+        Choice::Nothing => false,
+    }
+}
+
+/// Whether the case of a control spawns a child, where this one runs.
+fn spawns(control: Control, child: Option<u64>) -> bool
+    ensures { result ≡ spawns control child }
+{
+    match control {
+        Control::Start => child.is_none(),
+        Control::TryRestart => child.is_some(),
+        Control::ContinueTryGracefulRestart => true,
+        Control::Stop
+        | Control::GracefulStop { .. }
+        | Control::TryGracefulRestart { .. }
+        | Control::Signal(_)
+        | Control::Delete
+        | Control::NextEnding
+        | Control::SetSyncSpawnHook(_)
+        | Control::UnsetSpawnHook
+        | Control::SetSpawnFn(_)
+        | Control::SetSpawnChildFn(_)
+        | Control::ClearSpawnFn => false,
+    }
+}
+
+/// Whether the ticket of this control is parked, in this state.
+fn is_parking(control: Control, state: CommandState) -> bool
+    ensures { result ≡ is_parking control state }
+{
+    match control {
+        Control::NextEnding => !state.is_finished(),
+        _ => false,
+    }
+}
+
+/// The end of a grace of so many nanoseconds that begins at this moment.
+fn over_at(at: u64, grace: u64) -> u128
+    ensures { result ≡ at + grace }
+{
+    at as u128 + grace as u128
+}
+
+/// The number that is sent for a signal: 15 for one without a number on the system.
+fn number_of(signal: Signal) -> i32
+    ensures { result ≡ number_of signal }
+{
+    match signal.native() {
+        Some(number) => number,
+        None => 15,
     }
 }
 
@@ -513,13 +634,6 @@ fn tag_after(control: Control, before: SpawnTag) -> SpawnTag
     }
 }
 
-/// Two copies of what is spawned.
-fn two_copies(alloc: Global, what: &Spawnable) -> Result<(Spawnable, Spawnable), Memory>
-    ensures { IfOk result (λ two. (two.0 ≡ what.now) × (two.1 ≡ what.now)) }
-{
-    Ok((what.copy(alloc)?, what.copy(alloc)?))
-}
-
 /// The child of a state.
 pub(crate) fn child_of(state: CommandState) -> Option<u64>
     ensures { result ≡ child_of state }
@@ -527,24 +641,5 @@ pub(crate) fn child_of(state: CommandState) -> Option<u64>
     match state {
         CommandState::Running { child, .. } => Some(child),
         CommandState::Pending | CommandState::Finished { .. } => None,
-    }
-}
-
-/// The state after this child ended.
-fn finished(child: u64, status: ProcessEnd, at: u64, state: CommandState) -> CommandState
-    ensures { result ≡ finish child status at state }
-{
-    match state {
-        CommandState::Running {
-            child: running,
-            started,
-        } if running == child => {
-            CommandState::Finished {
-                status,
-                started,
-                finished: at,
-            }
-        }
-        other => other,
     }
 }

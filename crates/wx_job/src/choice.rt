@@ -1,9 +1,12 @@
 // What a step does.
+use crate::grace::Grace;
 use wx_control::Control;
 
 /// What a step of a job picks.
 #[derive(Clone, Copy, Debug, PartialEq, Eq)]
 pub(crate) enum Choice {
+    /// The end of the grace that the running child was given.
+    Over(u64, Grace),
     /// The end of the running child, which was kept.
     End(u64),
     /// This control, with its ticket.

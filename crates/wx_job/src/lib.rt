@@ -1,11 +1,14 @@
 //! Jobs: each drives one child by the controls that are asked of it, and lists all of it in the journal.
 #![tactic(auto)]
 
+mod calls;
 mod case;
 mod choice;
 mod context;
+mod grace;
 mod laws;
 mod outside;
+mod parking;
 mod state;
 mod task;
 

@@ -44,6 +44,11 @@ pub trait Host: Outside {
         requires { 1 ≤ (Self.seen self.old).spare }
         ensures { Tells (Entry.Spawn child job tag what result) (is_err result) (Self.seen self.old) (Self.seen self.new) };
 
+    /// Sends the signal of this number to a child.
+    fn signal(&mut self, child: u64, number: i32) -> Result<(), HostFault>
+        requires { 1 ≤ (Self.seen self.old).spare }
+        ensures { Tells (Entry.Signal child number result) (is_err result) (Self.seen self.old) (Self.seen self.new) };
+
     /// Kills a child.
     fn kill(&mut self, child: u64) -> Result<(), HostFault>
         requires { 1 ≤ (Self.seen self.old).spare }

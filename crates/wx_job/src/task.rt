@@ -1,22 +1,25 @@
 // What is kept of a job.
-ghost use Rattle.std.specs.Prelude.{◌≡◌, ℕ, ◌+◌, ◌≤◌, ◌∷◌, OnOk, OnErr, IfOk, List, Option, Some, None, option_map, true, false};
+ghost use Rattle.std.specs.Prelude.{◌≡◌, ℕ, ◌+◌, ◌≤◌, ◌∷◌, ◌||◌, length, OnOk, OnErr, IfOk, List, Option, Some, None, option_map, true, false};
 ghost use Rattle.wx_control.specs.Asks.{sends_of};
+ghost use Rattle.wx_control.specs.Waits.{waiting_count};
 ghost use Rattle.wx_journal.specs.declared.entry.Entry.{Entry};
 ghost use Rattle.wx_journal.specs.declared.entry.Entry.TheVariants.{Turn as Turned, Made};
 ghost use Rattle.wx_journal.specs.declared.entry.TurnKind.TheVariants.{Ended};
 ghost use Rattle.wx_journal.specs.Names.{moment, NamesItsOwn};
-ghost use Rattle.wx_job.specs.History.{child as running, state, previous, RunsOnly};
-ghost use Rattle.wx_job.specs.Table.{Plan, Done, adds, asks, send_plan, pick, is_spawning, answer_of, step_plan, leave, end_plan};
+ghost use Rattle.wx_job.specs.History.{child as running, state, previous, grace, parked, RunsOnly};
+ghost use Rattle.wx_job.specs.Table.{Plan, Done, adds, asks, send_plan, pick, is_spawning, answer_of, deletes, is_deletion, step_plan, leave, end_plan};
 ghost use Rattle.wx_job.specs.Case.{Ran, FollowsHost, FollowsAlone, Follows, GaveUp, GivesUp};
 ghost use Rattle.wx_job.specs.Faults.{Counted};
 ghost use Rattle.wx_job.specs.Steady.{AreSpare, Spends};
 ghost use Rattle.wx_job.specs.Kept.{KeepsOn, Promised};
-ghost use Rattle.wx_job.specs.Laws.{LeavesLaws};
-ghost use Rattle.wx_job.specs.Stands.{Stands, Stops, SameJob, SameTask, IsEnding, child_of, id_of, command_of, gone_of, running_of, with_end};
+ghost use Rattle.wx_job.specs.Leaves.{LeavesLaws};
+ghost use Rattle.wx_job.specs.Stands.{Stands, Stops, HasInHand, SameJob, SameTask, IsEnding, child_of, id_of, command_of, gone_of, running_of, parked_count, with_end};
 
 use crate::case::child_of;
 use crate::choice::{Choice, Stepped};
+use crate::grace::Standing;
 use crate::outside::{Host, JobHooks};
+use crate::parking::Parking;
 use crate::state::CommandState;
 use std::alloc::Global;
 use wx_command::{Command, SharedCommand};
@@ -41,6 +44,10 @@ pub struct JobTask {
     pub(crate) hook: Option<u32>,
     /// What spawns the next child.
     pub(crate) tag: SpawnTag,
+    /// The grace that the running child was given.
+    pub(crate) grace: Option<Standing>,
+    /// The tickets that are raised when the child ends, in the order in which they were picked.
+    pub(crate) parked: Parking,
 }
 
 /// A job of this name that runs this command, and a handle on it. It stands for its job behind the entry that it was
@@ -64,6 +71,8 @@ pub fn start_job(alloc: Global, id: Id, command: Command) -> Result<(Job, JobTas
         gone: false,
         hook: None,
         tag: SpawnTag::Default,
+        grace: None,
+        parked: Parking::new(alloc),
     };
     Ok((job, task))
 }
@@ -93,9 +102,9 @@ impl JobTask {
         self.put(alloc, ask, last, journal)
     }
 
-    /// One step: what is picked is done. It answers `Gone` where the job is gone, `Idle` where nothing could be picked,
+    /// One step: what is picked is done. It answers `Gone` where the job is gone then, `Idle` where nothing could be picked,
     /// and else `Did`. Want of memory comes only where a child would be spawned: before anything was done, or behind the
-    /// call of a spawn hook. Then the case is given up, its ticket isn't raised, and later steps go on. `at` is the
+    /// call of a spawn hook. Then the case is given up, its ticket is in hand, and later steps go on. `at` is the
     /// moment of the journal's last turn, in nanoseconds.
     pub fn step<H: Host, K: JobHooks>(
         &mut self,
@@ -107,20 +116,20 @@ impl JobTask {
     ) -> Result<Stepped, Memory>
         requires stands { Stands self.old journal.old.past }
         requires at { moment journal.old.past ≡ at }
-        requires room { AreSpare 16 journal.old (H.seen host.old) }
+        requires room { AreSpare (16 + parked_count self.old) journal.old (H.seen host.old) }
         requires hooks_room { 16 ≤ (K.seen hooks.old).spare }
         ensures stands { Stands self.new journal.new.past }
         ensures job { SameJob self.old self.new }
         ensures leads { OnOk result (Ran (step_plan (id_of self.old) (command_of self.old) journal.old.past) journal.old.past (H.seen host.old) (K.seen hooks.old).told Done journal.new.past (H.seen host.new) (K.seen hooks.new).told) }
         ensures answer { IfOk result (λ stepped. stepped ≡ answer_of (gone_of self.old) (pick (id_of self.old) journal.old.past)) }
-        ensures gone { gone_of self.new ≡ gone_of self.old }
-        ensures memory { OnErr result (is_spawning (pick (id_of self.old) journal.old.past) (running (id_of self.old) journal.old.past) ≡ true) }
-        ensures err { OnErr result (Stops self.old journal.old host.old hooks.old self.new journal.new host.new hooks.new (GaveUp (step_plan (id_of self.old) (command_of self.old) journal.old.past) journal.old.past (H.seen host.old) (K.seen hooks.old).told journal.new.past (H.seen host.new) (K.seen hooks.new).told)) }
+        ensures gone { gone_of self.new ≡ (gone_of self.old || is_deletion (pick (id_of self.old) journal.old.past)) }
+        ensures memory { OnErr result (is_spawning (pick (id_of self.old) journal.old.past) (running (id_of self.old) journal.old.past) (grace (id_of self.old) journal.old.past) ≡ true) }
+        ensures err { OnErr result (Stops self.old journal.old host.old hooks.old self.new journal.new host.new hooks.new (GaveUp (step_plan (id_of self.old) (command_of self.old) journal.old.past) journal.old.past (H.seen host.old) (K.seen hooks.old).told journal.new.past (H.seen host.new) (K.seen hooks.new).told × HasInHand (id_of self.old) (grace (id_of self.old) journal.old.past) (pick (id_of self.old) journal.old.past) journal.old.past journal.new.past)) }
         ensures leaves { LeavesLaws (id_of self.old) journal.old.past journal.new.past }
         ensures keeps { KeepsOn K.seen K.rule K.stands hooks.old journal.old.past hooks.new journal.new.past }
         ensures promised { NamesItsOwn journal.old.past → Promised K.seen K.rule K.stands hooks.old journal.old.past hooks.new journal.new.past }
         ensures faults { Counted journal.old.past (H.seen host.old).shown.faults journal.new.past (H.seen host.new).shown.faults }
-        ensures spends { Spends 16 journal.old (H.seen host.old) journal.new (H.seen host.new) }
+        ensures spends { Spends (16 + parked_count self.old) journal.old (H.seen host.old) journal.new (H.seen host.new) }
         ensures hooks_room { (K.seen hooks.old).spare ≤ (K.seen hooks.new).spare + 16 }
     {
         self.walk(alloc, at, host, hooks, journal)
@@ -138,7 +147,7 @@ impl JobTask {
     }
 
     /// Keeps the end of the running child, and does one step. The journal's last entry is the turn that told this end.
-    /// It answers as `step` does. This end is what the step picks, so memory is never wanted.
+    /// It answers as `step` does, and the end is kept also where memory is wanted.
     pub fn ended<H: Host, K: JobHooks>(
         &mut self,
         alloc: Global,
@@ -150,20 +159,20 @@ impl JobTask {
     ) -> Result<Stepped, Memory>
         requires stands { IsEnding self.old child at journal.old.past }
         requires runs { running_of self.old ≡ Some child }
-        requires room { AreSpare 16 journal.old (H.seen host.old) }
+        requires room { AreSpare (16 + parked_count self.old) journal.old (H.seen host.old) }
         requires hooks_room { 16 ≤ (K.seen hooks.old).spare }
         ensures stands { Stands self.new journal.new.past }
         ensures job { SameJob self.old self.new }
         ensures leads { OnOk result (Ran (step_plan (id_of self.old) (command_of self.old) journal.old.past) journal.old.past (H.seen host.old) (K.seen hooks.old).told Done journal.new.past (H.seen host.new) (K.seen hooks.new).told) }
         ensures answer { IfOk result (λ stepped. stepped ≡ answer_of (gone_of self.old) (pick (id_of self.old) journal.old.past)) }
-        ensures gone { gone_of self.new ≡ gone_of self.old }
-        ensures memory { OnErr result (is_spawning (pick (id_of self.old) journal.old.past) (running (id_of self.old) journal.old.past) ≡ true) }
-        ensures err { OnErr result (Stops (with_end self.old) journal.old host.old hooks.old self.new journal.new host.new hooks.new (GaveUp (step_plan (id_of self.old) (command_of self.old) journal.old.past) journal.old.past (H.seen host.old) (K.seen hooks.old).told journal.new.past (H.seen host.new) (K.seen hooks.new).told)) }
+        ensures gone { gone_of self.new ≡ (gone_of self.old || is_deletion (pick (id_of self.old) journal.old.past)) }
+        ensures memory { OnErr result (is_spawning (pick (id_of self.old) journal.old.past) (running (id_of self.old) journal.old.past) (grace (id_of self.old) journal.old.past) ≡ true) }
+        ensures err { OnErr result (Stops (with_end self.old) journal.old host.old hooks.old self.new journal.new host.new hooks.new (GaveUp (step_plan (id_of self.old) (command_of self.old) journal.old.past) journal.old.past (H.seen host.old) (K.seen hooks.old).told journal.new.past (H.seen host.new) (K.seen hooks.new).told × HasInHand (id_of self.old) (grace (id_of self.old) journal.old.past) (pick (id_of self.old) journal.old.past) journal.old.past journal.new.past)) }
         ensures leaves { LeavesLaws (id_of self.old) journal.old.past journal.new.past }
         ensures keeps { KeepsOn K.seen K.rule K.stands hooks.old journal.old.past hooks.new journal.new.past }
         ensures promised { NamesItsOwn journal.old.past → Promised K.seen K.rule K.stands hooks.old journal.old.past hooks.new journal.new.past }
         ensures faults { Counted journal.old.past (H.seen host.old).shown.faults journal.new.past (H.seen host.new).shown.faults }
-        ensures spends { Spends 16 journal.old (H.seen host.old) journal.new (H.seen host.new) }
+        ensures spends { Spends (16 + parked_count self.old) journal.old (H.seen host.old) journal.new (H.seen host.new) }
         ensures hooks_room { (K.seen hooks.old).spare ≤ (K.seen hooks.new).spare + 16 }
     {
         self.keep_end(child, at, journal);
@@ -219,11 +228,22 @@ impl JobTask {
         }
     }
 
-    /// How many tickets are parked until the child ends: no control parks one yet.
+    /// How many tickets are parked until the child ends.
     pub fn parked(&self) -> u64
-        ensures { result ≡ 0 }
+        ensures count { result ≡ parked_count self.now }
+        ensures kept { (p : List Entry) → Stands self.now p → result ≡ length (parked (id_of self.now) p) }
     {
-        0
+        self.parked.len()
+    }
+
+    /// The moment at which the grace that stands is over, in nanoseconds.
+    pub fn grace_end(&self) -> Option<u128>
+        ensures { (p : List Entry) → Stands self.now p → result ≡ option_map (λ g. g.ends) (grace (id_of self.now) p) }
+    {
+        match &self.grace {
+            Some(standing) => Some(standing.grace.ends),
+            None => None,
+        }
     }
 
     /// The controls of an ask wait.
@@ -252,10 +272,35 @@ impl JobTask {
             None => Flag::new(alloc, false)?,
         };
         let ticket = self.ticket(alloc, &done)?;
-        journal.reserve(1)?;
-        self.waiting.reserve(1)?;
-        self.ask(sends.first, sends.level, done, journal);
+        let other = Flag::new(alloc, false)?;
+        self.make_room(journal)?;
+        match sends.second {
+            None => self.ask(sends.first, sends.level, done, journal),
+            Some(second) => {
+                self.ask(sends.first, sends.level, other, journal);
+                self.ask(second, sends.level, done, journal);
+            }
+        }
         Ok(ticket)
+    }
+
+    /// Takes room for two controls more to wait, and for all that wait then to be parked. It fails only for want of
+    /// memory.
+    fn make_room(&mut self, journal: &mut Journal) -> Result<(), Memory>
+        requires stands { Stands self.old journal.old.past }
+        ensures stands { Stands self.new journal.new.past }
+        ensures task { SameTask self.old self.new }
+        ensures past { journal.new.past ≡ journal.old.past }
+        ensures waiting { OnOk result (2 ≤ self.new.waiting.spare) }
+        ensures parked { OnOk result (waiting_count self.new.waiting + 2 ≤ self.new.parked.spare) }
+        ensures listed { OnOk result (2 ≤ journal.new.spare) }
+        ensures journal_room { journal.old.spare ≤ journal.new.spare }
+    {
+        let waiting = self.waiting.count().ok_or(Memory)?;
+        let room = waiting.checked_add(2).ok_or(Memory)?;
+        self.parked.reserve(room)?;
+        self.waiting.reserve(2)?;
+        journal.reserve(2)
     }
 
     /// A ticket over this flag.
@@ -273,10 +318,13 @@ impl JobTask {
         requires stands { Stands self.old journal.old.past }
         requires here { self.old.gone ≡ false }
         requires room { 1 ≤ self.old.waiting.spare }
+        requires parked { waiting_count self.old.waiting + 1 ≤ self.old.parked.spare }
         requires journal_room { 1 ≤ journal.old.spare }
         ensures stands { Stands self.new journal.new.past }
         ensures follows { (k : Plan) → FollowsAlone (asks self.old.id level control k) journal.old.past k journal.new.past }
         ensures fields { self.new ≡ record self.old { waiting = self.new.waiting } }
+        ensures room { self.old.waiting.spare ≤ self.new.waiting.spare + 1 }
+        ensures count { waiting_count self.new.waiting ≡ waiting_count self.old.waiting + 1 }
         ensures journal_room { journal.old.spare ≤ journal.new.spare + 1 }
     {
         let ticket = journal.tickets();
@@ -290,14 +338,19 @@ impl JobTask {
     }
 
     /// Lets go of the child that runs, where one does, and the job is gone.
-    fn let_go<H: Host>(&mut self, child: Option<u64>, host: &mut H, journal: &mut Journal)
+    pub(crate) fn let_go<H: Host>(
+        &mut self,
+        child: Option<u64>,
+        host: &mut H,
+        journal: &mut Journal,
+    )
         requires stands { Stands self.old journal.old.past }
         requires runs { child_of self.old.state ≡ child }
         requires here { self.old.gone ≡ false }
         requires room { AreSpare 2 journal.old (H.seen host.old) }
         ensures stands { Stands self.new journal.new.past }
         ensures follows { FollowsHost (leave self.old.id child) journal.old.past (H.seen host.old) Done journal.new.past (H.seen host.new) }
-        ensures fields { self.new ≡ record self.old { waiting = self.new.waiting; kept = false; gone = true } }
+        ensures fields { self.new ≡ record self.old { waiting = self.new.waiting; kept = false; gone = true; grace = None; parked = self.new.parked } }
         ensures spends { Spends 2 journal.old (H.seen host.old) journal.new (H.seen host.new) }
     {
         if let Some(child) = child {
@@ -307,6 +360,8 @@ impl JobTask {
         host.gone(self.id, &self.flag);
         journal.push(Entry::Gone(self.id));
         self.waiting.clear();
+        self.parked.clear();
+        self.grace = None;
         self.kept = false;
         self.gone = true;
     }
@@ -322,23 +377,23 @@ impl JobTask {
     ) -> Result<Stepped, Memory>
         requires stands { Stands self.old journal.old.past }
         requires at { moment journal.old.past ≡ at }
-        requires room { AreSpare 5 journal.old (H.seen host.old) }
+        requires room { AreSpare (7 + parked_count self.old) journal.old (H.seen host.old) }
         requires hooks_room { 1 ≤ (K.seen hooks.old).spare }
         ensures stands { Stands self.new journal.new.past }
         ensures job { SameJob self.old self.new }
         ensures leads { OnOk result (Follows (step_plan (id_of self.old) (command_of self.old) journal.old.past) journal.old.past (H.seen host.old) (K.seen hooks.old).told Done journal.new.past (H.seen host.new) (K.seen hooks.new).told) }
         ensures answer { IfOk result (λ stepped. stepped ≡ answer_of (gone_of self.old) (pick (id_of self.old) journal.old.past)) }
-        ensures gone { gone_of self.new ≡ gone_of self.old }
-        ensures memory { OnErr result (is_spawning (pick (id_of self.old) journal.old.past) (running (id_of self.old) journal.old.past) ≡ true) }
+        ensures gone { gone_of self.new ≡ (gone_of self.old || is_deletion (pick (id_of self.old) journal.old.past)) }
+        ensures memory { OnErr result (is_spawning (pick (id_of self.old) journal.old.past) (running (id_of self.old) journal.old.past) (grace (id_of self.old) journal.old.past) ≡ true) }
         ensures err { OnErr result (Stops self.old journal.old host.old hooks.old self.new journal.new host.new hooks.new (GivesUp (step_plan (id_of self.old) (command_of self.old) journal.old.past) journal.old.past (H.seen host.old) (K.seen hooks.old).told journal.new.past (H.seen host.new) (K.seen hooks.new).told)) }
         ensures keeps { KeepsOn K.seen K.rule K.stands hooks.old journal.old.past hooks.new journal.new.past }
-        ensures spends { Spends 5 journal.old (H.seen host.old) journal.new (H.seen host.new) }
+        ensures spends { Spends (7 + parked_count self.old) journal.old (H.seen host.old) journal.new (H.seen host.new) }
         ensures hooks_room { (K.seen hooks.old).spare ≤ (K.seen hooks.new).spare + 1 }
     {
         if self.gone {
             return Ok(Stepped::Gone);
         }
-        let choice = self.choose();
+        let choice = self.choose(at);
         self.act(alloc, choice, at, host, hooks, journal)?;
         Ok(stepped(choice))
     }
@@ -349,7 +404,30 @@ fn stepped(choice: Choice) -> Stepped
     ensures { result ≡ answer_of false choice }
 {
     match choice {
-        Choice::End(_) | Choice::Next { .. } => Stepped::Did,
+        Choice::Next { control, .. } if deletes(control) => Stepped::Gone,
+        Choice::Over(..) | Choice::End(_) | Choice::Next { .. } => Stepped::Did,
         Choice::Nothing => Stepped::Idle,
+    }
+}
+
+/// Whether the job is gone once this control was done.
+fn deletes(control: Control) -> bool
+    ensures { result ≡ deletes control }
+{
+    match control {
+        Control::Delete => true,
+        Control::Start
+        | Control::Stop
+        | Control::GracefulStop { .. }
+        | Control::TryRestart
+        | Control::TryGracefulRestart { .. }
+        | Control::ContinueTryGracefulRestart
+        | Control::Signal(_)
+        | Control::NextEnding
+        | Control::SetSyncSpawnHook(_)
+        | Control::UnsetSpawnHook
+        | Control::SetSpawnFn(_)
+        | Control::SetSpawnChildFn(_)
+        | Control::ClearSpawnFn => false,
     }
 }

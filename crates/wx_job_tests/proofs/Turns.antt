@@ -1,5 +1,5 @@
 -- A task stands for the journal with a turn on top, or with what another job added.
-use Rattle.std.proofs.Common.{◌≡◌, ◌≢◌, ℕ, Some, List, [], ◌∷◌, refl}
+use Rattle.std.proofs.Common.{◌≡◌, ◌≢◌, ℕ, Some, List, [], ◌∷◌, refl, arith}
 use Rattle.wx_command.specs.declared.command.Command.{Command}
 use Rattle.wx_control.specs.declared.id.Id.{Id}
 use Rattle.wx_journal.specs.declared.entry.Entry.{Entry}
@@ -10,7 +10,7 @@ use Rattle.wx_journal.specs.Names.{NamesItsOwn}
 use Rattle.wx_journal.specs.declared.entry.TurnKind.TheVariants as turn
 use Rattle.wx_job.specs.declared.task.JobTask.{JobTask}
 use Rattle.wx_job.specs.History.{command, RunsOnly}
-use Rattle.wx_job.specs.Laws.{LeavesOthers}
+use Rattle.wx_job.specs.Leaves.{LeavesOthers}
 use Rattle.wx_job.specs.Stands.{Stands, IsEnding, id_of}
 use Rattle.wx_job.proofs.Owners.{self, other-is}
 use Rattle.wx_job.proofs.Frame.{frame_turn}
@@ -31,21 +31,21 @@ stands_left k id p p' l ne s = stands_history k p p' (l.others (id_of k) ne) s
 pub stands_made : (k : JobTask) (id : Id) (p : List Entry) → id_of k ≢ id → Stands k p → Stands k (Made id ∷ p)
 stands_made k id p ne s =
     let other = other-is (id_of k) id ne in
-    stands_history k p (Made id ∷ p) (record { lives_same = rw other refl; waits_same = λ l. rw other refl; child_same = rw other refl; kept_same = rw other refl; state_same = rw other refl; previous_same = rw other refl; hook_same = rw other refl; tag_same = rw other refl; command_same = refl }) s
+    stands_history k p (Made id ∷ p) (record { lives_same = rw other refl; waits_same = λ l. rw other refl; child_same = rw other refl; kept_same = rw other refl; state_same = rw other refl; previous_same = rw other refl; hook_same = rw other refl; tag_same = rw other refl; grace_same = rw other refl; parked_same = rw other refl; tickets_later = omega arith; command_same = refl }) s
 
 -- another job is created and made
 pub stands_created : (k : JobTask) (id : Id) (what : Command) (n : ℕ) (names : List ℕ) (acts : List Act) (p : List Entry) → acts ≡ Create id what ∷ [] → id_of k ≢ id → Stands k p → Stands k (Made id ∷ Hand n names acts ∷ p)
 stands_created k id what n names acts p one ne s =
     let other = other-is (id_of k) id ne in
     let kept : command (id_of k) (Hand n names (Create id what ∷ []) ∷ p) ≡ command (id_of k) p = rw other refl in
-    stands_made k id (Hand n names acts ∷ p) ne (stands_history k p (Hand n names acts ∷ p) (record { lives_same = refl; waits_same = λ l. refl; child_same = refl; kept_same = refl; state_same = refl; previous_same = refl; hook_same = refl; tag_same = refl; command_same = rw one kept }) s)
+    stands_made k id (Hand n names acts ∷ p) ne (stands_history k p (Hand n names acts ∷ p) (record { lives_same = refl; waits_same = λ l. refl; child_same = refl; kept_same = refl; state_same = refl; previous_same = refl; hook_same = refl; tag_same = refl; grace_same = refl; parked_same = refl; tickets_later = omega arith; command_same = rw one kept }) s)
 
 -- where nothing was created, and where it was
 pub never_created : (id : Id) (what : Command) (p : List Entry) → p ≡ [] → RunsOnly id what p
 never_created id what p empty created is = let none : command id [] ≡ Some created = rw empty at is in absurd cc
 
-pub created_runs : (id : Id) (what : Command) (n : ℕ) (names : List ℕ) (p : List Entry) → RunsOnly id what (Hand n names (Create id what ∷ []) ∷ p)
-created_runs id what n names p created is = let here : Some what ≡ Some created = rw (self id) at is in cc
+pub created_runs : (id : Id) (what : Command) (n : ℕ) (names : List ℕ) (acts : List Act) (p q : List Entry) → acts ≡ Create id what ∷ [] → q ≡ Hand n names acts ∷ p → RunsOnly id what q
+created_runs id what n names acts p q one last = rw (last, one) (λ created is. let here : Some what ≡ Some created = rw (self id) at is in cc)
 
-pub names_created : (id : Id) (what : Command) (n : ℕ) (p : List Entry) → NamesItsOwn p → NamesItsOwn (Made id ∷ Hand n [] (Create id what ∷ []) ∷ p)
-names_created id what n p own = (rw (self id) refl, (tt, own))
+pub names_created : (id : Id) (what : Command) (n : ℕ) (names : List ℕ) (acts : List Act) (p : List Entry) → names ≡ [] → acts ≡ Create id what ∷ [] → NamesItsOwn p → NamesItsOwn (Made id ∷ Hand n names acts ∷ p)
+names_created id what n names acts p none one own = rw (none, one) (rw (self id) refl, (tt, own))

@@ -2,6 +2,12 @@
 #![tactic(auto)]
 
 #[cfg(test)]
+mod case_tests;
+#[cfg(test)]
+mod grace_tests;
+#[cfg(test)]
+mod player;
+#[cfg(test)]
 mod test_world;
 #[cfg(test)]
 mod tests;

@@ -3,16 +3,16 @@ ghost use Rattle.std.specs.Prelude.{◌≡◌, ◌≢◌, ◌≤◌, ◌+◌, �
 ghost use Rattle.wx_journal.specs.Names.{NamesItsOwn, moment};
 ghost use Rattle.wx_journal.specs.Told.{Counts};
 ghost use Rattle.wx_job.specs.declared.task.JobTask.{JobTask as the-JobTask};
-ghost use Rattle.wx_job.specs.Stands.{Stands, id_of, running_of};
+ghost use Rattle.wx_job.specs.Stands.{Stands, id_of, running_of, parked_count};
 
 use std::alloc::Global;
 use wx_command::{Command, Program, SpawnOptions, Spawnable};
-use wx_control::{Ask, Control, Flag, Id, Ticket};
+use wx_control::{Ask, Flag, Id, Ticket};
 use wx_events::{Copies, List, Memory, ProcessEnd, Text};
 use wx_job::{CommandState, Host, JobHooks, JobTask, JobTaskContext, Outside, Stepped, start_job};
 use wx_journal::{Act, Entry, HostFault, Journal, SpawnTag, Turn, TurnKind, put_entry};
 
-/// A host that tells its entries. Of its calls to spawn, kill and wait, counted from 0, the one of the number `bad` fails
+/// A host that tells its entries. Of its calls to spawn, signal, kill and wait, counted from 0, the one of the number `bad` fails
 /// with code 7. Children end as the last of `ends` says, or else with success.
 #[derive(Drop)]
 pub(crate) struct TestHost {
@@ -37,6 +37,11 @@ impl TestHost {
             ends,
             faults: 0,
         })
+    }
+
+    /// Of the calls from here on, the one of this number fails, counted from 0.
+    pub(crate) fn fail_at(&mut self, number: u64) {
+        self.bad = Some(self.calls.saturating_add(number));
     }
 
     /// What the next call answers.
@@ -89,6 +94,16 @@ impl Host for TestHost {
             job,
             tag,
             what,
+            answer,
+        });
+        answer
+    }
+
+    fn signal(&mut self, child: u64, number: i32) -> Result<(), HostFault> {
+        let answer = self.call();
+        self.told.push(Entry::Signal {
+            child,
+            number,
             answer,
         });
         answer
@@ -209,7 +224,6 @@ pub(crate) fn command_of(alloc: Global, prog: &[u8]) -> Result<Command, Memory> 
 }
 
 /// A job of this name is created, which runs this program, and made.
-#[tactic(auto, using(crate::proofs::Turns::names_created, crate::proofs::Turns::created_runs))]
 pub(crate) fn make_job(
     alloc: Global,
     id: Id,
@@ -235,12 +249,12 @@ pub(crate) fn make_job(
     Ok(task)
 }
 
-/// This control is asked of the job.
+/// This is asked of the job.
 #[tactic(auto, using(crate::proofs::Turns::stands_left))]
 pub(crate) fn ask(
     task: &mut JobTask,
     alloc: Global,
-    control: Control,
+    wish: Ask,
     world: &mut World,
 ) -> Result<Ticket, Memory>
     requires stands { Stands task.old world.old.journal.past }
@@ -249,17 +263,18 @@ pub(crate) fn ask(
     ensures names { NamesItsOwn world.old.journal.past → NamesItsOwn world.new.journal.past }
     ensures others { NamesItsOwn world.old.journal.past → (k : the-JobTask) → id_of k ≢ id_of task.old → Stands k world.old.journal.past → Stands k world.new.journal.past }
 {
-    task.send(alloc, Ask::One(control), None, &mut world.journal)
+    task.send(alloc, wish, None, &mut world.journal)
 }
 
-/// Room for one move.
-fn make_room(world: &mut World) -> Result<(), Memory>
+/// Room for one move of this job.
+fn make_room(task: &JobTask, world: &mut World) -> Result<(), Memory>
     ensures past { world.new.journal.past ≡ world.old.journal.past }
-    ensures journal_room { OnOk result (17 ≤ world.new.journal.spare) }
-    ensures host_room { OnOk result (16 ≤ world.new.host.told.spare) }
+    ensures journal_room { OnOk result (17 + parked_count task.now ≤ world.new.journal.spare) }
+    ensures host_room { OnOk result (17 + parked_count task.now ≤ world.new.host.told.spare) }
 {
-    world.journal.reserve(17)?;
-    world.host.reserve(16)?;
+    let room = task.parked().checked_add(17).ok_or(Memory)?;
+    world.journal.reserve(room)?;
+    world.host.reserve(room)?;
     world.hooks.reserve(16)
 }
 
@@ -273,8 +288,8 @@ fn step_now(
 ) -> Result<Stepped, Memory>
     requires stands { Stands task.old world.old.journal.past }
     requires at { moment world.old.journal.past ≡ at }
-    requires journal_room { 16 ≤ world.old.journal.spare }
-    requires host_room { 16 ≤ world.old.host.told.spare }
+    requires journal_room { 16 + parked_count task.old ≤ world.old.journal.spare }
+    requires host_room { 16 + parked_count task.old ≤ world.old.host.told.spare }
     ensures stands { Stands task.new world.new.journal.past }
     ensures id { id_of task.new ≡ id_of task.old }
     ensures names { NamesItsOwn world.old.journal.past → NamesItsOwn world.new.journal.past }
@@ -303,7 +318,7 @@ pub(crate) fn step(
     ensures names { NamesItsOwn world.old.journal.past → NamesItsOwn world.new.journal.past }
     ensures others { NamesItsOwn world.old.journal.past → (k : the-JobTask) → id_of k ≢ id_of task.old → Stands k world.old.journal.past → Stands k world.new.journal.past }
 {
-    make_room(world)?;
+    make_room(task, world)?;
     let kind = TurnKind::Job(id);
     world.journal.push(Entry::Turn(Turn { at, kind }));
     step_now(task, alloc, at, world)
@@ -324,7 +339,7 @@ pub(crate) fn end_child(
     let Some(child) = task.running_child() else {
         return Ok(Stepped::Idle);
     };
-    make_room(world)?;
+    make_room(task, world)?;
     let kind = TurnKind::Ended(child);
     world.journal.push(Entry::Turn(Turn { at, kind }));
     task.ended(

@@ -1,125 +1,23 @@
 // Tests of jobs: their journals and states are worked out by hand.
 //
-// A test plays moves, which stand in a text with commas between them: a control that is asked, `step` or `ended` and a
-// moment, or `end`. What is seen of the job behind them is held to a text.
+// A test plays moves, which stand in a text with commas between them: what is asked, `step` or `ended` and a moment, or
+// `end`. What is seen of the job behind them is held to a text.
 ghost use Rattle.std.specs.Prelude.{◌≡◌, ◌≢◌, ◌≤◌, [], IfOk};
 ghost use Rattle.wx_journal.specs.Names.{NamesItsOwn};
 ghost use Rattle.wx_job.specs.Stands.{Stands, id_of};
 
+use crate::player::{Move, One, host, is_journal, one_job};
 use crate::test_world::{
-    TestHost, World, ask, command_of, end_child, end_job, lines_of, make_job, new_world, step,
+    TestHost, World, ask, command_of, end_job, lines_of, make_job, new_world, step,
 };
 use std::alloc::Global;
 use std::num::NonZeroI64;
 use std::process::Abort;
 use std::test::Fail;
-use wx_control::{Ask, Control, Flag, Id, Job};
-use wx_events::{Memory, ProcessEnd, Spelled, Text, Words};
+use wx_control::{Ask, Control, Flag, Id, Job, Ticket};
+use wx_events::{Copies, Memory, ProcessEnd, Text};
 use wx_job::{CommandState, JobTask, Stepped, children_are_reaped, start_job};
 use wx_journal::{Entry, Journal};
-
-/// What a test does with its job.
-#[derive(Clone, Copy)]
-enum Move {
-    Ask(Control),
-    /// A turn of the job at this moment.
-    Step(u64),
-    /// A turn at this moment that tells the end of the running child.
-    Ended(u64),
-    End,
-}
-
-/// The value whose words are these.
-fn read<T: Spelled>(alloc: Global, words: &[u8]) -> Result<Option<T>, Memory> {
-    let mut words = Words::new(words);
-    let found = T::take(alloc, &mut words)?;
-    if words.is_done() { Ok(found) } else { Ok(None) }
-}
-
-/// The move of these words.
-fn read_move(alloc: Global, words: &[u8]) -> Result<Option<Move>, Memory> {
-    if words == b"end".as_slice() {
-        return Ok(Some(Move::End));
-    }
-    if let Some(at) = words.strip_prefix(b"step ") {
-        return Ok(read::<u64>(alloc, at)?.map(|at| Move::Step(at)));
-    }
-    if let Some(at) = words.strip_prefix(b"ended ") {
-        return Ok(read::<u64>(alloc, at)?.map(|at| Move::Ended(at)));
-    }
-    Ok(read::<Control>(alloc, words)?.map(|control| Move::Ask(control)))
-}
-
-/// Job 0, which runs the program `a`, in a world of its own.
-#[derive(Drop)]
-struct One {
-    task: JobTask,
-    world: World,
-    ghost stands: { Stands task world.journal.past },
-}
-
-/// Job 0 as it was made, with this host. What is long is dropped by generic code here, which is quicker to prove.
-fn one_job(alloc: Global, host: TestHost) -> Result<One, Memory> {
-    let mut world = new_world(alloc, host)?;
-    match make_job(alloc, Id(0), b"a", &mut world) {
-        Ok(task) => Ok(One { task, world }),
-        Err(want) => {
-            drop(world);
-            Err(want)
-        }
-    }
-}
-
-impl One {
-    /// Makes one move, and gives what a step answered.
-    fn play(&mut self, alloc: Global, with: Move) -> Result<Option<Stepped>, Memory> {
-        match with {
-            Move::Ask(control) => {
-                let _ticket = ask(&mut self.task, alloc, control, &mut self.world)?;
-                Ok(None)
-            }
-            Move::Step(at) => Ok(Some(step(&mut self.task, Id(0), alloc, at, &mut self.world)?)),
-            Move::Ended(at) => Ok(Some(end_child(&mut self.task, alloc, at, &mut self.world)?)),
-            Move::End => {
-                end_job(&mut self.task, &mut self.world)?;
-                Ok(None)
-            }
-        }
-    }
-
-    /// Makes these moves, and gives how many of them had no memory.
-    fn play_through(&mut self, alloc: Global, moves: &str) -> Result<u64, Fail> {
-        let mut failed = 0u64;
-        for words in moves.as_bytes().split(|byte| *byte == b',') {
-            let with = read_move(alloc, words)?.ok_or("a move")?;
-            if self.play(alloc, with).is_err() {
-                failed = failed.saturating_add(1);
-            }
-        }
-        Ok(failed)
-    }
-
-    /// Makes these moves, and gives what the last of them answered.
-    fn play_all(&mut self, alloc: Global, moves: &str) -> Result<Option<Stepped>, Fail> {
-        let mut last = None;
-        for words in moves.as_bytes().split(|byte| *byte == b',') {
-            let with = read_move(alloc, words)?.ok_or("a move")?;
-            last = self.play(alloc, with)?;
-        }
-        Ok(last)
-    }
-}
-
-/// A host that fails at the call `bad`, and whose children end with success.
-fn host(alloc: Global, bad: Option<u64>) -> Result<TestHost, Memory> {
-    TestHost::new(alloc, bad, Vec::new(alloc))
-}
-
-/// Whether the journal has just these lines behind the first one.
-fn is_journal(alloc: Global, job: &One, lines: &str) -> Result<bool, Memory> {
-    let text = lines_of(alloc, &job.world)?;
-    Ok(text.as_slice().strip_prefix(b"made 0\n") == Some(lines.as_bytes()))
-}
 
 /// The state and the one before, with a space between them.
 fn states_of(alloc: Global, task: &JobTask) -> Result<String, Fail> {
@@ -163,7 +61,7 @@ fn expect_seen(
     seen: &str,
     told: &str,
 ) -> Result<(), Fail> {
-    let last = job.play_all(alloc, moves)?;
+    let last = job.play_line(alloc, moves)?.answer?;
     assert!(rt; is_seen(alloc, &job.task, last, seen)?, "at {moves}");
     assert!(rt; is_told(alloc, &job.task, told)?, "at {moves}");
     Ok(())
@@ -200,117 +98,65 @@ fn failing_job(alloc: Global) -> Result<One, Fail> {
     Ok(one_job(alloc, host)?)
 }
 
-/// Plays the moves of `SEEN`, and holds what comes to it.
-fn expect_life(rt: &impl Abort, alloc: Global, job: &mut One) -> Result<(), Fail> {
-    for (moves, seen, told) in SEEN {
+/// Plays the moves of a table, and holds what comes to it.
+fn expect_each(
+    rt: &impl Abort,
+    alloc: Global,
+    job: &mut One,
+    table: &[(&str, &str, &str)],
+) -> Result<(), Fail> {
+    for (moves, seen, told) in table {
         expect_seen(rt, alloc, job, moves, seen, told)?;
     }
-    assert!(rt; is_journal(alloc, job, LIFE)?);
     Ok(())
 }
 
 #[test]
 fn a_job_starts_and_stops(rt: HostRuntime) -> Result<(), Fail> {
     let mut job = failing_job(rt.alloc())?;
-    let held = expect_life(&rt, rt.alloc(), &mut job);
+    let held = expect_each(&rt, rt.alloc(), &mut job, &SEEN);
+    let listed = is_journal(rt.alloc(), &job, LIFE);
     drop(job);
-    held
-}
-
-/// Plays these moves, and holds the lines of the journal behind its first one and what is seen to these.
-fn expect_played(
-    rt: &impl Abort,
-    alloc: Global,
-    job: &mut One,
-    moves: &str,
-    lines: &str,
-    seen: &str,
-) -> Result<(), Fail> {
-    let last = job.play_all(alloc, moves)?;
-    assert!(rt; is_journal(alloc, job, lines)?, "at {moves}");
-    assert!(rt; is_seen(alloc, &job.task, last, seen)?, "at {moves}");
+    held?;
+    assert!(rt; listed?);
     Ok(())
 }
 
-/// The same of a job that was just made, with a host that fails at the call `bad`.
-fn expect_case(
-    rt: &impl Abort,
-    alloc: Global,
-    bad: Option<u64>,
-    moves: &str,
-    lines: &str,
-    seen: &str,
-) -> Result<(), Fail> {
-    let mut job = one_job(alloc, host(alloc, bad)?)?;
-    let held = expect_played(rt, alloc, &mut job, moves, lines, seen);
+/// The job restarted at once, by the end of its child, and by the end of a grace, and then deleted.
+const RESTARTED: [(&str, &str, &str); 5] = [
+    (
+        "start,step 1,tryrestart,step 2",
+        "Some(Did) Running { child: 1, started: 2 } Some(Finished { status: ExitError(1), started: 1, finished: 2 })",
+        "Some(1) false (false, true, false) 0",
+    ),
+    (
+        "trygracefulrestart quit 5,step 3,towait,step 4",
+        "Some(Did) Running { child: 1, started: 2 } Some(Finished { status: ExitError(1), started: 1, finished: 2 })",
+        "Some(1) false (false, true, false) 1",
+    ),
+    (
+        "ended 5",
+        "Some(Did) Running { child: 2, started: 5 } Some(Finished { status: Success, started: 2, finished: 5 })",
+        "Some(2) false (false, true, false) 0",
+    ),
+    (
+        "trygracefulrestart quit 5,step 6,step 11",
+        "Some(Did) Running { child: 3, started: 11 } Some(Finished { status: Success, started: 5, finished: 11 })",
+        "Some(3) false (false, true, false) 0",
+    ),
+    (
+        "delete,step 12",
+        "Some(Gone) Running { child: 3, started: 11 } Some(Finished { status: Success, started: 5, finished: 11 })",
+        "None true (false, true, false) 0",
+    ),
+];
+
+#[test]
+fn the_run_before(rt: HostRuntime) -> Result<(), Fail> {
+    let mut job = failing_job(rt.alloc())?;
+    let held = expect_each(&rt, rt.alloc(), &mut job, &RESTARTED);
     drop(job);
     held
-}
-
-const STARTED: &str = "asked 0 0 normal start\n\
-    turn 1 job 0\npick 0 0\nspawn 0 0 default ---- 1 a ok\nraise 0\n";
-
-const TWICE: &str = "asked 0 0 normal start\nasked 1 0 normal start\n\
-    turn 1 job 0\npick 0 0\nspawn 0 0 default ---- 1 a ok\nraise 0\n\
-    turn 2 job 0\npick 0 1\nraise 1\n";
-
-#[test]
-fn steps(rt: HostRuntime) -> Result<(), Fail> {
-    let alloc = rt.alloc();
-    let idle = "turn 5 job 0\nword idle\n";
-    expect_case(&rt, alloc, None, "step 5", idle, "Some(Idle) Pending None")?;
-    let stopped = "asked 0 0 normal stop\nturn 5 job 0\npick 0 0\nraise 0\n";
-    expect_case(
-        &rt,
-        alloc,
-        None,
-        "stop,step 5",
-        stopped,
-        "Some(Did) Pending None",
-    )?;
-    let runs = "Some(Did) Running { child: 0, started: 1 } Some(Pending)";
-    expect_case(&rt, alloc, None, "start,step 1", STARTED, runs)?;
-    expect_case(&rt, alloc, None, "start,start,step 1,step 2", TWICE, runs)
-}
-
-const ENDED: &str = "asked 0 0 normal start\n\
-    turn 1 job 0\npick 0 0\nspawn 0 0 default ---- 1 a ok\nraise 0\n\
-    turn 2 ended 0\nwait 0 success\n";
-
-const ENDED_FIRST: &str = "asked 0 0 normal start\n\
-    turn 1 job 0\npick 0 0\nspawn 0 0 default ---- 1 a ok\nraise 0\n\
-    asked 1 0 normal stop\n\
-    turn 2 ended 0\nwait 0 success\n\
-    turn 3 job 0\npick 0 1\nraise 1\n";
-
-const NOT_WAITED: &str = "asked 0 0 normal start\n\
-    turn 1 job 0\npick 0 0\nspawn 0 0 default ---- 1 a ok\nraise 0\n\
-    turn 2 ended 0\nwait 0 fault 7\n\
-    turn 3 job 0\nword idle\n";
-
-/// The child that runs behind these moves, with a host that fails at the call `bad`.
-fn child_behind(alloc: Global, bad: Option<u64>, moves: &str) -> Result<Option<u64>, Fail> {
-    let mut job = one_job(alloc, host(alloc, bad)?)?;
-    let played = job.play_all(alloc, moves);
-    let child = job.task.running_child();
-    drop(job);
-    played?;
-    Ok(child)
-}
-
-#[test]
-fn ends_of_children(rt: HostRuntime) -> Result<(), Fail> {
-    let alloc = rt.alloc();
-    let alone = "start,step 1,ended 2";
-    let first = "start,step 1,stop,ended 2,step 3";
-    let later = "start,step 1,ended 2,step 3";
-    let ended = "Some(Did) Finished { status: Success, started: 1, finished: 2 } Some(Pending)";
-    let runs = "Some(Idle) Running { child: 0, started: 1 } Some(Pending)";
-    expect_case(&rt, alloc, None, alone, ENDED, ended)?;
-    expect_case(&rt, alloc, None, first, ENDED_FIRST, ended)?;
-    expect_case(&rt, alloc, Some(1), later, NOT_WAITED, runs)?;
-    assert_eq!(rt; child_behind(alloc, Some(1), alone)?, Some(0));
-    Ok(())
 }
 
 /// Four controls are asked, and then four steps done.
@@ -363,7 +209,7 @@ fn expect_ran(
     lines: &str,
     seen: &str,
 ) -> Result<(), Fail> {
-    let last = job.play_all(alloc, RUN)?;
+    let last = job.play_line(alloc, RUN)?.answer?;
     let text = lines_of(alloc, &job.world)?;
     let behind = text.as_slice().strip_prefix(ASKED);
     assert!(rt; behind == Some(lines.as_bytes()), "for {seen}");
@@ -442,7 +288,7 @@ fn expect_hooks(
     seen: &str,
 ) -> Result<(), Fail> {
     job.world.hooks.words = vec![in alloc; Text::from_slice(alloc, b"-v")?]?;
-    let failed = job.play_through(alloc, moves)?;
+    let failed = job.play_line(alloc, moves)?.failed;
     assert!(rt; is_journal(alloc, job, lines)?, "at {moves}");
     assert!(rt; is_hooked(alloc, job, failed, seen)?, "at {moves}");
     Ok(())
@@ -543,36 +389,9 @@ fn spawn_hooks_without_memory(rt: HostRuntime) -> Result<(), Fail> {
     expect_hooked(&rt, rt.alloc(), GOES_ON, GONE_ON, gone_on)
 }
 
-const LET_GO: &str = "asked 0 0 normal start\n\
-    turn 1 job 0\npick 0 0\nspawn 0 0 default ---- 1 a ok\nraise 0\n\
-    asked 1 0 normal stop\n\
-    drop 0\ngone 0\n\
-    turn 2 job 0\n";
+const START: Move = Move::Ask(Ask::One(Control::Start));
 
-/// Starts the job, asks it to stop and ends it, and holds what is seen then to what it should be.
-fn expect_end(rt: &impl Abort, alloc: Global, job: &mut One) -> Result<(), Fail> {
-    job.play_all(alloc, "start,step 1,stop,end")?;
-    assert!(rt; job.task.is_gone());
-    assert_eq!(rt; job.task.running_child(), None);
-    assert_eq!(rt; job.play(alloc, Move::Step(2))?, Some(Stepped::Gone));
-    assert!(rt; is_journal(alloc, job, LET_GO)?);
-    Ok(())
-}
-
-#[test]
-fn the_end_of_a_job(rt: HostRuntime) -> Result<(), Fail> {
-    let mut job = one_job(rt.alloc(), host(rt.alloc(), None)?)?;
-    let held = expect_end(&rt, rt.alloc(), &mut job);
-    drop(job);
-    held?;
-    let never = "asked 0 0 normal start\ngone 0\nturn 2 job 0\n";
-    let seen = "Some(Gone) Pending None";
-    expect_case(&rt, rt.alloc(), None, "start,end,step 2", never, seen)
-}
-
-const START: Move = Move::Ask(Control::Start);
-
-const STOP: Move = Move::Ask(Control::Stop);
+const STOP: Move = Move::Ask(Ask::One(Control::Stop));
 
 /// The state in which child 0 runs, which was spawned at moment 1.
 const RUNS: CommandState = CommandState::Running {
@@ -611,8 +430,8 @@ fn play_beside(
 {
     let _ = &other;
     match with {
-        Move::Ask(control) => {
-            let _ticket = ask(task, alloc, control, world)?;
+        Move::Ask(wish) => {
+            let _ticket = ask(task, alloc, wish, world)?;
             Ok(None)
         }
         Move::Step(at) => Ok(Some(step(task, id, alloc, at, world)?)),
@@ -753,19 +572,45 @@ fn two_jobs(rt: HostRuntime) -> Result<(), Fail> {
     held
 }
 
-/// Sends a control to a job that is held by a task, and holds what the journal has then to what it should have.
+/// Whether a ticket and its copy are shown by the same text.
+fn is_copied(alloc: Global, ticket: &Ticket) -> Result<bool, Fail> {
+    let copy = ticket.copy(alloc)?;
+    let shown = format!(in alloc; "{ticket:?}")?;
+    let again = format!(in alloc; "{copy:?}")?;
+    Ok(shown.as_str() == again.as_str())
+}
+
+/// Asks this of a job that is held by a task, over this flag where one is given, and holds how many entries and tickets the
+/// journal has then to these.
 fn expect_sent(
     rt: &impl Abort,
     alloc: Global,
     task: &mut JobTask,
+    with: (Ask, Option<Flag>),
     journal: &mut Journal,
-) -> Result<(), Memory>
+    counts: (u64, u64),
+) -> Result<(), Fail>
+    requires { Stands task.old journal.old.past }
+    ensures { Stands task.new journal.new.past }
+{
+    let ticket = task.send(alloc, with.0, with.1, journal)?;
+    assert_eq!(rt; (journal.len(), journal.tickets()), counts);
+    assert!(rt; is_copied(alloc, &ticket)?);
+    Ok(())
+}
+
+/// Asks for a stop over a flag of the caller, and for a restart over one of the job's own.
+fn expect_asked(
+    rt: &impl Abort,
+    alloc: Global,
+    task: &mut JobTask,
+    journal: &mut Journal,
+) -> Result<(), Fail>
     requires { Stands task.old journal.old.past }
 {
-    let flag = Flag::new(alloc, false)?;
-    let _ticket = task.send(alloc, Ask::One(Control::Stop), Some(flag), journal)?;
-    assert_eq!(rt; (journal.len(), journal.tickets()), (2, 1));
-    Ok(())
+    let stop = (Ask::One(Control::Stop), Some(Flag::new(alloc, false)?));
+    expect_sent(rt, alloc, task, stop, journal, (2, 1))?;
+    expect_sent(rt, alloc, task, (Ask::Restart, None), journal, (4, 3))
 }
 
 /// Whether this is a handle on job 4, which runs the program `a`.
@@ -774,9 +619,8 @@ fn is_handle(alloc: Global, job: &Job) -> Result<bool, Memory> {
     Ok(job.id() == Id(4) && job.command() == &want)
 }
 
-/// Starts a job, lists in an empty journal that it was made, and sends it a control.
-#[tactic(auto, using(crate::proofs::Turns::never_created))]
-fn expect_started(rt: &impl Abort, alloc: Global, journal: &mut Journal) -> Result<(), Memory>
+/// Starts a job, lists in an empty journal that it was made, and asks something of it.
+fn expect_started(rt: &impl Abort, alloc: Global, journal: &mut Journal) -> Result<(), Fail>
     requires room { 1 ≤ journal.old.spare }
     requires empty { journal.old.past ≡ [] }
 {
@@ -784,10 +628,11 @@ fn expect_started(rt: &impl Abort, alloc: Global, journal: &mut Journal) -> Resu
     let right = is_handle(alloc, &job);
     drop(job);
     journal.push(Entry::Made(Id(4)));
-    let held = expect_sent(rt, alloc, &mut task, journal);
+    let held = expect_asked(rt, alloc, &mut task, journal);
     drop(task);
+    held?;
     assert!(rt; right?);
-    held
+    Ok(())
 }
 
 #[test]

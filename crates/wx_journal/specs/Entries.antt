@@ -1,6 +1,6 @@
 -- Entries as words.
 use Rattle.std.proofs.Common.{refl}
-use Rattle.std.specs.Prelude.{ℕ, Bool, Result, Option, Some, List, [], ◌∷◌, ◌++◌, codes}
+use Rattle.std.specs.Prelude.{ℕ, ℤ, Bool, Result, Option, Some, List, [], ◌∷◌, ◌++◌, codes}
 use Rattle.std.specs.List.{flat_map, AllByRecursion}
 use Rattle.std.specs.Option.{option_or}
 use Rattle.wx_words.specs.Line.{◌>>=◌}
@@ -8,7 +8,7 @@ use Rattle.wx_words.specs.Combine.{whole}
 use Rattle.wx_words.specs.Spellings.{Spelling}
 use Rattle.wx_words.specs.Choices.{Row, row, Behind, fields}
 use Rattle.wx_words.specs.ChoiceLaws.{MadeAgain, SpeltSo, choice}
-use Rattle.wx_words.specs.Parts.{line, never, both, named, list_of, as_line, number, u32, text, optional}
+use Rattle.wx_words.specs.Parts.{line, never, both, named, list_of, as_line, number, i32, u32, text, optional}
 use Rattle.wx_words.specs.Switches.{switch}
 use Rattle.wx_words.specs.ToEnd.{all_in}
 use Rattle.wx_words.specs.declared.list.Memory.{Memory}
@@ -39,7 +39,7 @@ use Rattle.wx_journal.specs.declared.child.HostFault.{HostFault}
 use Rattle.wx_journal.specs.declared.wish.Wish.{Wish}
 use Rattle.wx_journal.specs.declared.entry.Offered.{Offered}
 use Rattle.wx_journal.specs.declared.entry.Entry.{Entry}
-use Rattle.wx_journal.specs.declared.entry.Entry.TheVariants.{Begin, Sent, Turn as Turned, TurnFault, Offer, Word as Said, Take, Filter, Show, Hand, Made, Asked, Pick, Spawn, Kill, Wait, Dropped, Raise, Gone, Hook}
+use Rattle.wx_journal.specs.declared.entry.Entry.TheVariants.{Begin, Sent, Turn as Turned, TurnFault, Offer, Word as Said, Take, Filter, Show, Hand, Made, Asked, Pick, GraceOver, Spawn, Signal, Kill, Wait, Dropped, Raise, Gone, Hook}
 
 -- ---- what stands behind the first word of an entry
 
@@ -80,6 +80,9 @@ pick = both id (as_line number)
 abbrev pub spawn : Spelling line (ℕ × (Id × (SpawnTag × (Spawnable × Result (Unit {0}) HostFault))))
 spawn = both (as_line number) (both id (both tag (both spawnable done)))
 
+abbrev pub signal : Spelling line (ℕ × (ℤ × Result (Unit {0}) HostFault))
+signal = both (as_line number) (both (as_line i32) done)
+
 abbrev pub kill : Spelling line (ℕ × Result (Unit {0}) HostFault)
 kill = both (as_line number) done
 
@@ -113,7 +116,9 @@ entry_rows =
     ∷ row (codes "made") id Made
     ∷ row (codes "asked") asked (λ p. Asked p.0 p.1.0 p.1.1.0 p.1.1.1)
     ∷ row (codes "pick") pick (λ p. Pick p.0 p.1)
+    ∷ row (codes "grace") id GraceOver
     ∷ row (codes "spawn") spawn (λ p. Spawn p.0 p.1.0 p.1.1.0 p.1.1.1.0 p.1.1.1.1)
+    ∷ row (codes "signal") signal (λ p. Signal p.0 p.1.0 p.1.1)
     ∷ row (codes "kill") kill (λ p. Kill p.0 p.1)
     ∷ row (codes "wait") wait (λ p. Wait p.0 p.1)
     ∷ row (codes "drop") (as_line number) Dropped
@@ -136,7 +141,9 @@ entry_word (Hand _ _ _) = codes "hand"
 entry_word (Made _) = codes "made"
 entry_word (Asked _ _ _ _) = codes "asked"
 entry_word (Pick _ _) = codes "pick"
+entry_word (GraceOver _) = codes "grace"
 entry_word (Spawn _ _ _ _ _) = codes "spawn"
+entry_word (Signal _ _ _) = codes "signal"
 entry_word (Kill _ _) = codes "kill"
 entry_word (Wait _ _) = codes "wait"
 entry_word (Dropped _) = codes "drop"
@@ -158,7 +165,9 @@ entry_behind (Hand n names acts) = fields unread (n, (names, acts))
 entry_behind (Made job) = fields id job
 entry_behind (Asked ticket job l c) = fields asked (ticket, (job, (l, c)))
 entry_behind (Pick job ticket) = fields pick (job, ticket)
+entry_behind (GraceOver job) = fields id job
 entry_behind (Spawn child job by what answer) = fields spawn (child, (job, (by, (what, answer))))
+entry_behind (Signal child n answer) = fields signal (child, (n, answer))
 entry_behind (Kill child answer) = fields kill (child, answer)
 entry_behind (Wait child answer) = fields wait (child, answer)
 entry_behind (Dropped child) = fields (as_line number) child

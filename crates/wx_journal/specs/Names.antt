@@ -5,7 +5,7 @@ use Rattle.wx_control.specs.declared.id.Id.{Id}
 use Rattle.wx_journal.specs.Acts.{JournalAct as Act}
 use Rattle.wx_journal.specs.declared.entry.Act.TheVariants.{Create, Ask, Quit}
 use Rattle.wx_journal.specs.declared.entry.Entry.{Entry}
-use Rattle.wx_journal.specs.declared.entry.Entry.TheVariants.{Begin, Sent, Turn as Turned, TurnFault, Offer, Word as Said, Take, Filter, Show, Hand, Made, Asked, Pick, Spawn, Kill, Wait, Dropped, Raise, Gone, Hook}
+use Rattle.wx_journal.specs.declared.entry.Entry.TheVariants.{Begin, Sent, Turn as Turned, TurnFault, Offer, Word as Said, Take, Filter, Show, Hand, Made, Asked, Pick, GraceOver, Spawn, Signal, Kill, Wait, Dropped, Raise, Gone, Hook}
 
 -- the moment of the last turn, 0 before the first
 abbrev pub moment : List Entry → ℕ
@@ -28,7 +28,9 @@ names_event (Hand n names acts) = false
 names_event (Made job) = false
 names_event (Asked ticket job level control) = false
 names_event (Pick job ticket) = false
+names_event (GraceOver job) = false
 names_event (Spawn child job tag what answer) = false
+names_event (Signal child number answer) = false
 names_event (Kill child answer) = false
 names_event (Wait child answer) = false
 names_event (Dropped child) = false
@@ -50,7 +52,9 @@ names_ticket (Hand n names acts) = false
 names_ticket (Made job) = false
 names_ticket (Asked ticket job level control) = true
 names_ticket (Pick job ticket) = false
+names_ticket (GraceOver job) = false
 names_ticket (Spawn child job tag what answer) = false
+names_ticket (Signal child number answer) = false
 names_ticket (Kill child answer) = false
 names_ticket (Wait child answer) = false
 names_ticket (Dropped child) = false
@@ -72,7 +76,9 @@ names_child (Hand n names acts) = false
 names_child (Made job) = false
 names_child (Asked ticket job level control) = false
 names_child (Pick job ticket) = false
+names_child (GraceOver job) = false
 names_child (Spawn child job tag what answer) = true
+names_child (Signal child number answer) = false
 names_child (Kill child answer) = false
 names_child (Wait child answer) = false
 names_child (Dropped child) = false
@@ -141,7 +147,9 @@ Names p (Hand n names acts) = AllByRecursion (λ name. name < event_count p) nam
 Names p (Made job) = is_created job p ≡ true
 Names p (Asked ticket job level control) = ticket ≡ ticket_count p
 Names p (Pick job ticket) = ticket < ticket_count p
+Names p (GraceOver job) = Unit {0}
 Names p (Spawn child job tag what answer) = child ≡ child_count p
+Names p (Signal child number answer) = child < child_count p
 Names p (Kill child answer) = child < child_count p
 Names p (Wait child answer) = child < child_count p
 Names p (Dropped child) = child < child_count p

@@ -1,7 +1,7 @@
 -- What the outside is told, and what its counts and rules mean.
 use Rattle.std.specs.Prelude.{◌≡◌, ℕ, ◌≤◌, ◌+◌, ◌-◌, ◌^◌, min, Bool, true, false, if◌then◌else◌, Option, None, Some, List, [], ◌∷◌}
 use Rattle.wx_journal.specs.declared.entry.Entry.{Entry}
-use Rattle.wx_journal.specs.declared.entry.Entry.TheVariants.{Begin, Sent, Turn as Turned, TurnFault, Offer, Word as Said, Take, Filter, Show, Hand, Made, Asked, Pick, Spawn, Kill, Wait, Dropped, Raise, Gone, Hook}
+use Rattle.wx_journal.specs.declared.entry.Entry.TheVariants.{Begin, Sent, Turn as Turned, TurnFault, Offer, Word as Said, Take, Filter, Show, Hand, Made, Asked, Pick, GraceOver, Spawn, Signal, Kill, Wait, Dropped, Raise, Gone, Hook}
 
 -- what is told after one entry more, where anything is told
 abbrev pub tell : Entry → Option (List Entry) → Option (List Entry)
@@ -35,7 +35,9 @@ is_world p (Hand n names acts) = false
 is_world p (Made job) = false
 is_world p (Asked ticket job level control) = false
 is_world p (Pick job ticket) = false
+is_world p (GraceOver job) = false
 is_world p (Spawn child job tag what answer) = true
+is_world p (Signal child number answer) = true
 is_world p (Kill child answer) = true
 is_world p (Wait child answer) = true
 is_world p (Dropped child) = true
@@ -58,7 +60,9 @@ is_hooks (Hand n names acts) = true
 is_hooks (Made job) = false
 is_hooks (Asked ticket job level control) = false
 is_hooks (Pick job ticket) = false
+is_hooks (GraceOver job) = false
 is_hooks (Spawn child job tag what answer) = false
+is_hooks (Signal child number answer) = false
 is_hooks (Kill child answer) = false
 is_hooks (Wait child answer) = false
 is_hooks (Dropped child) = false
@@ -81,7 +85,9 @@ is_hand (Hand n names acts) = true
 is_hand (Made job) = false
 is_hand (Asked ticket job level control) = false
 is_hand (Pick job ticket) = false
+is_hand (GraceOver job) = false
 is_hand (Spawn child job tag what answer) = false
+is_hand (Signal child number answer) = false
 is_hand (Kill child answer) = false
 is_hand (Wait child answer) = false
 is_hand (Dropped child) = false
@@ -104,7 +110,9 @@ is_turn (Hand n names acts) = false
 is_turn (Made job) = false
 is_turn (Asked ticket job level control) = false
 is_turn (Pick job ticket) = false
+is_turn (GraceOver job) = false
 is_turn (Spawn child job tag what answer) = false
+is_turn (Signal child number answer) = false
 is_turn (Kill child answer) = false
 is_turn (Wait child answer) = false
 is_turn (Dropped child) = false

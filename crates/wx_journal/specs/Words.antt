@@ -6,7 +6,7 @@ use Rattle.wx_words.specs.Parts.{line, HasWords, keyword}
 use Rattle.wx_journal.specs.declared.entry.Offered.{Offered}
 use Rattle.wx_journal.specs.declared.entry.Offered.TheVariants.{Queued, Full, Closed}
 use Rattle.wx_journal.specs.declared.entry.Entry.{Entry}
-use Rattle.wx_journal.specs.declared.entry.Entry.TheVariants.{Begin, Sent, Turn as Turned, TurnFault, Offer, Word as Said, Take, Filter, Show, Hand, Made, Asked, Pick, Spawn, Kill, Wait, Dropped, Raise, Gone, Hook}
+use Rattle.wx_journal.specs.declared.entry.Entry.TheVariants.{Begin, Sent, Turn as Turned, TurnFault, Offer, Word as Said, Take, Filter, Show, Hand, Made, Asked, Pick, GraceOver, Spawn, Signal, Kill, Wait, Dropped, Raise, Gone, Hook}
 use Rattle.wx_journal.specs.declared.entry.Word.{Word}
 use Rattle.wx_journal.specs.declared.entry.Word.TheVariants.{Idle, Ignored}
 
@@ -61,7 +61,9 @@ is_of_job (Hand n names acts) = false
 is_of_job (Made job) = true
 is_of_job (Asked ticket job at c) = true
 is_of_job (Pick job ticket) = true
+is_of_job (GraceOver job) = true
 is_of_job (Spawn child job by what answer) = true
+is_of_job (Signal child number answer) = true
 is_of_job (Kill child answer) = true
 is_of_job (Wait child answer) = true
 is_of_job (Dropped child) = true

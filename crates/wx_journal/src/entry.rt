@@ -137,12 +137,20 @@ pub enum Entry {
         job: Id,
         ticket: u64,
     },
+    /// The grace of a job is over.
+    GraceOver(Id),
     /// A job spawned a child, or failed to.
     Spawn {
         child: u64,
         job: Id,
         tag: SpawnTag,
         what: Spawnable,
+        answer: Result<(), HostFault>,
+    },
+    /// The signal of this number was sent to a child, or could not be.
+    Signal {
+        child: u64,
+        number: i32,
         answer: Result<(), HostFault>,
     },
     /// A child was killed, or could not be.

@@ -129,6 +129,7 @@ fn put_job_entry(entry: &Entry, out: &mut Text) -> Result<(), Memory>
             control,
         } => begin_row(b"asked", &(ticket, (job, (level, control))), out),
         Entry::Pick { job, ticket } => begin_row(b"pick", &(job, ticket), out),
+        Entry::GraceOver(job) => begin_row(b"grace", &job, out),
         Entry::Spawn {
             child,
             job,
@@ -140,6 +141,11 @@ fn put_job_entry(entry: &Entry, out: &mut Text) -> Result<(), Memory>
             &(child, (job, (tag, (what, ResultRef { result })))),
             out,
         ),
+        Entry::Signal {
+            child,
+            number,
+            answer: result,
+        } => begin_row(b"signal", &(child, (number, ResultRef { result })), out),
         Entry::Kill {
             child,
             answer: result,
@@ -190,7 +196,9 @@ pub fn append_entry(entry: &Entry, out: &mut Text) -> Result<(), Memory>
         Entry::Made(_)
         | Entry::Asked { .. }
         | Entry::Pick { .. }
+        | Entry::GraceOver(_)
         | Entry::Spawn { .. }
+        | Entry::Signal { .. }
         | Entry::Kill { .. }
         | Entry::Wait { .. }
         | Entry::Dropped(_)

@@ -121,6 +121,15 @@ fn spawn(alloc: Global, child: u64, answer: Result<(), HostFault>) -> Result<Ent
     })
 }
 
+/// A signal of this number to child 2 that was answered so.
+fn signal(number: i32, answer: Result<(), HostFault>) -> Entry {
+    Entry::Signal {
+        child: 2,
+        number,
+        answer,
+    }
+}
+
 /// A kill of child 2 that was answered so.
 fn kill(answer: Result<(), HostFault>) -> Entry {
     Entry::Kill { child: 2, answer }
@@ -323,15 +332,17 @@ fn expect_words<T: Spelled>(
 #[test]
 fn what_handlers_ask(rt: HostRuntime) -> Result<(), Fail> {
     let alloc = rt.alloc();
-    let acts: [&[u8]; 6] = [
+    let acts: [&[u8]; 8] = [
         b"create 0 exec ---- 1 a",
         b"create 4294967295 exec g-r- 2 a %20",
         b"ask 0 start",
         b"ask 0 stop",
         b"ask 4294967295 stop",
+        b"ask 3 gracefulstop custom.-3 18446744073709551615",
+        b"ask 0 deletenow",
         b"quit",
     ];
-    let others: [&[u8]; 12] = [
+    let others: [&[u8]; 14] = [
         b"create",
         b"create 0",
         b"create x exec ---- 1 a",
@@ -341,6 +352,8 @@ fn what_handlers_ask(rt: HostRuntime) -> Result<(), Fail> {
         b"ask",
         b"ask 0",
         b"ask 0 go",
+        b"ask 0 gracefulstop terminate",
+        b"ask 0 deletenow 5",
         b"ask start 0",
         b"Quit",
         b"quit 0",
@@ -429,10 +442,14 @@ fn what_spawns_as_words(rt: HostRuntime) -> Result<(), Fail> {
 }
 
 #[test]
-fn entries_of_kills(rt: HostRuntime) -> Result<(), Fail> {
+fn entries_of_signals_and_kills(rt: HostRuntime) -> Result<(), Fail> {
     let alloc = rt.alloc();
     expect_line(&rt, alloc, kill(Ok(())), b"kill 2 ok")?;
     expect_line(&rt, alloc, kill(Err(HostFault(3))), b"kill 2 fault 3")?;
+    expect_line(&rt, alloc, signal(15, Ok(())), b"signal 2 15 ok")?;
+    let failed = signal(-3, Err(HostFault(3)));
+    expect_line(&rt, alloc, failed, b"signal 2 -3 fault 3")?;
+    expect_line(&rt, alloc, Entry::GraceOver(Id(7)), b"grace 7")?;
     Ok(())
 }
 
@@ -452,16 +469,18 @@ fn entries_of_waits(rt: HostRuntime) -> Result<(), Fail> {
 #[test]
 fn what_turns_bring(rt: HostRuntime) -> Result<(), Fail> {
     let alloc = rt.alloc();
-    let kinds: [&[u8]; 7] = [
+    let kinds: [&[u8]; 9] = [
         b"arrive high 0",
         b"work",
         b"job 4294967295",
         b"ended 18446744073709551615",
         b"ask 0 start",
         b"ask 1 stop",
+        b"ask 1 signal quit",
+        b"ask 1 restartsignal user2 5000000",
         b"last",
     ];
-    let others: [&[u8]; 11] = [
+    let others: [&[u8]; 13] = [
         b"arrive 0 high",
         b"work 1",
         b"job",
@@ -471,6 +490,8 @@ fn what_turns_bring(rt: HostRuntime) -> Result<(), Fail> {
         b"ended",
         b"ask 0",
         b"ask 0 go",
+        b"ask 0 signal",
+        b"ask 0 restartsignal 5 user2",
         b"ask start 0",
         b"rest",
     ];

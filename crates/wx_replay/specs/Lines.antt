@@ -1,5 +1,5 @@
 -- What one line of a script says.
-use Rattle.std.specs.Prelude.{ℕ, Bool, true, false, ◌==◌, if◌then◌else◌, Option, None, Some, List, [], ◌∷◌, length, codes}
+use Rattle.std.specs.Prelude.{ℕ, Bool, true, false, ◌==◌, if◌then◌else◌, Option, None, Some, List, [], ◌∷◌, codes}
 use Rattle.wx_words.specs.Line.{words_of, ◌>>=◌}
 use Rattle.wx_words.specs.Combine.{Reader, read_as, read_rows, whole}
 use Rattle.wx_words.specs.Parts.{number, u32, list_of, text}
@@ -11,7 +11,7 @@ use Rattle.wx_journal.specs.declared.entry.TurnKind.{TurnKind}
 use Rattle.wx_journal.specs.declared.entry.TurnKind.TheVariants.{Last}
 use Rattle.wx_engine.specs.Wishes.{script_act}
 use Rattle.wx_replay.specs.declared.lines.Line.{Line}
-use Rattle.wx_replay.specs.declared.lines.Line.TheVariants.{Nothing, Throttle, Size, ErrorSize, Send, Turn as Turned, Fault, Acts, Filter, Wishes, Hook, Spawn, Kill, Wait}
+use Rattle.wx_replay.specs.declared.lines.Line.TheVariants.{Nothing, Throttle, Size, ErrorSize, Send, Turn as Turned, Fault, Acts, Filter, Wishes, Hook, Spawn, Signal, Kill, Wait}
 
 -- what a script can say that a turn brings: all but a last turn
 abbrev pub can_bring : TurnKind → Bool
@@ -45,6 +45,7 @@ form_rows =
     ∷ (codes "error", read_as Wishes wish.read)
     ∷ (codes "hook", read_as Hook (list_of text).read)
     ∷ (codes "spawn", read_as Spawn done.read)
+    ∷ (codes "signal", read_as Signal done.read)
     ∷ (codes "kill", read_as Kill done.read)
     ∷ (codes "wait", read_as Wait waited.read)
     ∷ []

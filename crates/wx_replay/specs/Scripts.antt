@@ -7,7 +7,7 @@ use Rattle.wx_engine.specs.declared.script.ScriptTurn.TheVariants.{Turn, Fault}
 use Rattle.wx_engine.specs.HostCalls.{no_answers}
 use Rattle.wx_replay.specs.Lines.{line_in}
 use Rattle.wx_replay.specs.declared.lines.Line.{Line}
-use Rattle.wx_replay.specs.declared.lines.Line.TheVariants.{Nothing, Throttle, Size, ErrorSize, Send, Turn as Turned, Fault as Failed, Acts, Filter, Wishes, Hook, Spawn, Kill, Wait}
+use Rattle.wx_replay.specs.declared.lines.Line.TheVariants.{Nothing, Throttle, Size, ErrorSize, Send, Turn as Turned, Fault as Failed, Acts, Filter, Wishes, Hook, Spawn, Signal, Kill, Wait}
 
 -- the script of no lines
 abbrev pub start : Script
@@ -27,6 +27,7 @@ accepts s (Filter answer) = Some (record s { filters = s.filters ++ answer ∷ [
 accepts s (Wishes wish) = Some (record s { errors = s.errors ++ wish ∷ [] })
 accepts s (Hook words) = Some (record s { hooks = s.hooks ++ words ∷ [] })
 accepts s (Spawn answer) = Some (record s { answers = record s.answers { spawns = s.answers.spawns ++ answer ∷ [] } })
+accepts s (Signal answer) = Some (record s { answers = record s.answers { signals = s.answers.signals ++ answer ∷ [] } })
 accepts s (Kill answer) = Some (record s { answers = record s.answers { kills = s.answers.kills ++ answer ∷ [] } })
 accepts s (Wait answer) = Some (record s { answers = record s.answers { waits = s.answers.waits ++ answer ∷ [] } })
 

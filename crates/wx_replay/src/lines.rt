@@ -41,6 +41,8 @@ pub enum Line {
     Hook(List<Text>),
     /// The host answers this to a spawn.
     Spawn(Result<(), HostFault>),
+    /// The host answers this to a signal.
+    Signal(Result<(), HostFault>),
     /// The host answers this to a kill.
     Kill(Result<(), HostFault>),
     /// The host answers this to a wait.
@@ -114,6 +116,7 @@ fn take_form(alloc: Global, line: &mut Words) -> Result<Option<Line>, Memory>
         b"error" (said = take_wish) => said,
         b"hook" (said = take_words) => said,
         b"spawn" (answer = read_result) => Line::Spawn(answer),
+        b"signal" (answer = read_result) => Line::Signal(answer),
         b"kill" (answer = read_result) => Line::Kill(answer),
         b"wait" (answer = read_result) => Line::Wait(answer),
     )

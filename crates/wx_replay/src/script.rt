@@ -127,6 +127,10 @@ fn add(script: &mut Script, said: Line) -> Result<bool, Memory>
             script.answers.spawns.push(answer)?;
             Ok(true)
         }
+        Line::Signal(answer) => {
+            script.answers.signals.push(answer)?;
+            Ok(true)
+        }
         Line::Kill(answer) => {
             script.answers.kills.push(answer)?;
             Ok(true)

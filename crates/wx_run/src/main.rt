@@ -4,9 +4,13 @@
 #[cfg(test)]
 mod feeding_tests;
 #[cfg(test)]
+mod grace_tests;
+#[cfg(test)]
 mod random;
 #[cfg(test)]
 mod random_counts;
+#[cfg(test)]
+mod random_jobs;
 #[cfg(test)]
 mod script_tests;
 mod standard;

@@ -1,7 +1,8 @@
 // Random scripts. How many lines of each sort their journals have is known by counting alone.
 ghost use Rattle.std.specs.Prelude.{◌<◌};
 
-use crate::random_counts::{Counts, small, up};
+use crate::random_counts::{Counts, raises_twice, up};
+use crate::random_jobs::{Asked, Control, Said, Task};
 use crate::top::wx_main;
 use rand_pcg::Pcg32;
 use rand_pcg::rand_core::Rng;
@@ -9,49 +10,6 @@ use std::alloc::Global;
 use std::test::Fail;
 use wx_events::{Memory, Text};
 use wx_replay::{MemSink, MemSource, Status};
-
-/// What a job is asked.
-#[derive(Clone, Copy)]
-enum Asked {
-    Start,
-    Hook,
-    Unhook,
-    Command,
-    Child,
-    Clear,
-}
-
-impl Asked {
-    /// The words of this control, each with a space before it.
-    fn words(self) -> &'static [u8] {
-        match self {
-            Asked::Start => b" start",
-            Asked::Hook => b" sethook 2",
-            Asked::Unhook => b" unsethook",
-            Asked::Command => b" setspawn 7",
-            Asked::Child => b" setchild 5",
-            Asked::Clear => b" clearspawn",
-        }
-    }
-}
-
-/// What spawns.
-#[derive(Clone, Copy)]
-enum Spawner {
-    Default,
-    Command,
-    Child,
-}
-
-/// A job: what it was asked, how much of that it picked, and what this left.
-#[derive(Drop)]
-struct Task {
-    asked: Vec<Asked>,
-    picked: usize,
-    is_hooked: bool,
-    spawner: Spawner,
-    runs: bool,
-}
 
 /// An action line, and what it asks for: so many new jobs, and then this of jobs.
 #[derive(Drop)]
@@ -113,8 +71,8 @@ enum Outcome {
     Critical,
 }
 
-/// What is due where each event that passes is handed at once, each spawn goes well, and no child ends before its run does. Of
-/// the events that wait some are urgent. Either each other event has a tag, or none has.
+/// What is due where each event that passes is handed at once, and each spawn, kill and wait goes well. Of the events that wait
+/// some are urgent. Either each other event has a tag, or none has.
 #[derive(Drop)]
 struct Rules {
     size: u32,
@@ -126,8 +84,7 @@ struct Rules {
     is_closed: bool,
     actions: Vec<Action>,
     jobs: Vec<Task>,
-    // how many words each call of a hook appends
-    hooks: Vec<u32>,
+    said: Said,
     outcome: Outcome,
     is_over: bool,
     counts: Counts,
@@ -239,38 +196,50 @@ impl Rules {
                 self.jobs.push(Task::new(alloc))?;
             }
             for (job, asked) in &action.asks {
-                ask(&mut self.jobs, *job, *asked, &mut self.counts)?;
+                ask_shown(&mut self.jobs, *job, *asked, &mut self.counts)?;
             }
             self.is_over = action.quits;
         }
         up(&mut self.counts.hands);
+        for task in &mut self.jobs {
+            task.is_hidden = task.is_gone;
+        }
         Ok(())
     }
 
-    /// A turn about a job or a child that isn't there.
-    fn ignore(&mut self) {
-        if self.turn() {
-            up(&mut self.counts.ignored);
+    /// A turn that tells that this child has ended, where it runs.
+    fn end_child(&mut self, child: u32, at: u64) {
+        if !self.turn() {
+            return;
         }
+        for task in &mut self.jobs {
+            if task.runs(child) {
+                task.end(at, &self.said, &mut self.counts);
+                return;
+            }
+        }
+        up(&mut self.counts.ignored);
     }
 
     /// A turn that asks this of a job, which was made or was not.
     fn ask(&mut self, job: u32, asked: Asked) -> Result<(), Memory> {
-        if self.counts.made <= job {
-            self.ignore();
-        } else if self.turn() {
-            ask(&mut self.jobs, job, asked, &mut self.counts)?;
+        if !self.turn() {
+            return Ok(());
+        }
+        match self.jobs.get_mut(job as usize) {
+            Some(task) => task.ask(asked, &mut self.counts)?,
+            None => up(&mut self.counts.ignored),
         }
         Ok(())
     }
 
-    /// A turn of a job, which was made or was not.
-    fn step(&mut self, job: u32) {
+    /// A turn of a job at this moment, which was made or was not.
+    fn step(&mut self, job: u32, at: u64) {
         if !self.turn() {
             return;
         }
         match self.jobs.get_mut(job as usize) {
-            Some(task) => task.step(&self.hooks, &mut self.counts),
+            Some(task) => task.step(at, &self.said, &mut self.counts),
             None => up(&mut self.counts.ignored),
         }
     }
@@ -288,8 +257,10 @@ impl Rules {
         let _last = self.turn();
         self.is_over = true;
         self.counts.begins = 1;
+        for task in &mut self.jobs {
+            task.let_go(&mut self.counts);
+        }
         self.counts.gone = self.counts.made;
-        self.counts.drops = small(self.jobs.iter().filter(|task| task.runs).count());
         self.counts.ends = 1;
         self.counts.others = 1;
     }
@@ -319,64 +290,17 @@ impl Rules {
     }
 }
 
-impl Task {
-    /// A job that was asked nothing yet.
-    fn new(alloc: Global) -> Task {
-        Task {
-            asked: Vec::new(alloc),
-            picked: 0,
-            is_hooked: false,
-            spawner: Spawner::Default,
-            runs: false,
-        }
+/// A handler asks this of a job, where it is shown.
+fn ask_shown(
+    jobs: &mut Vec<Task>,
+    job: u32,
+    asked: Asked,
+    counts: &mut Counts,
+) -> Result<(), Memory> {
+    match jobs.get_mut(job as usize) {
+        Some(task) if !task.is_hidden => task.ask(asked, counts),
+        _ => Ok(()),
     }
-
-    /// A step: the control that waits longest is picked, and done. Of the calls of hooks each appends so many words.
-    fn step(&mut self, hooks: &Vec<u32>, counts: &mut Counts) {
-        let Some(asked) = self.asked.get(self.picked).copied() else {
-            up(&mut counts.idle);
-            return;
-        };
-        self.picked = self.picked.saturating_add(1);
-        up(&mut counts.picks);
-        match asked {
-            Asked::Start => self.start(hooks, counts),
-            Asked::Hook => self.is_hooked = true,
-            Asked::Unhook => self.is_hooked = false,
-            Asked::Command => self.spawner = Spawner::Command,
-            Asked::Child => self.spawner = Spawner::Child,
-            Asked::Clear => self.spawner = Spawner::Default,
-        }
-        up(&mut counts.raises);
-    }
-
-    /// A child is spawned where none runs, behind the hook where one is set.
-    fn start(&mut self, hooks: &Vec<u32>, counts: &mut Counts) {
-        if self.runs {
-            return;
-        }
-        self.runs = true;
-        if self.is_hooked {
-            let words = hooks.get(counts.hooks as usize).copied();
-            counts.words = counts.words.saturating_add(words.unwrap_or(0));
-            up(&mut counts.hooks);
-        }
-        up(&mut counts.spawns);
-        match self.spawner {
-            Spawner::Default => {}
-            Spawner::Command => up(&mut counts.commands),
-            Spawner::Child => up(&mut counts.children),
-        }
-    }
-}
-
-/// This is asked of a job, where it was made.
-fn ask(jobs: &mut Vec<Task>, job: u32, asked: Asked, counts: &mut Counts) -> Result<(), Memory> {
-    if let Some(task) = jobs.get_mut(job as usize) {
-        up(&mut counts.asked);
-        task.asked.push(asked)?;
-    }
-    Ok(())
 }
 
 /// A script that is being drawn.
@@ -390,6 +314,7 @@ struct Draft {
     answered: usize,
     wished: usize,
     hooked: usize,
+    signalled: usize,
     // the jobs that the action lines so far create
     created: u32,
     rules: Rules,
@@ -407,6 +332,7 @@ impl Draft {
             answered: 0,
             wished: 0,
             hooked: 0,
+            signalled: 0,
             created: 0,
             rules: Rules {
                 size: 0,
@@ -418,7 +344,10 @@ impl Draft {
                 is_closed: false,
                 actions: Vec::new(alloc),
                 jobs: Vec::new(alloc),
-                hooks: Vec::new(alloc),
+                said: Said {
+                    hooks: Vec::new(alloc),
+                    signals: Vec::new(alloc),
+                },
                 outcome: Outcome::Well,
                 is_over: false,
                 counts: Counts::default(),
@@ -440,9 +369,14 @@ impl Draft {
         }
         for _ in 0..draft.draw(4) {
             let words = draft.draw(3);
-            draft.rules.hooks.push(words)?;
+            draft.rules.said.hooks.push(words)?;
         }
-        for _ in 0..20 + draft.draw(50) {
+        for _ in 0..draft.draw(4) {
+            let is_sent = draft.draw(2) == 0;
+            draft.rules.said.signals.push(is_sent)?;
+        }
+        draft.put_work(alloc)?;
+        for _ in 0..30 + draft.draw(60) {
             draft.put_line(alloc)?;
         }
         draft.put_tail(alloc)?;
@@ -457,15 +391,45 @@ impl Draft {
         self.rng.next_u32() % below
     }
 
-    /// What is asked of a job.
+    /// A job that was made so far, or the one that is made next.
+    fn draw_job(&mut self) -> u32 {
+        let made = self.rules.counts.made.min(3);
+        if made == 0 || self.draw(8) == 0 {
+            made
+        } else {
+            self.draw(made)
+        }
+    }
+
+    /// What is asked of a job. A deletion is asked less often.
     fn draw_asked(&mut self) -> Asked {
-        match self.draw(14) {
-            0..=2 => Asked::Hook,
-            3 => Asked::Unhook,
-            4 | 5 => Asked::Command,
-            6 | 7 => Asked::Child,
-            8 => Asked::Clear,
-            _ => Asked::Start,
+        match self.draw(80) {
+            0..=39 => Asked::One(self.draw_control()),
+            40..=45 => Asked::Restart,
+            46..=51 => Asked::RestartSignal,
+            52 => Asked::StopDelete,
+            53 => Asked::DeleteNow,
+            54..=59 => Asked::ToWait,
+            _ => Asked::One(Control::Start),
+        }
+    }
+
+    /// A control but a start.
+    fn draw_control(&mut self) -> Control {
+        match self.draw(40) {
+            0..=3 => Control::Stop,
+            4..=9 => Control::GracefulStop,
+            10..=13 => Control::TryRestart,
+            14..=19 => Control::TryGracefulRestart,
+            20..=22 => Control::Continue,
+            23..=26 => Control::Signal,
+            27 => Control::Delete,
+            28 | 29 => Control::NextEnding,
+            30..=32 => Control::Hook,
+            33 => Control::Unhook,
+            34 | 35 => Control::Command,
+            36 | 37 => Control::Child,
+            _ => Control::Clear,
         }
     }
 
@@ -478,13 +442,13 @@ impl Draft {
             quits: false,
         };
         for _ in 0..self.draw(8) {
-            match self.draw(16) {
+            match self.draw(24) {
                 0 => {
                     action.line.append(b" quit")?;
                     action.quits = true;
                 }
                 1 | 2 => action.line.append(b" ask 900 start")?,
-                3..=12 if self.created > 0 => self.put_ask_of(&mut action)?,
+                3..=19 if self.created > 0 => self.put_ask_of(&mut action)?,
                 _ => {
                     action.line.append(b" create exec ---- 1 a")?;
                     up(&mut action.creates);
@@ -587,22 +551,26 @@ impl Draft {
 
     /// A line of any form that may stand in the middle.
     fn put_line(&mut self, alloc: Global) -> Result<(), Memory> {
-        match self.draw(36) {
+        match self.draw(44) {
             0..=5 => self.put_arrival(),
-            6..=9 => {
-                self.rules.work(alloc)?;
-                self.put_turn(b" work\n")
-            }
-            10..=23 => self.put_step(),
-            24 => self.put_ended(),
-            25..=28 => self.put_ask(),
-            29 => self.put_unread(),
-            30 => self.put_answer(),
-            31 => self.put_verdict(),
-            32 => self.put_wish(),
-            33 => self.put_hook(),
+            6..=11 => self.put_work(alloc),
+            12..=27 => self.put_step(),
+            28..=30 => self.put_ended(),
+            31..=35 => self.put_ask(),
+            36 => self.put_unread(),
+            37 => self.put_answer(),
+            38 => self.put_verdict(),
+            39 => self.put_wish(),
+            40 => self.put_hook(),
+            41 => self.put_signal(),
             _ => self.put_action(),
         }
+    }
+
+    /// The worker acts.
+    fn put_work(&mut self, alloc: Global) -> Result<(), Memory> {
+        self.rules.work(alloc)?;
+        self.put_turn(b" work\n")
     }
 
     /// An event arrives.
@@ -615,23 +583,23 @@ impl Draft {
 
     /// A job takes a step, which was made or was not.
     fn put_step(&mut self) -> Result<(), Memory> {
-        let job = self.draw(3);
-        self.rules.step(job);
+        let job = self.draw_job();
         self.put_turn(b" job ")?;
+        self.rules.step(job, self.moment);
         self.put(b"", u64::from(job), b"\n")
     }
 
-    /// A child has ended, of which there is none.
+    /// A child has ended, or one that isn't there.
     fn put_ended(&mut self) -> Result<(), Memory> {
-        self.rules.ignore();
-        let child = u64::from(self.draw(3));
-        self.put_turn(b" ended 9")?;
-        self.put(b"", child, b"\n")
+        let child = self.draw(self.rules.counts.spawns.saturating_add(2));
+        self.put_turn(b" ended ")?;
+        self.rules.end_child(child, self.moment);
+        self.put(b"", u64::from(child), b"\n")
     }
 
     /// Something is asked of a job, which was made or was not.
     fn put_ask(&mut self) -> Result<(), Memory> {
-        let job = self.draw(3);
+        let job = self.draw_job();
         let asked = self.draw_asked();
         self.rules.ask(job, asked)?;
         self.put_turn(b" ask ")?;
@@ -648,13 +616,13 @@ impl Draft {
         }
     }
 
-    /// An answer to a call that does not come, or that a spawn goes well.
+    /// The answer of a spawn, a kill or a wait, which goes well.
     fn put_answer(&mut self) -> Result<(), Memory> {
         match self.draw(4) {
             0 => self.text.append(b"spawn ok\n"),
-            1 => self.text.append(b"kill fault 1\n"),
+            1 => self.text.append(b"kill ok\n"),
             2 => self.text.append(b"wait error.1\n"),
-            _ => self.text.append(b"wait fault 2\n"),
+            _ => self.text.append(b"wait signal.terminate\n"),
         }
     }
 
@@ -687,13 +655,26 @@ impl Draft {
 
     /// The words of the next call of a hook, where such are left.
     fn put_hook(&mut self) -> Result<(), Memory> {
-        if let Some(words) = self.rules.hooks.get(self.hooked).copied() {
+        if let Some(words) = self.rules.said.hooks.get(self.hooked).copied() {
             self.put(b"hook ", u64::from(words), b"")?;
             for _ in 0..words {
                 self.text.append(b" -v")?;
             }
             self.text.push(10)?;
             self.hooked = self.hooked.saturating_add(1);
+        }
+        Ok(())
+    }
+
+    /// The answer of the next signal, where one is left.
+    fn put_signal(&mut self) -> Result<(), Memory> {
+        if let Some(is_sent) = self.rules.said.signals.get(self.signalled).copied() {
+            self.text.append(if is_sent {
+                b"signal ok\n"
+            } else {
+                b"signal fault 9\n"
+            })?;
+            self.signalled = self.signalled.saturating_add(1);
         }
         Ok(())
     }
@@ -717,8 +698,11 @@ impl Draft {
         for _ in 0..self.rules.wishes.len() {
             self.put_wish()?;
         }
-        for _ in 0..self.rules.hooks.len() {
+        for _ in 0..self.rules.said.hooks.len() {
             self.put_hook()?;
+        }
+        for _ in 0..self.rules.said.signals.len() {
+            self.put_signal()?;
         }
         self.rules.end();
         Ok(())
@@ -729,6 +713,8 @@ impl Draft {
 fn random_scripts_have_the_lines_that_are_due(rt: HostRuntime) -> Result<(), Fail> {
     let mut words = Vec::new(rt.alloc());
     words.push(Text::from_slice(rt.alloc(), b"replay")?)?;
+    let mut graces = 0u32;
+    let mut faults = 0u32;
     for seed in 0..300 {
         let draft = Draft::new(rt.alloc(), seed)?;
         let mut source = MemSource::new(rt.alloc(), draft.text.as_slice())?;
@@ -739,6 +725,10 @@ fn random_scripts_have_the_lines_that_are_due(rt: HostRuntime) -> Result<(), Fai
         assert_eq!(rt; Counts::of(text), draft.rules.counts, "seed {seed}");
         let end = draft.rules.end_line(rt.alloc())?;
         assert!(rt; text.ends_with(end.as_slice()), "seed {seed}");
+        assert!(rt; !raises_twice(text), "seed {seed}");
+        graces = graces.saturating_add(draft.rules.counts.graces);
+        faults = faults.saturating_add(draft.rules.counts.failed_signals);
     }
+    assert!(rt; graces > 0 && faults > 0);
     Ok(())
 }

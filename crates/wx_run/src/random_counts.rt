@@ -29,6 +29,12 @@ pub(crate) struct Counts {
     // those of a spawn function, and those of a child function
     pub(crate) commands: u32,
     pub(crate) children: u32,
+    pub(crate) signals: u32,
+    // those that failed
+    pub(crate) failed_signals: u32,
+    pub(crate) graces: u32,
+    pub(crate) kills: u32,
+    pub(crate) waits: u32,
     pub(crate) raises: u32,
     pub(crate) drops: u32,
     pub(crate) gone: u32,
@@ -38,7 +44,7 @@ pub(crate) struct Counts {
 }
 
 /// This count, or the greatest that there is.
-pub(crate) fn small(count: usize) -> u32 {
+fn small(count: usize) -> u32 {
     u32::try_from(count).unwrap_or(u32::MAX)
 }
 
@@ -76,6 +82,10 @@ impl Counts {
             Some(b"pick") => up(&mut self.picks),
             Some(b"hook") => self.add_hook(line),
             Some(b"spawn") => self.add_spawn(&mut words),
+            Some(b"signal") => self.add_signal(line),
+            Some(b"grace") => up(&mut self.graces),
+            Some(b"kill") => up(&mut self.kills),
+            Some(b"wait") => up(&mut self.waits),
             Some(b"raise") => up(&mut self.raises),
             Some(b"drop") => up(&mut self.drops),
             Some(b"gone") => up(&mut self.gone),
@@ -104,6 +114,14 @@ impl Counts {
         }
     }
 
+    /// Counts a signal.
+    fn add_signal(&mut self, line: &[u8]) {
+        up(&mut self.signals);
+        if !line.ends_with(b" ok") {
+            up(&mut self.failed_signals);
+        }
+    }
+
     /// Counts an offer with these words behind its first one.
     fn add_offer(&mut self, words: &mut Words) {
         let _event = words.next();
@@ -124,4 +142,17 @@ impl Counts {
             _ => up(&mut self.others),
         }
     }
+}
+
+/// Whether this text has two lines that raise one ticket.
+pub(crate) fn raises_twice(text: &[u8]) -> bool {
+    for line in text.split(|byte| *byte == 10) {
+        let same = text
+            .split(|byte| *byte == 10)
+            .filter(|other| *other == line);
+        if line.starts_with(b"raise ") && same.count() > 1 {
+            return true;
+        }
+    }
+    false
 }

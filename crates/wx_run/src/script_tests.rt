@@ -53,13 +53,15 @@ fn reads_scripts(rt: HostRuntime) {
     }
 }
 
-/// How many acts the first action of the script of these bytes has, and how many answers to spawns, kills and waits the script has.
-fn answer_counts(alloc: Global, bytes: &[u8]) -> Option<(usize, usize, usize, usize)> {
+/// How many acts the first action of the script of these bytes has, and how many answers to spawns, signals, kills and waits the
+/// script has.
+fn answer_counts(alloc: Global, bytes: &[u8]) -> Option<(usize, usize, usize, usize, usize)> {
     let script = script_in(alloc, bytes)?;
     let first = script.actions.as_slice().first();
     Some((
         first.map_or(0, |acts| acts.len()),
         script.answers.spawns.len(),
+        script.answers.signals.len(),
         script.answers.kills.len(),
         script.answers.waits.len(),
     ))
@@ -68,30 +70,42 @@ fn answer_counts(alloc: Global, bytes: &[u8]) -> Option<(usize, usize, usize, us
 #[test]
 fn reads_lines_about_jobs(rt: HostRuntime) {
     let alloc = rt.alloc();
-    let table: [(&[u8], (usize, usize, usize, usize)); 6] = [
+    let table: [(&[u8], (usize, usize, usize, usize, usize)); 9] = [
         (
             b"action create exec ---- 1 a ask 0 start quit\n",
-            (3, 0, 0, 0),
+            (3, 0, 0, 0, 0),
         ),
         (
             b"action ask 4294967295 stop create exec g-r- 2 a %20 create exec ---- 1 b\n",
-            (3, 0, 0, 0),
+            (3, 0, 0, 0, 0),
+        ),
+        (
+            b"action ask 0 gracefulstop custom.-3 0 ask 0 tryrestart ask 0 trygracefulrestart quit 18446744073709551615 ask 0 continue ask 0 signal hangup ask 0 delete ask 0 nextending\n",
+            (7, 0, 0, 0, 0),
+        ),
+        (
+            b"action ask 0 restart ask 0 restartsignal user1 5 ask 0 stopdelete ask 0 deletenow ask 0 towait\n",
+            (5, 0, 0, 0, 0),
         ),
         (
             b"spawn ok\nspawn fault 5\nkill ok\nspawn ok\n",
-            (0, 3, 1, 0),
+            (0, 3, 0, 1, 0),
+        ),
+        (
+            b"signal fault 4294967295\nkill ok\nsignal ok\nturn 0 ask 0 signal suspend\nsignal fault 0\n",
+            (0, 0, 3, 1, 0),
         ),
         (
             b"kill fault 4294967295\nwait success\nwait error.7\nwait fault 2\nwait signal.custom.64\n",
-            (0, 0, 1, 4),
+            (0, 0, 0, 1, 4),
         ),
         (
             b"turn 0 job 0\nspawn ok\nturn 0 ended 18446744073709551615\nturn 1 ask 3 stop\nwait continued\n",
-            (0, 1, 0, 1),
+            (0, 1, 0, 0, 1),
         ),
         (
-            b"spawn ok\nset size 2\nkill ok\nsend low 0\nwait success\nturn 0 work\n",
-            (0, 1, 1, 1),
+            b"spawn ok\nset size 2\nkill ok\nsend low 0\nsignal ok\nwait success\nturn 0 work\n",
+            (0, 1, 1, 1, 1),
         ),
     ];
     for (bytes, want) in table {
@@ -244,6 +258,42 @@ fn refuses_lines_about_jobs(rt: HostRuntime) {
         b"turn 0 ended x\n",
         b"turn 0 ask 0\n",
         b"turn 0 ask 0 go\n",
+    ];
+    for bytes in table {
+        assert!(rt; bad_line(alloc, bytes) == Some(1), "at {bytes:?}");
+    }
+}
+
+#[test]
+fn refuses_lines_about_signals_and_graces(rt: HostRuntime) {
+    let alloc = rt.alloc();
+    let table: [&[u8]; 26] = [
+        b"signal\n",
+        b"signal maybe\n",
+        b"signal success\n",
+        b"signal terminate\n",
+        b"signal ok ok\n",
+        b"signal fault\n",
+        b"signal fault 4294967296\n",
+        b"signal fault -1\n",
+        b"turn 0 signal ok\n",
+        b"turn 0 ask 0 gracefulstop\n",
+        b"turn 0 ask 0 gracefulstop terminate\n",
+        b"turn 0 ask 0 gracefulstop 10 terminate\n",
+        b"turn 0 ask 0 gracefulstop terminate 010\n",
+        b"turn 0 ask 0 gracefulstop terminate 18446744073709551616\n",
+        b"turn 0 ask 0 gracefulstop term 10\n",
+        b"turn 0 ask 0 trygracefulrestart 10\n",
+        b"turn 0 ask 0 tryrestart terminate 10\n",
+        b"turn 0 ask 0 continue terminate 10\n",
+        b"turn 0 ask 0 signal 15\n",
+        b"turn 0 ask 0 signal custom\n",
+        b"action ask 0 restart 5\n",
+        b"action ask 0 restartsignal terminate\n",
+        b"action ask 0 delete 0\n",
+        b"action ask 0 delete now\n",
+        b"action ask 0 deletenow stop\n",
+        b"action ask 0 towait 5\n",
     ];
     for bytes in table {
         assert!(rt; bad_line(alloc, bytes) == Some(1), "at {bytes:?}");

@@ -20,7 +20,7 @@ fn words_of(alloc: Global, line: &[u8]) -> Result<Vec<Text>, Memory> {
 }
 
 /// What these words write for a script, and how they end.
-fn run(alloc: Global, line: &[u8], script: &[u8]) -> Result<(MemSink, Status), Memory> {
+pub(crate) fn run(alloc: Global, line: &[u8], script: &[u8]) -> Result<(MemSink, Status), Memory> {
     let words = words_of(alloc, line)?;
     let mut source = MemSource::new(alloc, script)?;
     let mut sink = MemSink::new(alloc);

@@ -8,7 +8,7 @@ use Rattle.wx_action.proofs.FaultLaws.{counts_on}
 use Rattle.wx_action.proofs.PlanLemmas.{JobDone}
 use Rattle.wx_action.proofs.JobListLemmas.{length_with}
 use Rattle.wx_action.proofs.HandLemmas.{on_err}
-use Rattle.wx_action.proofs.JobLemmas.{lent, alive_held, step_done, StepStopped, step_stopped}
+use Rattle.wx_action.proofs.JobLemmas.{lent, parked_lent, alive_held, step_done, StepStopped, step_stopped}
 use Rattle.wx_action.proofs.job_turns.step_of.Goals as goal
 
 pub task_mut-task-requires : goal.task_mut-task-requires
@@ -18,6 +18,12 @@ pub step-requires-clause-stands : goal.step-requires-clause-stands
 step-requires-clause-stands g c =
     let l = lent g.start c.args.worker.now c.args.journal.now.past c.args.id c.task_mut-task.result.now c.requires.1.1.1.0 c.task_mut-task.ensures.task in
     subst (λ (k : JobTask). TaskStands k c.args.journal.now.past) l.task_is l.stood.task_stands
+
+pub step-requires-clause-room : goal.step-requires-clause-room
+step-requires-clause-room g c = let parked = parked_lent c.args.worker.now.jobs c.args.id c.task_mut-task.result.now c.task_mut-task.ensures.task in record {
+  in_journal = omega (arith, parked, c.requires.1.1.1.1.0);
+  in_host = omega (arith, parked, c.requires.1.1.1.1.1.0);
+}
 
 stopped : (g : _) (c : goal.After-from_residual g) → StepStopped g.start (record c.args.worker.now { jobs = with_task c.args.id c.args.worker.now.jobs c.step.new.self }) c.args.journal.now.past c.step.new.journal.past
     (g.W.Outside.seen c.args.host.now).shown.told (g.W.Outside.seen c.step.new.host).shown.told (g.H.JobHooks.seen c.args.hooks.now).told (g.H.JobHooks.seen c.step.new.hooks).told
@@ -37,9 +43,9 @@ pub returns-in_err-step-clause-steps : goal.returns-in_err-step-clause-steps
 returns-in_err-step-clause-steps g c = record { done = search rules; err = on_err c.from_residual.result (stopped g c).leaves }
 
 pub returns-in_err-step-clause-room : goal.returns-in_err-step-clause-room
-returns-in_err-step-clause-room g c = let same = length_with c.args.id c.args.worker.now.jobs c.step.new.self in record {
-  in_journal = omega (arith, ap (λ n. 2 * n) same, c.requires.1.1.1.1.0, c.step.ensures.spends.in_journal);
-  in_host = omega (arith, ap (λ n. 2 * n) same, c.requires.1.1.1.1.1.0, c.step.ensures.spends.in_host);
+returns-in_err-step-clause-room g c = let same = length_with c.args.id c.args.worker.now.jobs c.step.new.self in let parked = parked_lent c.args.worker.now.jobs c.args.id c.task_mut-task.result.now c.task_mut-task.ensures.task in record {
+  in_journal = omega (arith, ap (λ n. 2 * n) same, parked, c.requires.1.1.1.1.0, c.step.ensures.spends.in_journal);
+  in_host = omega (arith, ap (λ n. 2 * n) same, parked, c.requires.1.1.1.1.1.0, c.step.ensures.spends.in_host);
 }
 
 done : (g : _) (c : goal.In_ok-step g) → JobDone g.start (record c.args.worker.now { jobs = with_task c.args.id c.args.worker.now.jobs c.step.new.self }) (step_plan (id_of c.task_mut-task.result.now) (command_of c.task_mut-task.result.now) c.args.journal.now.past) Open c.args.journal.now.past c.step.new.journal.past
@@ -60,7 +66,7 @@ pub returns-clause-steps : goal.returns-clause-steps
 returns-clause-steps g c = record { done = (done g c).done; err = tt }
 
 pub returns-clause-room : goal.returns-clause-room
-returns-clause-room g c = let same = length_with c.args.id c.args.worker.now.jobs c.step.new.self in record {
-  in_journal = omega (arith, ap (λ n. 2 * n) same, c.requires.1.1.1.1.0, c.step.ensures.spends.in_journal);
-  in_host = omega (arith, ap (λ n. 2 * n) same, c.requires.1.1.1.1.1.0, c.step.ensures.spends.in_host);
+returns-clause-room g c = let same = length_with c.args.id c.args.worker.now.jobs c.step.new.self in let parked = parked_lent c.args.worker.now.jobs c.args.id c.task_mut-task.result.now c.task_mut-task.ensures.task in record {
+  in_journal = omega (arith, ap (λ n. 2 * n) same, parked, c.requires.1.1.1.1.0, c.step.ensures.spends.in_journal);
+  in_host = omega (arith, ap (λ n. 2 * n) same, parked, c.requires.1.1.1.1.1.0, c.step.ensures.spends.in_host);
 }

@@ -1,3 +1,4 @@
+use Rattle.std.proofs.Common.{arith}
 use Rattle.wx_action.proofs.JobLemmas.{steps_after}
 use Rattle.wx_action.proofs.Serving.{continues_after}
 use Rattle.wx_action.proofs.job_turns.take_step.Goals as goal
@@ -9,7 +10,7 @@ step_of-requires g c = λ κs lives. (
     lives.1,
     (
       rw c.in_ok-reserve.ensures.same c.requires.1.1.0,
-      (rw c.in_ok-reserve.ensures.same c.requires.1.1.1, (c.in_ok-reserve.ensures.room, (c.in_ok-reserve_host.ensures.room, c.in_ok-reserve-2.ensures.room))),
+      (rw c.in_ok-reserve.ensures.same c.requires.1.1.1, (omega (arith, c.in_ok-room.ensures, c.in_ok-reserve.ensures.room), (omega (arith, c.in_ok-room.ensures, c.in_ok-reserve_host.ensures.room), c.in_ok-reserve-2.ensures.room))),
     ),
   ),
 )

@@ -1,4 +1,4 @@
-use Rattle.std.proofs.Common.{◌≡◌, ℕ, List, inl, inr, ◌∙◌}
+use Rattle.std.proofs.Common.{inr}
 use Rattle.std.specs.Prelude.{None}
 use Rattle.wx_journal.specs.declared.entry.TurnKind.TheVariants.{Work}
 use Rattle.wx_action.specs.Serves.{Continues}

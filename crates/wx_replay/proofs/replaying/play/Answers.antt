@@ -1,5 +1,5 @@
 use Rattle.std.proofs.lemmas.Result.{IfOk-weaker}
-use Rattle.std.proofs.Common.{◌≡◌, ◌∙◌, sym, ap, Some, List}
+use Rattle.std.proofs.Common.{◌∙◌, sym, ap, Some, List}
 use Rattle.wx_journal.specs.declared.entry.Entry.{Entry}
 use Rattle.wx_journal.specs.Told.{tells, is_turn, is_world, anywhere}
 use Rattle.wx_action.proofs.OneSpelling.{one_spelling}

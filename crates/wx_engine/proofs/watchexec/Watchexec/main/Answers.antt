@@ -1,5 +1,5 @@
 use Rattle.wx_action.proofs.ReapLaws.{ran_reaps}
-use Rattle.wx_engine.proofs.MainLaws.{answered_ran, ran_shows, ran_shows_open, completed, ran_makes_once, ran_is_served}
+use Rattle.wx_engine.proofs.MainLaws.{answered_ran, ran_shows, ran_shows_open, completed, ran_makes_once, ran_is_served, ran_is_placed, graces_have_children}
 use Rattle.wx_engine.proofs.OfferLaws.{ran_offers}
 use Rattle.wx_engine.proofs.WishLaws.{answered_granted}
 use Rattle.wx_engine.proofs.watchexec.Watchexec.main.Goals as goal
@@ -36,3 +36,15 @@ returns-clause-granted g c = answered_granted c.args.self _ c.run.result c.run.e
 
 pub returns-clause-offers : goal.returns-clause-offers
 returns-clause-offers g c = ran_offers c.args.self _ (answered_ran c.args.self _ c.run.result c.run.ensures.answers)
+
+pub returns-clause-tickets : goal.returns-clause-tickets
+returns-clause-tickets g c = (ran_is_placed c.args.self _ (answered_ran c.args.self _ c.run.result c.run.ensures.answers)).one
+
+pub returns-clause-raised_last : goal.returns-clause-raised_last
+returns-clause-raised_last g c = (ran_is_placed c.args.self _ (answered_ran c.args.self _ c.run.result c.run.ensures.answers)).last
+
+pub returns-clause-graces : goal.returns-clause-graces
+returns-clause-graces g c = graces_have_children _
+
+pub returns-clause-pressing : goal.returns-clause-pressing
+returns-clause-pressing g c = (ran_is_placed c.args.self _ (answered_ran c.args.self _ c.run.result c.run.ensures.answers)).pressing

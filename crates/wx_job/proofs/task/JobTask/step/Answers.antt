@@ -16,4 +16,4 @@ pub returns-clause-promised : goal.returns-clause-promised
 returns-clause-promised g c own = promised (λ x. g.K.JobHooks.seen x) (λ plan. g.K.JobHooks.rule plan) (λ x. g.K.JobHooks.stands x) c.args.hooks.now c.args.journal.now.past c.walk.new.hooks c.walk.new.journal.past (λ y. g.met.K.JobHooks.stands_other y) ((done g c).left.leaves.others own).own (c.walk.ensures.keeps _ _ Still)
 
 pub returns-clause-err : goal.returns-clause-err
-returns-clause-err g c = on_stops c.walk.result _ _ _ _ _ _ _ _ _ _ _ _ _ _ _ c.walk.ensures.err
+returns-clause-err g c = on_stops c.walk.result c.args.self.now.command _ _ _ _ c.args.self.now _ _ _ _ _ _ _ c.requires.stands c.walk.ensures.err

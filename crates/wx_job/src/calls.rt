@@ -1,0 +1,393 @@
+// The calls that the cases of a job are made of, each with its entry.
+ghost use Rattle.std.specs.Prelude.{◌≡◌, ℕ, ◌+◌, ◌<◌, ◌≤◌, ◌∷◌, [], OnOk, OnErr, IfOk, IfSome, IfNone, List, Option, Some, None, false, length, option_map};
+ghost use Rattle.wx_command.specs.declared.spawnable.Spawnable.{Spawnable as the-Spawnable};
+ghost use Rattle.wx_command.specs.Spawnables.{spawnable_of};
+ghost use Rattle.wx_journal.specs.declared.entry.Entry.{Entry};
+ghost use Rattle.wx_journal.specs.Names.{moment, ticket_count};
+ghost use Rattle.wx_journal.specs.Told.{tell};
+ghost use Rattle.wx_job.specs.declared.state.CommandState.TheVariants.{Pending};
+ghost use Rattle.wx_job.specs.History.{finish, before_spawn, just_picked, begins_by};
+ghost use Rattle.wx_job.specs.Table.{Plan, Done, Words, Signals, Kills, Waits, Owes, adds, reap, waiters, spawn, fresh};
+ghost use Rattle.wx_job.specs.Case.{FollowsHost, Follows, GivesUp, HookedOnly, words_of};
+ghost use Rattle.wx_job.specs.Kept.{Quiet, KeepsOn};
+ghost use Rattle.wx_job.specs.Steady.{AreSpare, Spends};
+ghost use Rattle.wx_job.specs.Stands.{Stands, kit_of, child_of, grace_of, holds};
+
+use crate::context::JobTaskContext;
+use crate::grace::Standing;
+use crate::outside::{Host, JobHooks};
+use crate::state::CommandState;
+use crate::task::JobTask;
+use std::alloc::Global;
+use wx_command::Spawnable;
+use wx_control::Flag;
+use wx_events::{Copies, Memory, ProcessEnd};
+use wx_journal::{Entry, HostFault, Journal};
+
+#[tactic(auto, using(crate::proofs::Sets::steps))]
+impl JobTask {
+    /// Raises a ticket, which the task doesn't hold.
+    pub(crate) fn raise<H: Host>(
+        &self,
+        ticket: u64,
+        done: &Flag,
+        host: &mut H,
+        journal: &mut Journal,
+    )
+        requires stands { Stands self.now journal.old.past }
+        requires unheld { holds ticket self.now ≡ 0 }
+        requires room { AreSpare 1 journal.old (H.seen host.old) }
+        ensures stands { Stands self.now journal.new.past }
+        ensures follows { (k : Plan) → FollowsHost (adds (Entry.Raise ticket) k) journal.old.past (H.seen host.old) k journal.new.past (H.seen host.new) }
+        ensures before { before_spawn self.now.id journal.new.past ≡ self.now.state }
+        ensures quiet { Quiet journal.old.past journal.new.past }
+        ensures spends { Spends 1 journal.old (H.seen host.old) journal.new (H.seen host.new) }
+    {
+        host.raise(ticket, done);
+        journal.push(Entry::Raise(ticket));
+    }
+
+    /// Raises each parked ticket, in order.
+    pub(crate) fn raise_parked<H: Host>(&mut self, host: &mut H, journal: &mut Journal)
+        requires stands { Stands self.old journal.old.past }
+        requires before { before_spawn self.old.id journal.old.past ≡ self.old.state }
+        requires room { AreSpare (length self.old.parked.tickets) journal.old (H.seen host.old) }
+        ensures stands { Stands self.new journal.new.past }
+        ensures follows { (k : Plan) → FollowsHost (waiters self.old.parked.tickets k) journal.old.past (H.seen host.old) k journal.new.past (H.seen host.new) }
+        ensures fields { self.new ≡ record self.old { parked = self.new.parked } }
+        ensures none { self.new.parked.tickets ≡ [] }
+        ensures held { (t : ℕ) → holds t self.new ≤ holds t self.old }
+        ensures before { before_spawn self.new.id journal.new.past ≡ self.new.state }
+        ensures quiet { Quiet journal.old.past journal.new.past }
+        ensures spends { Spends (length self.old.parked.tickets) journal.old (H.seen host.old) journal.new (H.seen host.new) }
+    {
+        while let Some(parked) = self.parked.take() {
+            host.raise(parked.ticket, &parked.done);
+            journal.push(Entry::Raise(parked.ticket));
+        }
+    }
+
+    /// Sends the signal of this number to the child, whatever comes of it. The grace stays as it is.
+    pub(crate) fn signal<H: Host>(
+        &self,
+        child: u64,
+        number: i32,
+        host: &mut H,
+        journal: &mut Journal,
+    )
+        requires stands { Stands self.now journal.old.past }
+        requires begins { begins_by (just_picked self.now.id journal.old.past) (moment journal.old.past) (grace_of self.now) ≡ grace_of self.now }
+        requires room { AreSpare 1 journal.old (H.seen host.old) }
+        ensures stands { Stands self.now journal.new.past }
+        ensures follows { (k : Plan) → FollowsHost (Owes (Signals child number) k k) journal.old.past (H.seen host.old) k journal.new.past (H.seen host.new) }
+        ensures quiet { Quiet journal.old.past journal.new.past }
+        ensures spends { Spends 1 journal.old (H.seen host.old) journal.new (H.seen host.new) }
+    {
+        let answer = host.signal(child, number);
+        journal.push(Entry::Signal {
+            child,
+            number,
+            answer,
+        });
+    }
+
+    /// Sends the signal of this number to the child, in the case of a control that begins this grace. Where that is done
+    /// the grace stands, and else it is given back.
+    pub(crate) fn begin<H: Host>(
+        &mut self,
+        child: u64,
+        number: i32,
+        standing: Standing,
+        host: &mut H,
+        journal: &mut Journal,
+    ) -> Option<Standing>
+        requires stands { Stands self.old journal.old.past }
+        requires runs { child_of self.old.state ≡ Some child }
+        requires here { self.old.gone ≡ false }
+        requires begins { begins_by (just_picked self.old.id journal.old.past) (moment journal.old.past) (grace_of self.old) ≡ Some standing.grace }
+        requires unheld { holds standing.grace.ticket self.old ≡ 0 }
+        requires named { standing.grace.ticket < ticket_count journal.old.past }
+        requires room { AreSpare 1 journal.old (H.seen host.old) }
+        ensures stands { Stands self.new journal.new.past }
+        ensures begun { IfNone result ((k : Plan) (f : Plan) → FollowsHost (Owes (Signals child number) k f) journal.old.past (H.seen host.old) k journal.new.past (H.seen host.new)) }
+        ensures failed { IfSome result (λ back. (k : Plan) (f : Plan) → FollowsHost (Owes (Signals child number) k f) journal.old.past (H.seen host.old) f journal.new.past (H.seen host.new)) }
+        ensures back { IfSome result (λ back. (back ≡ standing) × (self.new ≡ self.old)) }
+        ensures fields { self.new ≡ record self.old { grace = self.new.grace } }
+        ensures quiet { Quiet journal.old.past journal.new.past }
+        ensures spends { Spends 1 journal.old (H.seen host.old) journal.new (H.seen host.new) }
+    {
+        let answer = host.signal(child, number);
+        journal.push(Entry::Signal {
+            child,
+            number,
+            answer,
+        });
+        if answer.is_err() {
+            return Some(standing);
+        }
+        self.grace = Some(standing);
+        None
+    }
+
+    /// Kills the child.
+    pub(crate) fn kill<H: Host>(
+        &self,
+        child: u64,
+        host: &mut H,
+        journal: &mut Journal,
+    ) -> Result<(), HostFault>
+        requires stands { Stands self.now journal.old.past }
+        requires room { AreSpare 1 journal.old (H.seen host.old) }
+        ensures stands { Stands self.now journal.new.past }
+        ensures ok { OnOk result ((k : Plan) (f : Plan) → FollowsHost (Owes (Kills child) k f) journal.old.past (H.seen host.old) k journal.new.past (H.seen host.new)) }
+        ensures err { OnErr result ((k : Plan) (f : Plan) → FollowsHost (Owes (Kills child) k f) journal.old.past (H.seen host.old) f journal.new.past (H.seen host.new)) }
+        ensures quiet { Quiet journal.old.past journal.new.past }
+        ensures spends { Spends 1 journal.old (H.seen host.old) journal.new (H.seen host.new) }
+    {
+        let answer = host.kill(child);
+        journal.push(Entry::Kill { child, answer });
+        answer
+    }
+
+    /// Waits for the child's end, which is kept no longer. Where that is done a grace that stood has ended, and is answered.
+    pub(crate) fn wait<H: Host>(
+        &mut self,
+        child: u64,
+        at: u64,
+        host: &mut H,
+        journal: &mut Journal,
+    ) -> Result<Option<Standing>, HostFault>
+        requires stands { Stands self.old journal.old.past }
+        requires runs { child_of self.old.state ≡ Some child }
+        requires here { self.old.gone ≡ false }
+        requires at { moment journal.old.past ≡ at }
+        requires room { AreSpare 1 journal.old (H.seen host.old) }
+        ensures stands { Stands self.new journal.new.past }
+        ensures ok { OnOk result ((k : Plan) (f : Plan) → FollowsHost (Owes (Waits child) k f) journal.old.past (H.seen host.old) k journal.new.past (H.seen host.new)) }
+        ensures err { OnErr result ((k : Plan) (f : Plan) → FollowsHost (Owes (Waits child) k f) journal.old.past (H.seen host.old) f journal.new.past (H.seen host.new)) }
+        ensures fields { self.new ≡ record self.old { state = self.new.state; kept = self.new.kept; grace = self.new.grace } }
+        ensures runs { OnErr result (self.new.state ≡ self.old.state) }
+        ensures stays { OnErr result (self.new.grace ≡ self.old.grace) }
+        ensures ended { IfOk result (λ standing. option_map (λ s. s.grace) standing ≡ grace_of self.old) }
+        ensures unheld { IfOk result (λ standing. IfSome standing (λ s. holds s.grace.ticket self.new ≡ 0)) }
+        ensures none { OnOk result ((child_of self.new.state ≡ None) × (grace_of self.new ≡ None)) }
+        ensures held { (t : ℕ) → holds t self.new ≤ holds t self.old }
+        ensures before { before_spawn self.new.id journal.new.past ≡ self.new.state }
+        ensures quiet { Quiet journal.old.past journal.new.past }
+        ensures spends { Spends 1 journal.old (H.seen host.old) journal.new (H.seen host.new) }
+    {
+        let answer = host.wait(child);
+        journal.push(Entry::Wait { child, answer });
+        self.kept = false;
+        match answer {
+            Ok(status) => {
+                self.state = finished(child, status, at, self.state);
+                Ok(self.grace.take())
+            }
+            Err(fault) => Err(fault),
+        }
+    }
+
+    /// Kills the child and waits for it. Where both are done a grace that stood has ended, and is answered. Where they
+    /// aren't it raises the ticket.
+    #[tactic(auto, using(crate::proofs::Sets::steps, crate::proofs::KeptLemmas::quiets))]
+    pub(crate) fn reap<H: Host>(
+        &mut self,
+        child: u64,
+        ticket: u64,
+        done: &Flag,
+        at: u64,
+        host: &mut H,
+        journal: &mut Journal,
+    ) -> Result<Option<Standing>, HostFault>
+        requires stands { Stands self.old journal.old.past }
+        requires unheld { holds ticket self.old ≡ 0 }
+        requires runs { child_of self.old.state ≡ Some child }
+        requires here { self.old.gone ≡ false }
+        requires at { moment journal.old.past ≡ at }
+        requires room { AreSpare 3 journal.old (H.seen host.old) }
+        ensures stands { Stands self.new journal.new.past }
+        ensures ok { OnOk result ((k : Plan) → FollowsHost (reap child ticket k) journal.old.past (H.seen host.old) k journal.new.past (H.seen host.new)) }
+        ensures err { OnErr result ((k : Plan) → FollowsHost (reap child ticket k) journal.old.past (H.seen host.old) Done journal.new.past (H.seen host.new)) }
+        ensures fields { self.new ≡ record self.old { state = self.new.state; kept = self.new.kept; grace = self.new.grace } }
+        ensures runs { OnErr result (self.new.state ≡ self.old.state) }
+        ensures ended { IfOk result (λ standing. option_map (λ s. s.grace) standing ≡ grace_of self.old) }
+        ensures unheld { IfOk result (λ standing. IfSome standing (λ s. holds s.grace.ticket self.new ≡ 0)) }
+        ensures none { OnOk result ((child_of self.new.state ≡ None) × (grace_of self.new ≡ None)) }
+        ensures held { (t : ℕ) → holds t self.new ≤ holds t self.old }
+        ensures before { before_spawn self.new.id journal.new.past ≡ self.new.state }
+        ensures quiet { Quiet journal.old.past journal.new.past }
+        ensures spends { Spends 3 journal.old (H.seen host.old) journal.new (H.seen host.new) }
+    {
+        if let Err(fault) = self.kill(child, host, journal) {
+            self.raise(ticket, done, host, journal);
+            return Err(fault);
+        }
+        match self.wait(child, at, host, journal) {
+            Ok(standing) => Ok(standing),
+            Err(fault) => {
+                self.raise(ticket, done, host, journal);
+                Err(fault)
+            }
+        }
+    }
+
+    /// Spawns a child. What is spawned is given twice, for the call and for its entry. `before` is the state before it, or
+    /// before the hook that was called for it.
+    pub(crate) fn spawn<H: Host>(
+        &mut self,
+        what: Spawnable,
+        listed: Spawnable,
+        before: CommandState,
+        at: u64,
+        host: &mut H,
+        journal: &mut Journal,
+    )
+        requires stands { Stands self.old journal.old.past }
+        requires runs { child_of self.old.state ≡ None }
+        requires here { self.old.gone ≡ false }
+        requires at { moment journal.old.past ≡ at }
+        requires listed { listed ≡ what }
+        requires before { before ≡ before_spawn self.old.id journal.old.past }
+        requires room { AreSpare 1 journal.old (H.seen host.old) }
+        ensures stands { Stands self.new journal.new.past }
+        ensures follows { (words : Words) → words_of journal.old.past words ≡ what → (k : Plan) → FollowsHost (spawn self.old.id self.old.tag words k) journal.old.past (H.seen host.old) k journal.new.past (H.seen host.new) }
+        ensures fields { self.new ≡ record self.old { state = self.new.state; previous = self.new.previous; kept = self.new.kept } }
+        ensures quiet { Quiet journal.old.past journal.new.past }
+        ensures spends { Spends 1 journal.old (H.seen host.old) journal.new (H.seen host.new) }
+    {
+        let child = journal.children();
+        let answer = host.spawn(child, self.id, what, self.tag);
+        journal.push(Entry::Spawn {
+            child,
+            job: self.id,
+            tag: self.tag,
+            what: listed,
+            answer,
+        });
+        self.previous = Some(before);
+        if answer.is_ok() {
+            self.state = CommandState::Running { child, started: at };
+            self.kept = false;
+        } else {
+            self.state = CommandState::Pending;
+        }
+    }
+
+    /// Lets the spawn hook of this number change what is spawned, and answers twice what it left. It fails for want of
+    /// memory, and then the case is given up.
+    pub(crate) fn call_hook<K: JobHooks>(
+        &mut self,
+        alloc: Global,
+        n: u32,
+        mut what: Spawnable,
+        hooks: &mut K,
+        journal: &mut Journal,
+    ) -> Result<(Spawnable, Spawnable), Memory>
+        requires stands { Stands self.old journal.old.past }
+        requires runs { child_of self.old.state ≡ None }
+        requires here { self.old.gone ≡ false }
+        requires what { what ≡ spawnable_of self.old.command }
+        requires journal_room { 1 ≤ journal.old.spare }
+        requires hooks_room { 1 ≤ (K.seen hooks.old).spare }
+        ensures stands { Stands self.new journal.new.past }
+        ensures same { IfOk result (λ two. two.1 ≡ two.0) }
+        ensures past { IfOk result (λ two. journal.new.past ≡ Entry.Hook self.old.id n (Ok two.0) ∷ journal.old.past) }
+        ensures told { IfOk result (λ two. (K.seen hooks.new).told ≡ tell (Entry.Hook self.old.id n (Ok two.0)) (K.seen hooks.old).told) }
+        ensures err { OnErr result (HookedOnly self.old.id n journal.old.past (K.seen hooks.old).told journal.new.past (K.seen hooks.new).told) }
+        ensures fields { self.new ≡ record self.old { state = Pending; previous = Some self.old.state } }
+        ensures keeps { KeepsOn K.seen K.rule K.stands hooks.old journal.old.past hooks.new journal.new.past }
+        ensures now { moment journal.new.past ≡ moment journal.old.past }
+        ensures journal_room { journal.old.spare ≤ journal.new.spare + 1 }
+        ensures hooks_room { (K.seen hooks.old).spare ≤ (K.seen hooks.new).spare + 1 }
+    {
+        self.previous = Some(self.state);
+        self.state = CommandState::Pending;
+        let cx = JobTaskContext {
+            command: self.command.get(),
+            current: &self.state,
+            previous: self.previous.as_ref(),
+        };
+        let answer = hooks.spawn_hook(self.id, n, &mut what, &cx);
+        let job = self.id;
+        match answer {
+            Ok(()) => {
+                let copies = two_copies(alloc, &what);
+                let answer = Ok(what);
+                journal.push(Entry::Hook { job, n, answer });
+                copies
+            }
+            Err(error) => {
+                let answer = Err(error);
+                journal.push(Entry::Hook { job, n, answer });
+                Err(error)
+            }
+        }
+    }
+
+    /// Spawns a fresh child of these words, or of what the spawn hook leaves of them where one is set. It fails only for
+    /// want of memory, behind the call of a hook, and then the case is given up.
+    pub(crate) fn fresh<H: Host, K: JobHooks>(
+        &mut self,
+        alloc: Global,
+        what: Spawnable,
+        listed: Spawnable,
+        at: u64,
+        host: &mut H,
+        hooks: &mut K,
+        journal: &mut Journal,
+    ) -> Result<(), Memory>
+        requires stands { Stands self.old journal.old.past }
+        requires runs { child_of self.old.state ≡ None }
+        requires here { self.old.gone ≡ false }
+        requires at { moment journal.old.past ≡ at }
+        requires what { what ≡ spawnable_of self.old.command }
+        requires listed { listed ≡ what }
+        requires before { before_spawn self.old.id journal.old.past ≡ self.old.state }
+        requires room { AreSpare 2 journal.old (H.seen host.old) }
+        requires hooks_room { 1 ≤ (K.seen hooks.old).spare }
+        ensures stands { Stands self.new journal.new.past }
+        ensures ok { OnOk result ((k : Plan) → Follows (fresh self.old.id (kit_of self.old) k) journal.old.past (H.seen host.old) (K.seen hooks.old).told k journal.new.past (H.seen host.new) (K.seen hooks.new).told) }
+        ensures err { OnErr result ((k : Plan) → GivesUp (fresh self.old.id (kit_of self.old) k) journal.old.past (H.seen host.old) (K.seen hooks.old).told journal.new.past (H.seen host.new) (K.seen hooks.new).told) }
+        ensures pending { OnErr result (self.new.state ≡ Pending) }
+        ensures fields { self.new ≡ record self.old { state = self.new.state; previous = self.new.previous; kept = self.new.kept } }
+        ensures keeps { KeepsOn K.seen K.rule K.stands hooks.old journal.old.past hooks.new journal.new.past }
+        ensures spends { Spends 2 journal.old (H.seen host.old) journal.new (H.seen host.new) }
+        ensures hooks_room { (K.seen hooks.old).spare ≤ (K.seen hooks.new).spare + 1 }
+    {
+        let before = self.state;
+        let Some(n) = self.hook else {
+            self.spawn(what, listed, before, at, host, journal);
+            return Ok(());
+        };
+        let (what, listed) = self.call_hook(alloc, n, what, hooks, journal)?;
+        self.spawn(what, listed, before, at, host, journal);
+        Ok(())
+    }
+}
+
+/// Two copies of what is spawned.
+fn two_copies(alloc: Global, what: &Spawnable) -> Result<(Spawnable, Spawnable), Memory>
+    ensures { IfOk result (λ two. (two.0 ≡ what.now) × (two.1 ≡ what.now)) }
+{
+    Ok((what.copy(alloc)?, what.copy(alloc)?))
+}
+
+/// The state after this child ended.
+fn finished(child: u64, status: ProcessEnd, at: u64, state: CommandState) -> CommandState
+    ensures { result ≡ finish child status at state }
+{
+    match state {
+        CommandState::Running {
+            child: running,
+            started,
+        } if running == child => {
+            CommandState::Finished {
+                status,
+                started,
+                finished: at,
+            }
+        }
+        other => other,
+    }
+}

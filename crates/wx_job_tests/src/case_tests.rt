@@ -1,0 +1,280 @@
+// Each case of a job: what a step lists and what the job is then, worked out by hand from the table of cases.
+//
+// A block begins with the moves that come before each of its cases. A case is a line, as `expect_line` reads it.
+use crate::player::{expect_line, host, one_job};
+use std::alloc::Global;
+use std::process::Abort;
+use std::test::Fail;
+
+/// No child runs: none was spawned, one has ended, and the last spawn failed.
+const WITHOUT_A_CHILD: &str = "\
+step 1:
+step 2 = word idle | idle pending
+start,step 2 = pick 0 0, spawn 0 0 default ---- 1 a ok, raise 0 | did runs 0 from 2
+start,step 2 ! 0 = pick 0 0, spawn 0 0 default ---- 1 a fault 7, raise 0 | did pending
+stop,step 2 = pick 0 0, raise 0 | did pending
+gracefulstop quit 9,step 2 = pick 0 0, raise 0 | did pending
+tryrestart,step 2 = pick 0 0, raise 0 | did pending
+trygracefulrestart quit 9,step 2 = pick 0 0, raise 0 | did pending
+continue,step 2 = pick 0 0, spawn 0 0 default ---- 1 a ok, raise 0 | did runs 0 from 2
+continue,step 2 ! 0 = pick 0 0, spawn 0 0 default ---- 1 a fault 7, raise 0 | did pending
+signal quit,step 2 = pick 0 0, raise 0 | did pending
+delete,step 2 = pick 0 0, raise 0, gone 0 | gone pending
+nextending,step 2 = pick 0 0 | did pending parks 1
+sethook 2,step 2 = pick 0 0, raise 0 | did pending
+unsethook,step 2 = pick 0 0, raise 0 | did pending
+setspawn 3,step 2 = pick 0 0, raise 0 | did pending
+setchild 4,step 2 = pick 0 0, raise 0 | did pending
+clearspawn,step 2 = pick 0 0, raise 0 | did pending
+deletenow,step 2 = pick 0 0, raise 0 | did pending
+deletenow,step 2,step 3 = pick 0 1, raise 1, gone 0 | gone pending
+towait,step 2 = pick 0 0 | did pending parks 1
+start,end = gone 0 | pending
+start,end,step 2 =  | gone pending
+
+start,step 1,ended 2:
+step 3 = word idle | idle success from 1 to 2
+start,step 3 = pick 0 1, spawn 1 0 default ---- 1 a ok, raise 1 | did runs 1 from 3
+start,step 3 ! 0 = pick 0 1, spawn 1 0 default ---- 1 a fault 7, raise 1 | did pending
+stop,step 3 = pick 0 1, raise 1 | did success from 1 to 2
+gracefulstop quit 9,step 3 = pick 0 1, raise 1 | did success from 1 to 2
+tryrestart,step 3 = pick 0 1, raise 1 | did success from 1 to 2
+trygracefulrestart quit 9,step 3 = pick 0 1, raise 1 | did success from 1 to 2
+continue,step 3 = pick 0 1, spawn 1 0 default ---- 1 a ok, raise 1 | did runs 1 from 3
+continue,step 3 ! 0 = pick 0 1, spawn 1 0 default ---- 1 a fault 7, raise 1 | did pending
+signal quit,step 3 = pick 0 1, raise 1 | did success from 1 to 2
+delete,step 3 = pick 0 1, raise 1, gone 0 | gone success from 1 to 2
+nextending,step 3 = pick 0 1, raise 1 | did success from 1 to 2
+towait,step 3 = pick 0 1, raise 1 | did success from 1 to 2
+
+start,step 1 ! 0:
+start,step 2 = pick 0 1, spawn 1 0 default ---- 1 a ok, raise 1 | did runs 1 from 2
+stop,step 2 = pick 0 1, raise 1 | did pending
+tryrestart,step 2 = pick 0 1, raise 1 | did pending
+continue,step 2 = pick 0 1, spawn 1 0 default ---- 1 a ok, raise 1 | did runs 1 from 2
+nextending,step 2 = pick 0 1 | did pending parks 1
+
+towait,step 1:
+stop,step 2 = pick 0 1, raise 1 | did pending parks 1
+start,step 2 = pick 0 1, spawn 0 0 default ---- 1 a ok, raise 1 | did runs 0 from 2 parks 1
+start,step 2 ! 0 = pick 0 1, spawn 0 0 default ---- 1 a fault 7, raise 1 | did pending parks 1
+delete,step 2 = pick 0 1, raise 1, gone 0 | gone pending";
+
+#[test]
+fn cases_without_a_child(rt: HostRuntime) -> Result<(), Fail> {
+    each_case(&rt, rt.alloc(), WITHOUT_A_CHILD)
+}
+
+/// Child 0 runs, and no grace stands: no ticket is parked, and those of the numbers 1 and 2.
+const WITH_A_CHILD: &str = "\
+start,step 1:
+step 2 = word idle | idle runs 0 from 1
+ended 2 = wait 0 success | did success from 1 to 2
+ended 2 ! 0 = wait 0 fault 7 | did runs 0 from 1
+ended 2,step 3 ! 0 = word idle | idle runs 0 from 1
+stop,ended 2 = wait 0 success | did success from 1 to 2
+stop,ended 2,step 3 = pick 0 1, raise 1 | did success from 1 to 2
+deletenow,ended 2 = wait 0 success | did success from 1 to 2
+start,step 2 = pick 0 1, raise 1 | did runs 0 from 1
+stop,step 2 = pick 0 1, kill 0 ok, wait 0 success, raise 1 | did success from 1 to 2
+stop,step 2 ! 0 = pick 0 1, kill 0 fault 7, raise 1 | did runs 0 from 1
+stop,step 2 ! 1 = pick 0 1, kill 0 ok, wait 0 fault 7, raise 1 | did runs 0 from 1
+gracefulstop quit 9,step 2 = pick 0 1, signal 0 3 ok | did runs 0 from 1 until 11
+gracefulstop quit 9,step 2 ! 0 = pick 0 1, signal 0 3 fault 7, raise 1 | did runs 0 from 1
+tryrestart,step 2 = pick 0 1, kill 0 ok, wait 0 success, spawn 1 0 default ---- 1 a ok, raise 1 | did runs 1 from 2
+tryrestart,step 2 ! 0 = pick 0 1, kill 0 fault 7, raise 1 | did runs 0 from 1
+tryrestart,step 2 ! 1 = pick 0 1, kill 0 ok, wait 0 fault 7, raise 1 | did runs 0 from 1
+tryrestart,step 2 ! 2 = pick 0 1, kill 0 ok, wait 0 success, spawn 1 0 default ---- 1 a fault 7, raise 1 | did pending
+trygracefulrestart quit 9,step 2 = pick 0 1, signal 0 3 ok | did runs 0 from 1 until 11
+trygracefulrestart quit 9,step 2 ! 0 = pick 0 1, signal 0 3 fault 7, raise 1 | did runs 0 from 1
+continue,step 2 = pick 0 1, kill 0 ok, wait 0 success, spawn 1 0 default ---- 1 a ok, raise 1 | did runs 1 from 2
+continue,step 2 ! 0 = pick 0 1, kill 0 fault 7, raise 1 | did runs 0 from 1
+continue,step 2 ! 1 = pick 0 1, kill 0 ok, wait 0 fault 7, raise 1 | did runs 0 from 1
+continue,step 2 ! 2 = pick 0 1, kill 0 ok, wait 0 success, spawn 1 0 default ---- 1 a fault 7, raise 1 | did pending
+signal quit,step 2 = pick 0 1, signal 0 3 ok, raise 1 | did runs 0 from 1
+signal quit,step 2 ! 0 = pick 0 1, signal 0 3 fault 7, raise 1 | did runs 0 from 1
+delete,step 2 = pick 0 1, raise 1, drop 0, gone 0 | gone left 0 from 1
+nextending,step 2 = pick 0 1 | did runs 0 from 1 parks 1
+sethook 2,step 2 = pick 0 1, raise 1 | did runs 0 from 1
+unsethook,step 2 = pick 0 1, raise 1 | did runs 0 from 1
+setspawn 3,step 2 = pick 0 1, raise 1 | did runs 0 from 1
+setchild 4,step 2 = pick 0 1, raise 1 | did runs 0 from 1
+clearspawn,step 2 = pick 0 1, raise 1 | did runs 0 from 1
+deletenow,step 2 = pick 0 1, kill 0 ok, wait 0 success, raise 1 | did success from 1 to 2
+towait,step 2 = pick 0 1 | did runs 0 from 1 parks 1
+end = drop 0, gone 0 | left 0 from 1
+stop,end,step 2 =  | gone left 0 from 1
+
+start,towait,towait,step 1,step 1,step 1:
+step 2 = word idle | idle runs 0 from 1 parks 2
+ended 2 = wait 0 success, raise 1, raise 2 | did success from 1 to 2
+ended 2 ! 0 = wait 0 fault 7 | did runs 0 from 1 parks 2
+start,step 2 = pick 0 3, raise 3 | did runs 0 from 1 parks 2
+stop,step 2 = pick 0 3, kill 0 ok, wait 0 success, raise 1, raise 2, raise 3 | did success from 1 to 2
+stop,step 2 ! 0 = pick 0 3, kill 0 fault 7, raise 3 | did runs 0 from 1 parks 2
+stop,step 2 ! 1 = pick 0 3, kill 0 ok, wait 0 fault 7, raise 3 | did runs 0 from 1 parks 2
+gracefulstop quit 9,step 2 = pick 0 3, signal 0 3 ok | did runs 0 from 1 until 11 parks 2
+gracefulstop quit 9,step 2 ! 0 = pick 0 3, signal 0 3 fault 7, raise 3 | did runs 0 from 1 parks 2
+tryrestart,step 2 = pick 0 3, kill 0 ok, wait 0 success, raise 1, raise 2, spawn 1 0 default ---- 1 a ok, raise 3 | did runs 1 from 2
+tryrestart,step 2 ! 0 = pick 0 3, kill 0 fault 7, raise 3 | did runs 0 from 1 parks 2
+tryrestart,step 2 ! 1 = pick 0 3, kill 0 ok, wait 0 fault 7, raise 3 | did runs 0 from 1 parks 2
+tryrestart,step 2 ! 2 = pick 0 3, kill 0 ok, wait 0 success, raise 1, raise 2, spawn 1 0 default ---- 1 a fault 7, raise 3 | did pending
+trygracefulrestart quit 9,step 2 = pick 0 3, signal 0 3 ok | did runs 0 from 1 until 11 parks 2
+trygracefulrestart quit 9,step 2 ! 0 = pick 0 3, signal 0 3 fault 7, raise 3 | did runs 0 from 1 parks 2
+continue,step 2 = pick 0 3, kill 0 ok, wait 0 success, raise 1, raise 2, spawn 1 0 default ---- 1 a ok, raise 3 | did runs 1 from 2
+continue,step 2 ! 0 = pick 0 3, kill 0 fault 7, raise 3 | did runs 0 from 1 parks 2
+continue,step 2 ! 1 = pick 0 3, kill 0 ok, wait 0 fault 7, raise 3 | did runs 0 from 1 parks 2
+continue,step 2 ! 2 = pick 0 3, kill 0 ok, wait 0 success, raise 1, raise 2, spawn 1 0 default ---- 1 a fault 7, raise 3 | did pending
+signal quit,step 2 = pick 0 3, signal 0 3 ok, raise 3 | did runs 0 from 1 parks 2
+delete,step 2 = pick 0 3, raise 3, drop 0, gone 0 | gone left 0 from 1
+nextending,step 2 = pick 0 3 | did runs 0 from 1 parks 3
+end = drop 0, gone 0 | left 0 from 1";
+
+#[test]
+fn cases_with_a_child(rt: HostRuntime) -> Result<(), Fail> {
+    each_case(&rt, rt.alloc(), WITH_A_CHILD)
+}
+
+/// Child 0 runs in a grace of a stop, whose ticket is 1: no ticket is parked, and those of the numbers 2 and 3.
+const IN_A_GRACE_OF_A_STOP: &str = "\
+start,gracefulstop user1 9,step 1,step 2:
+step 3 = word idle | idle runs 0 from 1 until 11
+step 10 = word idle | idle runs 0 from 1 until 11
+step 11 = grace 0, kill 0 ok, wait 0 success, raise 1 | did success from 1 to 11
+step 11 ! 0 = grace 0, kill 0 fault 7, raise 1 | did runs 0 from 1
+step 11 ! 1 = grace 0, kill 0 ok, wait 0 fault 7, raise 1 | did runs 0 from 1
+deletenow,step 12 = grace 0, kill 0 ok, wait 0 success, raise 1 | did success from 1 to 12
+ended 3 = wait 0 success, raise 1 | did success from 1 to 3
+ended 3 ! 0 = wait 0 fault 7 | did runs 0 from 1 until 11
+ended 11 = grace 0, kill 0 ok, wait 0 success, raise 1 | did success from 1 to 11
+start,step 3 = word idle | idle runs 0 from 1 until 11
+stop,step 3 = word idle | idle runs 0 from 1 until 11
+gracefulstop quit 9,step 3 = word idle | idle runs 0 from 1 until 11
+tryrestart,step 3 = word idle | idle runs 0 from 1 until 11
+trygracefulrestart quit 9,step 3 = word idle | idle runs 0 from 1 until 11
+continue,step 3 = word idle | idle runs 0 from 1 until 11
+signal quit,step 3 = word idle | idle runs 0 from 1 until 11
+delete,step 3 = word idle | idle runs 0 from 1 until 11
+nextending,step 3 = word idle | idle runs 0 from 1 until 11
+sethook 2,step 3 = word idle | idle runs 0 from 1 until 11
+unsethook,step 3 = word idle | idle runs 0 from 1 until 11
+setspawn 3,step 3 = word idle | idle runs 0 from 1 until 11
+setchild 4,step 3 = word idle | idle runs 0 from 1 until 11
+clearspawn,step 3 = word idle | idle runs 0 from 1 until 11
+deletenow,step 3 = pick 0 2, kill 0 ok, wait 0 success, raise 1, raise 2 | did success from 1 to 3
+deletenow,step 3 ! 0 = pick 0 2, kill 0 fault 7, raise 2 | did runs 0 from 1 until 11
+deletenow,step 3 ! 1 = pick 0 2, kill 0 ok, wait 0 fault 7, raise 2 | did runs 0 from 1 until 11
+deletenow,step 3,step 4 = pick 0 3, raise 3, gone 0 | gone success from 1 to 3
+deletenow,step 3,step 4 ! 0 = pick 0 3, raise 3, drop 0, gone 0 | gone left 0 from 1
+towait,step 3 = pick 0 2 | did runs 0 from 1 until 11 parks 1
+end = drop 0, gone 0 | left 0 from 1
+
+start,gracefulstop user1 9,step 1,step 2,towait,towait,step 3,step 3:
+step 11 = grace 0, kill 0 ok, wait 0 success, raise 2, raise 3, raise 1 | did success from 1 to 11
+step 11 ! 0 = grace 0, kill 0 fault 7, raise 1 | did runs 0 from 1 parks 2
+step 11 ! 1 = grace 0, kill 0 ok, wait 0 fault 7, raise 1 | did runs 0 from 1 parks 2
+ended 4 = wait 0 success, raise 1, raise 2, raise 3 | did success from 1 to 4
+ended 4 ! 0 = wait 0 fault 7 | did runs 0 from 1 until 11 parks 2
+deletenow,step 4 = pick 0 4, kill 0 ok, wait 0 success, raise 2, raise 3, raise 1, raise 4 | did success from 1 to 4
+deletenow,step 4 ! 0 = pick 0 4, kill 0 fault 7, raise 4 | did runs 0 from 1 until 11 parks 2
+deletenow,step 4,step 5 ! 1 = pick 0 5, raise 5, drop 0, gone 0 | gone left 0 from 1";
+
+#[test]
+fn cases_in_a_grace_of_a_stop(rt: HostRuntime) -> Result<(), Fail> {
+    each_case(&rt, rt.alloc(), IN_A_GRACE_OF_A_STOP)
+}
+
+/// Child 0 runs in a grace of a restart, whose ticket is 1: no ticket is parked, and those of the numbers 2 and 3.
+const IN_A_GRACE_OF_A_RESTART: &str = "\
+start,trygracefulrestart user1 9,step 1,step 2:
+step 3 = word idle | idle runs 0 from 1 until 11
+step 10 = word idle | idle runs 0 from 1 until 11
+step 11 = grace 0, kill 0 ok, wait 0 success, spawn 1 0 default ---- 1 a ok, raise 1 | did runs 1 from 11
+step 11 ! 0 = grace 0, kill 0 fault 7, raise 1 | did runs 0 from 1
+step 11 ! 1 = grace 0, kill 0 ok, wait 0 fault 7, raise 1 | did runs 0 from 1
+step 11 ! 2 = grace 0, kill 0 ok, wait 0 success, spawn 1 0 default ---- 1 a fault 7, raise 1 | did pending
+deletenow,step 12 = grace 0, kill 0 ok, wait 0 success, spawn 1 0 default ---- 1 a ok, raise 1 | did runs 1 from 12
+ended 3 = wait 0 success, spawn 1 0 default ---- 1 a ok, raise 1 | did runs 1 from 3
+ended 3 ! 0 = wait 0 fault 7 | did runs 0 from 1 until 11
+ended 3 ! 1 = wait 0 success, spawn 1 0 default ---- 1 a fault 7, raise 1 | did pending
+ended 11 = grace 0, kill 0 ok, wait 0 success, spawn 1 0 default ---- 1 a ok, raise 1 | did runs 1 from 11
+start,step 3 = word idle | idle runs 0 from 1 until 11
+stop,step 3 = word idle | idle runs 0 from 1 until 11
+gracefulstop quit 9,step 3 = word idle | idle runs 0 from 1 until 11
+tryrestart,step 3 = word idle | idle runs 0 from 1 until 11
+trygracefulrestart quit 9,step 3 = word idle | idle runs 0 from 1 until 11
+continue,step 3 = word idle | idle runs 0 from 1 until 11
+signal quit,step 3 = word idle | idle runs 0 from 1 until 11
+delete,step 3 = word idle | idle runs 0 from 1 until 11
+nextending,step 3 = word idle | idle runs 0 from 1 until 11
+sethook 2,step 3 = word idle | idle runs 0 from 1 until 11
+unsethook,step 3 = word idle | idle runs 0 from 1 until 11
+setspawn 3,step 3 = word idle | idle runs 0 from 1 until 11
+setchild 4,step 3 = word idle | idle runs 0 from 1 until 11
+clearspawn,step 3 = word idle | idle runs 0 from 1 until 11
+deletenow,step 3 = pick 0 2, kill 0 ok, wait 0 success, raise 1, raise 2 | did success from 1 to 3
+deletenow,step 3 ! 0 = pick 0 2, kill 0 fault 7, raise 2 | did runs 0 from 1 until 11
+deletenow,step 3 ! 1 = pick 0 2, kill 0 ok, wait 0 fault 7, raise 2 | did runs 0 from 1 until 11
+deletenow,step 3,step 4 ! 0 = pick 0 3, raise 3, drop 0, gone 0 | gone left 0 from 1
+towait,step 3 = pick 0 2 | did runs 0 from 1 until 11 parks 1
+end = drop 0, gone 0 | left 0 from 1
+
+start,trygracefulrestart user1 9,step 1,step 2,towait,towait,step 3,step 3:
+step 11 = grace 0, kill 0 ok, wait 0 success, raise 2, raise 3, spawn 1 0 default ---- 1 a ok, raise 1 | did runs 1 from 11
+step 11 ! 0 = grace 0, kill 0 fault 7, raise 1 | did runs 0 from 1 parks 2
+step 11 ! 1 = grace 0, kill 0 ok, wait 0 fault 7, raise 1 | did runs 0 from 1 parks 2
+step 11 ! 2 = grace 0, kill 0 ok, wait 0 success, raise 2, raise 3, spawn 1 0 default ---- 1 a fault 7, raise 1 | did pending
+ended 4 = wait 0 success, raise 2, raise 3, spawn 1 0 default ---- 1 a ok, raise 1 | did runs 1 from 4
+ended 4 ! 0 = wait 0 fault 7 | did runs 0 from 1 until 11 parks 2
+ended 4 ! 1 = wait 0 success, raise 2, raise 3, spawn 1 0 default ---- 1 a fault 7, raise 1 | did pending
+deletenow,step 4 = pick 0 4, kill 0 ok, wait 0 success, raise 2, raise 3, raise 1, raise 4 | did success from 1 to 4";
+
+#[test]
+fn cases_in_a_grace_of_a_restart(rt: HostRuntime) -> Result<(), Fail> {
+    each_case(&rt, rt.alloc(), IN_A_GRACE_OF_A_RESTART)
+}
+
+/// Child 0 runs, and a spawn hook is set. That of the number 9 has no memory, and then the case is given up.
+const WITH_A_HOOK: &str = "\
+start,sethook 2,setchild 4,step 1,step 2,step 3:
+tryrestart,step 4 = pick 0 3, kill 0 ok, wait 0 success, hook 0 2 ---- 1 a, spawn 1 0 child.4 ---- 1 a ok, raise 3 | did runs 1 from 4
+tryrestart,step 4 ! 0 = pick 0 3, kill 0 fault 7, raise 3 | did runs 0 from 1
+tryrestart,step 4 ! 2 = pick 0 3, kill 0 ok, wait 0 success, hook 0 2 ---- 1 a, spawn 1 0 child.4 ---- 1 a fault 7, raise 3 | did pending
+continue,step 4 = pick 0 3, kill 0 ok, wait 0 success, hook 0 2 ---- 1 a, spawn 1 0 child.4 ---- 1 a ok, raise 3 | did runs 1 from 4
+trygracefulrestart user2 9,step 4,ended 5 = wait 0 success, hook 0 2 ---- 1 a, spawn 1 0 child.4 ---- 1 a ok, raise 3 | did runs 1 from 5
+trygracefulrestart user2 9,step 4,step 13 = grace 0, kill 0 ok, wait 0 success, hook 0 2 ---- 1 a, spawn 1 0 child.4 ---- 1 a ok, raise 3 | did runs 1 from 13
+gracefulstop user2 9,step 4,step 13 = grace 0, kill 0 ok, wait 0 success, raise 3 | did success from 1 to 13
+
+start,sethook 9,towait,step 1,step 1,step 2:
+tryrestart,step 3 = pick 0 3, kill 0 ok, wait 0 success, raise 2, hook 0 9 memory | memory pending
+continue,step 3 = pick 0 3, kill 0 ok, wait 0 success, raise 2, hook 0 9 memory | memory pending
+trygracefulrestart user2 9,step 3,ended 4 = wait 0 success, raise 2, hook 0 9 memory | memory pending
+trygracefulrestart user2 9,step 3,step 12 = grace 0, kill 0 ok, wait 0 success, raise 2, hook 0 9 memory | memory pending
+stop,step 3 = pick 0 3, kill 0 ok, wait 0 success, raise 2, raise 3 | did success from 1 to 3";
+
+#[test]
+fn cases_with_a_hook(rt: HostRuntime) -> Result<(), Fail> {
+    each_case(&rt, rt.alloc(), WITH_A_HOOK)
+}
+
+/// Plays each case of the table with a job of its own.
+fn each_case(rt: &impl Abort, alloc: Global, table: &str) -> Result<(), Fail> {
+    for block in table.split("\n\n") {
+        let (before, cases) = block.split_once(":\n").ok_or("moves and cases")?;
+        for case in cases.lines() {
+            expect_case(rt, alloc, before, case)?;
+        }
+    }
+    Ok(())
+}
+
+/// Plays a case behind these moves, with a job of its own.
+fn expect_case(rt: &impl Abort, alloc: Global, before: &str, case: &str) -> Result<(), Fail> {
+    let mut job = one_job(alloc, host(alloc, None)?)?;
+    let held = match job.play_line(alloc, before) {
+        Ok(_) => expect_line(rt, alloc, &mut job, case),
+        Err(fail) => Err(fail),
+    };
+    drop(job);
+    held
+}
