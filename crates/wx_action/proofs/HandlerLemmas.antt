@@ -5,7 +5,7 @@ use Rattle.wx_events.specs.declared.event.Event.{Event}
 use Rattle.wx_command.specs.declared.command.Command.{Command}
 use Rattle.wx_control.specs.declared.id.Id.{Id}
 use Rattle.wx_control.specs.declared.ask.Ask.{Ask as AnAsk}
-use Rattle.wx_control.specs.declared.flag.Flag.{Flag}
+use Rattle.wx_control.specs.Flags.{Flag}
 use Rattle.wx_journal.specs.Names.{above, next_job, IsNextJob}
 use Rattle.wx_journal.specs.declared.entry.Entry.{Entry}
 use Rattle.wx_journal.specs.Acts.{JournalAct as Act}

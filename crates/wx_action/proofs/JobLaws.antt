@@ -374,7 +374,7 @@ sound_makes_none : (id : Id) (p : List Entry) (k : Plan) → Sound id p k → Ma
 sound_makes_none id p k s = always_also (λ q. Unit {0}) (IsSound id) (λ q e j. IsOfJob e) (λ q e j u s. (job_fit id e q s.fits, tt)) p k tt s
 
 pub none_by_step : (id : Id) (command : Command) (p : List Entry) → MakesNone p (step_plan id command p)
-none_by_step id command p = sound_makes_none id p (step_plan id command p) (sound_step id command p)
+none_by_step id command p = sound_makes_none id p (step_plan id command p) (sound_step false id command p)
 
 none_by_second : (id : Id) (level : Level) (second : Option Control) (p : List Entry) → MakesNone p (ask_second id level second Done)
 none_by_second id level None p = tt

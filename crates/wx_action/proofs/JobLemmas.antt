@@ -14,12 +14,12 @@ use Rattle.wx_journal.specs.declared.entry.Word.TheVariants.{Ignored}
 use Rattle.wx_journal.specs.Names.{NamesItsOwn, moment}
 use Rattle.wx_job.specs.declared.task.JobTask.{JobTask}
 use Rattle.wx_job.specs.History.{lives, child, same, is_child, command}
-use Rattle.wx_job.specs.Table.{Plan, Done, send_plan, step_plan, ask_plan}
+use Rattle.wx_job.specs.Table.{Plan, Done, send_plan, step_by, step_plan, ask_plan}
 use Rattle.wx_job.specs.Case.{IsCut, GaveUp, FollowsAlone as FollowsPlan, Leads as LeadsOn, Here as Stays}
 use Rattle.wx_job.specs.Leaves.{LeavesOthers}
 use Rattle.wx_journal.specs.Written.{Written}
 use Rattle.wx_job.specs.Seen.{Seen}
-use Rattle.wx_job.specs.Stands.{Stops, Before as AllAsBefore, Behind as BehindHook, Stands as TaskStands, SameJob, IsEnding, id_of, command_of, gone_of, running_of, parked_count}
+use Rattle.wx_job.specs.Stands.{Stops, Before as AllAsBefore, Behind as BehindHook, Stands as TaskStands, SameJob, IsEnding, id_of, command_of, closed_of, gone_of, running_of, parked_count}
 use Rattle.wx_job.proofs.Owners.{self, same-is}
 use Rattle.wx_action.specs.declared.worker_state.Held.{Held}
 use Rattle.wx_action.specs.declared.worker_state.Worker.{Worker}
@@ -128,9 +128,9 @@ step_owed s w at id p stands going due now alive =
     let runs : living id p ≡ Some (command_of h.0.task) = rw alive commanded in
     record { what = command_of h.0.task; alive = alive; runs = commanded; due = due ∙ rw runs refl; going = going; now = now }
 
--- what is known behind a step that followed its plan so far
+-- what is known behind a step that followed its plan so far: the task is open, so that is the plan which was owed
 step_at_plan : (s : Start) (w w' : Worker) (at : ℕ) (id : Id) (task task' : JobTask) (k' : Plan) (p p' : List Entry) (world world' hooks hooks' : Option (List Entry)) (m m' : ℕ) → Stands s w p → IsStepOf s id at p → Lent p w.jobs id task
-    → w' ≡ record w { jobs = w'.jobs } → w'.jobs ≡ with_task id w.jobs task' → SameJob task task' → TaskStands task' p' → LeavesOthers (id_of task) p p' → LeadsOn (step_plan (id_of task) (command_of task) p) p world hooks m k' p' world' hooks' m'
+    → w' ≡ record w { jobs = w'.jobs } → w'.jobs ≡ with_task id w.jobs task' → SameJob task task' → TaskStands task' p' → LeavesOthers (id_of task) p p' → LeadsOn (step_by (closed_of task) (id_of task) (command_of task) p) p world hooks m k' p' world' hooks' m'
     → JobDone s w' (step_plan (id_of task) (command_of task) p) (plans k' Open) p p' world world' hooks hooks'
 step_at_plan s w w' at id task task' k' p p' world world' hooks hooks' m m' stands step l fields jobs same stood leaves led =
     let h = l.held in
@@ -140,10 +140,12 @@ step_at_plan s w w' at id task task' k' p p' world world' hooks hooks' m m' stan
     let what : step.what ≡ command_of h.task = cc in
     let due : agenda s p ≡ plans (step_plan (held_id h) (command_of h.task) p) Open = step.due ∙ ap (λ (i : Id). plans (step_plan i step.what p) Open) (sym l.id_is) ∙ ap (λ (k : Command). plans (step_plan (held_id h) k p) Open) what in
     let owed : agenda s p ≡ plans (step_plan (id_of task) (command_of task) p) Open = rw (← l.task_is) due in
-    plan_done s w w' w.jobs change.0 h (record h { task = task' }) p p p' (step_plan (id_of task) (command_of task) p) k' Open world world' hooks hooks' m m' stands (quiet p) stands.orderly step.going owed (none_by_step (id_of task) (command_of task) p) (jobs_stand s w p stands) fields change.1 (rw l.task_is leaves) led
+    let is_open : closed_of task ≡ false = ap closed_of (sym l.task_is) ∙ l.stood.is_open in
+    let step_led = subst (λ (b : Bool). LeadsOn (step_by b (id_of task) (command_of task) p) p world hooks m k' p' world' hooks' m') is_open led in
+    plan_done s w w' w.jobs change.0 h (record h { task = task' }) p p p' (step_plan (id_of task) (command_of task) p) k' Open world world' hooks hooks' m m' stands (quiet p) stands.orderly step.going owed (none_by_step (id_of task) (command_of task) p) (jobs_stand s w p stands) fields change.1 (rw l.task_is leaves) step_led
 
 pub step_done : (s : Start) (w w' : Worker) (at : ℕ) (id : Id) (task task' : JobTask) (p p' : List Entry) (world world' hooks hooks' : Option (List Entry)) (m m' : ℕ) → Stands s w p → IsStepOf s id at p → Lent p w.jobs id task
-    → w' ≡ record w { jobs = w'.jobs } → w'.jobs ≡ with_task id w.jobs task' → SameJob task task' → TaskStands task' p' → LeavesOthers (id_of task) p p' → LeadsOn (step_plan (id_of task) (command_of task) p) p world hooks m Done p' world' hooks' m'
+    → w' ≡ record w { jobs = w'.jobs } → w'.jobs ≡ with_task id w.jobs task' → SameJob task task' → TaskStands task' p' → LeavesOthers (id_of task) p p' → LeadsOn (step_by (closed_of task) (id_of task) (command_of task) p) p world hooks m Done p' world' hooks' m'
     → JobDone s w' (step_plan (id_of task) (command_of task) p) Open p p' world world' hooks hooks'
 step_done s w w' at id task task' p p' world world' hooks hooks' m m' stands step l fields jobs same stood leaves led = step_at_plan s w w' at id task task' Done p p' world world' hooks hooks' m m' stands step l fields jobs same stood leaves led
 
@@ -160,7 +162,7 @@ cut_plans Done cut = absurd cut
 cut_plans (k) cut = refl
 
 step_gave : {Fixed : Type 0} (s : Start) (w w' : Worker) (at : ℕ) (id : Id) (task task' : JobTask) (p p' : List Entry) (a b : Seen Fixed) (hooks hooks' : Option (List Entry)) → Stands s w p → IsStepOf s id at p → Lent p w.jobs id task
-    → w' ≡ record w { jobs = w'.jobs } → w'.jobs ≡ with_task id w.jobs task' → SameJob task task' → TaskStands task' p' → LeavesOthers (id_of task) p p' → GaveUp (step_plan (id_of task) (command_of task) p) p a hooks p' b hooks'
+    → w' ≡ record w { jobs = w'.jobs } → w'.jobs ≡ with_task id w.jobs task' → SameJob task task' → TaskStands task' p' → LeavesOthers (id_of task) p p' → GaveUp (step_by (closed_of task) (id_of task) (command_of task) p) p a hooks p' b hooks'
     → StepStopped s w' p p' a.shown.told b.shown.told hooks hooks'
 step_gave s w w' at id task task' p p' a b hooks hooks' stands step l fields jobs same stood leaves gave =
     let d = step_at_plan s w w' at id task task' gave.rest p p' a.shown.told b.shown.told hooks hooks' a.shown.faults b.shown.faults stands step l fields jobs same stood leaves gave.ran.led in
@@ -168,7 +170,7 @@ step_gave s w w' at id task task' p p' a b hooks hooks' stands step l fields job
 
 pub step_stopped : {Host Hooks Fixed Held : Type 0} (seen : Host → Seen Fixed) (told : Hooks → Option (List Entry)) (s : Start) (w w' : Worker) (at : ℕ) (id : Id) (task task' : JobTask) (j j' : Written) (host host' : Host) (x x' : Hooks) → Stands s w j.past → IsStepOf s id at j.past → Lent j.past w.jobs id task
     → w' ≡ record w { jobs = w'.jobs } → w'.jobs ≡ with_task id w.jobs task' → SameJob task task' → TaskStands task' j'.past → LeavesOthers (id_of task) j.past j'.past
-    → Stops task j host x task' j' host' x' (GaveUp (step_plan (id_of task) (command_of task) j.past) j.past (seen host) (told x) j'.past (seen host') (told x') × Held)
+    → Stops task j host x task' j' host' x' (GaveUp (step_by (closed_of task) (id_of task) (command_of task) j.past) j.past (seen host) (told x) j'.past (seen host') (told x') × Held)
     → StepStopped s w' j.past j'.past (seen host).shown.told (seen host').shown.told (told x) (told x')
 step_stopped seen told s w w' at id task task' j j' host host' x x' stands step l fields jobs same stood leaves (AllAsBefore undone hooks) = record {
   stands = same_lent s w w' id task task' j.past j'.past stands (ap (λ k. k.past) undone.journal) l fields jobs same stood;
@@ -288,6 +290,7 @@ end_kept s w w' at c id task task' p a one l fields items same task_stands =
       command_is = ap (λ (i : Id). command i a.before) change.job_same.same_id ∙ stood.command_is ∙ ap (λ (k : Command). Some k) (sym change.job_same.same_command);
       handle_is = rw (change.handle_same, change.job_same.same_id) stood.handle_is;
       handle_command = rw (change.handle_same, change.job_same.same_command) stood.handle_command;
+      is_open = change.job_same.same_closed ∙ stood.is_open;
     } in
     let tasks = tasks_put a.before (told at c a.before) hs n h h' jobs.ids_apart change.within change.held (λ x ne st. other_over_end at c (held_id h) a.before x own its ne st) a.stands.tasks_kept new in
     let ids : map held_id w'.jobs ≡ set a.before = rw change.items (ids_put hs n h h' change.within change.held change.job_same.same_id ∙ a.stands.jobs_kept) in

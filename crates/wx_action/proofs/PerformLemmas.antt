@@ -5,7 +5,7 @@ use Rattle.std.specs.List.{AllByRecursion}
 use Rattle.wx_words.specs.EachLaws.{each_weaker}
 use Rattle.wx_command.specs.declared.command.Command.{Command}
 use Rattle.wx_control.specs.declared.id.Id.{Id}
-use Rattle.wx_control.specs.declared.flag.Flag.{Flag}
+use Rattle.wx_control.specs.Flags.{Flag}
 use Rattle.wx_control.specs.declared.ask.Ask.{Ask as AnAsk}
 use Rattle.wx_control.specs.declared.control.Control.{Control}
 use Rattle.wx_control.specs.declared.level.Level.{Level}
@@ -86,6 +86,8 @@ over_made i id p ne = record {
   state_same = rw (other-is i id ne) refl;
   previous_same = rw (other-is i id ne) refl;
   hook_same = rw (other-is i id ne) refl;
+  handler_same = rw (other-is i id ne) refl;
+  begun_same = rw (other-is i id ne) refl;
   tag_same = rw (other-is i id ne) refl;
   grace_same = rw (other-is i id ne) refl;
   parked_same = rw (other-is i id ne) refl;
@@ -120,6 +122,7 @@ made_by s w w' held rests more p f then stands fields items =
       command_is = ap (λ (i : Id). command i p) f.is_new.task_id ∙ f.commanded ∙ ap (λ (k : Command). Some k) (sym f.is_new.task_command);
       handle_is = f.is_new.handle_id ∙ sym f.is_new.task_id;
       handle_command = f.is_new.handle_command ∙ sym f.is_new.task_command;
+      is_open = f.is_new.is_open;
     } in
     let stood : Stands s (record w { jobs = w'.jobs }) (Made f.id ∷ p) = record {
       orderly = orderly;

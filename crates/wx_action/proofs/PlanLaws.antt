@@ -74,7 +74,7 @@ each_sound : (id : Id) (p : List Entry) (k : Plan) → NamesItsOwn p → Sound i
 each_sound id p k own s = always_also NamesItsOwn (IsSound id) IsLawful (λ q e j own s. let l = lawful_fit id q e j own s in (l, (l.names, own))) p k own s
 
 pub lawful_step : (id : Id) (command : Command) (p : List Entry) → NamesItsOwn p → IsPlaced p → Lawful p (step_plan id command p)
-lawful_step id command p own h = record { each = each_sound id p (step_plan id command p) own (sound_step id command p); placed = placed_step id command p h }
+lawful_step id command p own h = record { each = each_sound id p (step_plan id command p) own (sound_step false id command p); placed = placed_step false id command p h }
 
 pub lawful_ask : (id : Id) (ask : AnAsk) (p : List Entry) → NamesItsOwn p → IsPlaced p → lives id p ≡ true → Lawful p (ask_plan id (sends_of ask) Done)
 lawful_ask id ask p own h alive = record { each = each_sound id p (ask_plan id (sends_of ask) Done) own (sound_ask id ask p alive); placed = placed_ask id ask p alive h }

@@ -93,6 +93,7 @@ jobs_change p p' hs hs' n h h' jobs still leaves change =
       command_is = rw (change.job_same.same_id, change.job_same.same_command) (still.commands_same (held_id h) ∙ stood.command_is);
       handle_is = rw (change.handle_same, change.job_same.same_id) stood.handle_is;
       handle_command = rw (change.handle_same, change.job_same.same_command) stood.handle_command;
+      is_open = change.job_same.same_closed ∙ stood.is_open;
     } in
     rw change.items (
       ids_put hs n h h' change.within change.held change.job_same.same_id ∙ jobs.ids_are ∙ sym still.set_same,

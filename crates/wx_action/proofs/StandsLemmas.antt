@@ -9,7 +9,7 @@ use Rattle.prio_channel.specs.SameBag.{SameBag}
 use Rattle.prio_channel.proofs.BagLaws.{same-trans, add-bag, same-length}
 use Rattle.wx_control.specs.declared.id.Id.{Id}
 use Rattle.wx_journal.specs.declared.entry.Entry.{Entry}
-use Rattle.wx_journal.specs.declared.entry.Entry.TheVariants.{Sent, Offer, Turn as Turned, TurnFault, Word as Said, Hand, Made, Asked, Pick, GraceOver, Spawn, Signal, Wait, Dropped, Raise, Gone, Hook}
+use Rattle.wx_journal.specs.declared.entry.Entry.TheVariants.{Sent, Offer, Turn as Turned, TurnFault, Word as Said, Hand, Made, Asked, Pick, GraceOver, Spawn, Signal, Wait, Dropped, Raise, Gone, Run, Begun, Poll, Hook, JobError}
 use Rattle.wx_journal.specs.declared.entry.Named.{Named}
 use Rattle.wx_journal.specs.declared.entry.Offered.{Offered}
 use Rattle.wx_journal.specs.declared.entry.Offered.TheVariants.{Queued, Full, Closed}
@@ -31,7 +31,7 @@ use Rattle.wx_action.proofs.RunLaws.{window_below, orderly_more}
 -- ---- what is held of a job
 
 pub same_held : (p p' : List Entry) (h : Held) → SameHistory (held_id h) p p' → HeldStands p h → HeldStands p' h
-same_held p p' h same s = record { task_stands = stands_history h.task p p' same s.task_stands; command_is = same.command_same ∙ s.command_is; handle_is = s.handle_is; handle_command = s.handle_command }
+same_held p p' h same s = record { task_stands = stands_history h.task p p' same s.task_stands; command_is = same.command_same ∙ s.command_is; handle_is = s.handle_is; handle_command = s.handle_command; is_open = s.is_open }
 
 -- the history of every job is the same in both journals
 abbrev pub SameJobs : List Entry → List Entry → Type 0
@@ -55,7 +55,11 @@ IsOfNone (Raise ticket) = ⊥
 IsOfNone (Wait child answer) = ⊥
 IsOfNone (Dropped child) = ⊥
 IsOfNone (Gone job) = ⊥
+IsOfNone (Run job n) = ⊥
+IsOfNone (Begun job n) = ⊥
+IsOfNone (Poll job n ready) = ⊥
 IsOfNone (Hook job n answer) = ⊥
+IsOfNone (JobError job n code) = ⊥
 IsOfNone (_) = Unit {0}
 
 pub over_none : (e : Entry) (p : List Entry) → IsOfNone e → SameJobs p (e ∷ p)
@@ -71,12 +75,16 @@ over_none (Raise ticket) p h = absurd h
 over_none (Wait child answer) p h = absurd h
 over_none (Dropped child) p h = absurd h
 over_none (Gone job) p h = absurd h
+over_none (Run job n) p h = absurd h
+over_none (Begun job n) p h = absurd h
+over_none (Poll job n ready) p h = absurd h
 over_none (Hook job n answer) p h = absurd h
-over_none (_) p h = λ i. record { lives_same = refl; waits_same = λ l. refl; child_same = refl; kept_same = refl; state_same = refl; previous_same = refl; hook_same = refl; tag_same = refl; grace_same = refl; parked_same = refl; tickets_later = omega arith; command_same = refl }
+over_none (JobError job n code) p h = absurd h
+over_none (_) p h = λ i. record { lives_same = refl; waits_same = λ l. refl; child_same = refl; kept_same = refl; state_same = refl; previous_same = refl; hook_same = refl; handler_same = refl; begun_same = refl; tag_same = refl; grace_same = refl; parked_same = refl; tickets_later = omega arith; command_same = refl }
 
 -- a batch changes what its acts create
 pub over_hand : (n : ℕ) (names : List ℕ) (acts : List Act) (p : List Entry) (i : Id) → command i (Hand n names acts ∷ p) ≡ command i p → SameHistory i p (Hand n names acts ∷ p)
-over_hand n names acts p i kept = record { lives_same = refl; waits_same = λ l. refl; child_same = refl; kept_same = refl; state_same = refl; previous_same = refl; hook_same = refl; tag_same = refl; grace_same = refl; parked_same = refl; tickets_later = omega arith; command_same = kept }
+over_hand n names acts p i kept = record { lives_same = refl; waits_same = λ l. refl; child_same = refl; kept_same = refl; state_same = refl; previous_same = refl; hook_same = refl; handler_same = refl; begun_same = refl; tag_same = refl; grace_same = refl; parked_same = refl; tickets_later = omega arith; command_same = kept }
 
 -- ---- one of several that are held
 

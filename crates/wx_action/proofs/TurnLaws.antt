@@ -52,6 +52,8 @@ task_over k t p other stands = record {
   state_kept = stands.state_kept;
   previous_kept = stands.previous_kept;
   hook_kept = stands.hook_kept;
+  handler_kept = stands.handler_kept;
+  begun_kept = stands.begun_kept;
   tag_kept = stands.tag_kept;
   grace_kept = stands.grace_kept;
   parked_kept = stands.parked_kept;
@@ -66,7 +68,7 @@ abbrev pub IsApart : Turn → List Entry → Held → Type 0
 IsApart t p h = names_end t.kind (child (held_id h) p) ≡ false
 
 pub held_over : (t : Turn) (p : List Entry) (h : Held) → IsApart t p h → HeldStands p h → HeldStands (Turned t ∷ p) h
-held_over t p h other stands = record { task_stands = task_over h.task t p other stands.task_stands; command_is = stands.command_is; handle_is = stands.handle_is; handle_command = stands.handle_command }
+held_over t p h other stands = record { task_stands = task_over h.task t p other stands.task_stands; command_is = stands.command_is; handle_is = stands.handle_is; handle_command = stands.handle_command; is_open = stands.is_open }
 
 held_all_over : (t : Turn) (p : List Entry) (hs : List Held) → AllByRecursion (IsApart t p) hs → AllByRecursion (HeldStands p) hs → AllByRecursion (HeldStands (Turned t ∷ p)) hs
 held_all_over t p [] other stands = tt

@@ -6,7 +6,7 @@ use Rattle.wx_events.specs.declared.event.Event.{Event}
 use Rattle.wx_events.specs.declared.priority.Priority.{Priority}
 use Rattle.prio_channel.specs.Channel.{AllAtMost}
 use Rattle.wx_journal.specs.declared.entry.Entry.{Entry}
-use Rattle.wx_journal.specs.declared.entry.Entry.TheVariants.{Begin, Sent, Turn as Turned, TurnFault, Offer, Word as Said, Take, Filter, Show, Hand, Made, Asked, Pick, GraceOver, Spawn, Signal, Kill, Wait, Dropped, Raise, Gone, Hook}
+use Rattle.wx_journal.specs.declared.entry.Entry.TheVariants.{Begin, Sent, Turn as Turned, TurnFault, Offer, Word as Said, Take, Filter, Show, Hand, Made, Asked, Pick, GraceOver, Spawn, Signal, Kill, Wait, Dropped, Raise, Gone, Run, Begun, Poll, Hook, JobError}
 use Rattle.wx_journal.specs.Acts.{JournalAct as Act}
 use Rattle.wx_journal.specs.declared.entry.Act.TheVariants.{Create, Ask as Asks, Quit}
 use Rattle.wx_journal.specs.declared.entry.Named.{Named}
@@ -172,7 +172,11 @@ owed s (Wait child answer) p before = rest (Wait child answer) before
 owed s (Dropped child) p before = rest (Dropped child) before
 owed s (Raise ticket) p before = rest (Raise ticket) before
 owed s (Gone id) p before = rest (Gone id) before
+owed s (Run id n) p before = rest (Run id n) before
+owed s (Begun id n) p before = rest (Begun id n) before
+owed s (Poll id n ready) p before = rest (Poll id n ready) before
 owed s (Hook id n answer) p before = rest (Hook id n answer) before
+owed s (JobError id n code) p before = rest (JobError id n code) before
 
 -- the acts of this turn's batch ask for the end
 abbrev pub is_quitting : List Entry → Bool

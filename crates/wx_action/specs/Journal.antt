@@ -7,7 +7,7 @@ use Rattle.wx_events.specs.Priority.{is_urgent}
 use Rattle.wx_journal.specs.Names.{moment, count}
 use Rattle.wx_journal.specs.Told.{is_turn}
 use Rattle.wx_journal.specs.declared.entry.Entry.{Entry}
-use Rattle.wx_journal.specs.declared.entry.Entry.TheVariants.{Begin, Sent, Turn as Turned, TurnFault, Offer, Word as Said, Take, Filter, Show, Hand, Made, Asked, Pick, GraceOver, Spawn, Signal, Kill, Wait, Dropped, Raise, Gone, Hook}
+use Rattle.wx_journal.specs.declared.entry.Entry.TheVariants.{Begin, Sent, Turn as Turned, TurnFault, Offer, Word as Said, Take, Filter, Show, Hand, Made, Asked, Pick, GraceOver, Spawn, Signal, Kill, Wait, Dropped, Raise, Gone, Run, Begun, Poll, Hook, JobError}
 use Rattle.wx_journal.specs.declared.entry.Named.{Named}
 use Rattle.wx_journal.specs.declared.entry.Offered.{Offered}
 use Rattle.wx_journal.specs.declared.entry.Offered.TheVariants.{Queued, Full, Closed}
@@ -134,7 +134,11 @@ joins p (Raise ticket) = None
 joins p (Gone id) = None
 joins p (GraceOver id) = None
 joins p (Signal child number answer) = None
+joins p (Run id n) = None
+joins p (Begun id n) = None
+joins p (Poll id n ready) = None
 joins p (Hook id n answer) = None
+joins p (JobError id n code) = None
 
 -- names, and one behind them where there is one
 abbrev pub and_one : List ℕ → Option ℕ → List ℕ

@@ -2,7 +2,7 @@
 use Rattle.std.specs.Prelude.{◌≡◌, true, List, [], ◌∷◌, None, Some}
 use Rattle.wx_control.specs.declared.id.Id.{Id}
 use Rattle.wx_journal.specs.declared.entry.Entry.{Entry}
-use Rattle.wx_journal.specs.declared.entry.Entry.TheVariants.{Begin, Sent, Turn as Turned, TurnFault, Offer, Word as Said, Take, Filter, Show, Hand, Made, Asked, Pick, GraceOver, Spawn, Signal, Kill, Wait, Dropped, Raise, Gone, Hook}
+use Rattle.wx_journal.specs.declared.entry.Entry.TheVariants.{Begin, Sent, Turn as Turned, TurnFault, Offer, Word as Said, Take, Filter, Show, Hand, Made, Asked, Pick, GraceOver, Spawn, Signal, Kill, Wait, Dropped, Raise, Gone, Run, Begun, Poll, Hook, JobError}
 use Rattle.wx_journal.specs.Names.{Names, next_job, IsNextJob}
 use Rattle.wx_job.specs.History.{lives, child}
 use Rattle.wx_job.specs.Table.{Plan}
@@ -34,7 +34,11 @@ IsOfPlan (Wait child answer) = Unit {0}
 IsOfPlan (Dropped child) = Unit {0}
 IsOfPlan (Raise ticket) = Unit {0}
 IsOfPlan (Gone job) = Unit {0}
+IsOfPlan (Run job n) = Unit {0}
+IsOfPlan (Begun job n) = Unit {0}
+IsOfPlan (Poll job n ready) = Unit {0}
 IsOfPlan (Hook job n answer) = Unit {0}
+IsOfPlan (JobError job n code) = Unit {0}
 
 -- the entries of an end
 abbrev pub IsOfEnd : Entry → Type 0
@@ -59,7 +63,11 @@ IsOfEnd (Wait child answer) = ⊥
 IsOfEnd (Dropped child) = Unit {0}
 IsOfEnd (Raise ticket) = ⊥
 IsOfEnd (Gone job) = Unit {0}
+IsOfEnd (Run job n) = ⊥
+IsOfEnd (Begun job n) = ⊥
+IsOfEnd (Poll job n ready) = ⊥
 IsOfEnd (Hook job n answer) = ⊥
+IsOfEnd (JobError job n code) = ⊥
 
 -- where a child is spawned its job lives and no child of it runs, one that is sent a signal, killed or waited for runs, and where a job is
 -- gone no child of it runs
@@ -85,7 +93,11 @@ IsFree p (Wait c answer) = Runs c p
 IsFree p (Dropped child) = Unit {0}
 IsFree p (Raise ticket) = Unit {0}
 IsFree p (Gone job) = child job p ≡ None
+IsFree p (Run job n) = Unit {0}
+IsFree p (Begun job n) = Unit {0}
+IsFree p (Poll job n ready) = Unit {0}
 IsFree p (Hook job n answer) = Unit {0}
+IsFree p (JobError job n code) = Unit {0}
 
 -- where a child is let go its job is gone next
 abbrev pub LetsGo : List Entry → Entry → Plan → Type 0
@@ -115,7 +127,11 @@ InOrder p (Wait child answer) = Unit {0}
 InOrder p (Dropped child) = Unit {0}
 InOrder p (Raise ticket) = Unit {0}
 InOrder p (Gone job) = Unit {0}
+InOrder p (Run job n) = Unit {0}
+InOrder p (Begun job n) = Unit {0}
+InOrder p (Poll job n ready) = Unit {0}
 InOrder p (Hook job n answer) = Unit {0}
+InOrder p (JobError job n code) = Unit {0}
 
 abbrev pub MadeInOrder : List Entry → Type 0
 MadeInOrder [] = Unit {0}

@@ -23,7 +23,7 @@ use Rattle.wx_command.specs.declared.command.Command.{Command}
 use Rattle.wx_job.specs.History.{lives, command}
 use Rattle.wx_job.specs.Seen.{Seen}
 use Rattle.wx_job.specs.Table.{step_plan}
-use Rattle.wx_job.specs.Stands.{Stands as TaskStands, id_of, command_of}
+use Rattle.wx_job.specs.Stands.{Stands as TaskStands, id_of, command_of, closed_of}
 use Rattle.wx_action.specs.Jobs.{set}
 use Rattle.wx_action.specs.declared.worker_state.Held.{Held}
 use Rattle.wx_action.specs.declared.worker_state.Worker.{Worker}
@@ -39,12 +39,13 @@ use Rattle.wx_action.specs.Due.{is_quitting, agenda, plans, Open, Shows, Hands, 
 use Rattle.wx_action.specs.Handled.{AreEvents, lookup}
 use Rattle.wx_action.specs.Orderly.{IsOrderly}
 
--- what is held of a job: its task stands for it, and runs what its creation says, and the handle names both
+-- what is held of a job: its task stands for it, runs what its creation says, and isn't closed, and the handle names both
 pub record HeldStands (p : List Entry) (h : Held) : Type 0 where
   pub task_stands : TaskStands h.task p
   pub command_is : command (id_of h.task) p ≡ Some (command_of h.task)
   pub handle_is : h.handle.id ≡ id_of h.task
   pub handle_command : h.handle.command ≡ command_of h.task
+  pub is_open : closed_of h.task ≡ false
 
 abbrev pub held_id : Held → Id
 held_id h = id_of h.task

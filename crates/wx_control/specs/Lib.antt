@@ -2,5 +2,8 @@ pub mod Ids
 pub mod Levels
 pub mod Controls
 pub mod Asks
+pub mod Flags
+pub mod Tickets
 pub mod Sent
+pub mod Senders
 pub mod Waits

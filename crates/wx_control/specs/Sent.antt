@@ -2,7 +2,7 @@
 use Rattle.std.specs.Prelude.{ℕ, ◌+◌, ◌-◌, ◌^◌, min, Option, None, Some, List, [], ◌∷◌, ◌++◌, Result, Ok, Err}
 use Rattle.wx_control.specs.declared.id.Id.{Id}
 use Rattle.wx_control.specs.declared.ask.Ask.{Ask}
-use Rattle.wx_control.specs.declared.flag.Ticket.{Ticket}
+use Rattle.wx_control.specs.declared.ticket.Ticket.{Ticket}
 use Rattle.wx_control.specs.declared.sink.Refused.{Refused}
 use Rattle.wx_control.specs.declared.sink.Refused.TheVariants.{Full, Memory}
 

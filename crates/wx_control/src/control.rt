@@ -26,10 +26,18 @@ pub enum Control {
     Delete,
     /// Be done when its child has ended, at once where it has.
     NextEnding,
+    /// Call the function of this number.
+    SyncFunc(u32),
+    /// Begin the function of this number, and poll it until it is ready.
+    AsyncFunc(u32),
     /// Call the spawn hook of this number before each spawn.
     SetSyncSpawnHook(u32),
     /// Call no spawn hook.
     UnsetSpawnHook,
+    /// Call the error handler of this number at each fault of a call on its child.
+    SetSyncErrorHandler(u32),
+    /// Call no error handler.
+    UnsetErrorHandler,
     /// Spawn by the spawn function of this number.
     SetSpawnFn(u32),
     /// Spawn by the child function of this number.
@@ -65,8 +73,12 @@ impl Spelled for Control {
             Control::Signal(signal) => put_row(b"signal", &signal, out),
             Control::Delete => put_word(b"delete", out),
             Control::NextEnding => put_word(b"nextending", out),
+            Control::SyncFunc(n) => put_row(b"run", &n, out),
+            Control::AsyncFunc(n) => put_row(b"runasync", &n, out),
             Control::SetSyncSpawnHook(n) => put_row(b"sethook", &n, out),
             Control::UnsetSpawnHook => put_word(b"unsethook", out),
+            Control::SetSyncErrorHandler(n) => put_row(b"seterror", &n, out),
+            Control::UnsetErrorHandler => put_word(b"unseterror", out),
             Control::SetSpawnFn(n) => put_row(b"setspawn", &n, out),
             Control::SetSpawnChildFn(n) => put_row(b"setchild", &n, out),
             Control::ClearSpawnFn => put_word(b"clearspawn", out),
@@ -84,8 +96,12 @@ impl Spelled for Control {
             b"signal" (signal) => Control::Signal(signal),
             b"delete" => Control::Delete,
             b"nextending" => Control::NextEnding,
+            b"run" (n) => Control::SyncFunc(n),
+            b"runasync" (n) => Control::AsyncFunc(n),
             b"sethook" (n) => Control::SetSyncSpawnHook(n),
             b"unsethook" => Control::UnsetSpawnHook,
+            b"seterror" (n) => Control::SetSyncErrorHandler(n),
+            b"unseterror" => Control::UnsetErrorHandler,
             b"setspawn" (n) => Control::SetSpawnFn(n),
             b"setchild" (n) => Control::SetSpawnChildFn(n),
             b"clearspawn" => Control::ClearSpawnFn,

@@ -8,19 +8,21 @@ mod id;
 mod job;
 mod laws;
 mod level;
+mod mirror;
 mod sink;
-#[cfg(test)]
-mod tests;
 mod three_lists;
+mod ticket;
 
 pub use ask::{Ask, Sends};
 pub use control::Control;
-pub use flag::{Flag, Ticket};
+pub use flag::Flag;
 pub use id::Id;
 pub use job::Job;
 pub use laws::{
     are_equal_ids, are_equal_levels, compare_ids, compare_levels, levels_are_a_total_order,
 };
 pub use level::Level;
+pub use mirror::Mirror;
 pub use sink::{Controls, Refused};
 pub use three_lists::{Picked, ThreeLists};
+pub use ticket::Ticket;

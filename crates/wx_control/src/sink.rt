@@ -3,8 +3,8 @@ ghost use Rattle.std.specs.Prelude.{◌≡◌};
 ghost use Rattle.wx_control.specs.Sent.{Sink, sent};
 
 use crate::ask::Ask;
-use crate::flag::Ticket;
 use crate::job::Job;
+use crate::ticket::Ticket;
 use std::alloc::Global;
 
 /// Why an ask was not taken.

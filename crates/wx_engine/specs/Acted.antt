@@ -1,4 +1,5 @@
--- The acts of a script, the answers of its filter, and the words of its spawn hooks; and the rule of hooks that follow it.
+-- The acts of a script, the answers of its filter and of begun functions, and the words of its spawn hooks; and the rule of
+-- hooks that follow it.
 use Rattle.std.specs.Prelude.{◌≡◌, ℕ, ◌+◌, ◌-◌, ◌^◌, min, Bool, true, nat_lt, ◌||◌, if◌then◌else◌, Option, None, Some, Result, Ok, List, [], ◌∷◌, ◌++◌, length, get_or}
 use Rattle.std.specs.List.{list_any}
 use Rattle.wx_command.specs.declared.command.Command.{Command}
@@ -11,7 +12,7 @@ use Rattle.wx_control.specs.declared.job.Job.{Job}
 use Rattle.wx_journal.specs.Acts.{JournalAct as Act}
 use Rattle.wx_journal.specs.declared.entry.Act.TheVariants.{Create, Ask as Asks, Quit}
 use Rattle.wx_journal.specs.declared.entry.Entry.{Entry}
-use Rattle.wx_journal.specs.declared.entry.Entry.TheVariants.{Filter, Show, Hand, Hook}
+use Rattle.wx_journal.specs.declared.entry.Entry.TheVariants.{Filter, Show, Hand, Poll, Hook}
 use Rattle.wx_journal.specs.declared.wish.Wish.{Wish}
 use Rattle.wx_journal.specs.declared.wish.Wish.TheVariants.{Nothing}
 use Rattle.wx_journal.specs.Names.{creates, next_job}
@@ -76,6 +77,14 @@ wish_of (_) = None
 abbrev pub errors : Calls Wish Wish
 errors = answered_by wish_of Nothing
 
+-- the polls of begun functions: each is answered by its line, and those for which none is left find the function ready
+abbrev pub ready_of : Entry → Option Bool
+ready_of (Poll job n ready) = Some ready
+ready_of (_) = None
+
+abbrev pub polls : Calls Bool Bool
+polls = answered_by ready_of true
+
 -- how often a spawn hook was called
 abbrev pub hook_count : List Entry → ℕ
 hook_count [] = 0
@@ -106,13 +115,15 @@ pub record Wished : Type 0 where
   pub actions : List (List ScriptAct)
   pub filters : List Verdict
   pub errors : List Wish
+  pub polls : List Bool
   pub hooks : List (List (List ℕ))
 
--- their rule: each call of either kind is answered what is due, and spawn hooks leave the words that are due
+-- their rule: each call of one of these kinds is answered what is due, and spawn hooks leave the words that are due
 pub record IsWished (plan : Wished) (p : List Entry) (e : Entry) : Type 0 where
   pub acts : IsAnswered hands plan.actions p e
   pub verdict : IsAnswered filters plan.filters p e
   pub wish : IsAnswered errors plan.errors p e
+  pub ready : IsAnswered polls plan.polls p e
   pub words : IsHooked plan.hooks p e
 
 -- a handle is on the job of this id

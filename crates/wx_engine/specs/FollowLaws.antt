@@ -3,7 +3,7 @@ use Rattle.std.proofs.Common.{◌≡◌, ℕ, Bool, true, false, cond, if◌then
 use Rattle.std.proofs.lemmas.List.{append-nil}
 use Rattle.std.specs.List.{list_all}
 use Rattle.wx_journal.specs.declared.entry.Entry.{Entry}
-use Rattle.wx_journal.specs.declared.entry.Entry.TheVariants.{Filter, Show, Hand, Hook, Spawn, Signal, Kill, Wait}
+use Rattle.wx_journal.specs.declared.entry.Entry.TheVariants.{Filter, Show, Hand, Poll, Hook, Spawn, Signal, Kill, Wait}
 use Rattle.wx_journal.specs.declared.entry.Turn.{Turn as Timed}
 use Rattle.wx_journal.specs.Told.{tell_if, tells, anywhere, is_world, is_hooks, is_turn, Obeys, Same, More}
 use Rattle.wx_engine.specs.declared.script.Script.{Script}
@@ -11,11 +11,9 @@ use Rattle.wx_engine.specs.declared.script.ScriptTurn.{ScriptTurn}
 use Rattle.wx_engine.specs.declared.script.ScriptTurn.TheVariants.{Turn, Fault}
 use Rattle.wx_engine.specs.Answered.{Calls, with_answer, answers_of, due_answer, due_answers, IsAnswered, AreAnswered, AreUsed, AreAmong, answered_by}
 use Rattle.wx_engine.specs.HostCalls.{HostCall, row, reply, calls, FollowsAnswers}
-use Rattle.wx_engine.specs.Acted.{Verdict, hands, filters, errors, IsHooked, AreHooked, AreHooksUsed, Wished, IsWished}
-use Rattle.wx_journal.specs.declared.wish.Wish.{Wish}
-use Rattle.wx_engine.specs.Wishes.{ScriptAct}
+use Rattle.wx_engine.specs.Acted.{hands, filters, errors, polls, IsHooked, AreHooked, AreHooksUsed, Wished, IsWished}
 use Rattle.wx_engine.specs.Turns.{comes, risen, Rises, Given, given, newest, turns_of, FollowsGiven}
-use Rattle.wx_engine.specs.Follows.{given_of, FollowsTurns}
+use Rattle.wx_engine.specs.Follows.{given_of, wished_of, FollowsTurns}
 
 -- the calls among these entries
 abbrev among : (List Entry → Entry → Bool) → List Entry → List Entry
@@ -113,6 +111,10 @@ pub errors_among : AreAmong errors (anywhere is_hooks)
 errors_among p (Show n error wish) other = absurd cc
 errors_among p (_) other = refl
 
+pub polls_among : AreAmong polls (anywhere is_hooks)
+polls_among p (Poll job n ready) other = absurd cc
+polls_among p (_) other = refl
+
 -- what is no call on hooks uses no words
 pub hooks_over : (lines : List (List (List ℕ))) (used : ℕ) (p : List Entry) (e : Entry) → is_hooks e ≡ false → AreHooksUsed lines used p → AreHooksUsed lines used (e ∷ p)
 hooks_over lines used p (Hook job n left) other uses = absurd cc
@@ -178,11 +180,12 @@ come_more (y ∷ turns) x all one = go (comes y) all (λ e. come_more turns x e 
     go false e more = cc
 
 -- what hooks that follow a script keep, by their rule
-pub wished_follows : (plan : Wished) (actions : List (List ScriptAct)) (verdicts : List Verdict) (wishes : List Wish) (words : List (List (List ℕ))) (p : List Entry) → plan.actions ≡ actions → plan.filters ≡ verdicts → plan.errors ≡ wishes → plan.hooks ≡ words → Obeys (λ q e. IsWished plan q e) [] p
-    → AreAnswered hands actions p × AreAnswered filters verdicts p × AreAnswered errors wishes p × AreHooked words p
-wished_follows plan actions verdicts wishes words p same_actions same_verdicts same_wishes same_words obeys = (
-  subst (λ lines. AreAnswered hands lines p) same_actions (obeys_answered hands hands_among plan.actions _ (λ q e due. due.acts) p obeys),
-  subst (λ lines. AreAnswered filters lines p) same_verdicts (obeys_answered filters filters_among plan.filters _ (λ q e due. due.verdict) p obeys),
-  subst (λ lines. AreAnswered errors lines p) same_wishes (obeys_answered errors errors_among plan.errors _ (λ q e due. due.wish) p obeys),
-  subst (λ lines. AreHooked lines p) same_words (obeys_hooked plan.hooks _ (λ q e due. due.words) p obeys),
+pub wished_follows : (s : Script) (plan : Wished) (p : List Entry) → plan ≡ wished_of s → Obeys (λ q e. IsWished plan q e) [] p
+    → AreAnswered hands s.actions p × AreAnswered filters s.filters p × AreAnswered errors s.errors p × AreAnswered polls s.polls p × AreHooked s.hooks p
+wished_follows s plan p is obeys = (
+  subst (λ (w : Wished). AreAnswered hands w.actions p) is (obeys_answered hands hands_among plan.actions _ (λ q e due. due.acts) p obeys),
+  subst (λ (w : Wished). AreAnswered filters w.filters p) is (obeys_answered filters filters_among plan.filters _ (λ q e due. due.verdict) p obeys),
+  subst (λ (w : Wished). AreAnswered errors w.errors p) is (obeys_answered errors errors_among plan.errors _ (λ q e due. due.wish) p obeys),
+  subst (λ (w : Wished). AreAnswered polls w.polls p) is (obeys_answered polls polls_among plan.polls _ (λ q e due. due.ready) p obeys),
+  subst (λ (w : Wished). AreHooked w.hooks p) is (obeys_hooked plan.hooks _ (λ q e due. due.words) p obeys),
 )

@@ -8,7 +8,7 @@ use Rattle.wx_engine.specs.declared.script.Script.{Script}
 use Rattle.wx_engine.specs.Turns.{comes, Rises, Given, FollowsGiven}
 use Rattle.wx_engine.specs.Answered.{AreAnswered}
 use Rattle.wx_engine.specs.HostCalls.{FollowsAnswers}
-use Rattle.wx_engine.specs.Acted.{hands, filters, errors, AreHooked}
+use Rattle.wx_engine.specs.Acted.{hands, filters, errors, polls, AreHooked, Wished}
 
 -- what holds of each script that is read
 pub record IsScript (s : Script) : Type 0 where
@@ -30,16 +30,22 @@ start_of s = record {
 abbrev pub given_of : Script → Given
 given_of s = record { turns = s.turns; last = s.last; answers = s.answers }
 
+-- what its hooks do
+abbrev pub wished_of : Script → Wished
+wished_of s = record { actions = s.actions; filters = s.filters; errors = s.errors; polls = s.polls; hooks = s.hooks }
+
 -- the turns of the run are the script's first ones, and then last turns at its last moment
 abbrev pub FollowsTurns : Script → List Entry → Type 0
 FollowsTurns s p = FollowsGiven s.turns s.last p
 
 -- the run follows the script: in its turns, in what is asked for in each call of the action handler, in what the error
--- handler wishes, in the words that spawn hooks append, and in what the calls of the filter and those on the host are answered
+-- handler wishes, in the words that spawn hooks append, and in what the calls of the filter, the polls of begun functions and
+-- the calls on the host are answered
 pub record Follows (s : Script) (p : List Entry) : Type 0 where
   pub turns : FollowsTurns s p
   pub acts : AreAnswered hands s.actions p
   pub filtered : AreAnswered filters s.filters p
   pub wished : AreAnswered errors s.errors p
+  pub polled : AreAnswered polls s.polls p
   pub hooked : AreHooked s.hooks p
   pub answers : FollowsAnswers s.answers p

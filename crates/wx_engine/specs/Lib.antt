@@ -1,6 +1,8 @@
 pub mod Wishes
 pub mod Turns
 pub mod Acted
+pub mod Boxed
+pub mod BoxedLaws
 pub mod Answered
 pub mod HostCalls
 pub mod Follows

@@ -64,6 +64,8 @@ pub struct Script {
     pub filters: List<Result<bool, RuntimeError>>,
     /// What the error handler wishes: in its first call, in its second, and so on.
     pub errors: List<Wish>,
+    /// Whether a begun function is ready: in the first poll of one, in the second, and so on.
+    pub polls: List<bool>,
     /// What spawn hooks append to the words of what is spawned: in their first call, in the second, and so on.
     pub hooks: List<List<Text>>,
     /// What the host answers.

@@ -6,10 +6,11 @@ ghost use Rattle.wx_engine.specs.Wishes.{ScriptAct as AnAct};
 ghost use Rattle.wx_journal.specs.declared.wish.Wish.TheVariants.{Nothing};
 ghost use Rattle.wx_journal.specs.Told.{anywhere, is_hooks};
 ghost use Rattle.wx_engine.specs.Answered.{AreUsed};
-ghost use Rattle.wx_engine.specs.Acted.{is_made, AreMade, performed, with_create, with_ask, with_act, hands, filters, errors, AreHooksUsed, Wished, IsWished};
-ghost use Rattle.wx_engine.specs.FollowLaws.{uses_over, hands_among, filters_among, errors_among, hooks_over};
+ghost use Rattle.wx_engine.specs.Acted.{is_made, AreMade, performed, with_create, with_ask, with_act, hands, filters, errors, polls, AreHooksUsed, Wished, IsWished};
+ghost use Rattle.wx_engine.specs.FollowLaws.{uses_over, hands_among, filters_among, errors_among, polls_among, hooks_over};
+ghost use Rattle.wx_engine.specs.Follows.{wished_of};
 
-use crate::replies::{line, passed};
+use crate::replies::{line, next, passed};
 use crate::script::{Script, Wanted};
 use std::alloc::Global;
 use wx_action::{ActionHandler, CreateRefused, ErrorHook, Hooks, JobHooks};
@@ -18,16 +19,17 @@ use wx_config::RuntimeError;
 use wx_control::{Ask, Controls, Id, Job};
 use wx_events::{Copies, Event, List, Memory, Priority, Text};
 use wx_job::JobTaskContext;
-use wx_journal::{Act, Entry, Journal, Wish};
+use wx_journal::{Act, Entry, HostFault, Journal, Wish};
 use wx_words::copy_twice;
 
 /// Hooks that ask in each call of the action handler for the next acts of a script, and for nothing after them, and answer
 /// each call of the filter by the next answer of the script, and let every event after them pass. Of each error they wish what
-/// the script does next, and nothing after that. Each call of a spawn hook appends the next words of the script to those of
-/// what is spawned, and none after them. Where memory is wanted for an act they are short, quit, and leave out the
-/// acts behind it. Where it is wanted for an answer they are short, and answer the error `Memory`. Where it is wanted for a
-/// wish they are short, and wish nothing. Where it is wanted for what is spawned they are short, leave that as it was, and
-/// answer `Memory`. They tell their entries.
+/// the script does next, and nothing after that. Each poll of a begun function is answered as the script says next, and those
+/// after that find it ready. Each call of a spawn hook appends the next words of the script to those of what is spawned, and
+/// none after them. Functions and error handlers of jobs do nothing. Where memory is wanted for an act they are short, quit,
+/// and leave out the acts behind it. Where it is wanted for an answer they are short, and answer the error `Memory`. Where it
+/// is wanted for a wish they are short, and wish nothing. Where it is wanted for what is spawned they are short, leave that as
+/// it was, and answer `Memory`. They tell their entries.
 #[derive(Drop, Debug)]
 pub struct ScriptHooks {
     alloc: Global,
@@ -37,6 +39,8 @@ pub struct ScriptHooks {
     asked: usize,
     errors: List<Wish>,
     shown: usize,
+    polls: List<bool>,
+    polled: usize,
     hooks: List<List<Text>>,
     hooked: usize,
     told: Journal,
@@ -46,11 +50,8 @@ pub struct ScriptHooks {
 impl ScriptHooks {
     /// Hooks that follow this script, before the first call. It fails only for want of memory.
     pub fn new(alloc: Global, script: &Script) -> Result<ScriptHooks, Memory>
-        ensures plan { IfOk result (λ hooks. hooks.actions ≡ script.now.actions) }
-        ensures filters { IfOk result (λ hooks. hooks.filters ≡ script.now.filters) }
-        ensures errors { IfOk result (λ hooks. hooks.errors ≡ script.now.errors) }
-        ensures hooks { IfOk result (λ hooks. hooks.hooks ≡ script.now.hooks) }
-        ensures stands { IfOk result (λ hooks. AreUsed hands hooks.actions hooks.used [] × AreUsed filters hooks.filters hooks.asked [] × AreUsed errors hooks.errors hooks.shown [] × AreHooksUsed hooks.hooks hooks.hooked []) }
+        ensures plan { IfOk result (λ hooks. record { actions = hooks.actions; filters = hooks.filters; errors = hooks.errors; polls = hooks.polls; hooks = hooks.hooks } ≡ wished_of script.now) }
+        ensures stands { IfOk result (λ hooks. AreUsed hands hooks.actions hooks.used [] × AreUsed filters hooks.filters hooks.asked [] × AreUsed errors hooks.errors hooks.shown [] × AreUsed polls hooks.polls hooks.polled [] × AreHooksUsed hooks.hooks hooks.hooked []) }
         ensures told { IfOk result (λ hooks. hooks.told.past ≡ []) }
         ensures short { IfOk result (λ hooks. hooks.is_short ≡ false) }
     {
@@ -62,6 +63,8 @@ impl ScriptHooks {
             asked: 0,
             errors: script.errors.copy(alloc)?,
             shown: 0,
+            polls: script.polls.copy(alloc)?,
+            polled: 0,
             hooks: script.hooks.copy(alloc)?,
             hooked: 0,
             told: Journal::new(alloc)?,
@@ -80,14 +83,33 @@ impl ScriptHooks {
 impl JobHooks for ScriptHooks {
     ghost Plan = { Wished };
 
-    ghost seen = { λ s. record { plan = record { actions = s.actions; filters = s.filters; errors = s.errors; hooks = s.hooks }; told = Some s.told.past; spare = s.told.spare; short = s.is_short; place = [] } };
+    ghost seen = { λ s. record { plan = record { actions = s.actions; filters = s.filters; errors = s.errors; polls = s.polls; hooks = s.hooks }; told = Some s.told.past; spare = s.told.spare; short = s.is_short; place = [] } };
 
     ghost rule = { λ plan p e. IsWished plan p e };
 
-    ghost stands = { λ s p. AreUsed hands s.actions s.used p × AreUsed filters s.filters s.asked p × AreUsed errors s.errors s.shown p × AreHooksUsed s.hooks s.hooked p };
+    ghost stands = { λ s p. AreUsed hands s.actions s.used p × AreUsed filters s.filters s.asked p × AreUsed errors s.errors s.shown p × AreUsed polls s.polls s.polled p × AreHooksUsed s.hooks s.hooked p };
 
     fn reserve(&mut self, n: u64) -> Result<(), Memory> {
         self.told.reserve(n)
+    }
+
+    fn run(&mut self, job: Id, n: u32, _cx: &JobTaskContext<'_>) {
+        self.told.push(Entry::Run { job, n });
+    }
+
+    fn begin(&mut self, job: Id, n: u32, _cx: &JobTaskContext<'_>) {
+        self.told.push(Entry::Begun { job, n });
+    }
+
+    fn poll(&mut self, job: Id, n: u32) -> bool {
+        let ready = next(&self.polls, &mut self.polled, true);
+        self.told.push(Entry::Poll { job, n, ready });
+        ready
+    }
+
+    fn job_error(&mut self, job: Id, n: u32, fault: HostFault) {
+        let code = fault.0;
+        self.told.push(Entry::JobError { job, n, code });
     }
 
     fn spawn_hook(
@@ -117,7 +139,7 @@ impl JobHooks for ScriptHooks {
         }
     }
 
-    ghost stands_other = { λ s p e _ other stands. (uses_over hands (anywhere is_hooks) hands_among s.actions s.used p e other stands.0, uses_over filters (anywhere is_hooks) filters_among s.filters s.asked p e other stands.1, uses_over errors (anywhere is_hooks) errors_among s.errors s.shown p e other stands.2, hooks_over s.hooks s.hooked p e other stands.3) };
+    ghost stands_other = { λ s p e _ other stands. (uses_over hands (anywhere is_hooks) hands_among s.actions s.used p e other stands.0, uses_over filters (anywhere is_hooks) filters_among s.filters s.asked p e other stands.1, uses_over errors (anywhere is_hooks) errors_among s.errors s.shown p e other stands.2, uses_over polls (anywhere is_hooks) polls_among s.polls s.polled p e other stands.3, hooks_over s.hooks s.hooked p e other stands.4) };
 }
 
 impl Hooks for ScriptHooks {

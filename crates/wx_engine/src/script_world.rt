@@ -138,11 +138,13 @@ impl Host for ScriptWorld {
         self.told.push(Entry::Dropped(child));
     }
 
-    fn raise(&mut self, ticket: u64, _flag: &Flag) {
+    fn raise(&mut self, ticket: u64, flag: &Flag) {
+        flag.raise();
         self.told.push(Entry::Raise(ticket));
     }
 
-    fn gone(&mut self, job: Id, _flag: &Flag) {
+    fn gone(&mut self, job: Id, flag: &Flag) {
+        flag.raise();
         self.told.push(Entry::Gone(job));
     }
 }

@@ -6,7 +6,7 @@ ghost use Rattle.wx_control.specs.declared.id.Id.{Id as AnId};
 ghost use Rattle.wx_journal.specs.Told.{is_world, is_hooks, is_turn, anywhere, tells, Obeys, Rose};
 ghost use Rattle.wx_job.specs.History.{child};
 ghost use Rattle.wx_job.specs.Laws.{IsReaping, AfterFaults};
-ghost use Rattle.wx_job.specs.TicketLaws.{Throughout, AreInOnePlace, AreRaisedLast, WaitForGraces, GracesNeedChildren};
+ghost use Rattle.wx_job.specs.TicketLaws.{Throughout, AreInOnePlace, AreRaisedLast, WaitForGraces, WaitForFunctions, GracesNeedChildren};
 ghost use Rattle.wx_config.specs.Defaults.{default_config};
 ghost use Rattle.wx_action.specs.Start.{Start, IsSize, IsStart, is_absolute};
 ghost use Rattle.wx_action.specs.Journal.{turn_count, early_count};
@@ -148,6 +148,10 @@ impl Watchexec {
         // A grace stands only while a child runs, and holds back the controls of the level Normal.
         ensures graces { Throughout GracesNeedChildren journal.new.past }
         ensures pressing { WaitForGraces journal.new.past }
+
+        // While a function that was begun isn't ready, its job picks no control, no grace of it ends, and no child of it is
+        // spawned, killed or waited for.
+        ensures functions { WaitForFunctions journal.new.past }
 
         // The laws of runs.
         ensures batched { IsBatched journal.new.past }

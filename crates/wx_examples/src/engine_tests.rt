@@ -172,7 +172,7 @@ fn calls_on_children_go_well(rt: HostRuntime) -> Result<(), Fail> {
 }
 
 /// The topmost folder.
-fn root(alloc: Global) -> Result<TextPath, Memory>
+pub(crate) fn root(alloc: Global) -> Result<TextPath, Memory>
     ensures { IfOk result (λ folder. folder ≡ 47 ∷ []) }
 {
     Ok(TextPath::new(Text::from_slice(alloc, b"/")?))
@@ -190,10 +190,10 @@ pub(crate) fn engine_with(alloc: Global, throttle: u64, size: u32) -> Result<Wat
 }
 
 /// The text of a run of this engine in this world.
-fn text_in<H: Hooks>(
+pub(crate) fn text_in<W: World, H: Hooks>(
     alloc: Global,
     engine: Watchexec,
-    world: &mut ScriptWorld,
+    world: &mut W,
     hooks: &mut H,
 ) -> Result<Text, Memory> {
     match Journal::new(alloc) {

@@ -4,9 +4,13 @@
 #[cfg(test)]
 mod action_tests;
 #[cfg(test)]
+mod boxed_tests;
+#[cfg(test)]
 mod engine_tests;
 #[cfg(test)]
 mod own_hooks;
+#[cfg(test)]
+mod ticket_tests;
 
 use std::fs;
 use std::io::{self, Error, ErrorKind};

@@ -12,7 +12,7 @@ use wx_control::{Id, Job};
 use wx_engine::Script;
 use wx_events::{Copies, Event, List, Memory, Priority, Text, cut};
 use wx_job::{CommandState, JobTaskContext};
-use wx_journal::{Entry, put_entry};
+use wx_journal::{Entry, HostFault, put_entry};
 
 /// What hooks do in a call.
 #[derive(Clone, Copy)]
@@ -62,6 +62,16 @@ impl JobHooks for Own {
     fn reserve(&mut self, _n: u64) -> Result<(), Memory> {
         Ok(())
     }
+
+    fn run(&mut self, _job: Id, _n: u32, _cx: &JobTaskContext<'_>) {}
+
+    fn begin(&mut self, _job: Id, _n: u32, _cx: &JobTaskContext<'_>) {}
+
+    fn poll(&mut self, _job: Id, _n: u32) -> bool {
+        true
+    }
+
+    fn job_error(&mut self, _job: Id, _n: u32, _fault: HostFault) {}
 
     fn spawn_hook(
         &mut self,
@@ -197,7 +207,12 @@ fn runs(alloc: Global, job: &Job, prog: &[u8]) -> Result<bool, Memory> {
 }
 
 /// Creates a job that runs this program, and answers the handle on it, where the job has this id and this command.
-fn created(alloc: Global, id: Id, prog: &[u8], handler: &mut ActionHandler<'_>) -> Option<Job>
+pub(crate) fn created(
+    alloc: Global,
+    id: Id,
+    prog: &[u8],
+    handler: &mut ActionHandler<'_>,
+) -> Option<Job>
     ensures past { handler.new.past ≡ handler.old.past }
     ensures names { handler.new.names ≡ handler.old.names }
     ensures handed { handler.new.handed ≡ handler.old.handed }

@@ -1,6 +1,6 @@
 -- An entry of one job leaves what is asked of every other.
 use Rattle.std.proofs.Common.{◌≡◌, ◌≢◌, ℕ, Bool, true, false, List, ◌∷◌, Option, Some, None, Result, Ok, Err, refl, ap, sym, ◌∙◌, ne_eqb, arith}
-use Rattle.std.specs.Prelude.{◌==◌, ℤ}
+use Rattle.std.specs.Prelude.{◌==◌, not, ℤ}
 use Rattle.wx_words.specs.declared.list.Memory.{Memory}
 use Rattle.wx_events.specs.declared.process.ProcessEnd.{ProcessEnd}
 use Rattle.wx_command.specs.declared.spawnable.Spawnable.{Spawnable}
@@ -10,7 +10,7 @@ use Rattle.wx_control.specs.declared.level.Level.{Level}
 use Rattle.wx_journal.specs.declared.child.SpawnTag.{SpawnTag}
 use Rattle.wx_journal.specs.declared.child.HostFault.{HostFault}
 use Rattle.wx_journal.specs.declared.entry.Entry.{Entry}
-use Rattle.wx_journal.specs.declared.entry.Entry.TheVariants.{Turn as Turned, Hand, Made, Asked, Pick, GraceOver, Spawn, Signal, Wait, Dropped, Raise, Gone, Hook}
+use Rattle.wx_journal.specs.declared.entry.Entry.TheVariants.{Turn as Turned, Hand, Made, Asked, Pick, GraceOver, Spawn, Signal, Wait, Dropped, Raise, Gone, Begun, Poll, Hook}
 use Rattle.wx_journal.specs.declared.entry.TurnKind.TheVariants as turn
 use Rattle.wx_journal.specs.Names.{moment}
 use Rattle.wx_job.specs.declared.state.CommandState.{CommandState}
@@ -22,7 +22,7 @@ use Rattle.wx_job.proofs.Owners.{other-is, child_owner, state_owner}
 use Rattle.wx_job.proofs.Tickets.{parked_other}
 
 pub same_history : (i : Id) (p : List Entry) → SameHistory i p p
-same_history i p = record { lives_same = refl; waits_same = λ level. refl; child_same = refl; kept_same = refl; state_same = refl; previous_same = refl; hook_same = refl; tag_same = refl; grace_same = refl; parked_same = refl; tickets_later = omega arith; command_same = refl }
+same_history i p = search arith
 
 pub history_then : (i : Id) (p q r : List Entry) → SameHistory i p q → SameHistory i q r → SameHistory i p r
 history_then i p q r a b = record {
@@ -33,6 +33,8 @@ history_then i p q r a b = record {
   state_same = b.state_same ∙ a.state_same;
   previous_same = b.previous_same ∙ a.previous_same;
   hook_same = b.hook_same ∙ a.hook_same;
+  handler_same = b.handler_same ∙ a.handler_same;
+  begun_same = b.begun_same ∙ a.begun_same;
   tag_same = b.tag_same ∙ a.tag_same;
   grace_same = b.grace_same ∙ a.grace_same;
   parked_same = b.parked_same ∙ a.parked_same;
@@ -42,29 +44,36 @@ history_then i p q r a b = record {
 
 -- entries that name a job
 pub frame_pick : (i id : Id) (t : ℕ) (p : List Entry) → i ≢ id → SameHistory i p (Pick id t ∷ p)
-frame_pick i id t p ne = record { lives_same = refl; waits_same = λ level. rw (other-is i id ne) refl; child_same = refl; kept_same = refl; state_same = refl; previous_same = refl; hook_same = rw (other-is i id ne) refl; tag_same = rw (other-is i id ne) refl; grace_same = refl; parked_same = rw (other-is i id ne) refl; tickets_later = omega arith; command_same = refl }
+frame_pick i id t p ne = search (arith, other-is i id ne)
 
 pub frame_asked : (i id : Id) (t : ℕ) (level : Level) (control : Control) (p : List Entry) → i ≢ id → SameHistory i p (Asked t id level control ∷ p)
-frame_asked i id t level control p ne = record { lives_same = refl; waits_same = λ l. rw (other-is i id ne) refl; child_same = refl; kept_same = refl; state_same = refl; previous_same = refl; hook_same = refl; tag_same = refl; grace_same = refl; parked_same = refl; tickets_later = omega arith; command_same = refl }
+frame_asked i id t level control p ne = search (arith, other-is i id ne)
 
 pub frame_spawn_ok : (i id : Id) (c : ℕ) (tag : SpawnTag) (what : Spawnable) (a : Unit {0}) (p : List Entry) → i ≢ id → SameHistory i p (Spawn c id tag what (Ok a) ∷ p)
-frame_spawn_ok i id c tag what a p ne = record { lives_same = refl; waits_same = λ l. refl; child_same = rw (other-is i id ne) refl; kept_same = rw (other-is i id ne) refl; state_same = rw (other-is i id ne) refl; previous_same = rw (other-is i id ne) refl; hook_same = refl; tag_same = refl; grace_same = refl; parked_same = refl; tickets_later = omega arith; command_same = refl }
+frame_spawn_ok i id c tag what a p ne = search (arith, other-is i id ne)
 
 pub frame_spawn_err : (i id : Id) (c : ℕ) (tag : SpawnTag) (what : Spawnable) (a : HostFault) (p : List Entry) → i ≢ id → SameHistory i p (Spawn c id tag what (Err a) ∷ p)
-frame_spawn_err i id c tag what a p ne = record { lives_same = refl; waits_same = λ l. refl; child_same = refl; kept_same = refl; state_same = rw (other-is i id ne) refl; previous_same = rw (other-is i id ne) refl; hook_same = refl; tag_same = refl; grace_same = refl; parked_same = refl; tickets_later = omega arith; command_same = refl }
+frame_spawn_err i id c tag what a p ne = search (arith, other-is i id ne)
 
 pub frame_hook : (i id : Id) (n : ℕ) (a : Result Spawnable Memory) (p : List Entry) → i ≢ id → SameHistory i p (Hook id n a ∷ p)
-frame_hook i id n a p ne = record { lives_same = refl; waits_same = λ l. refl; child_same = refl; kept_same = refl; state_same = rw (other-is i id ne) refl; previous_same = rw (other-is i id ne) refl; hook_same = refl; tag_same = refl; grace_same = refl; parked_same = refl; tickets_later = omega arith; command_same = refl }
+frame_hook i id n a p ne = search (arith, other-is i id ne)
 
 pub frame_gone : (i id : Id) (p : List Entry) → i ≢ id → SameHistory i p (Gone id ∷ p)
-frame_gone i id p ne = record { lives_same = rw (other-is i id ne) refl; waits_same = λ l. rw (other-is i id ne) refl; child_same = refl; kept_same = rw (other-is i id ne) refl; state_same = refl; previous_same = refl; hook_same = refl; tag_same = refl; grace_same = rw (other-is i id ne) refl; parked_same = rw (other-is i id ne) refl; tickets_later = omega arith; command_same = refl }
+frame_gone i id p ne = search (arith, other-is i id ne)
 
 pub frame_over : (i id : Id) (p : List Entry) → i ≢ id → SameHistory i p (GraceOver id ∷ p)
-frame_over i id p ne = record { lives_same = refl; waits_same = λ l. refl; child_same = refl; kept_same = refl; state_same = refl; previous_same = refl; hook_same = refl; tag_same = refl; grace_same = rw (other-is i id ne) refl; parked_same = refl; tickets_later = omega arith; command_same = refl }
+frame_over i id p ne = search (arith, other-is i id ne)
+
+pub frame_begun : (i id : Id) (n : ℕ) (p : List Entry) → i ≢ id → SameHistory i p (Begun id n ∷ p)
+frame_begun i id n p ne = search (arith, other-is i id ne)
+
+-- a function that was polled is ready
+pub frame_ready : (i id : Id) (n : ℕ) (p : List Entry) → i ≢ id → SameHistory i p (Poll id n true ∷ p)
+frame_ready i id n p ne = search (arith, other-is i id ne)
 
 -- a ticket of another job is raised
 pub frame_raise : (i id : Id) (t : ℕ) (p : List Entry) → i ≢ id → NamesTickets p → asked_of t p ≡ Some id → SameHistory i p (Raise t ∷ p)
-frame_raise i id t p ne own its = record { lives_same = refl; waits_same = λ l. refl; child_same = refl; kept_same = refl; state_same = refl; previous_same = refl; hook_same = refl; tag_same = refl; grace_same = refl; parked_same = parked_other i id t p ne own its; tickets_later = omega arith; command_same = refl }
+frame_raise i id t p ne own its = search (arith, parked_other i id t p ne own its)
 
 -- entries that name nothing of a job
 abbrev pub is_silent : Entry → Bool
@@ -80,27 +89,17 @@ is_silent (Raise ticket) = false
 is_silent (Wait c answer) = false
 is_silent (Dropped c) = false
 is_silent (Gone job) = false
+is_silent (Begun job n) = false
+is_silent (Poll job n ready) = not ready
 is_silent (Hook job n answer) = false
 is_silent (_) = true
 
 pub frame_silent : (i : Id) (e : Entry) (p : List Entry) → is_silent e ≡ true → SameHistory i p (e ∷ p)
-frame_silent i (Turned t) p s = absurd cc
-frame_silent i (Hand n names acts) p s = absurd cc
-frame_silent i (Made job) p s = absurd cc
-frame_silent i (Asked ticket job level control) p s = absurd cc
-frame_silent i (Pick job ticket) p s = absurd cc
-frame_silent i (GraceOver job) p s = absurd cc
-frame_silent i (Spawn c job tag what answer) p s = absurd cc
-frame_silent i (Signal c number answer) p s = absurd cc
-frame_silent i (Raise ticket) p s = absurd cc
-frame_silent i (Wait c answer) p s = absurd cc
-frame_silent i (Dropped c) p s = absurd cc
-frame_silent i (Gone job) p s = absurd cc
-frame_silent i (Hook job n answer) p s = absurd cc
-frame_silent i (_) p s = record { lives_same = refl; waits_same = λ l. refl; child_same = refl; kept_same = refl; state_same = refl; previous_same = refl; hook_same = refl; tag_same = refl; grace_same = refl; parked_same = refl; tickets_later = omega arith; command_same = refl }
+frame_silent i (Poll job n true) p s = absurd cc
+frame_silent i (_) p s = search arith
 
 pub frame_turn : (i : Id) (at : ℕ) (id : Id) (p : List Entry) → SameHistory i p (Turned (record { at = at; kind = turn.Job id }) ∷ p)
-frame_turn i at id p = record { lives_same = refl; waits_same = λ l. refl; child_same = refl; kept_same = refl; state_same = refl; previous_same = refl; hook_same = refl; tag_same = refl; grace_same = refl; parked_same = refl; tickets_later = omega arith; command_same = refl }
+frame_turn i at id p = search arith
 
 -- entries that name a child of another job
 pub not_child : (o : Option ℕ) (d : ℕ) → (o ≡ Some d → ⊥) → (is_child d o ≡ false) × (unless d o ≡ o)
@@ -116,42 +115,24 @@ finish_other (Finished before started finished) d status at never = refl
 pub apart : (i id : Id) (d : ℕ) (o : Option Id) → i ≢ id → o ≡ Some id → o ≡ Some i → ⊥
 apart i id d o ne its mine = let one : Some id ≡ Some i = sym its ∙ mine in ne (cc)
 
+-- a child that runs for one job runs for no other
+not_its : (i id : Id) (d : ℕ) (p : List Entry) → i ≢ id → NamesChildren p → child id p ≡ Some d → (is_child d (child i p) ≡ false) × (unless d (child i p) ≡ child i p)
+not_its i id d p ne own runs = not_child (child i p) d (λ e. apart i id d _ ne (child_owner id d p own runs) (child_owner i d p own e))
+
 pub frame_signal_ok : (i id : Id) (d : ℕ) (number : ℤ) (a : Unit {0}) (p : List Entry) → i ≢ id → NamesChildren p → child id p ≡ Some d → SameHistory i p (Signal d number (Ok a) ∷ p)
-frame_signal_ok i id d number a p ne own runs =
-    let its = child_owner id d p own runs in
-    let never = not_child (child i p) d (λ e. apart i id d _ ne its (child_owner i d p own e)) in
-    record { lives_same = refl; waits_same = λ l. refl; child_same = refl; kept_same = refl; state_same = refl; previous_same = refl; hook_same = refl; tag_same = refl; grace_same = rw never.0 refl; parked_same = refl; tickets_later = omega arith; command_same = refl }
+frame_signal_ok i id d number a p ne own runs = search (arith, (not_its i id d p ne own runs).0)
 
 pub frame_signal_err : (i : Id) (d : ℕ) (number : ℤ) (fault : HostFault) (p : List Entry) → SameHistory i p (Signal d number (Err fault) ∷ p)
-frame_signal_err i d number fault p = record { lives_same = refl; waits_same = λ l. refl; child_same = refl; kept_same = refl; state_same = refl; previous_same = refl; hook_same = refl; tag_same = refl; grace_same = refl; parked_same = refl; tickets_later = omega arith; command_same = refl }
+frame_signal_err i d number fault p = search arith
 
 pub frame_wait_ok : (i id : Id) (d : ℕ) (status : ProcessEnd) (p : List Entry) → i ≢ id → NamesChildren p → child id p ≡ Some d → SameHistory i p (Wait d (Ok status) ∷ p)
 frame_wait_ok i id d status p ne own runs =
-    let its = child_owner id d p own runs in
-    let never = not_child (child i p) d (λ e. apart i id d _ ne its (child_owner i d p own e)) in
-    record {
-      lives_same = refl;
-      waits_same = λ l. refl;
-      child_same = never.1;
-      kept_same = rw never.0 refl;
-      state_same = finish_other (state i p) d status (moment p) (λ e. apart i id d _ ne its (state_owner i d p own e));
-      previous_same = refl;
-      hook_same = refl;
-      tag_same = refl;
-      grace_same = rw never.0 refl;
-      parked_same = refl;
-      tickets_later = omega arith;
-      command_same = refl;
-    }
+    let never = not_its i id d p ne own runs in
+    let same = finish_other (state i p) d status (moment p) (λ e. apart i id d _ ne (child_owner id d p own runs) (state_owner i d p own e)) in
+    search (arith, never.0, never.1, same)
 
 pub frame_wait_err : (i id : Id) (d : ℕ) (fault : HostFault) (p : List Entry) → i ≢ id → NamesChildren p → child id p ≡ Some d → SameHistory i p (Wait d (Err fault) ∷ p)
-frame_wait_err i id d fault p ne own runs =
-    let its = child_owner id d p own runs in
-    let never = not_child (child i p) d (λ e. apart i id d _ ne its (child_owner i d p own e)) in
-    record { lives_same = refl; waits_same = λ l. refl; child_same = refl; kept_same = rw never.0 refl; state_same = refl; previous_same = refl; hook_same = refl; tag_same = refl; grace_same = refl; parked_same = refl; tickets_later = omega arith; command_same = refl }
+frame_wait_err i id d fault p ne own runs = search (arith, (not_its i id d p ne own runs).0)
 
 pub frame_drop : (i id : Id) (d : ℕ) (p : List Entry) → i ≢ id → NamesChildren p → child id p ≡ Some d → SameHistory i p (Dropped d ∷ p)
-frame_drop i id d p ne own runs =
-    let its = child_owner id d p own runs in
-    let never = not_child (child i p) d (λ e. apart i id d _ ne its (child_owner i d p own e)) in
-    record { lives_same = refl; waits_same = λ l. refl; child_same = never.1; kept_same = refl; state_same = refl; previous_same = refl; hook_same = refl; tag_same = refl; grace_same = rw never.0 refl; parked_same = refl; tickets_later = omega arith; command_same = refl }
+frame_drop i id d p ne own runs = let never = not_its i id d p ne own runs in search (arith, never.0, never.1)

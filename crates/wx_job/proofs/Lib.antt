@@ -6,6 +6,7 @@ pub mod Owners
 pub mod Tickets
 pub mod Times
 pub mod Places
+pub mod Holders
 pub mod Moves
 pub mod Graces
 pub mod Frame

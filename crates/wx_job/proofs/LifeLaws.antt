@@ -6,13 +6,11 @@ use Rattle.wx_control.specs.Asks.{sends_of}
 use Rattle.wx_journal.specs.declared.entry.Entry.{Entry}
 use Rattle.wx_journal.specs.declared.entry.Entry.TheVariants.{Made, Spawn, Wait, Dropped, Gone}
 use Rattle.wx_job.specs.History.{child, unless, owner}
-use Rattle.wx_job.specs.Table.{step_plan, send_plan, end_plan}
+use Rattle.wx_job.specs.Table.{step_by, send_plan, end_plan}
 use Rattle.wx_job.specs.Laws.{unreaped, IsReaping, NamesChildren, is_owner, is_about, Lived, Begins, Others, Asks, Steps, GivesUp, Ends}
 use Rattle.wx_job.proofs.Owners.{self, child_owner, unreaped_owner}
 use Rattle.wx_job.proofs.Frame.{not_child}
-use Rattle.wx_job.proofs.Sound.{sound_step, sound_send, sound_end}
-use Rattle.wx_job.proofs.PlacedPlans.{placed_step, placed_send, placed_end}
-use Rattle.wx_job.proofs.StepLaws.{Left, left_done, left_gave}
+use Rattle.wx_job.proofs.StepLaws.{Left, step_of, send_of, end_of, left_done, left_gave}
 
 -- a child of another is none of this job
 not_owned : (id : Id) (o : Option Id) → is_owner id o ≡ false → o ≡ Some id → ⊥
@@ -45,10 +43,10 @@ life : (id : Id) (command : Command) (p : List Entry) → Lived id command p →
 life id command p l = elim l as (λ p _. IsGood id p) [
   | Begins p named ↦ record { children = named; reaping = record { each = λ e. (let both : true ≡ false = sym (self id) ∙ e in absurd cc); last = λ alive. rw (self id) refl; none = λ dead. rw (self id) refl } }
   | Others e p (l → h) named other ↦ record { children = named; reaping = other_reaping id e p named other h.reaping }
-  | Asks ask p p' host hooks host' hooks' n n' (l → h) way ↦ good_left id p p' (left_done id (send_plan id (sends_of ask) p) p host hooks n p' host' hooks' n' way (sound_send id ask p) (placed_send id ask p)) h
-  | Steps p p' host hooks host' hooks' n n' (l → h) way ↦ good_left id p p' (left_done id (step_plan id command p) p host hooks n p' host' hooks' n' way (sound_step id command p) (placed_step id command p)) h
-  | GivesUp rest p p' host hooks host' hooks' n n' (l → h) way cut ↦ good_left id p p' (left_gave id (step_plan id command p) p host hooks n rest p' host' hooks' n' way cut (sound_step id command p) (placed_step id command p)) h
-  | Ends p p' host hooks host' hooks' n n' (l → h) way ↦ good_left id p p' (left_done id (end_plan id p) p host hooks n p' host' hooks' n' way (sound_end id p) (placed_end id p)) h
+  | Asks ask p p' host hooks host' hooks' n n' (l → h) way ↦ good_left id p p' (left_done id (send_plan id (sends_of ask) p) p host hooks n p' host' hooks' n' (send_of id ask p) way) h
+  | Steps closed p p' host hooks host' hooks' n n' (l → h) way ↦ good_left id p p' (left_done id (step_by closed id command p) p host hooks n p' host' hooks' n' (step_of closed id command p) way) h
+  | GivesUp closed rest p p' host hooks host' hooks' n n' (l → h) way cut ↦ good_left id p p' (left_gave id (step_by closed id command p) p host hooks n rest p' host' hooks' n' (step_of closed id command p) cut way) h
+  | Ends p p' host hooks host' hooks' n n' (l → h) way ↦ good_left id p p' (left_done id (end_plan id p) p host hooks n p' host' hooks' n' (end_of id p) way) h
 ]
 
 pub children_are_reaped : (id : Id) (command : Command) (p : List Entry) → Lived id command p → IsReaping id p

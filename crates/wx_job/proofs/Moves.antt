@@ -1,5 +1,5 @@
 -- Entries that move tickets: a history begins or ends, and a control is asked, picked, or its ticket is raised.
-use Rattle.std.proofs.Common.{◌≡◌, ◌≢◌, ℕ, ◌+◌, ◌≤◌, ◌<◌, Bool, true, false, cond, List, [], ◌∷◌, ◌++◌, Some, None, refl, arith, ◌∙◌, ne_eqb}
+use Rattle.std.proofs.Common.{◌≡◌, ◌≢◌, ℕ, ◌+◌, ◌≤◌, ◌<◌, Bool, true, false, cond, List, [], ◌∷◌, ◌++◌, Option, Some, None, refl, arith, sym, ◌∙◌, ne_eqb}
 use Rattle.std.specs.Prelude.{◌==◌, ◌-◌, ◌&&◌, ◌||◌, not}
 use Rattle.std.proofs.lemmas.Bool.{eqb-true}
 use Rattle.wx_control.specs.declared.id.Id.{Id}
@@ -11,15 +11,16 @@ use Rattle.wx_control.specs.Waits.{first}
 use Rattle.wx_journal.specs.declared.entry.Entry.{Entry}
 use Rattle.wx_journal.specs.declared.entry.Entry.TheVariants.{Made, Asked, Pick, Raise, Gone}
 use Rattle.wx_journal.specs.Names.{ticket_count}
+use Rattle.wx_job.specs.declared.function.Function.{Function}
 use Rattle.wx_job.specs.declared.grace.Grace.{Grace}
-use Rattle.wx_job.specs.History.{same, lives, waits, state, grace, picked_control, parked, in_hand, takes, without_ticket, asked_of}
+use Rattle.wx_job.specs.History.{same, lives, waits, state, grace, begun, picked_control, parked, in_hand, takes, without_ticket, asked_of}
 use Rattle.wx_job.specs.Laws.{NamesTickets}
 use Rattle.wx_job.specs.Stands.{once, times, times_waiting}
 use Rattle.wx_job.specs.TicketLaws.{raises_of, is_asked, spots, IsPlaced}
 use Rattle.wx_job.proofs.Owners.{same-is, either}
-use Rattle.wx_job.proofs.Tickets.{asked_below, grace_asked}
+use Rattle.wx_job.proofs.Tickets.{asked_below}
 use Rattle.wx_job.proofs.Times.{joined_times, times_without, picked_waits, picked_times, takes_more, IsFirst}
-use Rattle.wx_job.proofs.Places.{one_now, asked_was, unraised_spot, spot_of}
+use Rattle.wx_job.proofs.Places.{one_now, asked_was, unraised_spot, spot_of, AreHeld, HoldsTickets, held_of, gone_held}
 
 -- ---- a history begins, and ends
 
@@ -44,9 +45,11 @@ placed_made id p h =
       );
       nowhere = λ i u e. rw (made_spots i id p u) (no_spots i u (same id i) e);
       unnamed = h.unnamed;
-      held = λ i g e. held i g (same id i) e;
+      held = λ i. (held i).graces;
+      begins = λ i. (held i).functions;
       last = h.last;
       pressing = h.pressing;
+      polled = h.polled;
     }
   where
     by_test : (i : Id) (u : ℕ) (b : Bool) → (b || lives i p) ≡ true → cond b false (is_asked i u p) ≡ true → cond b 0 (spots i u p) + raises_of u p ≡ 1
@@ -57,9 +60,8 @@ placed_made id p h =
     no_spots i u true e = refl
     no_spots i u false e = h.nowhere i u e
 
-    held : (i : Id) (g : Grace) (b : Bool) → cond b None (grace i p) ≡ Some g → 1 ≤ times g.ticket (cond b [] (in_hand i p))
-    held i g true e = cc
-    held i g false e = h.held i g e
+    held : HoldsTickets (Made id ∷ p)
+    held i = gone_held (same id i) (grace i p) (begun i p) (in_hand i p) (held_of p h i)
 
 gone_spots : (i id : Id) (p : List Entry) (u : ℕ) → spots i u (Gone id ∷ p) ≡ cond (same id i) 0 (spots i u p)
 gone_spots i id p u = by_test (same id i) refl
@@ -82,9 +84,11 @@ placed_gone id p h =
       );
       nowhere = λ i u e. rw (gone_spots i id p u) (no_spots i u (same id i) e);
       unnamed = h.unnamed;
-      held = λ i g e. held i g (same id i) e;
+      held = λ i. (held i).graces;
+      begins = λ i. (held i).functions;
       last = h.last;
       pressing = h.pressing;
+      polled = h.polled;
     }
   where
     by_test : (i : Id) (u : ℕ) (b : Bool) → (not b && lives i p) ≡ true → is_asked i u p ≡ true → cond b 0 (spots i u p) + raises_of u p ≡ 1
@@ -95,9 +99,8 @@ placed_gone id p h =
     no_spots i u true e = refl
     no_spots i u false e = h.nowhere i u e
 
-    held : (i : Id) (g : Grace) (b : Bool) → cond b None (grace i p) ≡ Some g → 1 ≤ times g.ticket (cond b [] (in_hand i p))
-    held i g true e = cc
-    held i g false e = h.held i g e
+    held : HoldsTickets (Gone id ∷ p)
+    held i = gone_held (same id i) (grace i p) (begun i p) (in_hand i p) (held_of p h i)
 
 -- ---- a control is asked
 
@@ -163,8 +166,10 @@ placed_asked id level control p h =
       nowhere = λ i u e. rw (asked_spots i id t u level control p) (asked_none (same id i) (t == u) (lives i p) (is_asked i u p) (spots i u p) (h.nowhere i u) e);
       unnamed = λ u le. h.unnamed u (omega (arith, le));
       held = h.held;
+      begins = h.begins;
       last = h.last;
       pressing = h.pressing;
+      polled = h.polled;
     }
   where
     new : (i : Id) (u : ℕ) → ticket_count p ≡ u → (is_asked i u p ≡ false) × (spots i u p ≡ 0) × (raises_of u p ≡ 0)
@@ -182,8 +187,15 @@ pick_spots i id t u p waits_it = by_test (same id i) refl
         rw is (omega (arith, ws, hs))
     by_test false is = rw is refl
 
-pub placed_pick : (id : Id) (t : ℕ) (control : Control) (p : List Entry) → IsFirst t control (waits id Urgent p) (waits id High p) (waits id Normal p) (grace id p) → IsPlaced p → IsPlaced (Pick id t ∷ p)
-placed_pick id t control p first h =
+-- more in hand
+more_held : (o : Option Grace) (function : Option Function) (hand more : List ℕ) → ((u : ℕ) → times u hand ≤ times u more) → AreHeld o function hand → AreHeld o function more
+more_held o function hand more le h = record {
+  graces = λ g e. (let was = h.graces g e in let now = le g.ticket in omega (arith, was, now));
+  functions = λ f e. (let was = h.functions f e in let now = le f.ticket in omega (arith, was, now));
+}
+
+pub placed_pick : (id : Id) (t : ℕ) (control : Control) (p : List Entry) → IsFirst t control (waits id Urgent p) (waits id High p) (waits id Normal p) (grace id p) → begun id p ≡ None → IsPlaced p → IsPlaced (Pick id t ∷ p)
+placed_pick id t control p first free h =
     let o = one_now p h in record {
       children = h.children;
       tickets = h.tickets;
@@ -196,15 +208,20 @@ placed_pick id t control p first h =
       );
       nowhere = λ i u e. still i u ∙ h.nowhere i u e;
       unnamed = h.unnamed;
-      held = λ i g e.
-          (let le = h.held i g e in let more = takes_more (picked_control i t p) t g.ticket (state i p) (in_hand i p) in
-          either (λ hand. 1 ≤ times g.ticket hand) (same id i) (takes (picked_control i t p) t (state i p) (in_hand i p)) (in_hand i p) (omega (arith, le, more)) le);
+      held = λ i. (held i).graces;
+      begins = λ i. (held i).functions;
       last = h.last;
       pressing = (first.presses, h.pressing);
+      polled = (free, h.polled);
     }
   where
     still : (i : Id) (u : ℕ) → spots i u (Pick id t ∷ p) ≡ spots i u p
     still i u = pick_spots i id t u p (λ e. (let is : id ≡ i = same-is id i e in rw (← is) first.some))
+
+    held : HoldsTickets (Pick id t ∷ p)
+    held i =
+        let taken : List ℕ = takes (picked_control i t p) t (state i p) (in_hand i p) in
+        either (AreHeld (grace i p) (begun i p)) (same id i) taken (in_hand i p) (more_held (grace i p) (begun i p) (in_hand i p) taken (λ u. takes_more (picked_control i t p) t u (state i p) (in_hand i p)) (held_of p h i)) (held_of p h i)
 
 -- ---- a ticket is raised
 
@@ -216,38 +233,45 @@ once_more false n = omega arith
 raised_mine : (id i : Id) (t : ℕ) (p : List Entry) → asked_of t p ≡ Some id → asked_of t p ≡ Some i → id ≡ i
 raised_mine id i t p its other = cc
 
-pub placed_raise : (id : Id) (t : ℕ) (p : List Entry) → lives id p ≡ true → 1 ≤ times t (in_hand id p) + times t (parked id p) → ((g : Grace) → grace id p ≡ Some g → t ≢ g.ticket) → IsPlaced p → IsPlaced (Raise t ∷ p)
-placed_raise id t p alive le free h =
-    let o = one_now p h in record {
+-- its job lives, and has it in hand or parked, no grace holds it, and no function is begun
+pub record IsRaisable (id : Id) (t : ℕ) (p : List Entry) : Type 0 where
+  pub placed : IsPlaced p
+  pub alive : lives id p ≡ true
+  pub there : 1 ≤ times t (in_hand id p) + times t (parked id p)
+  pub unheld : (g : Grace) → grace id p ≡ Some g → t ≢ g.ticket
+  pub free : begun id p ≡ None
+
+pub placed_raise : (id : Id) (t : ℕ) (p : List Entry) → IsRaisable id t p → IsPlaced (Raise t ∷ p)
+placed_raise id t p r =
+    let h = r.placed in let o = one_now p h in record {
       children = h.children;
       tickets = h.tickets;
       one = (record { one_place = λ i u lives_on asked. placed i u lives_on asked (t == u) refl; raised_once = λ u. once_raised u (t == u) refl }, h.one);
       nowhere = λ i u e. (let none = h.nowhere i u e in let hs = times_without t u (in_hand i p) in let ks = times_without t u (parked i p) in omega (arith, none, hs, ks));
       unnamed = λ u above. (let other : (t == u) ≡ false = ne_eqb t u (λ is. omega (arith, is, above, asked_below t id p h.tickets its)) in rw other (h.unnamed u above));
-      held = λ i g e.
-          (let hs = times_without t g.ticket (in_hand i p) in let other : (t == g.ticket) ≡ false = ne_eqb t g.ticket (never i g e) in
-          let same_hand : times g.ticket (without_ticket t (in_hand i p)) ≡ times g.ticket (in_hand i p) - once false = rw other at hs in
-          let was = h.held i g e in omega (arith, same_hand, was));
+      held = λ i. (held i).graces;
+      begins = λ i. (held i).functions;
       last = h.last;
       pressing = h.pressing;
+      polled = h.polled;
     }
   where
     its : asked_of t p ≡ Some id
-    its = spot_of id t p h (omega (arith, le))
+    its = let le = r.there in spot_of id t p r.placed (omega (arith, le))
 
     placed : (i : Id) (u : ℕ) → lives i p ≡ true → is_asked i u p ≡ true → (b : Bool) → (t == u) ≡ b → spots i u (Raise t ∷ p) + raises_of u (Raise t ∷ p) ≡ 1
     placed i u lives_on asked true is =
         let same_ticket : t ≡ u = eqb-true _ _ is in
-        let mine : id ≡ i = raised_mine id i t p its (rw same_ticket (asked_was i u p h.tickets asked)) in
-        let there : 1 ≤ times u (in_hand i p) + times u (parked i p) = rw (← same_ticket, ← mine) le in
-        let one = (one_now p h).one_place i u lives_on asked in
+        let mine : id ≡ i = raised_mine id i t p its (rw same_ticket (asked_was i u p r.placed.tickets asked)) in
+        let there : 1 ≤ times u (in_hand i p) + times u (parked i p) = rw (← same_ticket, ← mine) r.there in
+        let one = (one_now p r.placed).one_place i u lives_on asked in
         let hs = times_without t u (in_hand i p) in
         let ks = times_without t u (parked i p) in
         let hs' : times u (without_ticket t (in_hand i p)) ≡ times u (in_hand i p) - once true = rw is at hs in
         let ks' : times u (without_ticket t (parked i p)) ≡ times u (parked i p) - once true = rw is at ks in
         rw is (omega (arith, one, there, hs', ks'))
     placed i u lives_on asked false is =
-        let one = (one_now p h).one_place i u lives_on asked in
+        let one = (one_now p r.placed).one_place i u lives_on asked in
         let hs = times_without t u (in_hand i p) in
         let ks = times_without t u (parked i p) in
         let hs' : times u (without_ticket t (in_hand i p)) ≡ times u (in_hand i p) - once false = rw is at hs in
@@ -255,8 +279,19 @@ placed_raise id t p alive le free h =
         rw is (omega (arith, one, hs', ks'))
 
     once_raised : (u : ℕ) (b : Bool) → (t == u) ≡ b → raises_of u (Raise t ∷ p) ≤ 1
-    once_raised u true is = let same_ticket : t ≡ u = eqb-true _ _ is in let none : raises_of u p ≡ 0 = rw (← same_ticket) (unraised_spot id t p h alive (omega (arith, le))).1 in rw is (omega (arith, none))
-    once_raised u false is = rw is ((one_now p h).raised_once u)
+    once_raised u true is = let same_ticket : t ≡ u = eqb-true _ _ is in let le = r.there in let none : raises_of u p ≡ 0 = rw (← same_ticket) (unraised_spot id t p r.placed r.alive (omega (arith, le))).1 in rw is (omega (arith, none))
+    once_raised u false is = rw is ((one_now p r.placed).raised_once u)
 
-    never : (i : Id) (g : Grace) → grace i p ≡ Some g → t ≢ g.ticket
-    never i g e is = let mine : id ≡ i = raised_mine id i t p its (rw is (grace_asked i p g h.tickets e)) in free g (rw mine e) is
+    -- another ticket that is in hand stays there
+    stays : (i : Id) (u : ℕ) → 1 ≤ times u (in_hand i p) → (id ≡ i → t ≢ u) → 1 ≤ times u (without_ticket t (in_hand i p))
+    stays i u there other =
+        let apart : (t == u) ≡ false = ne_eqb t u (λ is. other (raised_mine id i t p its (rw is (spot_of i u p r.placed (omega (arith, there))))) is) in
+        let hs = times_without t u (in_hand i p) in
+        let hs' : times u (without_ticket t (in_hand i p)) ≡ times u (in_hand i p) - once false = rw apart at hs in
+        omega (arith, hs', there)
+
+    held : HoldsTickets (Raise t ∷ p)
+    held i = record {
+      graces = λ g e. stays i g.ticket (r.placed.held i g e) (λ mine. r.unheld g (rw mine e));
+      functions = λ f e. stays i f.ticket (r.placed.begins i f e) (λ mine. (let is : begun id p ≡ Some f = rw mine e in let none : None ≡ Some f = sym r.free ∙ is in absurd cc));
+    }

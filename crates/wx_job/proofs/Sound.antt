@@ -1,13 +1,13 @@
 -- What the plan of a job names is the job's, and what following it leaves.
 use Rattle.std.proofs.Common.{◌≡◌, ◌≢◌, ℕ, ◌+◌, ◌≤◌, ◌<◌, Bool, true, false, cond, List, [], ◌∷◌, Option, Some, None, Result, Ok, Err, refl, arith, ap, sym, ◌∙◌, eq-eqb}
-use Rattle.std.specs.Prelude.{not, ◌&&◌, ◌-◌, ◌^◌, min, is_err, nat_le}
+use Rattle.std.specs.Prelude.{not, ◌&&◌, ◌-◌, ◌^◌, min, is_err}
 use Rattle.std.specs.Bool.{MatchBool}
 use Rattle.wx_events.specs.declared.process.ProcessEnd.{ProcessEnd}
 use Rattle.wx_command.specs.declared.command.Command.{Command}
 use Rattle.wx_command.specs.Spawnables.{spawnable_of}
 use Rattle.wx_control.specs.declared.id.Id.{Id}
 use Rattle.wx_control.specs.declared.control.Control.{Control}
-use Rattle.wx_control.specs.declared.control.Control.TheVariants.{Start, Stop, GracefulStop, TryRestart, TryGracefulRestart, ContinueTryGracefulRestart, Signal as Signalled, Delete, NextEnding}
+use Rattle.wx_control.specs.declared.control.Control.TheVariants.{Start, Stop, GracefulStop, TryRestart, TryGracefulRestart, ContinueTryGracefulRestart, Signal as Signalled, Delete, NextEnding, SyncFunc, AsyncFunc}
 use Rattle.wx_control.specs.declared.level.Level.{Level}
 use Rattle.wx_control.specs.declared.level.Level.TheVariants.{Normal, High, Urgent}
 use Rattle.wx_control.specs.declared.ask.Ask.{Ask}
@@ -16,22 +16,27 @@ use Rattle.wx_control.specs.Waits.{first}
 use Rattle.wx_journal.specs.declared.child.HostFault.{HostFault}
 use Rattle.wx_journal.specs.declared.child.SpawnTag.{SpawnTag}
 use Rattle.wx_journal.specs.declared.entry.Entry.{Entry}
-use Rattle.wx_journal.specs.declared.entry.Entry.TheVariants.{Begin, Sent, Turn as Turned, TurnFault, Offer, Word as Said, Take, Filter, Show, Hand, Made, Asked, Pick, GraceOver, Spawn, Signal, Kill, Wait, Dropped, Raise, Gone, Hook}
-use Rattle.wx_journal.specs.Names.{Names, NamesItsOwn, ticket_count, child_count}
+use Rattle.wx_journal.specs.declared.entry.Entry.TheVariants.{Begin, Sent, Turn as Turned, TurnFault, Offer, Word as Said, Take, Filter, Show, Hand, Made, Asked, Pick, GraceOver, Spawn, Signal, Kill, Wait, Dropped, Raise, Gone, Run, Begun, Poll, Hook, JobError}
+use Rattle.wx_journal.specs.declared.entry.Word.{Word}
+use Rattle.wx_journal.specs.declared.entry.Word.TheVariants.{Idle as TheIdle, Later as TheLater}
+use Rattle.wx_journal.specs.Names.{Names, NamesItsOwn, moment, ticket_count, child_count}
 use Rattle.wx_journal.specs.Told.{Counts}
 use Rattle.wx_job.specs.declared.choice.Choice.{Choice}
-use Rattle.wx_job.specs.declared.choice.Choice.TheVariants.{Over, End, Next, Nothing}
+use Rattle.wx_job.specs.declared.choice.Choice.TheVariants.{Poll as Polled, Over, End, Next, Leave, Nothing}
+use Rattle.wx_job.specs.declared.function.Function.{Function}
 use Rattle.wx_job.specs.declared.grace.Grace.{Grace}
 use Rattle.wx_events.specs.declared.process.Signal.{Signal as ASignal}
-use Rattle.wx_job.specs.History.{same, lives, waits, child, kept, grace, unless, asked_of, SameHistory}
-use Rattle.wx_job.specs.Table.{Words, Given, Left, Call, Adds, Spawns, Signals, Waits, Plan, Done, GivenUp, Owes, Kit, kit, kit_after, adds, asks, raises, reap, waiters, raise_grace, number_of, signalled, graceful, restart, spawn, fresh_by, fresh, row, fresh_over, over, ended_in, ended_by, choose, choose_control, choose_end, choose_grace, unless_grace, pick, case, step_plan, ask_second, ask_plan, send_plan, end_plan, leave}
+use Rattle.wx_job.specs.History.{same, lives, waits, child, kept, begun, grace, unless, asked_of, SameHistory}
+use Rattle.wx_job.specs.Table.{Words, Given, Left, Call, Adds, Spawns, Signals, Waits, Shows, Plan, Done, GivenUp, Owes, Kit, kit, kit_after, adds, asks, raises, shows, tries, reap, waiters, raise_grace, number_of, signalled, graceful, restart, spawn, fresh_by, fresh, row, fresh_over, over, ended_in, ended_by, polled, unless_grace, pick_by, case, step_by, ask_second, ask_plan, send_plan, end_plan, leave}
 use Rattle.wx_job.specs.Case.{Answer, entry, Admits, is_fault, next, IsCut, Leads, Here, Then}
 use Rattle.wx_job.specs.Faults.{fault_count, Counted}
 use Rattle.wx_job.specs.Laws.{unreaped, AreReaped, AfterFaults, NamesChildren, NamesTickets}
-use Rattle.wx_job.proofs.Owners.{self, children_named, owner_below, child_owner}
-use Rattle.wx_job.proofs.Tickets.{tickets_named, asked_below, AreOf, AreWaitsOf, waits_of, parked_of, grace_asked}
-use Rattle.wx_job.proofs.Frame.{same_history, history_then, frame_pick, frame_asked, frame_spawn_ok, frame_spawn_err, frame_hook, frame_gone, frame_over, frame_raise, frame_silent, frame_signal_ok, frame_signal_err, frame_wait_ok, frame_wait_err, frame_drop}
+use Rattle.wx_job.proofs.Owners.{self, either, children_named, owner_below, child_owner}
+use Rattle.wx_job.proofs.Tickets.{tickets_named, asked_below, AreOf, picked_of, parked_of, grace_asked, begun_asked}
+use Rattle.wx_job.proofs.Frame.{same_history, history_then, frame_pick, frame_asked, frame_spawn_ok, frame_spawn_err, frame_hook, frame_begun, frame_ready, frame_gone, frame_over, frame_raise, frame_silent, frame_signal_ok, frame_signal_err, frame_wait_ok, frame_wait_err, frame_drop}
 use Rattle.wx_job.proofs.Graces.{over_without}
+use Rattle.wx_job.proofs.Times.{is_first}
+use Rattle.wx_job.proofs.PlacedPlans.{IsDue, due}
 use Rattle.wx_job.proofs.Always.{Always, both, always_now, always_next, always_if}
 
 -- What a plan of a job brings: it names this job, its running child, its tickets and what has the next name, spawns and calls a spawn hook
@@ -46,6 +51,10 @@ Fits id p (Wait c answer) = child id p ≡ Some c
 Fits id p (Dropped c) = child id p ≡ Some c
 Fits id p (Raise t) = NamesTickets p → asked_of t p ≡ Some id
 Fits id p (Gone job) = (job ≡ id) × (child id p ≡ None)
+Fits id p (Run job n) = job ≡ id
+Fits id p (Begun job n) = job ≡ id
+Fits id p (Poll job n ready) = job ≡ id
+Fits id p (JobError job n code) = job ≡ id
 Fits id p (Asked t job level control) = (job ≡ id) × (t ≡ ticket_count p)
 Fits id p (Hook job n answer) = (job ≡ id) × (child id p ≡ None)
 Fits id p (Said word) = Unit {0}
@@ -89,7 +98,11 @@ Closes id (Wait c answer) k = Unit {0}
 Closes id (Dropped c) k = Goes id k
 Closes id (Raise ticket) k = Unit {0}
 Closes id (Gone job) k = Unit {0}
+Closes id (Run job n) k = Unit {0}
+Closes id (Begun job n) k = Unit {0}
+Closes id (Poll job n ready) k = Unit {0}
 Closes id (Hook job n answer) k = Unit {0}
+Closes id (JobError job n code) k = Unit {0}
 
 -- What is known of each entry that a plan of a job brings, with what is owed behind it. The job lives while it owes
 -- anything: what ends it comes last.
@@ -122,6 +135,10 @@ is_named id t p asked own = let named = tickets_named p own in asked_below t id 
 abbrev pub StillAsked : Id → List Entry → List Entry → Type 0
 StillAsked id p q = (u : ℕ) → IsAsked id u p → IsAsked id u q
 
+-- what comes behind these, wherever the job lives
+abbrev SoundOn : Id → List Entry → Plan → Type 0
+SoundOn id p k = (q : List Entry) → lives id q ≡ true → StillAsked id p q → Sound id q k
+
 -- what comes behind these, while no child runs
 abbrev pub SoundBehind : Id → List Entry → Plan → Type 0
 SoundBehind id p k = (q : List Entry) → child id q ≡ None → lives id q ≡ true → StillAsked id p q → Sound id q k
@@ -132,42 +149,53 @@ sound_raise id t k p alive asked rest = λ a. (record { alive = alive; fits = as
 pub sound_raises : (id : Id) (t : ℕ) (p : List Entry) → lives id p ≡ true → IsAsked id t p → Sound id p (raises t)
 sound_raises id t p alive asked = sound_raise id t Done p alive asked tt
 
+raises_on : (id : Id) (t : ℕ) (p : List Entry) → IsAsked id t p → SoundOn id p (raises t)
+raises_on id t p asked q alive still = sound_raises id t q alive (still t asked)
+
 -- each parked ticket is raised
 pub sound_waiters : (id : Id) (ts : List ℕ) (k : Plan) (p : List Entry) → child id p ≡ None → lives id p ≡ true → (NamesTickets p → AreOf id p ts) → SoundBehind id p k → Sound id p (waiters ts k)
 sound_waiters id [] k p none alive asked rest = rest p none alive (λ u h. h)
 sound_waiters id (t ∷ ts) k p none alive asked rest = sound_raise id t (waiters ts k) p alive (λ own. (asked own).0) (sound_waiters id ts k (Raise t ∷ p) none alive (λ own. (asked own).1) rest)
 
-sound_spawn : (id : Id) (tag : SpawnTag) (words : Words) (t : ℕ) (p : List Entry) → child id p ≡ None → lives id p ≡ true → IsAsked id t p → Sound id p (spawn id tag words (raises t))
-sound_spawn id tag words t p none alive asked = λ a.
-    let after = sound_raises id t (entry p (Spawns id tag words) a ∷ p) alive asked in
-    (record { alive = alive; fits = (refl, none, refl); names = λ own. refl; closes = tt }, both _ after after)
+-- a fault is shown, where an error handler is set
+sound_shows : (id : Id) (handler : Option ℕ) (k : Plan) (p : List Entry) → lives id p ≡ true → SoundOn id p k → Sound id p (shows id handler k)
+sound_shows id None k p alive rest = rest p alive (λ u h. h)
+sound_shows id (Some n) k p alive rest = λ a. (record { alive = alive; fits = refl; names = λ own. tt; closes = tt }, rest (entry p (Shows id n) a ∷ p) alive (λ u h. h))
 
-sound_fresh_by : (id : Id) (command : Command) (tag : SpawnTag) (hook : Option ℕ) (t : ℕ) (p : List Entry) → child id p ≡ None → lives id p ≡ true → IsAsked id t p → Sound id p (fresh_by id command tag hook (raises t))
-sound_fresh_by id command tag None t p none alive asked = sound_spawn id tag (Given (spawnable_of command)) t p none alive asked
-sound_fresh_by id command tag (Some n) t p none alive asked = λ a. (record { alive = alive; fits = (refl, none); names = λ own. tt; closes = tt }, both _ tt (sound_spawn id tag Left t (Hook id n a ∷ p) none alive asked))
+-- a child is spawned where none runs
+sound_spawn : (id : Id) (handler : Option ℕ) (tag : SpawnTag) (words : Words) (t : ℕ) (p : List Entry) → child id p ≡ None → lives id p ≡ true → IsAsked id t p → Sound id p (spawn id handler tag words (raises t))
+sound_spawn id handler tag words t p none alive asked = λ a.
+    let q : List Entry = entry p (Spawns id tag words) a ∷ p in
+    (record { alive = alive; fits = (refl, none, refl); names = λ own. refl; closes = tt }, both _ (sound_shows id handler (raises t) q alive (raises_on id t q asked)) (sound_raises id t q alive asked))
+
+sound_fresh_by : (id : Id) (command : Command) (handler : Option ℕ) (tag : SpawnTag) (hook : Option ℕ) (t : ℕ) (p : List Entry) → child id p ≡ None → lives id p ≡ true → IsAsked id t p → Sound id p (fresh_by id command handler tag hook (raises t))
+sound_fresh_by id command handler tag None t p none alive asked = sound_spawn id handler tag (Given (spawnable_of command)) t p none alive asked
+sound_fresh_by id command handler tag (Some n) t p none alive asked = λ a. (record { alive = alive; fits = (refl, none); names = λ own. tt; closes = tt }, both _ tt (sound_spawn id handler tag Left t (Hook id n a ∷ p) none alive asked))
 
 pub sound_fresh : (id : Id) (by : Kit) (t : ℕ) (p : List Entry) → child id p ≡ None → lives id p ≡ true → IsAsked id t p → Sound id p (fresh id by (raises t))
-sound_fresh id by t p none alive asked = sound_fresh_by id by.command by.tag by.hook t p none alive asked
+sound_fresh id by t p none alive asked = sound_fresh_by id by.command by.handler by.tag by.hook t p none alive asked
 
-sound_waited : (id : Id) (d : ℕ) (k f : Plan) (p : List Entry) (a : Result ProcessEnd HostFault) → child id p ≡ Some d → lives id p ≡ true → ((fault : HostFault) → Sound id (Wait d (Err fault) ∷ p) f) → SoundBehind id p k → MatchBool (is_err a) (Sound id (Wait d a ∷ p) f) (Sound id (Wait d a ∷ p) k)
-sound_waited id d k f p (Ok status) is alive failed rest = rest (Wait d (Ok status) ∷ p) (gone_child d (child id p) is) alive (λ u h. h)
-sound_waited id d k f p (Err fault) is alive failed rest = failed fault
+sound_waited : (id : Id) (handler : Option ℕ) (d : ℕ) (k failed : Plan) (p : List Entry) (a : Result ProcessEnd HostFault) → child id p ≡ Some d → lives id p ≡ true → SoundOn id p failed → SoundBehind id p k
+    → MatchBool (is_err a) (Sound id (Wait d a ∷ p) (shows id handler failed)) (Sound id (Wait d a ∷ p) k)
+sound_waited id handler d k failed p (Ok status) is alive bad rest = rest (Wait d (Ok status) ∷ p) (gone_child d (child id p) is) alive (λ u h. h)
+sound_waited id handler d k failed p (Err fault) is alive bad rest = sound_shows id handler failed (Wait d (Err fault) ∷ p) alive bad
 
 -- the child that runs is waited for
-pub sound_wait : (id : Id) (d : ℕ) (k f : Plan) (p : List Entry) → child id p ≡ Some d → lives id p ≡ true → ((fault : HostFault) → Sound id (Wait d (Err fault) ∷ p) f) → SoundBehind id p k → Sound id p (Owes (Waits d) k f)
-sound_wait id d k f p is alive failed rest = λ b. (record { alive = alive; fits = is; names = λ own. child_below id d p own is; closes = tt }, sound_waited id d k f p b is alive failed rest)
+pub sound_wait : (id : Id) (handler : Option ℕ) (d : ℕ) (k failed : Plan) (p : List Entry) → child id p ≡ Some d → lives id p ≡ true → SoundOn id p failed → SoundBehind id p k → Sound id p (tries id handler (Waits d) k failed)
+sound_wait id handler d k failed p is alive bad rest = λ a. (record { alive = alive; fits = is; names = λ own. child_below id d p own is; closes = tt }, sound_waited id handler d k failed p a is alive bad rest)
 
 -- the child that runs is reaped, and then none does
-pub sound_reap : (id : Id) (d : ℕ) (t : ℕ) (k : Plan) (p : List Entry) → child id p ≡ Some d → lives id p ≡ true → IsAsked id t p → SoundBehind id p k → Sound id p (reap d t k)
-sound_reap id d t k p is alive asked rest = λ a.
-    let killed : List Entry = Kill d a ∷ p in
-    let last = sound_raises id t killed alive asked in
-    let waits : Sound id killed (Owes (Waits d) k (raises t)) = sound_wait id d k (raises t) killed is alive (λ fault. sound_raises id t (Wait d (Err fault) ∷ killed) alive asked) rest in
-    (record { alive = alive; fits = is; names = λ own. child_below id d p own is; closes = tt }, both _ last waits)
+pub sound_reap : (id : Id) (handler : Option ℕ) (d : ℕ) (t : ℕ) (k : Plan) (p : List Entry) → child id p ≡ Some d → lives id p ≡ true → IsAsked id t p → SoundBehind id p k → Sound id p (reap id handler d t k)
+sound_reap id handler d t k p is alive asked rest = λ a.
+    let q : List Entry = Kill d a ∷ p in
+    let last : SoundOn id q (raises t) = raises_on id t q asked in
+    (record { alive = alive; fits = is; names = λ own. child_below id d p own is; closes = tt }, both _ (sound_shows id handler (raises t) q alive last) (sound_wait id handler d k (raises t) q is alive last rest))
 
 -- the child that runs is sent a signal
-pub sound_signal : (id : Id) (d : ℕ) (signal : ASignal) (t : ℕ) (k : Plan) (p : List Entry) → child id p ≡ Some d → lives id p ≡ true → IsAsked id t p → ((a : Result (Unit {0}) HostFault) → Sound id (Signal d (number_of signal) a ∷ p) k) → Sound id p (Owes (Signals d (number_of signal)) k (raises t))
-sound_signal id d signal t k p is alive asked rest = λ a. (record { alive = alive; fits = is; names = λ own. child_below id d p own is; closes = tt }, both _ (sound_raises id t (Signal d (number_of signal) a ∷ p) alive asked) (rest a))
+pub sound_signal : (id : Id) (handler : Option ℕ) (d : ℕ) (signal : ASignal) (k failed : Plan) (p : List Entry) → child id p ≡ Some d → lives id p ≡ true → SoundOn id p failed → SoundOn id p k → Sound id p (tries id handler (Signals d (number_of signal)) k failed)
+sound_signal id handler d signal k failed p is alive bad rest = λ a.
+    let q : List Entry = Signal d (number_of signal) a ∷ p in
+    (record { alive = alive; fits = is; names = λ own. child_below id d p own is; closes = tt }, both _ (sound_shows id handler failed q alive bad) (rest q alive (λ u h. h)))
 
 -- the child that runs is let go, where one does, and the job is gone
 pub sound_leave : (id : Id) (c : Option ℕ) (p : List Entry) → child id p ≡ c → lives id p ≡ true → Sound id p (leave id c)
@@ -195,113 +223,87 @@ sound_parked : (id : Id) (by : Kit) (k : Plan) (p : List Entry) → KitAsked id 
 sound_parked id by k p held rest q none alive still = sound_waiters id by.parked k q none alive (still_all id p q by.parked still held.parked) (λ r none' alive' still'. rest r none' alive' (λ u h. still' u (still u h)))
 
 sound_restart : (id : Id) (by : Kit) (d t : ℕ) (p : List Entry) → child id p ≡ Some d → lives id p ≡ true → IsAsked id t p → KitAsked id by p → Sound id p (restart id by d t)
-sound_restart id by d t p is alive asked held = sound_reap id d t (waiters by.parked (fresh id by (raises t))) p is alive asked (sound_parked id by (fresh id by (raises t)) p held (λ q none alive still. sound_fresh id by t q none alive (still t asked)))
+sound_restart id by d t p is alive asked held = sound_reap id by.handler d t (waiters by.parked (fresh id by (raises t))) p is alive asked (sound_parked id by (fresh id by (raises t)) p held (λ q none alive still. sound_fresh id by t q none alive (still t asked)))
 
-sound_stop : (id : Id) (by : Kit) (d t : ℕ) (p : List Entry) → child id p ≡ Some d → lives id p ≡ true → IsAsked id t p → KitAsked id by p → Sound id p (reap d t (waiters by.parked (raise_grace by.grace (raises t))))
+sound_stop : (id : Id) (by : Kit) (d t : ℕ) (p : List Entry) → child id p ≡ Some d → lives id p ≡ true → IsAsked id t p → KitAsked id by p → Sound id p (reap id by.handler d t (waiters by.parked (raise_grace by.grace (raises t))))
 sound_stop id by d t p is alive asked held =
-    sound_reap id d t (waiters by.parked (raise_grace by.grace (raises t))) p is alive asked
+    sound_reap id by.handler d t (waiters by.parked (raise_grace by.grace (raises t))) p is alive asked
     (sound_parked id by (raise_grace by.grace (raises t)) p held (λ q none alive still. sound_grace id by.grace t q alive (λ g e. still g.ticket (held.grace g e)) (still t asked)))
 
-sound_graceful : (id : Id) (signal : ASignal) (t : ℕ) (c : Option ℕ) (p : List Entry) → child id p ≡ c → lives id p ≡ true → IsAsked id t p → Sound id p (graceful signal t c)
-sound_graceful id signal t None p is alive asked = sound_raises id t p alive asked
-sound_graceful id signal t (Some d) p is alive asked = sound_signal id d signal t Done p is alive asked (λ a. tt)
+sound_graceful : (id : Id) (handler : Option ℕ) (signal : ASignal) (t : ℕ) (c : Option ℕ) (p : List Entry) → child id p ≡ c → lives id p ≡ true → IsAsked id t p → Sound id p (graceful id handler signal t c)
+sound_graceful id handler signal t None p is alive asked = sound_raises id t p alive asked
+sound_graceful id handler signal t (Some d) p is alive asked = sound_signal id handler d signal Done (raises t) p is alive (raises_on id t p asked) (λ q alive still. tt)
 
-sound_signalled : (id : Id) (signal : ASignal) (t : ℕ) (c : Option ℕ) (p : List Entry) → child id p ≡ c → lives id p ≡ true → IsAsked id t p → Sound id p (signalled signal t c)
-sound_signalled id signal t None p is alive asked = sound_raises id t p alive asked
-sound_signalled id signal t (Some d) p is alive asked = sound_signal id d signal t (raises t) p is alive asked (λ a. sound_raises id t (Signal d (number_of signal) a ∷ p) alive asked)
-
-sound_ending : (id : Id) (finished : Bool) (t : ℕ) (p : List Entry) → lives id p ≡ true → IsAsked id t p → Sound id p (cond finished (raises t) Done)
-sound_ending id true t p alive asked = sound_raises id t p alive asked
-sound_ending id false t p alive asked = tt
+sound_signalled : (id : Id) (handler : Option ℕ) (signal : ASignal) (t : ℕ) (c : Option ℕ) (p : List Entry) → child id p ≡ c → lives id p ≡ true → IsAsked id t p → Sound id p (signalled id handler signal t c)
+sound_signalled id handler signal t None p is alive asked = sound_raises id t p alive asked
+sound_signalled id handler signal t (Some d) p is alive asked = sound_signal id handler d signal (raises t) (raises t) p is alive (raises_on id t p asked) (raises_on id t p asked)
 
 sound_row : (id : Id) (by : Kit) (t : ℕ) (control : Control) (c : Option ℕ) (p : List Entry) → child id p ≡ c → lives id p ≡ true → IsAsked id t p → KitAsked id by p → Sound id p (row id by t control c)
 sound_row id by t Start None p is alive asked held = sound_fresh id by t p is alive asked
 sound_row id by t Stop (Some d) p is alive asked held = sound_stop id by d t p is alive asked held
-sound_row id by t (GracefulStop signal grace) c p is alive asked held = sound_graceful id signal t c p is alive asked
+sound_row id by t (GracefulStop signal grace) c p is alive asked held = sound_graceful id by.handler signal t c p is alive asked
 sound_row id by t TryRestart (Some d) p is alive asked held = sound_restart id by d t p is alive asked held
-sound_row id by t (TryGracefulRestart signal grace) c p is alive asked held = sound_graceful id signal t c p is alive asked
+sound_row id by t (TryGracefulRestart signal grace) c p is alive asked held = sound_graceful id by.handler signal t c p is alive asked
 sound_row id by t ContinueTryGracefulRestart None p is alive asked held = sound_fresh id by t p is alive asked
 sound_row id by t ContinueTryGracefulRestart (Some d) p is alive asked held = sound_restart id by d t p is alive asked held
-sound_row id by t (Signalled signal) c p is alive asked held = sound_signalled id signal t c p is alive asked
+sound_row id by t (Signalled signal) c p is alive asked held = sound_signalled id by.handler signal t c p is alive asked
 sound_row id by t Delete c p is alive asked held = sound_raise id t (leave id c) p alive asked (sound_leave id c (Raise t ∷ p) is alive)
-sound_row id by t NextEnding c p is alive asked held = sound_ending id by.finished t p alive asked
+sound_row id by t NextEnding c p is alive asked held = either (Sound id p) by.finished (raises t) Done (sound_raises id t p alive asked) tt
+sound_row id by t (SyncFunc n) c p is alive asked held = λ a. (record { alive = alive; fits = refl; names = λ own. tt; closes = tt }, sound_raises id t (Run id n ∷ p) alive asked)
+sound_row id by t (AsyncFunc n) c p is alive asked held = λ a. (record { alive = alive; fits = refl; names = λ own. tt; closes = tt }, tt)
 sound_row id by t (_) (_) p is alive asked held = sound_raises id t p alive asked
 
 sound_fresh_over : (id : Id) (by : Kit) (g : Grace) (p : List Entry) → child id p ≡ None → lives id p ≡ true → IsAsked id g.ticket p → Sound id p (fresh_over id by g)
-sound_fresh_over id by g p none alive asked = by_test g.restarts (sound_fresh id by g.ticket p none alive asked) (sound_raises id g.ticket p alive asked)
-  where
-    by_test : (b : Bool) → Sound id p (fresh id by (raises g.ticket)) → Sound id p (raises g.ticket) → Sound id p (cond b (fresh id by (raises g.ticket)) (raises g.ticket))
-    by_test true x y = x
-    by_test false x y = y
+sound_fresh_over id by g p none alive asked = either (Sound id p) g.restarts (fresh id by (raises g.ticket)) (raises g.ticket) (sound_fresh id by g.ticket p none alive asked) (sound_raises id g.ticket p alive asked)
 
 sound_over : (id : Id) (by : Kit) (d : ℕ) (g : Grace) (p : List Entry) → child id p ≡ Some d → lives id p ≡ true → IsAsked id g.ticket p → KitAsked id by p → Sound id p (over id by d g)
 sound_over id by d g p is alive asked held = λ a.
     let held' : KitAsked id by (GraceOver id ∷ p) = record { parked = held.parked; grace = held.grace } in (
       record { alive = alive; fits = refl; names = λ own. tt; closes = tt },
-      sound_reap id d g.ticket (waiters by.parked (fresh_over id by g)) (GraceOver id ∷ p) is alive asked
+      sound_reap id by.handler d g.ticket (waiters by.parked (fresh_over id by g)) (GraceOver id ∷ p) is alive asked
           (sound_parked id by (fresh_over id by g) (GraceOver id ∷ p) held' (λ q none alive still. sound_fresh_over id by g q none alive (still g.ticket asked))),
     )
 
 sound_ended_in : (id : Id) (by : Kit) (g : Grace) (p : List Entry) → IsAsked id g.ticket p → KitAsked id by p → SoundBehind id p (ended_in id by g)
 sound_ended_in id by g p asked held q none alive still =
-    by_test g.restarts
+    either (Sound id q) g.restarts (waiters by.parked (fresh id by (raises g.ticket))) (adds (Raise g.ticket) (waiters by.parked Done))
     (sound_parked id by (fresh id by (raises g.ticket)) p held (λ r none alive still. sound_fresh id by g.ticket r none alive (still g.ticket asked)) q none alive still)
     (sound_raise id g.ticket (waiters by.parked Done) q alive (still g.ticket asked) (sound_parked id by Done p held (λ r none alive still. tt) (Raise g.ticket ∷ q) none alive still))
-  where
-    by_test : (b : Bool) → Sound id q (waiters by.parked (fresh id by (raises g.ticket))) → Sound id q (adds (Raise g.ticket) (waiters by.parked Done)) → Sound id q (cond b (waiters by.parked (fresh id by (raises g.ticket))) (adds (Raise g.ticket) (waiters by.parked Done)))
-    by_test true x y = x
-    by_test false x y = y
 
 sound_ended_by : (id : Id) (by : Kit) (o : Option Grace) (p : List Entry) → ((g : Grace) → o ≡ Some g → IsAsked id g.ticket p) → KitAsked id by p → SoundBehind id p (ended_by id by o)
 sound_ended_by id by None p asked held = sound_parked id by Done p held (λ q none alive still. tt)
 sound_ended_by id by (Some g) p asked held = sound_ended_in id by g p (asked g refl) held
 
+sound_says : (id : Id) (word : Word) (p : List Entry) → lives id p ≡ true → Sound id p (adds (Said word) Done)
+sound_says id word p alive = λ a. (record { alive = alive; fits = tt; names = λ own. tt; closes = tt }, tt)
+
+sound_polled : (id : Id) (f : Function) (p : List Entry) → lives id p ≡ true → IsAsked id f.ticket p → Sound id p (polled id f)
+sound_polled id f p alive asked = λ a.
+    let q : List Entry = Poll id f.n a ∷ p in
+    (record { alive = alive; fits = refl; names = λ own. tt; closes = tt }, both _ (sound_says id TheLater q alive) (sound_raises id f.ticket q alive asked))
+
+-- ---- a step
+
 -- what is picked names the running child, or a ticket that was asked
-abbrev IsNamed : Id → Option ℕ → List Entry → Choice → Type 0
-IsNamed id c p (Over d g) = (c ≡ Some d) × IsAsked id g.ticket p
-IsNamed id c p (End d) = c ≡ Some d
-IsNamed id c p (Next t control) = IsAsked id t p
-IsNamed id c p Nothing = Unit {0}
+sound_case : (id : Id) (by : Kit) (choice : Choice) (p : List Entry) → lives id p ≡ true → KitAsked id by p
+    → IsDue (begun id p) (child id p) (grace id p) (kept id p) (first (waits id Urgent p) (waits id High p) (unless_grace (grace id p) (waits id Normal p))) choice → Sound id p (case id by (child id p) choice)
+sound_case id by (Polled f) p alive held is = sound_polled id f p alive (λ own. begun_asked id p f own is)
+sound_case id by (Over d g) p alive held is = sound_over id by d g p is.1 alive (λ own. grace_asked id p g own is.2) held
+sound_case id by (End d) p alive held is = sound_wait id by.handler d (ended_by id by by.grace) Done p is.1 alive (λ q alive still. tt) (sound_ended_by id by by.grace p held.grace held)
+sound_case id by (Next t control) p alive held is =
+    let f = is_first t control (waits id Urgent p) (waits id High p) (waits id Normal p) (grace id p) is.1 in
+    let asked : IsAsked id t p = λ own. picked_of id p t control own f.found in
+    λ a. (record { alive = alive; fits = refl; names = is_named id t p asked; closes = tt }, sound_row id (kit_after control by) t control (child id p) (Pick id t ∷ p) refl alive asked (record { parked = held.parked; grace = held.grace }))
+sound_case id by Leave p alive held is = sound_leave id (child id p) p refl alive
+sound_case id by Nothing p alive held is = sound_says id TheIdle p alive
 
-named_control : (id : Id) (c : Option ℕ) (p : List Entry) (urgent high normal : List (ℕ × Control)) → (NamesTickets p → AreWaitsOf id p urgent) → (NamesTickets p → AreWaitsOf id p high) → (NamesTickets p → AreWaitsOf id p normal) → IsNamed id c p (choose_control (first urgent high normal))
-named_control id c p (x ∷ urgent) high normal u h l = λ own. (u own).0
-named_control id c p [] (x ∷ high) normal u h l = λ own. (h own).0
-named_control id c p [] [] (x ∷ normal) u h l = λ own. (l own).0
-named_control id c p [] [] [] u h l = tt
-
-named_end : (id : Id) (d : ℕ) (p : List Entry) (end : Bool) (x : Option (ℕ × Control)) → IsNamed id (Some d) p (choose_control x) → IsNamed id (Some d) p (choose_end d end x)
-named_end id d p true x h = refl
-named_end id d p false x h = h
-
-named_over : (id : Id) (d : ℕ) (p : List Entry) (g : Grace) (is : Bool) (end : Bool) (x : Option (ℕ × Control)) → IsAsked id g.ticket p → IsNamed id (Some d) p (choose_control x) → IsNamed id (Some d) p (cond is (Over d g) (choose_end d end x))
-named_over id d p g true end x asked h = (refl, asked)
-named_over id d p g false end x asked h = named_end id d p end x h
-
-named_grace : (id : Id) (d : ℕ) (p : List Entry) (o : Option Grace) (at : ℕ) (end : Bool) (x : Option (ℕ × Control)) → ((g : Grace) → o ≡ Some g → IsAsked id g.ticket p) → IsNamed id (Some d) p (choose_control x) → IsNamed id (Some d) p (choose_grace d o at end x)
-named_grace id d p None at end x asked h = named_end id d p end x h
-named_grace id d p (Some g) at end x asked h = named_over id d p g (nat_le g.ends at) end x (asked g refl) h
-
-named_choice : (id : Id) (c : Option ℕ) (p : List Entry) (o : Option Grace) (at : ℕ) (end : Bool) (x : Option (ℕ × Control)) → ((g : Grace) → o ≡ Some g → IsAsked id g.ticket p) → ((d : Option ℕ) → IsNamed id d p (choose_control x)) → IsNamed id c p (choose c o at end x)
-named_choice id None p o at end x asked h = h None
-named_choice id (Some d) p o at end x asked h = named_grace id d p o at end x asked (h (Some d))
-
-waits_unless : (id : Id) (p : List Entry) (b : Bool) (xs : List (ℕ × Control)) → AreWaitsOf id p xs → AreWaitsOf id p (cond b [] xs)
-waits_unless id p true xs h = tt
-waits_unless id p false xs h = h
-
-sound_case : (id : Id) (by : Kit) (choice : Choice) (p : List Entry) → IsNamed id (child id p) p choice → lives id p ≡ true → KitAsked id by p → Sound id p (case id by (child id p) choice)
-sound_case id by (Over d g) p named alive held = sound_over id by d g p named.0 alive named.1 held
-sound_case id by (End d) p is alive held = sound_wait id d (ended_by id by by.grace) Done p is alive (λ fault. tt) (sound_ended_by id by by.grace p held.grace held)
-sound_case id by (Next t control) p asked alive held = λ a. (record { alive = alive; fits = refl; names = is_named id t p asked; closes = tt }, sound_row id (kit_after control by) t control (child id p) (Pick id t ∷ p) refl alive asked (record { parked = held.parked; grace = held.grace }))
-sound_case id by Nothing p is alive held = λ a. (record { alive = alive; fits = tt; names = λ own. tt; closes = tt }, tt)
-
-pub sound_step : (id : Id) (command : Command) (p : List Entry) → Sound id p (step_plan id command p)
-sound_step id command p =
+pub sound_step : (closed : Bool) (id : Id) (command : Command) (p : List Entry) → Sound id p (step_by closed id command p)
+sound_step closed id command p =
     let held : KitAsked id (kit id command p) p = record { parked = parked_of id p; grace = λ g e own. grace_asked id p g own e } in
-    always_if (IsSound id) p (lives id p) (case id (kit id command p) (child id p) (pick id p))
-    (λ alive. sound_case id (kit id command p) (pick id p) p
-    (named_choice id (child id p) p (grace id p) _ (kept id p) _ (λ g e own. grace_asked id p g own e)
-    (λ d. named_control id d p (waits id Urgent p) (waits id High p) (unless_grace (grace id p) (waits id Normal p)) (waits_of id Urgent p) (waits_of id High p) (λ own. waits_unless id p _ (waits id Normal p) (waits_of id Normal p own)))) alive held)
+    always_if (IsSound id) p (lives id p) (case id (kit id command p) (child id p) (pick_by closed id p))
+    (λ alive. sound_case id (kit id command p) (pick_by closed id p) p alive held (due closed (begun id p) (child id p) (grace id p) (moment p) (kept id p) _))
+
+-- ---- asks, and the end of a job
 
 sound_asks : (id : Id) (level : Level) (control : Control) (k : Plan) (p : List Entry) → lives id p ≡ true → Sound id (Asked (ticket_count p) id level control ∷ p) k → Sound id p (asks id level control k)
 sound_asks id level control k p alive rest = λ a. (record { alive = alive; fits = (refl, refl); names = λ own. refl; closes = tt }, rest)
@@ -336,6 +338,8 @@ frame i id (Wait c (Err a)) p ne named tickets s = frame_wait_err i id c a p ne 
 frame i id (Dropped c) p ne named tickets s = frame_drop i id c p ne named s
 frame i id (Gone job) p ne named tickets s = rw s.0 (frame_gone i id p ne)
 frame i id (Hook job n answer) p ne named tickets s = rw s.0 (frame_hook i id n answer p ne)
+frame i id (Begun job n) p ne named tickets s = rw s (frame_begun i id n p ne)
+frame i id (Poll job n true) p ne named tickets s = rw s (frame_ready i id n p ne)
 frame i id (Turned t) p ne named tickets s = absurd s
 frame i id (Hand n names acts) p ne named tickets s = absurd s
 frame i id (Made job) p ne named tickets s = absurd s

@@ -4,26 +4,32 @@ use Rattle.std.specs.Prelude.{◌==◌, ℤ, option_map, is_some}
 use Rattle.std.proofs.lemmas.Bool.{eqb-true}
 use Rattle.wx_words.specs.declared.list.Memory.{Memory}
 use Rattle.wx_events.specs.declared.process.ProcessEnd.{ProcessEnd}
+use Rattle.wx_command.specs.declared.command.Command.{Command}
 use Rattle.wx_command.specs.declared.spawnable.Spawnable.{Spawnable}
 use Rattle.wx_control.specs.declared.id.Id.{Id}
 use Rattle.wx_control.specs.declared.control.Control.{Control}
+use Rattle.wx_control.specs.declared.control.Control.TheVariants.{AsyncFunc}
 use Rattle.wx_control.specs.declared.level.Level.{Level}
 use Rattle.wx_control.specs.declared.level.Level.TheVariants.{Normal, High, Urgent}
 use Rattle.wx_control.specs.declared.three_lists.Picked.{Picked}
-use Rattle.wx_control.specs.Waits.{Waits, picked, joined, headed, level_of, first_of, first_level, waiting_count}
+use Rattle.wx_control.specs.Flags.{Flag}
+use Rattle.wx_control.specs.Waits.{Waits, IsEmpty, picked, joined, headed, level_of, first_of, first_level, waiting_count}
 use Rattle.wx_journal.specs.declared.child.SpawnTag.{SpawnTag}
+use Rattle.wx_journal.specs.declared.child.SpawnTag.TheVariants as spawning
 use Rattle.wx_journal.specs.declared.child.HostFault.{HostFault}
 use Rattle.wx_journal.specs.declared.entry.Entry.{Entry}
-use Rattle.wx_journal.specs.declared.entry.Entry.TheVariants.{Asked, Pick, GraceOver, Spawn, Signal, Wait, Raise, Hook}
+use Rattle.wx_journal.specs.declared.entry.Entry.TheVariants.{Made, Asked, Pick, GraceOver, Spawn, Signal, Wait, Raise, Begun as WasBegun, Poll, Hook}
 use Rattle.wx_journal.specs.Names.{moment, ticket_count}
 use Rattle.wx_job.specs.declared.state.CommandState.{CommandState}
 use Rattle.wx_job.specs.declared.state.CommandState.TheVariants.{Pending, Running, Finished}
 use Rattle.wx_job.specs.declared.task.JobTask.{JobTask}
-use Rattle.wx_job.specs.History.{lives, waits, child, kept, state, previous, hook, tag, command, parked, is_child, grace, without_ticket, parks, just_picked, begins_by, finish, before_spawn, picked_control, set_hook, set_tag, SameHistory}
+use Rattle.wx_job.specs.History.{lives, waits, child, kept, state, previous, hook, handler, begun, tag, command, parked, is_child, grace, without_ticket, parks, just_picked, begins_by, finish, RunsOnly, before_spawn, picked_control, set_hook, set_handler, set_tag, SameHistory}
+use Rattle.wx_job.specs.declared.function.Begun.{Begun}
+use Rattle.wx_job.specs.declared.function.Function.{Function}
 use Rattle.wx_job.specs.declared.grace.Standing.{Standing}
 use Rattle.wx_job.specs.Parkings.{Tickets}
 use Rattle.wx_job.specs.Table.{leave, end_plan, is_parking, row, kit_after}
-use Rattle.wx_job.specs.Stands.{Stands, child_of, id_of, kit_of, grace_of, once, times, times_waits, holds}
+use Rattle.wx_job.specs.Stands.{Stands, child_of, id_of, kit_of, grace_of, begun_of, once, times, times_waits, times_grace, times_begun, holds}
 use Rattle.wx_job.proofs.Owners.{self, either}
 use Rattle.wx_job.proofs.Frame.{is_silent, frame_silent}
 use Rattle.wx_job.proofs.Times.{joined_times, times_append, unheld_without, parks-not, parks-one}
@@ -40,6 +46,8 @@ stands_history k p p' h s = record {
   state_kept = s.state_kept ∙ sym h.state_same;
   previous_kept = s.previous_kept ∙ sym h.previous_same;
   hook_kept = s.hook_kept ∙ sym h.hook_same;
+  handler_kept = s.handler_kept ∙ sym h.handler_same;
+  begun_kept = s.begun_kept ∙ sym h.begun_same;
   tag_kept = s.tag_kept ∙ sym h.tag_same;
   grace_kept = s.grace_kept ∙ sym h.grace_same;
   parked_kept = s.parked_kept ∙ sym h.parked_same;
@@ -47,6 +55,29 @@ stands_history k p p' h s = record {
   held_once = s.held_once;
   held_named = λ t le. s.held_named t (let later = h.tickets_later in omega (arith, later, le));
   runs_kept = λ created is. s.runs_kept created (sym h.command_same ∙ is);
+}
+
+-- a task as it was made, behind the entry that made its job
+pub stands-made : (id : Id) (command : Command) (flag : Flag) (waiting : Waits) (mirror : Unit {0}) (parking : Tickets) (p : List Entry) → IsEmpty waiting → parking.tickets ≡ [] → RunsOnly id command p → Stands (record { id = id; command = command; flag = flag; waiting = waiting; state = Pending; previous = None; kept = false; gone = false; hook = None; handler = None; tag = spawning.Default; grace = None; begun = None; closed = false; mirror = mirror; parked = parking }) (Made id ∷ p)
+stands-made id command flag waiting mirror parking p empty none runs = record {
+  lives_kept = rw (self id) refl;
+  urgent_kept = rw (self id) empty.urgent;
+  high_kept = rw (self id) empty.high;
+  normal_kept = rw (self id) empty.normal;
+  child_kept = rw (self id) refl;
+  end_kept = rw (self id) refl;
+  state_kept = rw (self id) refl;
+  previous_kept = rw (self id) refl;
+  hook_kept = rw (self id) refl;
+  handler_kept = rw (self id) refl;
+  begun_kept = rw (self id) refl;
+  tag_kept = rw (self id) refl;
+  grace_kept = rw (self id) refl;
+  parked_kept = rw (self id) none;
+  parked_room = rw (empty.urgent, empty.high, empty.normal) (omega arith);
+  held_once = λ t. rw (empty.urgent, empty.high, empty.normal, none) (omega arith);
+  held_named = λ t le. rw (empty.urgent, empty.high, empty.normal, none) refl;
+  runs_kept = runs;
 }
 
 -- entries that say nothing of a job
@@ -76,6 +107,8 @@ stands-wait-ok k p c status s here runs =
       state_kept = ap (λ x. finish c status (moment p) x) s.state_kept;
       previous_kept = s.previous_kept;
       hook_kept = s.hook_kept;
+      handler_kept = s.handler_kept;
+      begun_kept = s.begun_kept;
       tag_kept = s.tag_kept;
       grace_kept = rw (is, found) refl;
       parked_kept = s.parked_kept;
@@ -99,6 +132,8 @@ stands-wait-err k p c fault s here runs =
       state_kept = s.state_kept;
       previous_kept = s.previous_kept;
       hook_kept = s.hook_kept;
+      handler_kept = s.handler_kept;
+      begun_kept = s.begun_kept;
       tag_kept = s.tag_kept;
       grace_kept = s.grace_kept;
       parked_kept = s.parked_kept;
@@ -119,6 +154,8 @@ stands-spawn-ok k p c tag what a before s here is = record {
   state_kept = rw (self k.id) refl;
   previous_kept = rw (self k.id) (ap (λ x. Some x) is);
   hook_kept = s.hook_kept;
+  handler_kept = s.handler_kept;
+  begun_kept = s.begun_kept;
   tag_kept = s.tag_kept;
   grace_kept = s.grace_kept;
   parked_kept = s.parked_kept;
@@ -139,6 +176,8 @@ stands-spawn-err k p c tag what fault before s here none is = record {
   state_kept = rw (self k.id) refl;
   previous_kept = rw (self k.id) (ap (λ x. Some x) is);
   hook_kept = s.hook_kept;
+  handler_kept = s.handler_kept;
+  begun_kept = s.begun_kept;
   tag_kept = s.tag_kept;
   grace_kept = s.grace_kept;
   parked_kept = s.parked_kept;
@@ -159,6 +198,8 @@ stands-hook k p n a s here none = record {
   state_kept = rw (self k.id) refl;
   previous_kept = rw (self k.id) (ap (λ x. Some x) s.state_kept);
   hook_kept = s.hook_kept;
+  handler_kept = s.handler_kept;
+  begun_kept = s.begun_kept;
   tag_kept = s.tag_kept;
   grace_kept = s.grace_kept;
   parked_kept = s.parked_kept;
@@ -216,6 +257,8 @@ stands-asked k k' p t level control s here named room joins fields =
       state_kept = s.state_kept;
       previous_kept = s.previous_kept;
       hook_kept = s.hook_kept;
+      handler_kept = s.handler_kept;
+      begun_kept = s.begun_kept;
       tag_kept = s.tag_kept;
       grace_kept = s.grace_kept;
       parked_kept = s.parked_kept;
@@ -290,7 +333,7 @@ headed_count w w' t High control is = rw is (omega arith)
 headed_count w w' t Normal control is = rw is (omega arith)
 
 -- a control is picked: its ticket is in hand, or parked
-picked_stands : (b : Bool) (k : JobTask) (waiting : Waits) (parking : Tickets) (p : List Entry) (x : Picked) → Stands k p → k.waiting ≡ record (headed x.level (picked x) waiting) { spare = k.waiting.spare } → first_level b k.waiting ≡ Some x.level → parking.tickets ≡ parks (Some x.control) x.ticket k.state k.parked.tickets → waiting_count waiting ≤ parking.spare → ((u : ℕ) → times u parking.tickets ≤ times u k.parked.tickets + once (x.ticket == u)) → Stands (record k { waiting = waiting; parked = parking; hook = set_hook (Some x.control) k.hook; tag = set_tag (Some x.control) k.tag }) (Pick k.id x.ticket ∷ p)
+picked_stands : (b : Bool) (k : JobTask) (waiting : Waits) (parking : Tickets) (p : List Entry) (x : Picked) → Stands k p → k.waiting ≡ record (headed x.level (picked x) waiting) { spare = k.waiting.spare } → first_level b k.waiting ≡ Some x.level → parking.tickets ≡ parks (Some x.control) x.ticket k.state k.parked.tickets → waiting_count waiting ≤ parking.spare → ((u : ℕ) → times u parking.tickets ≤ times u k.parked.tickets + once (x.ticket == u)) → Stands (record k { waiting = waiting; parked = parking; hook = set_hook (Some x.control) k.hook; handler = set_handler (Some x.control) k.handler; tag = set_tag (Some x.control) k.tag }) (Pick k.id x.ticket ∷ p)
 picked_stands b k waiting parking p x s heads level parks_it room held =
     let were : AreWaiting k.waiting k.id p = (s.urgent_kept, s.high_kept, s.normal_kept) in
     let ws = headed_waits b k.waiting waiting k.id p x.ticket x.level x.control heads level were in
@@ -305,6 +348,8 @@ picked_stands b k waiting parking p x s heads level parks_it room held =
       state_kept = s.state_kept;
       previous_kept = s.previous_kept;
       hook_kept = rw (self k.id, control) (ap (set_hook (Some x.control)) s.hook_kept);
+      handler_kept = rw (self k.id, control) (ap (set_handler (Some x.control)) s.handler_kept);
+      begun_kept = s.begun_kept;
       tag_kept = rw (self k.id, control) (ap (set_tag (Some x.control)) s.tag_kept);
       grace_kept = s.grace_kept;
       parked_kept = rw (self k.id, control, ← s.state_kept, ← s.parked_kept) parks_it;
@@ -314,14 +359,14 @@ picked_stands b k waiting parking p x s heads level parks_it room held =
       runs_kept = s.runs_kept;
     }
 
-pub stands-picked : (b : Bool) (k k' : JobTask) (p : List Entry) (x : Picked) → Stands k p → k.waiting ≡ record (headed x.level (picked x) k'.waiting) { spare = k.waiting.spare } → first_level b k.waiting ≡ Some x.level → is_parking x.control k.state ≡ false → k' ≡ record k { waiting = k'.waiting; hook = set_hook (Some x.control) k.hook; tag = set_tag (Some x.control) k.tag } → Stands k' (Pick k.id x.ticket ∷ p)
+pub stands-picked : (b : Bool) (k k' : JobTask) (p : List Entry) (x : Picked) → Stands k p → k.waiting ≡ record (headed x.level (picked x) k'.waiting) { spare = k.waiting.spare } → first_level b k.waiting ≡ Some x.level → is_parking x.control k.state ≡ false → k' ≡ record k { waiting = k'.waiting; hook = set_hook (Some x.control) k.hook; handler = set_handler (Some x.control) k.handler; tag = set_tag (Some x.control) k.tag } → Stands k' (Pick k.id x.ticket ∷ p)
 stands-picked b k k' p x s heads level in_hand fields =
     let count = headed_count k.waiting k'.waiting x.ticket x.level x.control heads in
     let room = s.parked_room in
     let stood = picked_stands b k k'.waiting k.parked p x s heads level (sym (parks-not x.control x.ticket k.state k.parked.tickets in_hand)) (omega (arith, count, room)) (λ u. omega arith) in
     rw fields stood
 
-pub stands-parked : (b : Bool) (k k' : JobTask) (p : List Entry) (x : Picked) → Stands k p → k.waiting ≡ record (headed x.level (picked x) k'.waiting) { spare = k.waiting.spare } → first_level b k.waiting ≡ Some x.level → is_parking x.control k.state ≡ true → k'.parked.tickets ≡ k.parked.tickets ++ x.ticket ∷ [] → k.parked.spare ≤ k'.parked.spare + 1 → k' ≡ record k { waiting = k'.waiting; parked = k'.parked; hook = set_hook (Some x.control) k.hook; tag = set_tag (Some x.control) k.tag } → Stands k' (Pick k.id x.ticket ∷ p)
+pub stands-parked : (b : Bool) (k k' : JobTask) (p : List Entry) (x : Picked) → Stands k p → k.waiting ≡ record (headed x.level (picked x) k'.waiting) { spare = k.waiting.spare } → first_level b k.waiting ≡ Some x.level → is_parking x.control k.state ≡ true → k'.parked.tickets ≡ k.parked.tickets ++ x.ticket ∷ [] → k.parked.spare ≤ k'.parked.spare + 1 → k' ≡ record k { waiting = k'.waiting; parked = k'.parked; hook = set_hook (Some x.control) k.hook; handler = set_handler (Some x.control) k.handler; tag = set_tag (Some x.control) k.tag } → Stands k' (Pick k.id x.ticket ∷ p)
 stands-parked b k k' p x s heads level parking joins spare fields =
     let count = headed_count k.waiting k'.waiting x.ticket x.level x.control heads in
     let room = s.parked_room in
@@ -333,19 +378,22 @@ grace_there : (o : Option Standing) → is_some (option_map (λ (s : Standing). 
 grace_there None = refl
 grace_there (Some s) = refl
 
+pub same_pick : (k : JobTask) (x : Picked) (b : Bool) (t : ℕ) (control : Control) → b ≡ is_some k.grace → Some (picked x) ≡ first_of b k.waiting → first_of (is_some (grace_of k)) k.waiting ≡ Some (t, control) → picked x ≡ (t, control)
+same_pick k x b t control is found chosen = let both : Some (picked x) ≡ Some (t, control) = (rw (is, ← grace_there k.grace) at found) ∙ chosen in cc
+
 pub same_control : (k : JobTask) (x : Picked) (b : Bool) (t : ℕ) (control : Control) → b ≡ is_some k.grace → Some (picked x) ≡ first_of b k.waiting → first_of (is_some (grace_of k)) k.waiting ≡ Some (t, control) → x.control ≡ control
-same_control k x b t control is found chosen = let both : Some (picked x) ≡ Some (t, control) = (rw (is, ← grace_there k.grace) at found) ∙ chosen in let one : picked x ≡ (t, control) = cc in ap (λ (y : ℕ × Control). y.1) one
+same_control k x b t control is found chosen = ap (λ (y : ℕ × Control). y.1) (same_pick k x b t control is found chosen)
 
 -- the ticket that was picked isn't held any more, where it isn't parked
-pub picked-unheld : (k k' : JobTask) (p : List Entry) (x : Picked) → Stands k p → k.waiting ≡ record (headed x.level (picked x) k'.waiting) { spare = k.waiting.spare } → k'.parked.tickets ≡ k.parked.tickets → grace_of k' ≡ grace_of k → holds x.ticket k' ≡ 0
-picked-unheld k k' p x s heads parked_is grace_is =
+pub picked-unheld : (k k' : JobTask) (p : List Entry) (x : Picked) → Stands k p → k.waiting ≡ record (headed x.level (picked x) k'.waiting) { spare = k.waiting.spare } → k'.parked.tickets ≡ k.parked.tickets → grace_of k' ≡ grace_of k → begun_of k' ≡ begun_of k → holds x.ticket k' ≡ 0
+picked-unheld k k' p x s heads parked_is grace_is begun_is =
     let h = s.held_once x.ticket in
     let a : times_waits x.ticket k.waiting ≡ times_waits x.ticket k'.waiting + 1 = headed_held k.waiting k'.waiting x.ticket x.ticket x.level x.control heads ∙ rw (eq-eqb x.ticket x.ticket refl) refl in
-    let total : holds x.ticket k ≡ holds x.ticket k' + 1 = rw (parked_is, grace_is) (omega (arith, a)) in
+    let total : holds x.ticket k ≡ holds x.ticket k' + 1 = rw (parked_is, grace_is, begun_is) (omega (arith, a)) in
     omega (arith, h, total)
 
 -- the case of the control that was picked, by what the task keeps then
-pub row-is : (k k' : JobTask) (x : Picked) (t : ℕ) (control : Control) → k' ≡ record k { waiting = k'.waiting; parked = k'.parked; hook = set_hook (Some control) k.hook; tag = set_tag (Some control) k.tag } → k'.parked ≡ k.parked → picked x ≡ (t, control) → row k'.id (kit_of k') x.ticket control (child_of k'.state) ≡ row k.id (kit_after control (kit_of k)) t control (child_of k.state)
+pub row-is : (k k' : JobTask) (x : Picked) (t : ℕ) (control : Control) → k' ≡ record k { waiting = k'.waiting; parked = k'.parked; hook = set_hook (Some control) k.hook; handler = set_handler (Some control) k.handler; tag = set_tag (Some control) k.tag } → k'.parked ≡ k.parked → picked x ≡ (t, control) → row k'.id (kit_of k') x.ticket control (child_of k'.state) ≡ row k.id (kit_after control (kit_of k)) t control (child_of k.state)
 row-is k k' x t control fields parked_is found =
     let ticket : x.ticket ≡ t = ap (λ (y : ℕ × Control). y.0) found in
     let by : kit_of k' ≡ kit_after control (kit_of k) = rw fields (rw parked_is refl) in
@@ -368,6 +416,8 @@ stands-raise k p t s none =
       state_kept = s.state_kept;
       previous_kept = s.previous_kept;
       hook_kept = s.hook_kept;
+      handler_kept = s.handler_kept;
+      begun_kept = s.begun_kept;
       tag_kept = s.tag_kept;
       grace_kept = s.grace_kept;
       parked_kept = sym (unheld_without t k.parked.tickets gone) ∙ ap (without_ticket t) s.parked_kept;
@@ -392,6 +442,8 @@ stands-raised k k' p t s taken spare fields =
       state_kept = s.state_kept;
       previous_kept = s.previous_kept;
       hook_kept = s.hook_kept;
+      handler_kept = s.handler_kept;
+      begun_kept = s.begun_kept;
       tag_kept = s.tag_kept;
       grace_kept = s.grace_kept;
       parked_kept = was ∙ ap (without_ticket t) s.parked_kept;
@@ -402,10 +454,10 @@ stands-raised k k' p t s taken spare fields =
     } in
     rw fields stood
 
--- ---- graces
+-- ---- graces and functions
 
--- all that is asked of the history of a job but the grace is the same
-record SameButGrace (id : Id) (p p' : List Entry) : Type 0 where
+-- all that is asked of the history of a job but the grace and the begun function is the same
+record SameButHeld (id : Id) (p p' : List Entry) : Type 0 where
   lives_same : lives id p' ≡ lives id p
   waits_same : (level : Level) → waits id level p' ≡ waits id level p
   child_same : child id p' ≡ child id p
@@ -413,18 +465,19 @@ record SameButGrace (id : Id) (p p' : List Entry) : Type 0 where
   state_same : state id p' ≡ state id p
   previous_same : previous id p' ≡ previous id p
   hook_same : hook id p' ≡ hook id p
+  handler_same : handler id p' ≡ handler id p
   tag_same : tag id p' ≡ tag id p
   parked_same : parked id p' ≡ parked id p
   command_same : command id p' ≡ command id p
 
--- a grace holds a ticket that nothing else held
+-- a ticket that nothing held is held once
 begun_once : (t u before after : ℕ) (b : Bool) → (t == u) ≡ b → (t ≡ u → before ≡ 0) → before ≤ 1 → after ≤ before + once b → after ≤ 1
 begun_once t u before after true is none le e = let zero_before = none (eqb-true _ _ is) in omega (arith, zero_before, e)
 begun_once t u before after false is none le e = omega (arith, le, e)
 
--- the task with this grace, at a longer journal that says nothing else of it
-grace_stands : (k : JobTask) (standing : Option Standing) (p p' : List Entry) → Stands k p → SameButGrace k.id p p' → option_map (λ (s : Standing). s.grace) standing ≡ grace k.id p' → ((u : ℕ) → holds u (record k { grace = standing }) ≤ 1) → ((u : ℕ) → ticket_count p' ≤ u → holds u (record k { grace = standing }) ≡ 0) → Stands (record k { grace = standing }) p'
-grace_stands k standing p p' s h is once_each named = record {
+-- the task with this grace and this function, at a longer journal that says nothing else of it
+held_stands : (k : JobTask) (standing : Option Standing) (function : Option Begun) (p p' : List Entry) → Stands k p → SameButHeld k.id p p' → option_map (λ (s : Standing). s.grace) standing ≡ grace k.id p' → option_map (λ (b : Begun). b.function) function ≡ begun k.id p' → ((u : ℕ) → holds u (record k { grace = standing; begun = function }) ≤ 1) → ((u : ℕ) → ticket_count p' ≤ u → holds u (record k { grace = standing; begun = function }) ≡ 0) → Stands (record k { grace = standing; begun = function }) p'
+held_stands k standing function p p' s h grace_is begun_is once_each named = record {
   lives_kept = s.lives_kept ∙ sym h.lives_same;
   urgent_kept = s.urgent_kept ∙ sym (h.waits_same Urgent);
   high_kept = s.high_kept ∙ sym (h.waits_same High);
@@ -434,8 +487,10 @@ grace_stands k standing p p' s h is once_each named = record {
   state_kept = s.state_kept ∙ sym h.state_same;
   previous_kept = s.previous_kept ∙ sym h.previous_same;
   hook_kept = s.hook_kept ∙ sym h.hook_same;
+  handler_kept = s.handler_kept ∙ sym h.handler_same;
+  begun_kept = begun_is;
   tag_kept = s.tag_kept ∙ sym h.tag_same;
-  grace_kept = is;
+  grace_kept = grace_is;
   parked_kept = s.parked_kept ∙ sym h.parked_same;
   parked_room = s.parked_room;
   held_once = once_each;
@@ -443,31 +498,83 @@ grace_stands k standing p p' s h is once_each named = record {
   runs_kept = λ created is. s.runs_kept created (sym h.command_same ∙ is);
 }
 
-signal_same : (id : Id) (p : List Entry) (c : ℕ) (number : ℤ) (a : Result (Unit {0}) HostFault) → SameButGrace id p (Signal c number a ∷ p)
-signal_same id p c number (Ok a) = record { lives_same = refl; waits_same = λ l. refl; child_same = refl; kept_same = refl; state_same = refl; previous_same = refl; hook_same = refl; tag_same = refl; parked_same = refl; command_same = refl }
-signal_same id p c number (Err a) = record { lives_same = refl; waits_same = λ l. refl; child_same = refl; kept_same = refl; state_same = refl; previous_same = refl; hook_same = refl; tag_same = refl; parked_same = refl; command_same = refl }
+signal_same : (id : Id) (p : List Entry) (c : ℕ) (number : ℤ) (a : Result (Unit {0}) HostFault) → SameButHeld id p (Signal c number a ∷ p)
+signal_same id p c number (Ok a) = record { lives_same = refl; waits_same = λ l. refl; child_same = refl; kept_same = refl; state_same = refl; previous_same = refl; hook_same = refl; handler_same = refl; tag_same = refl; parked_same = refl; command_same = refl }
+signal_same id p c number (Err a) = record { lives_same = refl; waits_same = λ l. refl; child_same = refl; kept_same = refl; state_same = refl; previous_same = refl; hook_same = refl; handler_same = refl; tag_same = refl; parked_same = refl; command_same = refl }
 
 -- a signal was sent: where the picked control begins no grace the one that stands stays
 pub stands-signal : (k : JobTask) (p : List Entry) (c : ℕ) (number : ℤ) (a : Result (Unit {0}) HostFault) → Stands k p → begins_by (just_picked k.id p) (moment p) (grace_of k) ≡ grace_of k → Stands k (Signal c number a ∷ p)
 stands-signal k p c number (Ok a) s is =
-    let begun : grace_of k ≡ begins_by (just_picked k.id p) (moment p) (grace k.id p) = rw (← s.grace_kept) (sym is) in
-    grace_stands k k.grace p (Signal c number (Ok a) ∷ p) s (signal_same k.id p c number (Ok a)) (either (λ g. grace_of k ≡ g) (is_child c (child k.id p)) (begins_by (just_picked k.id p) (moment p) (grace k.id p)) (grace k.id p) begun s.grace_kept) s.held_once s.held_named
-stands-signal k p c number (Err a) s is = grace_stands k k.grace p (Signal c number (Err a) ∷ p) s (signal_same k.id p c number (Err a)) s.grace_kept s.held_once s.held_named
+    let stays : grace_of k ≡ begins_by (just_picked k.id p) (moment p) (grace k.id p) = rw (← s.grace_kept) (sym is) in
+    held_stands k k.grace k.begun p (Signal c number (Ok a) ∷ p) s (signal_same k.id p c number (Ok a)) (either (λ g. grace_of k ≡ g) (is_child c (child k.id p)) (begins_by (just_picked k.id p) (moment p) (grace k.id p)) (grace k.id p) stays s.grace_kept) s.begun_kept s.held_once s.held_named
+stands-signal k p c number (Err a) s is = held_stands k k.grace k.begun p (Signal c number (Err a) ∷ p) s (signal_same k.id p c number (Err a)) s.grace_kept s.begun_kept s.held_once s.held_named
 
 -- a signal was sent, and the grace that the picked control begins stands
-pub stands-begun : (k : JobTask) (p : List Entry) (c : ℕ) (number : ℤ) (a : Unit {0}) (standing : Standing) → Stands k p → k.gone ≡ false → child_of k.state ≡ Some c → begins_by (just_picked k.id p) (moment p) (grace_of k) ≡ Some standing.grace → holds standing.grace.ticket k ≡ 0 → standing.grace.ticket < ticket_count p → Stands (record k { grace = Some standing }) (Signal c number (Ok a) ∷ p)
-stands-begun k p c number a standing s here runs begun unheld named =
+pub stands-grace : (k : JobTask) (p : List Entry) (c : ℕ) (number : ℤ) (a : Unit {0}) (standing : Standing) → Stands k p → k.gone ≡ false → child_of k.state ≡ Some c → begins_by (just_picked k.id p) (moment p) (grace_of k) ≡ Some standing.grace → holds standing.grace.ticket k ≡ 0 → standing.grace.ticket < ticket_count p → Stands (record k { grace = Some standing }) (Signal c number (Ok a) ∷ p)
+stands-grace k p c number a standing s here runs begins unheld named =
     let is : child k.id p ≡ Some c = child-is k p c s here runs in
-    let its : Some standing.grace ≡ begins_by (just_picked k.id p) (moment p) (grace k.id p) = rw (← s.grace_kept) (sym begun) in
-    grace_stands k (Some standing) p (Signal c number (Ok a) ∷ p) s (signal_same k.id p c number (Ok a)) (rw (is, eq-eqb c c refl) its)
+    let its : Some standing.grace ≡ begins_by (just_picked k.id p) (moment p) (grace k.id p) = rw (← s.grace_kept) (sym begins) in
+    held_stands k (Some standing) k.begun p (Signal c number (Ok a) ∷ p) s (signal_same k.id p c number (Ok a)) (rw (is, eq-eqb c c refl) its) s.begun_kept
     (λ u. begun_once standing.grace.ticket u (holds u k) _ (standing.grace.ticket == u) refl (λ same. rw (← same) unheld) (s.held_once u) (omega arith))
-    (λ u le. new_none standing.grace.ticket u (times_waits u k.waiting + times u k.parked.tickets) _ (omega (arith, named, le)) (let h = s.held_named u le in omega (arith, h)) (omega arith))
+    (λ u le. new_none standing.grace.ticket u (times_waits u k.waiting + times u k.parked.tickets + times_begun u (begun_of k)) _ (omega (arith, named, le)) (let h = s.held_named u le in omega (arith, h)) (omega arith))
 
 pub stands-over : (k : JobTask) (p : List Entry) → Stands k p → Stands (record k { grace = None }) (GraceOver k.id ∷ p)
-stands-over k p s = grace_stands k None p (GraceOver k.id ∷ p) s (record { lives_same = refl; waits_same = λ l. refl; child_same = refl; kept_same = refl; state_same = refl; previous_same = refl; hook_same = refl; tag_same = refl; parked_same = refl; command_same = refl }) (rw (self k.id) refl) (λ u. (let h = s.held_once u in omega (arith, h))) (λ u le. (let h = s.held_named u le in omega (arith, h)))
+stands-over k p s = held_stands k None k.begun p (GraceOver k.id ∷ p) s (record { lives_same = refl; waits_same = λ l. refl; child_same = refl; kept_same = refl; state_same = refl; previous_same = refl; hook_same = refl; handler_same = refl; tag_same = refl; parked_same = refl; command_same = refl }) (rw (self k.id) refl) s.begun_kept (λ u. (let h = s.held_once u in omega (arith, h))) (λ u le. (let h = s.held_named u le in omega (arith, h)))
+
+-- a function was begun, which holds the ticket of the control that was just picked
+pub stands-function : (k : JobTask) (p : List Entry) (b : Begun) → Stands k p → just_picked k.id p ≡ Some (b.function.ticket, AsyncFunc b.function.n) → begun_of k ≡ None → holds b.function.ticket k ≡ 0 → b.function.ticket < ticket_count p → Stands (record k { begun = Some b }) (WasBegun k.id b.function.n ∷ p)
+stands-function k p b s just none unheld named =
+    held_stands k k.grace (Some b) p (WasBegun k.id b.function.n ∷ p) s
+    (record { lives_same = refl; waits_same = λ l. refl; child_same = refl; kept_same = refl; state_same = refl; previous_same = refl; hook_same = refl; handler_same = refl; tag_same = refl; parked_same = refl; command_same = refl })
+    s.grace_kept (rw (self k.id, just) refl)
+    (λ u. begun_once b.function.ticket u (holds u k) _ (b.function.ticket == u) refl (λ same. rw (← same) unheld) (s.held_once u) (omega arith))
+    (λ u le. new_none b.function.ticket u (times_waits u k.waiting + times u k.parked.tickets + times_grace u (grace_of k)) _ (omega (arith, named, le)) (let h = s.held_named u le in omega (arith, h)) (omega arith))
+
+-- a begun function was polled, and is ready
+poll_same : (id : Id) (p : List Entry) (n : ℕ) → SameButHeld id p (Poll id n true ∷ p)
+poll_same id p n = record { lives_same = refl; waits_same = λ l. refl; child_same = refl; kept_same = refl; state_same = refl; previous_same = refl; hook_same = refl; handler_same = refl; tag_same = refl; parked_same = refl; command_same = refl }
+
+pub stands-ready : (k : JobTask) (p : List Entry) (n : ℕ) (ready : Bool) → ready ≡ true → Stands k p → Stands (record k { begun = None }) (Poll k.id n ready ∷ p)
+stands-ready k p n true is s = held_stands k k.grace None p (Poll k.id n true ∷ p) s (poll_same k.id p n) s.grace_kept (rw (self k.id) refl) (λ u. (let h = s.held_once u in omega (arith, h))) (λ u le. (let h = s.held_named u le in omega (arith, h)))
+stands-ready k p n false is s = absurd cc
+
+-- it isn't ready
+pub stands-later : (k : JobTask) (p : List Entry) (n : ℕ) (ready : Bool) → ready ≡ false → Stands k p → Stands k (Poll k.id n ready ∷ p)
+stands-later k p n true is s = absurd cc
+stands-later k p n false is s = held_stands k k.grace k.begun p (Poll k.id n false ∷ p) s (record { lives_same = refl; waits_same = λ l. refl; child_same = refl; kept_same = refl; state_same = refl; previous_same = refl; hook_same = refl; handler_same = refl; tag_same = refl; parked_same = refl; command_same = refl }) s.grace_kept s.begun_kept s.held_once s.held_named
+
+-- the ticket of a function that is ready isn't held any more
+pub ready-unheld : (k : JobTask) (p : List Entry) (f : Function) → Stands k p → begun_of k ≡ Some f → holds f.ticket (record k { begun = None }) ≡ 0
+ready-unheld k p f s is =
+    let most = s.held_once f.ticket in
+    let one : times_begun f.ticket (begun_of k) ≡ 1 = rw (is, eq-eqb f.ticket f.ticket refl) refl in
+    omega (arith, most, one)
+
+-- that there are no more handles stands in no journal
+pub stands-closed : (k : JobTask) (p : List Entry) → Stands k p → Stands (record k { closed = true }) p
+stands-closed k p s = record {
+  lives_kept = s.lives_kept;
+  urgent_kept = s.urgent_kept;
+  high_kept = s.high_kept;
+  normal_kept = s.normal_kept;
+  child_kept = s.child_kept;
+  end_kept = s.end_kept;
+  state_kept = s.state_kept;
+  previous_kept = s.previous_kept;
+  hook_kept = s.hook_kept;
+  handler_kept = s.handler_kept;
+  begun_kept = s.begun_kept;
+  tag_kept = s.tag_kept;
+  grace_kept = s.grace_kept;
+  parked_kept = s.parked_kept;
+  parked_room = s.parked_room;
+  held_once = s.held_once;
+  held_named = s.held_named;
+  runs_kept = s.runs_kept;
+}
 
 -- what the end of a job owes, by what the task keeps
 pub end-is : (k : JobTask) (p : List Entry) (c : Option ℕ) → Stands k p → k.gone ≡ false → c ≡ child_of k.state → end_plan k.id p ≡ leave k.id c
 end-is k p c s here is = let alive : lives k.id p ≡ true = sym s.lives_kept ∙ rw here refl in let runs : child k.id p ≡ child_of k.state = sym s.child_kept ∙ rw here refl in rw (alive, runs, is) refl
 
-pub ruleset stands = (stands-asked, stands-picked, stands-parked, picked-unheld, stands-raise, stands-raised, stands-signal, stands-begun, stands-over, stands-silent, stands-wait-ok, stands-wait-err, stands-spawn-ok, stands-spawn-err, stands-hook)
+pub ruleset stands = (stands-asked, stands-picked, stands-parked, picked-unheld, stands-raise, stands-raised, stands-signal, stands-grace, stands-over, stands-function, stands-ready, stands-later, ready-unheld, stands-closed, stands-silent, stands-wait-ok, stands-wait-err, stands-spawn-ok, stands-spawn-err, stands-hook)

@@ -4,7 +4,7 @@ use Rattle.std.specs.Prelude.{◌==◌, ◌&&◌, not}
 use Rattle.std.specs.List.{AllByRecursion}
 use Rattle.std.proofs.lemmas.Bool.{eqb-true}
 use Rattle.wx_words.specs.EachLaws.{each_append, each_weaker}
-use Rattle.wx_words.specs.OptionLaws.{refused}
+use Rattle.wx_words.specs.OptionLaws.{guarded, refused}
 use Rattle.wx_control.specs.declared.id.Id.{Id}
 use Rattle.wx_control.specs.declared.control.Control.{Control}
 use Rattle.wx_control.specs.declared.control.Control.TheVariants.{GracefulStop, TryGracefulRestart, NextEnding}
@@ -12,12 +12,13 @@ use Rattle.wx_control.specs.declared.level.Level.{Level}
 use Rattle.wx_control.specs.declared.level.Level.TheVariants.{Normal, High, Urgent}
 use Rattle.wx_control.specs.Levels.{rank}
 use Rattle.wx_journal.specs.declared.entry.Entry.{Entry}
-use Rattle.wx_journal.specs.declared.entry.Entry.TheVariants.{Made, Asked, Pick, GraceOver, Signal, Wait, Dropped, Raise, Gone}
+use Rattle.wx_journal.specs.declared.entry.Entry.TheVariants.{Made, Asked, Pick, GraceOver, Signal, Wait, Dropped, Raise, Gone, Begun, Poll}
 use Rattle.wx_journal.specs.Names.{NamesItsOwn, ticket_count, moment}
+use Rattle.wx_job.specs.declared.function.Function.{Function}
 use Rattle.wx_job.specs.declared.grace.Grace.{Grace}
 use Rattle.wx_job.specs.declared.state.CommandState.{CommandState}
 use Rattle.wx_job.specs.States.{is_finished}
-use Rattle.wx_job.specs.History.{same, lives, has_above, without, waits, found, picked_control, state, child, is_child, with_ticket, just_picked, begins, begins_by, grace, without_ticket, parks, parked, asked_of}
+use Rattle.wx_job.specs.History.{same, lives, has_above, without, waits, found, picked_control, state, child, is_child, with_ticket, just_picked, begun_with, begun, begins, begins_by, grace, without_ticket, parks, parked, asked_of}
 use Rattle.wx_job.specs.Laws.{NamesTickets}
 use Rattle.wx_job.proofs.Owners.{same-is, either}
 
@@ -113,29 +114,32 @@ none_without i id p t (u ∷ us) ne its h =
 pub parked_other : (i id : Id) (t : ℕ) (p : List Entry) → i ≢ id → NamesTickets p → asked_of t p ≡ Some id → without_ticket t (parked i p) ≡ parked i p
 parked_other i id t p ne own its = none_without i id p t (parked i p) ne its (parked_of i p own)
 
+-- ---- the control that was just picked
+
+with_asked : (id : Id) (p : List Entry) (t : ℕ) (o : Option Control) (x : ℕ × Control) → ((control : Control) → o ≡ Some control → asked_of t p ≡ Some id) → with_ticket t o ≡ Some x → asked_of x.0 p ≡ Some id
+with_asked id p t None x asked e = cc
+with_asked id p t (Some control) x asked e = let is : (t, control) ≡ x = cc in rw (← is) (asked control refl)
+
+just_asked : (id : Id) (p : List Entry) (x : ℕ × Control) → NamesTickets p → just_picked id p ≡ Some x → asked_of x.0 p ≡ Some id
+just_asked id [] x own e = cc
+just_asked id (Pick job t ∷ p) x own e = with_asked id p t (picked_control id t p) x (λ control is. picked_of id p t control own is) (guarded (same job id) (with_ticket t (picked_control id t p)) x e).1
+just_asked id (_ ∷ p) x own e = cc
+
+pub one_of_two : {A : Type 0} (R : Type 0) (b : Bool) (x y : Option A) (z : A) → (x ≡ Some z → R) → (y ≡ Some z → R) → cond b x y ≡ Some z → R
+one_of_two R true x y z h k e = h e
+one_of_two R false x y z h k e = k e
+
 -- ---- the grace that stands
 
+-- its ticket is that of the control that begins it, or of the grace before
 begins_of : (id : Id) (p : List Entry) (t : ℕ) (control : Control) (at : ℕ) (before : Option Grace) (g : Grace) → asked_of t p ≡ Some id → (before ≡ Some g → asked_of g.ticket p ≡ Some id) → begins t control at before ≡ Some g → asked_of g.ticket p ≡ Some id
 begins_of id p t (GracefulStop signal grace) at before g asked h e = let is : record { ends = at + grace; ticket = t; restarts = false } ≡ g = cc in rw (← is) asked
 begins_of id p t (TryGracefulRestart signal grace) at before g asked h e = let is : record { ends = at + grace; ticket = t; restarts = true } ≡ g = cc in rw (← is) asked
 begins_of id p t (_) at before g asked h e = h e
 
-begins_with : (id : Id) (p : List Entry) (t : ℕ) (o : Option Control) (at : ℕ) (before : Option Grace) (g : Grace) → ((control : Control) → o ≡ Some control → asked_of t p ≡ Some id) → (before ≡ Some g → asked_of g.ticket p ≡ Some id) → begins_by (with_ticket t o) at before ≡ Some g → asked_of g.ticket p ≡ Some id
-begins_with id p t None at before g asked h e = h e
-begins_with id p t (Some control) at before g asked h e = begins_of id p t control at before g (asked control refl) h e
-
-begins_if : (id : Id) (p : List Entry) (t : ℕ) (b : Bool) (o : Option Control) (at : ℕ) (before : Option Grace) (g : Grace) → ((control : Control) → o ≡ Some control → asked_of t p ≡ Some id) → (before ≡ Some g → asked_of g.ticket p ≡ Some id) → begins_by (cond b (with_ticket t o) None) at before ≡ Some g → asked_of g.ticket p ≡ Some id
-begins_if id p t true o at before g asked h e = begins_with id p t o at before g asked h e
-begins_if id p t false o at before g asked h e = h e
-
-begun_of : (id : Id) (p : List Entry) (at : ℕ) (before : Option Grace) (g : Grace) → NamesTickets p → (before ≡ Some g → asked_of g.ticket p ≡ Some id) → begins_by (just_picked id p) at before ≡ Some g → asked_of g.ticket p ≡ Some id
-begun_of id [] at before g own h e = h e
-begun_of id (Pick job t ∷ p) at before g own h e = begins_if id p t (same job id) (picked_control id t p) at before g (λ control is. picked_of id p t control own is) h e
-begun_of id (_ ∷ p) at before g own h e = h e
-
-pub one_of_two : {A : Type 0} (R : Type 0) (b : Bool) (x y : Option A) (z : A) → (x ≡ Some z → R) → (y ≡ Some z → R) → cond b x y ≡ Some z → R
-one_of_two R true x y z h k e = h e
-one_of_two R false x y z h k e = k e
+begins_by_of : (id : Id) (p : List Entry) (o : Option (ℕ × Control)) (at : ℕ) (before : Option Grace) (g : Grace) → ((x : ℕ × Control) → o ≡ Some x → asked_of x.0 p ≡ Some id) → (before ≡ Some g → asked_of g.ticket p ≡ Some id) → begins_by o at before ≡ Some g → asked_of g.ticket p ≡ Some id
+begins_by_of id p None at before g asked h e = h e
+begins_by_of id p (Some x) at before g asked h e = begins_of id p x.0 x.1 at before g (asked x refl) h e
 
 pub grace_asked : (id : Id) (p : List Entry) (g : Grace) → NamesTickets p → grace id p ≡ Some g → asked_of g.ticket p ≡ Some id
 grace_asked id [] g own e = cc
@@ -144,8 +148,26 @@ grace_asked id (Asked t job at control ∷ p) g own e = asked_kept g.ticket t id
 grace_asked id (GraceOver job ∷ p) g own e = grace_asked id p g own (refused (same job id) (grace id p) g e).1
 grace_asked id (Signal c number (Ok a) ∷ p) g own e =
     one_of_two (asked_of g.ticket p ≡ Some id) (is_child c (child id p)) (begins_by (just_picked id p) (moment p) (grace id p)) (grace id p) g
-    (λ h. begun_of id p (moment p) (grace id p) g own (λ k. grace_asked id p g own k) h) (λ h. grace_asked id p g own h) e
+    (λ h. begins_by_of id p (just_picked id p) (moment p) (grace id p) g (λ x is. just_asked id p x own is) (λ k. grace_asked id p g own k) h) (λ h. grace_asked id p g own h) e
 grace_asked id (Wait c (Ok status) ∷ p) g own e = grace_asked id p g own (refused (is_child c (child id p)) (grace id p) g e).1
 grace_asked id (Dropped c ∷ p) g own e = grace_asked id p g own (refused (is_child c (child id p)) (grace id p) g e).1
 grace_asked id (Gone job ∷ p) g own e = grace_asked id p g own (refused (same job id) (grace id p) g e).1
 grace_asked id (_ ∷ p) g own e = grace_asked id p g own e
+
+-- ---- the function that is begun
+
+-- its ticket is that of the control that began it
+begun_with_of : (id : Id) (p : List Entry) (n : ℕ) (o : Option (ℕ × Control)) (f : Function) → ((x : ℕ × Control) → o ≡ Some x → asked_of x.0 p ≡ Some id) → begun_with n o ≡ Some f → asked_of f.ticket p ≡ Some id
+begun_with_of id p n None f asked e = cc
+begun_with_of id p n (Some x) f asked e = let is : record { n = n; ticket = x.0 } ≡ f = cc in rw (← is) (asked x refl)
+
+pub begun_asked : (id : Id) (p : List Entry) (f : Function) → NamesTickets p → begun id p ≡ Some f → asked_of f.ticket p ≡ Some id
+begun_asked id [] f own e = cc
+begun_asked id (Made job ∷ p) f own e = begun_asked id p f own (refused (same job id) (begun id p) f e).1
+begun_asked id (Asked t job at control ∷ p) f own e = asked_kept f.ticket t id job p own.1 own.0 (begun_asked id p f own.1 e)
+begun_asked id (Begun job n ∷ p) f own e =
+    one_of_two (asked_of f.ticket p ≡ Some id) (same job id) (begun_with n (just_picked id p)) (begun id p) f
+    (λ h. begun_with_of id p n (just_picked id p) f (λ x is. just_asked id p x own is) h) (λ h. begun_asked id p f own h) e
+begun_asked id (Poll job n true ∷ p) f own e = begun_asked id p f own (refused (same job id) (begun id p) f e).1
+begun_asked id (Gone job ∷ p) f own e = begun_asked id p f own (refused (same job id) (begun id p) f e).1
+begun_asked id (_ ∷ p) f own e = begun_asked id p f own e

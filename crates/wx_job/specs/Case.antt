@@ -1,17 +1,17 @@
 -- Following a plan: which entries it lets come, and what is left of it then.
-use Rattle.std.specs.Prelude.{◌≡◌, ℕ, Bool, false, if◌then◌else◌, is_err, Option, Result, Ok, List, [], ◌∷◌}
+use Rattle.std.specs.Prelude.{◌≡◌, ℕ, Bool, false, not, if◌then◌else◌, is_err, Option, Result, Ok, Err, List, [], ◌∷◌}
 use Rattle.wx_words.specs.declared.list.Memory.{Memory}
 use Rattle.wx_command.specs.declared.spawnable.Spawnable.{Spawnable}
 use Rattle.wx_events.specs.declared.process.ProcessEnd.{ProcessEnd}
 use Rattle.wx_control.specs.declared.id.Id.{Id}
 use Rattle.wx_journal.specs.declared.child.HostFault.{HostFault}
 use Rattle.wx_journal.specs.declared.entry.Entry.{Entry}
-use Rattle.wx_journal.specs.declared.entry.Entry.TheVariants.{Begin, Sent, Turn as Turned, TurnFault, Offer, Word as Said, Take, Filter, Show, Hand, Made, Asked, Pick, GraceOver, Spawn, Signal, Kill, Wait, Dropped, Raise, Gone, Hook}
+use Rattle.wx_journal.specs.declared.entry.Entry.TheVariants.{Begin, Sent, Turn as Turned, TurnFault, Offer, Word as Said, Take, Filter, Show, Hand, Made, Asked, Pick, GraceOver, Spawn, Signal, Kill, Wait, Dropped, Raise, Gone, Run, Begun, Poll, Hook, JobError}
 use Rattle.wx_journal.specs.Names.{ticket_count, child_count}
 use Rattle.wx_journal.specs.Told.{tell, tell_if, is_world, is_hooks, Counts}
 use Rattle.wx_job.specs.Seen.{Seen}
 use Rattle.wx_job.specs.Steady.{IsSteady}
-use Rattle.wx_job.specs.Table.{Words, Given, Left, Call, Adds, Spawns, Signals, Kills, Waits, Asks, Hooks, Plan, Done, GivenUp, Owes}
+use Rattle.wx_job.specs.Table.{Words, Given, Left, Call, Adds, Spawns, Signals, Kills, Waits, Asks, Hooks, Polls, Shows, Plan, Done, GivenUp, Owes}
 
 -- what may be answered
 abbrev pub Answer : Call → Type 0
@@ -22,6 +22,8 @@ Answer (Kills c) = Result (Unit {0}) HostFault
 Answer (Waits c) = Result ProcessEnd HostFault
 Answer (Asks id level control) = Unit {0}
 Answer (Hooks id n) = Result Spawnable Memory
+Answer (Polls id n) = Bool
+Answer (Shows id n) = Unit {0}
 
 -- what the newest entry left to be spawned: nothing, where it is no hook that answered
 abbrev pub left : List Entry → Spawnable
@@ -32,6 +34,14 @@ abbrev pub words_of : List Entry → Words → Spawnable
 words_of p (Given what) = what
 words_of p Left = left p
 
+-- the code of the fault that the newest entry holds: 0, where it holds none
+abbrev pub newest_code : List Entry → ℕ
+newest_code (Spawn c id tag what (Err fault) ∷ p) = fault.0
+newest_code (Signal c number (Err fault) ∷ p) = fault.0
+newest_code (Kill c (Err fault) ∷ p) = fault.0
+newest_code (Wait c (Err fault) ∷ p) = fault.0
+newest_code (_) = 0
+
 -- the entry behind these, with this answer
 abbrev pub entry : List Entry → (call : Call) → Answer call → Entry
 entry p (Adds e) a = e
@@ -41,6 +51,8 @@ entry p (Kills c) a = Kill c a
 entry p (Waits c) a = Wait c a
 entry p (Asks id level control) a = Asked (ticket_count p) id level control
 entry p (Hooks id n) a = Hook id n a
+entry p (Polls id n) a = Poll id n a
+entry p (Shows id n) a = JobError id n (newest_code p)
 
 -- the entries that a plan lets come next behind these
 abbrev pub Admits : List Entry → Plan → Entry → Type 0
@@ -71,10 +83,16 @@ is_fault (Wait c answer) = is_err answer
 is_fault (Dropped c) = false
 is_fault (Raise ticket) = false
 is_fault (Gone job) = false
+is_fault (Run job n) = false
+is_fault (Begun job n) = false
+is_fault (Poll job n ready) = false
 is_fault (Hook job n answer) = false
+is_fault (JobError job n code) = false
 
--- a plan goes on behind the entry as it does behind a fault: also where a hook had no memory
+-- a plan goes on behind the entry as it does behind a fault: also where a hook had no memory, and where a function that was
+-- polled isn't ready
 abbrev pub fails : Entry → Bool
+fails (Poll job n ready) = not ready
 fails (Hook job n answer) = is_err answer
 fails e = is_fault e
 
@@ -94,6 +112,8 @@ SpawnsLeft (Kills c) = ⊥
 SpawnsLeft (Waits c) = ⊥
 SpawnsLeft (Asks id level control) = ⊥
 SpawnsLeft (Hooks id n) = ⊥
+SpawnsLeft (Polls id n) = ⊥
+SpawnsLeft (Shows id n) = ⊥
 
 -- the plans at which want of memory may give a case up: behind a hook that had no memory, and between a hook and the spawn
 abbrev pub IsCut : Plan → Type 0
@@ -120,6 +140,10 @@ FollowsHost {Fixed} k p a k' p' b = (k₀ : Plan) (p₀ : List Entry) (a₀ : Se
 -- the same where the host isn't called either
 abbrev pub FollowsAlone : Plan → List Entry → Plan → List Entry → Type 0
 FollowsAlone k p k' p' = (k₀ : Plan) (p₀ : List Entry) (host₀ hooks₀ : Option (List Entry)) (faults₀ : ℕ) (host hooks : Option (List Entry)) (faults : ℕ) → Leads k₀ p₀ host₀ hooks₀ faults₀ k p host hooks faults → Leads k₀ p₀ host₀ hooks₀ faults₀ k' p' host hooks faults
+
+-- the same where the hooks alone are called
+pub record FollowsHooks (k : Plan) (p : List Entry) (hooks : Option (List Entry)) (k' : Plan) (p' : List Entry) (hooks' : Option (List Entry)) : Type 0 where
+  pub on : (k₀ : Plan) (p₀ : List Entry) (host₀ hooks₀ : Option (List Entry)) (faults₀ : ℕ) (host : Option (List Entry)) (faults : ℕ) → Leads k₀ p₀ host₀ hooks₀ faults₀ k p host hooks faults → Leads k₀ p₀ host₀ hooks₀ faults₀ k' p' host hooks' faults
 
 -- the same where both may be called
 abbrev pub Follows : {Fixed : Type 0} → Plan → List Entry → Seen Fixed → Option (List Entry) → Plan → List Entry → Seen Fixed → Option (List Entry) → Type 0

@@ -4,7 +4,7 @@ use Rattle.wx_events.specs.declared.process.ProcessEnd.{ProcessEnd}
 use Rattle.wx_command.specs.declared.command.Command.{Command}
 use Rattle.wx_control.specs.declared.id.Id.{Id}
 use Rattle.wx_control.specs.declared.control.Control.{Control}
-use Rattle.wx_control.specs.declared.control.Control.TheVariants.{GracefulStop, TryGracefulRestart, NextEnding, SetSyncSpawnHook, UnsetSpawnHook, SetSpawnFn, SetSpawnChildFn, ClearSpawnFn}
+use Rattle.wx_control.specs.declared.control.Control.TheVariants.{GracefulStop, TryGracefulRestart, NextEnding, SetSyncSpawnHook, UnsetSpawnHook, SetSyncErrorHandler, UnsetErrorHandler, SetSpawnFn, SetSpawnChildFn, ClearSpawnFn}
 use Rattle.wx_control.specs.declared.level.Level.{Level}
 use Rattle.wx_control.specs.declared.level.Level.TheVariants.{Normal, High, Urgent}
 use Rattle.wx_control.specs.Levels.{rank}
@@ -13,10 +13,11 @@ use Rattle.wx_journal.specs.declared.child.SpawnTag.TheVariants as spawning
 use Rattle.wx_journal.specs.Acts.{JournalAct as Act}
 use Rattle.wx_journal.specs.declared.entry.Act.TheVariants.{Create, Ask, Quit}
 use Rattle.wx_journal.specs.declared.entry.Entry.{Entry}
-use Rattle.wx_journal.specs.declared.entry.Entry.TheVariants.{Turn as Turned, Hand, Made, Asked, Pick, GraceOver, Spawn, Signal, Wait, Dropped, Raise, Gone, Hook}
+use Rattle.wx_journal.specs.declared.entry.Entry.TheVariants.{Turn as Turned, Hand, Made, Asked, Pick, GraceOver, Spawn, Signal, Wait, Dropped, Raise, Gone, Begun, Poll, Hook}
 use Rattle.wx_journal.specs.declared.entry.TurnKind.TheVariants as turn
 use Rattle.wx_journal.specs.declared.entry.TurnKind.{TurnKind}
 use Rattle.wx_journal.specs.Names.{moment, ticket_count}
+use Rattle.wx_job.specs.declared.function.Function.{Function}
 use Rattle.wx_job.specs.declared.grace.Grace.{Grace}
 use Rattle.wx_job.specs.declared.state.CommandState.{CommandState}
 use Rattle.wx_job.specs.declared.state.CommandState.TheVariants.{Pending, Running, Finished}
@@ -130,11 +131,16 @@ found ticket (x ∷ xs) = if x.0 == ticket then Some x.1 else found ticket xs
 abbrev pub picked_control : Id → ℕ → List Entry → Option Control
 picked_control id ticket p = found ticket (waits id Urgent p ++ waits id High p ++ waits id Normal p)
 
--- what a control that is picked leaves of the spawn hook, and of what spawns
+-- what a control that is picked leaves of the spawn hook, of the error handler, and of what spawns
 abbrev pub set_hook : Option Control → Option ℕ → Option ℕ
 set_hook (Some (SetSyncSpawnHook n)) before = Some n
 set_hook (Some UnsetSpawnHook) before = None
 set_hook (_) before = before
+
+abbrev pub set_handler : Option Control → Option ℕ → Option ℕ
+set_handler (Some (SetSyncErrorHandler n)) before = Some n
+set_handler (Some UnsetErrorHandler) before = None
+set_handler (_) before = before
 
 abbrev pub set_tag : Option Control → SpawnTag → SpawnTag
 set_tag (Some (SetSpawnFn n)) before = spawning.Command n
@@ -148,6 +154,13 @@ hook id [] = None
 hook id (Made job ∷ p) = if same job id then None else hook id p
 hook id (Pick job ticket ∷ p) = if same job id then set_hook (picked_control id ticket p) (hook id p) else hook id p
 hook id (_ ∷ p) = hook id p
+
+-- the error handler that is set, by the controls that were picked
+abbrev pub handler : Id → List Entry → Option ℕ
+handler id [] = None
+handler id (Made job ∷ p) = if same job id then None else handler id p
+handler id (Pick job ticket ∷ p) = if same job id then set_handler (picked_control id ticket p) (handler id p) else handler id p
+handler id (_ ∷ p) = handler id p
 
 -- what spawns, by the controls that were picked
 abbrev pub tag : Id → List Entry → SpawnTag
@@ -176,8 +189,6 @@ command id (_ ∷ p) = command id p
 abbrev pub RunsOnly : Id → Command → List Entry → Type 0
 RunsOnly id what p = (created : Command) → command id p ≡ Some created → created ≡ what
 
--- ---- graces
-
 -- the control that the newest entry picked for the job, with its ticket
 abbrev pub with_ticket : ℕ → Option Control → Option (ℕ × Control)
 with_ticket ticket None = None
@@ -186,6 +197,24 @@ with_ticket ticket (Some control) = Some (ticket, control)
 abbrev pub just_picked : Id → List Entry → Option (ℕ × Control)
 just_picked id (Pick job ticket ∷ p) = if same job id then with_ticket ticket (picked_control id ticket p) else None
 just_picked id (_) = None
+
+-- ---- functions
+
+-- the function that was begun in the case of the control that was just picked
+abbrev pub begun_with : ℕ → Option (ℕ × Control) → Option Function
+begun_with n None = None
+begun_with n (Some x) = Some (record { n = n; ticket = x.0 })
+
+-- the function that was begun and isn't ready: a Begun of it came, and no Poll of it that was ready since
+abbrev pub begun : Id → List Entry → Option Function
+begun id [] = None
+begun id (Made job ∷ p) = if same job id then None else begun id p
+begun id (Begun job n ∷ p) = if same job id then begun_with n (just_picked id p) else begun id p
+begun id (Poll job n true ∷ p) = if same job id then None else begun id p
+begun id (Gone job ∷ p) = if same job id then None else begun id p
+begun id (_ ∷ p) = begun id p
+
+-- ---- graces
 
 -- the grace that stands once a control sent its signal at this moment: its own, where it begins one
 abbrev pub begins : ℕ → Control → ℕ → Option Grace → Option Grace
@@ -266,6 +295,8 @@ pub record SameHistory (id : Id) (p p' : List Entry) : Type 0 where
   pub state_same : state id p' ≡ state id p
   pub previous_same : previous id p' ≡ previous id p
   pub hook_same : hook id p' ≡ hook id p
+  pub handler_same : handler id p' ≡ handler id p
+  pub begun_same : begun id p' ≡ begun id p
   pub tag_same : tag id p' ≡ tag id p
   pub command_same : command id p' ≡ command id p
   pub grace_same : grace id p' ≡ grace id p

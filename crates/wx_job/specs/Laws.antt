@@ -5,11 +5,11 @@ use Rattle.wx_control.specs.declared.id.Id.{Id}
 use Rattle.wx_control.specs.declared.ask.Ask.{Ask}
 use Rattle.wx_control.specs.Asks.{sends_of}
 use Rattle.wx_journal.specs.declared.entry.Entry.{Entry}
-use Rattle.wx_journal.specs.declared.entry.Entry.TheVariants.{Begin, Sent, Turn as Turned, TurnFault, Offer, Word as Said, Take, Filter, Show, Hand, Made, Asked, Pick, GraceOver, Spawn, Signal, Kill, Wait, Dropped, Raise, Gone, Hook}
+use Rattle.wx_journal.specs.declared.entry.Entry.TheVariants.{Begin, Sent, Turn as Turned, TurnFault, Offer, Word as Said, Take, Filter, Show, Hand, Made, Asked, Pick, GraceOver, Spawn, Signal, Kill, Wait, Dropped, Raise, Gone, Run, Begun, Poll, Hook, JobError}
 use Rattle.wx_journal.specs.Names.{ticket_count, child_count}
 use Rattle.wx_job.specs.declared.state.CommandState.TheVariants.{Pending}
 use Rattle.wx_job.specs.History.{same, lives, child, state, grace, unless, owner}
-use Rattle.wx_job.specs.Table.{Plan, Done, step_plan, send_plan, end_plan}
+use Rattle.wx_job.specs.Table.{Plan, Done, step_by, send_plan, end_plan}
 use Rattle.wx_job.specs.Case.{Leads, IsCut}
 
 -- the child that was spawned and not reaped: no Wait of it answered ok
@@ -93,7 +93,11 @@ is_about id p (Wait c answer) = is_owner id (owner c p)
 is_about id p (Dropped c) = is_owner id (owner c p)
 is_about id p (Raise ticket) = false
 is_about id p (Gone job) = same job id
+is_about id p (Run job n) = same job id
+is_about id p (Begun job n) = same job id
+is_about id p (Poll job n ready) = same job id
 is_about id p (Hook job n answer) = same job id
+is_about id p (JobError job n code) = same job id
 
 -- each child has the next name
 abbrev pub NamesChildren : List Entry → Type 0
@@ -113,8 +117,8 @@ pub data Lived (id : Id) (command : Command) : List Entry → Type 0 where
   Begins : (p : List Entry) → NamesChildren p → Lived id command (Made id ∷ p)
   Others : (e : Entry) (p : List Entry) → Lived id command p → NamesChildren (e ∷ p) → is_about id p e ≡ false → Lived id command (e ∷ p)
   Asks : (ask : Ask) (p p' : List Entry) (host hooks host' hooks' : Option (List Entry)) (n n' : ℕ) → Lived id command p → Leads (send_plan id (sends_of ask) p) p host hooks n Done p' host' hooks' n' → Lived id command p'
-  Steps : (p p' : List Entry) (host hooks host' hooks' : Option (List Entry)) (n n' : ℕ) → Lived id command p → Leads (step_plan id command p) p host hooks n Done p' host' hooks' n' → Lived id command p'
-  GivesUp : (rest : Plan) (p p' : List Entry) (host hooks host' hooks' : Option (List Entry)) (n n' : ℕ) → Lived id command p → Leads (step_plan id command p) p host hooks n rest p' host' hooks' n' → IsCut rest → Lived id command p'
+  Steps : (closed : Bool) (p p' : List Entry) (host hooks host' hooks' : Option (List Entry)) (n n' : ℕ) → Lived id command p → Leads (step_by closed id command p) p host hooks n Done p' host' hooks' n' → Lived id command p'
+  GivesUp : (closed : Bool) (rest : Plan) (p p' : List Entry) (host hooks host' hooks' : Option (List Entry)) (n n' : ℕ) → Lived id command p → Leads (step_by closed id command p) p host hooks n rest p' host' hooks' n' → IsCut rest → Lived id command p'
   Ends : (p p' : List Entry) (host hooks host' hooks' : Option (List Entry)) (n n' : ℕ) → Lived id command p → Leads (end_plan id p) p host hooks n Done p' host' hooks' n' → Lived id command p'
 
 -- in the life of a job, since it was last made, each child is reaped before the next spawn, save a last one, and no child

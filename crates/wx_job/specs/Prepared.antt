@@ -28,4 +28,4 @@ fresh_or false id by ticket = raises ticket
 -- a child that runs is reaped, and a fresh one is spawned where that is so
 abbrev pub fresh_in : Id → Kit → ℕ → Bool → Option ℕ → Plan
 fresh_in id by ticket spawning None = fresh_or spawning id by ticket
-fresh_in id by ticket spawning (Some c) = reap c ticket (waiters by.parked (fresh_or spawning id by ticket))
+fresh_in id by ticket spawning (Some c) = reap id by.handler c ticket (waiters by.parked (fresh_or spawning id by ticket))

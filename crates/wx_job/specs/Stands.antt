@@ -1,9 +1,11 @@
 -- What is kept of a job stands for it in a journal.
-use Rattle.std.specs.Prelude.{◌≡◌, ℕ, ◌+◌, ◌≤◌, ◌==◌, Bool, true, not, if◌then◌else◌, Option, None, Some, is_some, option_map, List, [], ◌∷◌, length}
+use Rattle.std.specs.Prelude.{◌≡◌, ℕ, ◌+◌, ◌≤◌, ◌==◌, Bool, true, false, not, if◌then◌else◌, Option, None, Some, is_some, option_map, List, [], ◌∷◌, length}
 use Rattle.wx_command.specs.declared.command.Command.{Command}
 use Rattle.wx_control.specs.declared.id.Id.{Id}
 use Rattle.wx_control.specs.declared.level.Level.TheVariants.{Normal, High, Urgent}
 use Rattle.wx_control.specs.declared.control.Control.{Control}
+use Rattle.wx_control.specs.declared.ticket.Ticket.{Ticket}
+use Rattle.wx_control.specs.Flags.{Flag}
 use Rattle.wx_control.specs.Waits.{Waits, first_of, waiting_count}
 use Rattle.wx_journal.specs.declared.entry.Entry.{Entry}
 use Rattle.wx_journal.specs.declared.entry.Entry.TheVariants.{Turn as Turned}
@@ -11,15 +13,17 @@ use Rattle.wx_journal.specs.declared.entry.TurnKind.TheVariants.{Ended}
 use Rattle.wx_journal.specs.Names.{ticket_count}
 use Rattle.wx_journal.specs.Written.{Written}
 use Rattle.wx_job.specs.States.{is_finished}
+use Rattle.wx_job.specs.declared.function.Function.{Function}
+use Rattle.wx_job.specs.declared.function.Begun.{Begun}
 use Rattle.wx_job.specs.declared.grace.Grace.{Grace}
 use Rattle.wx_job.specs.declared.grace.Standing.{Standing}
 use Rattle.wx_job.specs.declared.state.CommandState.{CommandState}
 use Rattle.wx_job.specs.declared.state.CommandState.TheVariants.{Pending, Running, Finished}
 use Rattle.wx_job.specs.declared.task.JobTask.{JobTask}
 use Rattle.wx_job.specs.declared.choice.Choice.{Choice}
-use Rattle.wx_job.specs.declared.choice.Choice.TheVariants.{Over, End, Next, Nothing}
+use Rattle.wx_job.specs.declared.choice.Choice.TheVariants.{Poll, Over, End, Next, Leave, Nothing}
 use Rattle.wx_job.specs.Table.{Kit, choose}
-use Rattle.wx_job.specs.History.{lives, waits, child, kept, state, previous, hook, tag, grace, parked, in_hand, RunsOnly}
+use Rattle.wx_job.specs.History.{lives, waits, child, kept, state, previous, hook, handler, tag, grace, begun, parked, in_hand, RunsOnly}
 
 -- the child of a state
 abbrev pub child_of : CommandState → Option ℕ
@@ -34,6 +38,14 @@ id_of k = k.id
 abbrev pub command_of : JobTask → Command
 command_of k = k.command
 
+-- the flag that tells that it is gone
+abbrev pub flag_of : JobTask → Flag
+flag_of k = k.flag
+
+-- whether there are no more handles
+abbrev pub closed_of : JobTask → Bool
+closed_of k = k.closed
+
 -- whether its job is gone, and the child that runs
 abbrev pub gone_of : JobTask → Bool
 gone_of k = k.gone
@@ -44,6 +56,9 @@ running_of k = if k.gone then None else child_of k.state
 -- the grace that stands, and the tickets that are parked
 abbrev pub grace_of : JobTask → Option Grace
 grace_of k = option_map (λ (s : Standing). s.grace) k.grace
+
+abbrev pub begun_of : JobTask → Option Function
+begun_of k = option_map (λ (b : Begun). b.function) k.begun
 
 abbrev pub parked_of : JobTask → List ℕ
 parked_of k = k.parked.tickets
@@ -71,8 +86,12 @@ abbrev pub times_grace : ℕ → Option Grace → ℕ
 times_grace ticket None = 0
 times_grace ticket (Some g) = once (g.ticket == ticket)
 
+abbrev pub times_begun : ℕ → Option Function → ℕ
+times_begun ticket None = 0
+times_begun ticket (Some f) = once (f.ticket == ticket)
+
 abbrev pub holds : ℕ → JobTask → ℕ
-holds ticket k = times_waits ticket k.waiting + times ticket (parked_of k) + times_grace ticket (grace_of k)
+holds ticket k = times_waits ticket k.waiting + times ticket (parked_of k) + times_grace ticket (grace_of k) + times_begun ticket (begun_of k)
 
 -- the task keeps what the journal says of its job, has room to park what waits, and holds no ticket twice, and none that isn't named yet
 pub record Stands (k : JobTask) (p : List Entry) : Type 0 where
@@ -85,6 +104,8 @@ pub record Stands (k : JobTask) (p : List Entry) : Type 0 where
   pub state_kept : k.state ≡ state k.id p
   pub previous_kept : k.previous ≡ previous k.id p
   pub hook_kept : k.hook ≡ hook k.id p
+  pub handler_kept : k.handler ≡ handler k.id p
+  pub begun_kept : begun_of k ≡ begun k.id p
   pub tag_kept : k.tag ≡ tag k.id p
   pub grace_kept : grace_of k ≡ grace k.id p
   pub parked_kept : parked_of k ≡ parked k.id p
@@ -97,6 +118,19 @@ pub record Stands (k : JobTask) (p : List Entry) : Type 0 where
 pub record SameJob (k k' : JobTask) : Type 0 where
   pub same_id : id_of k' ≡ id_of k
   pub same_command : command_of k' ≡ command_of k
+  pub same_flag : flag_of k' ≡ flag_of k
+  pub same_closed : closed_of k' ≡ closed_of k
+
+-- What a ticket holds that was given of a task, over this flag where one was handed in: copies of the flag of the job and of the
+-- one that was handed in, and where the job is gone the former twice.
+abbrev pub IsDoneBy : Bool → Flag → Option Flag → Flag → Type 0
+IsDoneBy true gone last done = done ≡ gone
+IsDoneBy false gone None done = Unit {0}
+IsDoneBy false gone (Some flag) done = done ≡ flag
+
+pub record IsTicketOf (k : JobTask) (last : Option Flag) (ticket : Ticket) : Type 0 where
+  pub gone : ticket.gone ≡ flag_of k
+  pub done : IsDoneBy (gone_of k) (flag_of k) last ticket.done
 
 -- nothing was done to the task, the journal and the host
 pub record Undone {Host : Type 0} (k : JobTask) (j : Written) (h : Host) (k' : JobTask) (j' : Written) (h' : Host) : Type 0 where
@@ -122,9 +156,11 @@ StaysInHand id (Some g) p p' = IsInHand id g.ticket p → IsInHand id g.ticket p
 -- Behind a case that was given up, of what was picked where this grace stood: the ticket that was picked is in hand, and so is
 -- that of the grace, where the case is one of its end or of the child's.
 abbrev pub HasInHand : Id → Option Grace → Choice → List Entry → List Entry → Type 0
+HasInHand id standing (Poll f) p p' = Unit {0}
 HasInHand id standing (Over c g) p p' = StaysInHand id (Some g) p p'
 HasInHand id standing (End c) p p' = StaysInHand id standing p p'
 HasInHand id standing (Next ticket control) p p' = IsInHand id ticket p'
+HasInHand id standing Leave p p' = Unit {0}
 HasInHand id standing Nothing p p' = Unit {0}
 
 -- all that a task keeps is the same, but for the room for controls and for parked tickets
@@ -137,6 +173,10 @@ pub record SameTask (k k' : JobTask) : Type 0 where
 abbrev pub with_end : JobTask → JobTask
 with_end k = record k { kept = true }
 
+-- the task once there are no more handles
+abbrev pub with_close : JobTask → JobTask
+with_close k = record k { closed = true }
+
 -- the journal's last entry is a turn that told the end of this child, and the task stands for the journal without it
 pub record IsEnding (k : JobTask) (c at : ℕ) (p : List Entry) : Type 0 where
   pub before : List Entry
@@ -145,8 +185,8 @@ pub record IsEnding (k : JobTask) (c at : ℕ) (p : List Entry) : Type 0 where
 
 -- what its cases go by
 abbrev pub kit_of : JobTask → Kit
-kit_of k = record { command = k.command; hook = k.hook; tag = k.tag; finished = is_finished k.state; grace = grace_of k; parked = parked_of k }
+kit_of k = record { command = k.command; hook = k.hook; handler = k.handler; tag = k.tag; finished = is_finished k.state; grace = grace_of k; parked = parked_of k }
 
 -- what a step of the task picks at this moment
 abbrev pub choice_of : JobTask → ℕ → Choice
-choice_of k at = choose (running_of k) (grace_of k) at k.kept (first_of (is_some (grace_of k)) k.waiting)
+choice_of k at = choose k.closed (begun_of k) (running_of k) (grace_of k) at k.kept (first_of (is_some (grace_of k)) k.waiting)

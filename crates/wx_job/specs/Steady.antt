@@ -4,7 +4,7 @@ use Rattle.wx_journal.specs.declared.entry.Entry.{Entry}
 use Rattle.wx_journal.specs.Names.{moment}
 use Rattle.wx_journal.specs.Told.{tell, Counts}
 use Rattle.wx_journal.specs.Written.{Written}
-use Rattle.wx_job.specs.Seen.{Seen}
+use Rattle.wx_job.specs.Seen.{Seen, Hooked}
 
 -- its plan, where it is in its turns, and where the object lies that is lent to it
 pub record IsSteady {Fixed : Type 0} (a b : Seen Fixed) : Type 0 where
@@ -36,3 +36,17 @@ pub record Spends {Fixed : Type 0} (n : ℕ) (j : Written) (a : Seen Fixed) (j' 
   pub now : moment j'.past ≡ moment j.past
   pub in_journal : j.spare ≤ j'.spare + n
   pub in_host : a.spare ≤ b.spare + n
+
+-- so much room is there, in the journal and in the host, and so much in the hooks
+pub record HaveRoom {Fixed Fixed' : Type 0} (n m : ℕ) (j : Written) (a : Seen Fixed) (x : Hooked Fixed') : Type 0 where
+  pub in_journal : n ≤ j.spare
+  pub in_host : n ≤ a.spare
+  pub in_hooks : m ≤ x.spare
+
+-- what calls leave that use this much room at most, and so much of the hooks', in no new turn
+pub record UseRoom {Fixed Fixed' : Type 0} (n m : ℕ) (j : Written) (a : Seen Fixed) (x : Hooked Fixed') (j' : Written) (b : Seen Fixed) (x' : Hooked Fixed') : Type 0 where
+  pub steady : IsSteady a b
+  pub now : moment j'.past ≡ moment j.past
+  pub in_journal : j.spare ≤ j'.spare + n
+  pub in_host : a.spare ≤ b.spare + n
+  pub in_hooks : x.spare ≤ x'.spare + m

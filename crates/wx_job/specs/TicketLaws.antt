@@ -3,10 +3,11 @@ use Rattle.std.specs.Prelude.{◌≡◌, ◌≢◌, ℕ, ◌+◌, ◌≤◌, ◌
 use Rattle.wx_control.specs.declared.id.Id.{Id}
 use Rattle.wx_control.specs.declared.level.Level.TheVariants.{Normal, High, Urgent}
 use Rattle.wx_journal.specs.declared.entry.Entry.{Entry}
-use Rattle.wx_journal.specs.declared.entry.Entry.TheVariants.{Made, Asked, Pick, GraceOver, Spawn, Signal, Kill, Wait, Raise, Hook}
+use Rattle.wx_journal.specs.declared.entry.Entry.TheVariants.{Made, Asked, Pick, GraceOver, Spawn, Signal, Kill, Wait, Raise, Run, Begun, Poll, Hook, JobError}
 use Rattle.wx_journal.specs.Names.{ticket_count}
+use Rattle.wx_job.specs.declared.function.Function.{Function}
 use Rattle.wx_job.specs.declared.grace.Grace.{Grace}
-use Rattle.wx_job.specs.History.{same, lives, waits, child, is_child, kept, grace, parked, in_hand, owner, has}
+use Rattle.wx_job.specs.History.{same, lives, waits, child, is_child, kept, grace, begun, parked, in_hand, owner, has}
 use Rattle.wx_job.specs.Laws.{NamesChildren, NamesTickets}
 use Rattle.wx_job.specs.Stands.{times, times_waiting}
 
@@ -38,12 +39,16 @@ pub record AreInOnePlace (p : List Entry) : Type 0 where
   pub one_place : (id : Id) (ticket : ℕ) → lives id p ≡ true → is_asked id ticket p ≡ true → spots id ticket p + raises_of ticket p ≡ 1
   pub raised_once : (ticket : ℕ) → raises_of ticket p ≤ 1
 
--- The ticket of the case in which a job is. A case begins where a control is picked, where a grace is over, and with the Wait of
--- a child whose end is kept, where the ticket of the case before isn't in hand any longer: that is the case of the end of the
--- child, and its ticket that of the grace that stands.
+-- The ticket of the case in which a job is. A case begins where a control is picked, where a grace is over, where a begun function
+-- is polled, and with the Wait of a child whose end is kept, where the ticket of the case before isn't in hand any longer: that
+-- is the case of the end of the child, and its ticket that of the grace that stands.
 abbrev pub ticket_of_grace : Option Grace → Option ℕ
 ticket_of_grace None = None
 ticket_of_grace (Some g) = Some g.ticket
+
+abbrev pub ticket_of_function : Option Function → Option ℕ
+ticket_of_function None = None
+ticket_of_function (Some f) = Some f.ticket
 
 abbrev pub is_held : Option ℕ → List ℕ → Bool
 is_held None tickets = false
@@ -56,6 +61,7 @@ abbrev pub case_ticket : Id → List Entry → Option ℕ
 case_ticket id [] = None
 case_ticket id (Pick job ticket ∷ p) = if same job id then Some ticket else case_ticket id p
 case_ticket id (GraceOver job ∷ p) = if same job id then ticket_of_grace (grace id p) else case_ticket id p
+case_ticket id (Poll job n ready ∷ p) = if same job id then ticket_of_function (begun id p) else case_ticket id p
 case_ticket id (Wait c answer ∷ p) = if is_child c (child id p) then wait_ticket (kept id p) (in_hand id p) (grace id p) (case_ticket id p) else case_ticket id p
 case_ticket id (_ ∷ p) = case_ticket id p
 
@@ -76,7 +82,11 @@ AreRaisedLast (Spawn c id tag what answer ∷ p) = IsUnraised (case_ticket id p)
 AreRaisedLast (Signal c number answer ∷ p) = IsUnraisedOf (owner c p) p × AreRaisedLast p
 AreRaisedLast (Kill c answer ∷ p) = IsUnraisedOf (owner c p) p × AreRaisedLast p
 AreRaisedLast (Wait c answer ∷ p) = IsUnraisedOf (owner c p) (Wait c answer ∷ p) × AreRaisedLast p
+AreRaisedLast (Run id n ∷ p) = IsUnraised (case_ticket id p) p × AreRaisedLast p
+AreRaisedLast (Begun id n ∷ p) = IsUnraised (case_ticket id p) p × AreRaisedLast p
+AreRaisedLast (Poll id n ready ∷ p) = IsUnraised (case_ticket id (Poll id n ready ∷ p)) (Poll id n ready ∷ p) × AreRaisedLast p
 AreRaisedLast (Hook id n answer ∷ p) = IsUnraised (case_ticket id p) p × AreRaisedLast p
+AreRaisedLast (JobError id n code ∷ p) = IsUnraised (case_ticket id p) p × AreRaisedLast p
 AreRaisedLast (_ ∷ p) = AreRaisedLast p
 
 -- a control of the level Normal is picked only where no grace stands
@@ -88,12 +98,27 @@ WaitForGraces [] = Unit {0}
 WaitForGraces (Pick id ticket ∷ p) = IsPressing id ticket p × WaitForGraces p
 WaitForGraces (_ ∷ p) = WaitForGraces p
 
+-- while a function is begun nothing is picked, no grace ends, and no child is waited for or spawned: it is polled before all
+-- else
+abbrev pub HasNoFunction : Option Id → List Entry → Type 0
+HasNoFunction None p = Unit {0}
+HasNoFunction (Some id) p = begun id p ≡ None
+
+abbrev pub WaitForFunctions : List Entry → Type 0
+WaitForFunctions [] = Unit {0}
+WaitForFunctions (Pick id ticket ∷ p) = (begun id p ≡ None) × WaitForFunctions p
+WaitForFunctions (GraceOver id ∷ p) = (begun id p ≡ None) × WaitForFunctions p
+WaitForFunctions (Spawn c id tag what answer ∷ p) = (begun id p ≡ None) × WaitForFunctions p
+WaitForFunctions (Kill c answer ∷ p) = HasNoFunction (owner c p) p × WaitForFunctions p
+WaitForFunctions (Wait c answer ∷ p) = HasNoFunction (owner c p) p × WaitForFunctions p
+WaitForFunctions (_ ∷ p) = WaitForFunctions p
+
 -- a grace stands only while a child runs
 abbrev pub GracesNeedChildren : List Entry → Type 0
 GracesNeedChildren p = (id : Id) (g : Grace) → grace id p ≡ Some g → child id p ≢ None
 
 -- What holds of the tickets of a journal whose jobs went by their plans. Names are the next ones; what wasn't asked is
--- nowhere, and what isn't named yet wasn't raised; the ticket of a grace is in hand.
+-- nowhere, and what isn't named yet wasn't raised; the ticket of a grace is in hand, and so is that of a begun function.
 pub record IsPlaced (p : List Entry) : Type 0 where
   pub children : NamesChildren p
   pub tickets : NamesTickets p
@@ -101,5 +126,7 @@ pub record IsPlaced (p : List Entry) : Type 0 where
   pub nowhere : (id : Id) (ticket : ℕ) → is_asked id ticket p ≡ false → spots id ticket p ≡ 0
   pub unnamed : (ticket : ℕ) → ticket_count p ≤ ticket → raises_of ticket p ≡ 0
   pub held : (id : Id) (g : Grace) → grace id p ≡ Some g → 1 ≤ times g.ticket (in_hand id p)
+  pub begins : (id : Id) (f : Function) → begun id p ≡ Some f → 1 ≤ times f.ticket (in_hand id p)
   pub last : AreRaisedLast p
   pub pressing : WaitForGraces p
+  pub polled : WaitForFunctions p

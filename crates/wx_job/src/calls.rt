@@ -7,10 +7,10 @@ ghost use Rattle.wx_journal.specs.Names.{moment, ticket_count};
 ghost use Rattle.wx_journal.specs.Told.{tell};
 ghost use Rattle.wx_job.specs.declared.state.CommandState.TheVariants.{Pending};
 ghost use Rattle.wx_job.specs.History.{finish, before_spawn, just_picked, begins_by};
-ghost use Rattle.wx_job.specs.Table.{Plan, Done, Words, Signals, Kills, Waits, Owes, adds, reap, waiters, spawn, fresh};
-ghost use Rattle.wx_job.specs.Case.{FollowsHost, Follows, GivesUp, HookedOnly, words_of};
+ghost use Rattle.wx_job.specs.Table.{Plan, Done, Words, Signals, Kills, Waits, adds, shows, tries, reap, waiters, spawn, fresh};
+ghost use Rattle.wx_job.specs.Case.{FollowsHost, FollowsHooks, Follows, GivesUp, HookedOnly, words_of, newest_code};
 ghost use Rattle.wx_job.specs.Kept.{Quiet, KeepsOn};
-ghost use Rattle.wx_job.specs.Steady.{AreSpare, Spends};
+ghost use Rattle.wx_job.specs.Steady.{AreSpare, Spends, HaveRoom, UseRoom};
 ghost use Rattle.wx_job.specs.Stands.{Stands, kit_of, child_of, grace_of, holds};
 
 use crate::context::JobTaskContext;
@@ -67,21 +67,47 @@ impl JobTask {
         }
     }
 
+    /// Shows the fault that the journal's newest entry holds to the error handler, where one is set.
+    fn show<K: JobHooks>(&self, fault: HostFault, hooks: &mut K, journal: &mut Journal)
+        requires stands { Stands self.now journal.old.past }
+        requires newest { newest_code journal.old.past ≡ fault.0 }
+        requires journal_room { 1 ≤ journal.old.spare }
+        requires hooks_room { 1 ≤ (K.seen hooks.old).spare }
+        ensures stands { Stands self.now journal.new.past }
+        ensures follows { (k : Plan) → FollowsHooks (shows self.now.id self.now.handler k) journal.old.past (K.seen hooks.old).told k journal.new.past (K.seen hooks.new).told }
+        ensures keeps { KeepsOn K.seen K.rule K.stands hooks.old journal.old.past hooks.new journal.new.past }
+        ensures now { moment journal.new.past ≡ moment journal.old.past }
+        ensures journal_room { journal.old.spare ≤ journal.new.spare + 1 }
+        ensures hooks_room { (K.seen hooks.old).spare ≤ (K.seen hooks.new).spare + 1 }
+    {
+        let Some(n) = self.handler else {
+            return;
+        };
+        let job = self.id;
+        hooks.job_error(job, n, fault);
+        journal.push(Entry::JobError {
+            job,
+            n,
+            code: fault.0,
+        });
+    }
+
     /// Sends the signal of this number to the child, whatever comes of it. The grace stays as it is.
-    pub(crate) fn signal<H: Host>(
+    pub(crate) fn signal<H: Host, K: JobHooks>(
         &self,
         child: u64,
         number: i32,
         host: &mut H,
+        hooks: &mut K,
         journal: &mut Journal,
     )
         requires stands { Stands self.now journal.old.past }
         requires begins { begins_by (just_picked self.now.id journal.old.past) (moment journal.old.past) (grace_of self.now) ≡ grace_of self.now }
-        requires room { AreSpare 1 journal.old (H.seen host.old) }
+        requires room { HaveRoom 2 1 journal.old (H.seen host.old) (K.seen hooks.old) }
         ensures stands { Stands self.now journal.new.past }
-        ensures follows { (k : Plan) → FollowsHost (Owes (Signals child number) k k) journal.old.past (H.seen host.old) k journal.new.past (H.seen host.new) }
-        ensures quiet { Quiet journal.old.past journal.new.past }
-        ensures spends { Spends 1 journal.old (H.seen host.old) journal.new (H.seen host.new) }
+        ensures follows { (k : Plan) → Follows (tries self.now.id self.now.handler (Signals child number) k k) journal.old.past (H.seen host.old) (K.seen hooks.old).told k journal.new.past (H.seen host.new) (K.seen hooks.new).told }
+        ensures keeps { KeepsOn K.seen K.rule K.stands hooks.old journal.old.past hooks.new journal.new.past }
+        ensures uses { UseRoom 2 1 journal.old (H.seen host.old) (K.seen hooks.old) journal.new (H.seen host.new) (K.seen hooks.new) }
     {
         let answer = host.signal(child, number);
         journal.push(Entry::Signal {
@@ -89,16 +115,20 @@ impl JobTask {
             number,
             answer,
         });
+        if let Err(fault) = answer {
+            self.show(fault, hooks, journal);
+        }
     }
 
     /// Sends the signal of this number to the child, in the case of a control that begins this grace. Where that is done
     /// the grace stands, and else it is given back.
-    pub(crate) fn begin<H: Host>(
+    pub(crate) fn begin<H: Host, K: JobHooks>(
         &mut self,
         child: u64,
         number: i32,
         standing: Standing,
         host: &mut H,
+        hooks: &mut K,
         journal: &mut Journal,
     ) -> Option<Standing>
         requires stands { Stands self.old journal.old.past }
@@ -107,14 +137,14 @@ impl JobTask {
         requires begins { begins_by (just_picked self.old.id journal.old.past) (moment journal.old.past) (grace_of self.old) ≡ Some standing.grace }
         requires unheld { holds standing.grace.ticket self.old ≡ 0 }
         requires named { standing.grace.ticket < ticket_count journal.old.past }
-        requires room { AreSpare 1 journal.old (H.seen host.old) }
+        requires room { HaveRoom 2 1 journal.old (H.seen host.old) (K.seen hooks.old) }
         ensures stands { Stands self.new journal.new.past }
-        ensures begun { IfNone result ((k : Plan) (f : Plan) → FollowsHost (Owes (Signals child number) k f) journal.old.past (H.seen host.old) k journal.new.past (H.seen host.new)) }
-        ensures failed { IfSome result (λ back. (k : Plan) (f : Plan) → FollowsHost (Owes (Signals child number) k f) journal.old.past (H.seen host.old) f journal.new.past (H.seen host.new)) }
+        ensures begun { IfNone result ((k : Plan) (f : Plan) → Follows (tries self.old.id self.old.handler (Signals child number) k f) journal.old.past (H.seen host.old) (K.seen hooks.old).told k journal.new.past (H.seen host.new) (K.seen hooks.new).told) }
+        ensures failed { IfSome result (λ back. (k : Plan) (f : Plan) → Follows (tries self.old.id self.old.handler (Signals child number) k f) journal.old.past (H.seen host.old) (K.seen hooks.old).told f journal.new.past (H.seen host.new) (K.seen hooks.new).told) }
         ensures back { IfSome result (λ back. (back ≡ standing) × (self.new ≡ self.old)) }
         ensures fields { self.new ≡ record self.old { grace = self.new.grace } }
-        ensures quiet { Quiet journal.old.past journal.new.past }
-        ensures spends { Spends 1 journal.old (H.seen host.old) journal.new (H.seen host.new) }
+        ensures keeps { KeepsOn K.seen K.rule K.stands hooks.old journal.old.past hooks.new journal.new.past }
+        ensures uses { UseRoom 2 1 journal.old (H.seen host.old) (K.seen hooks.old) journal.new (H.seen host.new) (K.seen hooks.new) }
     {
         let answer = host.signal(child, number);
         journal.push(Entry::Signal {
@@ -122,7 +152,8 @@ impl JobTask {
             number,
             answer,
         });
-        if answer.is_err() {
+        if let Err(fault) = answer {
+            self.show(fault, hooks, journal);
             return Some(standing);
         }
         self.grace = Some(standing);
@@ -130,41 +161,47 @@ impl JobTask {
     }
 
     /// Kills the child.
-    pub(crate) fn kill<H: Host>(
+    pub(crate) fn kill<H: Host, K: JobHooks>(
         &self,
         child: u64,
         host: &mut H,
+        hooks: &mut K,
         journal: &mut Journal,
     ) -> Result<(), HostFault>
         requires stands { Stands self.now journal.old.past }
-        requires room { AreSpare 1 journal.old (H.seen host.old) }
+        requires room { HaveRoom 2 1 journal.old (H.seen host.old) (K.seen hooks.old) }
         ensures stands { Stands self.now journal.new.past }
-        ensures ok { OnOk result ((k : Plan) (f : Plan) → FollowsHost (Owes (Kills child) k f) journal.old.past (H.seen host.old) k journal.new.past (H.seen host.new)) }
-        ensures err { OnErr result ((k : Plan) (f : Plan) → FollowsHost (Owes (Kills child) k f) journal.old.past (H.seen host.old) f journal.new.past (H.seen host.new)) }
-        ensures quiet { Quiet journal.old.past journal.new.past }
-        ensures spends { Spends 1 journal.old (H.seen host.old) journal.new (H.seen host.new) }
+        ensures ok { OnOk result ((k : Plan) (f : Plan) → Follows (tries self.now.id self.now.handler (Kills child) k f) journal.old.past (H.seen host.old) (K.seen hooks.old).told k journal.new.past (H.seen host.new) (K.seen hooks.new).told) }
+        ensures err { OnErr result ((k : Plan) (f : Plan) → Follows (tries self.now.id self.now.handler (Kills child) k f) journal.old.past (H.seen host.old) (K.seen hooks.old).told f journal.new.past (H.seen host.new) (K.seen hooks.new).told) }
+        ensures keeps { KeepsOn K.seen K.rule K.stands hooks.old journal.old.past hooks.new journal.new.past }
+        ensures uses { UseRoom 2 1 journal.old (H.seen host.old) (K.seen hooks.old) journal.new (H.seen host.new) (K.seen hooks.new) }
     {
         let answer = host.kill(child);
         journal.push(Entry::Kill { child, answer });
-        answer
+        if let Err(fault) = answer {
+            self.show(fault, hooks, journal);
+            return Err(fault);
+        }
+        Ok(())
     }
 
     /// Waits for the child's end, which is kept no longer. Where that is done a grace that stood has ended, and is answered.
-    pub(crate) fn wait<H: Host>(
+    pub(crate) fn wait<H: Host, K: JobHooks>(
         &mut self,
         child: u64,
         at: u64,
         host: &mut H,
+        hooks: &mut K,
         journal: &mut Journal,
     ) -> Result<Option<Standing>, HostFault>
         requires stands { Stands self.old journal.old.past }
         requires runs { child_of self.old.state ≡ Some child }
         requires here { self.old.gone ≡ false }
         requires at { moment journal.old.past ≡ at }
-        requires room { AreSpare 1 journal.old (H.seen host.old) }
+        requires room { HaveRoom 2 1 journal.old (H.seen host.old) (K.seen hooks.old) }
         ensures stands { Stands self.new journal.new.past }
-        ensures ok { OnOk result ((k : Plan) (f : Plan) → FollowsHost (Owes (Waits child) k f) journal.old.past (H.seen host.old) k journal.new.past (H.seen host.new)) }
-        ensures err { OnErr result ((k : Plan) (f : Plan) → FollowsHost (Owes (Waits child) k f) journal.old.past (H.seen host.old) f journal.new.past (H.seen host.new)) }
+        ensures ok { OnOk result ((k : Plan) (f : Plan) → Follows (tries self.old.id self.old.handler (Waits child) k f) journal.old.past (H.seen host.old) (K.seen hooks.old).told k journal.new.past (H.seen host.new) (K.seen hooks.new).told) }
+        ensures err { OnErr result ((k : Plan) (f : Plan) → Follows (tries self.old.id self.old.handler (Waits child) k f) journal.old.past (H.seen host.old) (K.seen hooks.old).told f journal.new.past (H.seen host.new) (K.seen hooks.new).told) }
         ensures fields { self.new ≡ record self.old { state = self.new.state; kept = self.new.kept; grace = self.new.grace } }
         ensures runs { OnErr result (self.new.state ≡ self.old.state) }
         ensures stays { OnErr result (self.new.grace ≡ self.old.grace) }
@@ -172,9 +209,9 @@ impl JobTask {
         ensures unheld { IfOk result (λ standing. IfSome standing (λ s. holds s.grace.ticket self.new ≡ 0)) }
         ensures none { OnOk result ((child_of self.new.state ≡ None) × (grace_of self.new ≡ None)) }
         ensures held { (t : ℕ) → holds t self.new ≤ holds t self.old }
-        ensures before { before_spawn self.new.id journal.new.past ≡ self.new.state }
-        ensures quiet { Quiet journal.old.past journal.new.past }
-        ensures spends { Spends 1 journal.old (H.seen host.old) journal.new (H.seen host.new) }
+        ensures before { OnOk result (before_spawn self.new.id journal.new.past ≡ self.new.state) }
+        ensures keeps { KeepsOn K.seen K.rule K.stands hooks.old journal.old.past hooks.new journal.new.past }
+        ensures uses { UseRoom 2 1 journal.old (H.seen host.old) (K.seen hooks.old) journal.new (H.seen host.new) (K.seen hooks.new) }
     {
         let answer = host.wait(child);
         journal.push(Entry::Wait { child, answer });
@@ -184,20 +221,23 @@ impl JobTask {
                 self.state = finished(child, status, at, self.state);
                 Ok(self.grace.take())
             }
-            Err(fault) => Err(fault),
+            Err(fault) => {
+                self.show(fault, hooks, journal);
+                Err(fault)
+            }
         }
     }
 
     /// Kills the child and waits for it. Where both are done a grace that stood has ended, and is answered. Where they
     /// aren't it raises the ticket.
-    #[tactic(auto, using(crate::proofs::Sets::steps, crate::proofs::KeptLemmas::quiets))]
-    pub(crate) fn reap<H: Host>(
+    pub(crate) fn reap<H: Host, K: JobHooks>(
         &mut self,
         child: u64,
         ticket: u64,
         done: &Flag,
         at: u64,
         host: &mut H,
+        hooks: &mut K,
         journal: &mut Journal,
     ) -> Result<Option<Standing>, HostFault>
         requires stands { Stands self.old journal.old.past }
@@ -205,10 +245,10 @@ impl JobTask {
         requires runs { child_of self.old.state ≡ Some child }
         requires here { self.old.gone ≡ false }
         requires at { moment journal.old.past ≡ at }
-        requires room { AreSpare 3 journal.old (H.seen host.old) }
+        requires room { HaveRoom 5 2 journal.old (H.seen host.old) (K.seen hooks.old) }
         ensures stands { Stands self.new journal.new.past }
-        ensures ok { OnOk result ((k : Plan) → FollowsHost (reap child ticket k) journal.old.past (H.seen host.old) k journal.new.past (H.seen host.new)) }
-        ensures err { OnErr result ((k : Plan) → FollowsHost (reap child ticket k) journal.old.past (H.seen host.old) Done journal.new.past (H.seen host.new)) }
+        ensures ok { OnOk result ((k : Plan) → Follows (reap self.old.id self.old.handler child ticket k) journal.old.past (H.seen host.old) (K.seen hooks.old).told k journal.new.past (H.seen host.new) (K.seen hooks.new).told) }
+        ensures err { OnErr result ((k : Plan) → Follows (reap self.old.id self.old.handler child ticket k) journal.old.past (H.seen host.old) (K.seen hooks.old).told Done journal.new.past (H.seen host.new) (K.seen hooks.new).told) }
         ensures fields { self.new ≡ record self.old { state = self.new.state; kept = self.new.kept; grace = self.new.grace } }
         ensures runs { OnErr result (self.new.state ≡ self.old.state) }
         ensures ended { IfOk result (λ standing. option_map (λ s. s.grace) standing ≡ grace_of self.old) }
@@ -216,14 +256,14 @@ impl JobTask {
         ensures none { OnOk result ((child_of self.new.state ≡ None) × (grace_of self.new ≡ None)) }
         ensures held { (t : ℕ) → holds t self.new ≤ holds t self.old }
         ensures before { before_spawn self.new.id journal.new.past ≡ self.new.state }
-        ensures quiet { Quiet journal.old.past journal.new.past }
-        ensures spends { Spends 3 journal.old (H.seen host.old) journal.new (H.seen host.new) }
+        ensures keeps { KeepsOn K.seen K.rule K.stands hooks.old journal.old.past hooks.new journal.new.past }
+        ensures uses { UseRoom 5 2 journal.old (H.seen host.old) (K.seen hooks.old) journal.new (H.seen host.new) (K.seen hooks.new) }
     {
-        if let Err(fault) = self.kill(child, host, journal) {
+        if let Err(fault) = self.kill(child, host, hooks, journal) {
             self.raise(ticket, done, host, journal);
             return Err(fault);
         }
-        match self.wait(child, at, host, journal) {
+        match self.wait(child, at, host, hooks, journal) {
             Ok(standing) => Ok(standing),
             Err(fault) => {
                 self.raise(ticket, done, host, journal);
@@ -234,13 +274,14 @@ impl JobTask {
 
     /// Spawns a child. What is spawned is given twice, for the call and for its entry. `before` is the state before it, or
     /// before the hook that was called for it.
-    pub(crate) fn spawn<H: Host>(
+    pub(crate) fn spawn<H: Host, K: JobHooks>(
         &mut self,
         what: Spawnable,
         listed: Spawnable,
         before: CommandState,
         at: u64,
         host: &mut H,
+        hooks: &mut K,
         journal: &mut Journal,
     )
         requires stands { Stands self.old journal.old.past }
@@ -249,12 +290,12 @@ impl JobTask {
         requires at { moment journal.old.past ≡ at }
         requires listed { listed ≡ what }
         requires before { before ≡ before_spawn self.old.id journal.old.past }
-        requires room { AreSpare 1 journal.old (H.seen host.old) }
+        requires room { HaveRoom 2 1 journal.old (H.seen host.old) (K.seen hooks.old) }
         ensures stands { Stands self.new journal.new.past }
-        ensures follows { (words : Words) → words_of journal.old.past words ≡ what → (k : Plan) → FollowsHost (spawn self.old.id self.old.tag words k) journal.old.past (H.seen host.old) k journal.new.past (H.seen host.new) }
+        ensures follows { (words : Words) → words_of journal.old.past words ≡ what → (k : Plan) → Follows (spawn self.old.id self.old.handler self.old.tag words k) journal.old.past (H.seen host.old) (K.seen hooks.old).told k journal.new.past (H.seen host.new) (K.seen hooks.new).told }
         ensures fields { self.new ≡ record self.old { state = self.new.state; previous = self.new.previous; kept = self.new.kept } }
-        ensures quiet { Quiet journal.old.past journal.new.past }
-        ensures spends { Spends 1 journal.old (H.seen host.old) journal.new (H.seen host.new) }
+        ensures keeps { KeepsOn K.seen K.rule K.stands hooks.old journal.old.past hooks.new journal.new.past }
+        ensures uses { UseRoom 2 1 journal.old (H.seen host.old) (K.seen hooks.old) journal.new (H.seen host.new) (K.seen hooks.new) }
     {
         let child = journal.children();
         let answer = host.spawn(child, self.id, what, self.tag);
@@ -266,11 +307,15 @@ impl JobTask {
             answer,
         });
         self.previous = Some(before);
-        if answer.is_ok() {
-            self.state = CommandState::Running { child, started: at };
-            self.kept = false;
-        } else {
-            self.state = CommandState::Pending;
+        match answer {
+            Ok(()) => {
+                self.state = CommandState::Running { child, started: at };
+                self.kept = false;
+            }
+            Err(fault) => {
+                self.state = CommandState::Pending;
+                self.show(fault, hooks, journal);
+            }
         }
     }
 
@@ -344,24 +389,22 @@ impl JobTask {
         requires what { what ≡ spawnable_of self.old.command }
         requires listed { listed ≡ what }
         requires before { before_spawn self.old.id journal.old.past ≡ self.old.state }
-        requires room { AreSpare 2 journal.old (H.seen host.old) }
-        requires hooks_room { 1 ≤ (K.seen hooks.old).spare }
+        requires room { HaveRoom 3 2 journal.old (H.seen host.old) (K.seen hooks.old) }
         ensures stands { Stands self.new journal.new.past }
         ensures ok { OnOk result ((k : Plan) → Follows (fresh self.old.id (kit_of self.old) k) journal.old.past (H.seen host.old) (K.seen hooks.old).told k journal.new.past (H.seen host.new) (K.seen hooks.new).told) }
         ensures err { OnErr result ((k : Plan) → GivesUp (fresh self.old.id (kit_of self.old) k) journal.old.past (H.seen host.old) (K.seen hooks.old).told journal.new.past (H.seen host.new) (K.seen hooks.new).told) }
         ensures pending { OnErr result (self.new.state ≡ Pending) }
         ensures fields { self.new ≡ record self.old { state = self.new.state; previous = self.new.previous; kept = self.new.kept } }
         ensures keeps { KeepsOn K.seen K.rule K.stands hooks.old journal.old.past hooks.new journal.new.past }
-        ensures spends { Spends 2 journal.old (H.seen host.old) journal.new (H.seen host.new) }
-        ensures hooks_room { (K.seen hooks.old).spare ≤ (K.seen hooks.new).spare + 1 }
+        ensures uses { UseRoom 3 2 journal.old (H.seen host.old) (K.seen hooks.old) journal.new (H.seen host.new) (K.seen hooks.new) }
     {
         let before = self.state;
         let Some(n) = self.hook else {
-            self.spawn(what, listed, before, at, host, journal);
+            self.spawn(what, listed, before, at, host, hooks, journal);
             return Ok(());
         };
         let (what, listed) = self.call_hook(alloc, n, what, hooks, journal)?;
-        self.spawn(what, listed, before, at, host, journal);
+        self.spawn(what, listed, before, at, host, hooks, journal);
         Ok(())
     }
 }

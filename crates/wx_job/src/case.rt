@@ -1,20 +1,22 @@
 // The cases of a job: what it does with what it picked.
 ghost use Rattle.std.specs.Prelude.{◌≡◌, ℕ, ◌+◌, ◌<◌, ◌≤◌, ◌∷◌, OnOk, OnErr, IfOk, IfSome, IfNone, Option, Some, None, is_some, true, false, length};
-ghost use Rattle.wx_control.specs.declared.control.Control.TheVariants.{Stop, Delete};
+ghost use Rattle.wx_control.specs.declared.control.Control.TheVariants.{Stop, Delete, AsyncFunc};
 ghost use Rattle.wx_control.specs.Waits.{picked, first_of};
 ghost use Rattle.wx_journal.specs.declared.entry.Entry.{Entry};
 ghost use Rattle.wx_journal.specs.Names.{moment, ticket_count};
 ghost use Rattle.wx_job.specs.declared.grace.Grace.{Grace as the-Grace};
 ghost use Rattle.wx_job.specs.declared.state.CommandState.TheVariants.{Pending};
-ghost use Rattle.wx_job.specs.History.{before_spawn, just_picked, begins_by, set_hook, set_tag};
-ghost use Rattle.wx_job.specs.Table.{Plan, Done, reap, waiters, row, graceful, signalled, over, ended, number_of, spawns, deletes, is_restart, is_spawning, is_deletion, is_parking, case};
+ghost use Rattle.wx_job.specs.History.{before_spawn, just_picked, begins_by, set_hook, set_handler, set_tag};
+ghost use Rattle.wx_job.specs.Table.{Plan, Done, adds, raises, reap, waiters, row, graceful, signalled, over, ended, polled, number_of, spawns, deletes, is_restart, is_spawning, is_deletion, is_parking, case};
 ghost use Rattle.wx_job.specs.Prepared.{twice, prepared, prepared_for, fresh_or, fresh_in};
-ghost use Rattle.wx_job.specs.Case.{FollowsHost, Follows, GivesUp};
-ghost use Rattle.wx_job.specs.Kept.{Quiet, KeepsOn};
-ghost use Rattle.wx_job.specs.Steady.{AreSpare, Spends};
-ghost use Rattle.wx_job.specs.Stands.{Stands, Stops, SameJob, kit_of, child_of, grace_of, holds, choice_of};
+ghost use Rattle.wx_job.specs.Case.{FollowsHost, FollowsHooks, Follows, GivesUp};
+ghost use Rattle.wx_job.specs.Kept.{KeepsOn};
+ghost use Rattle.wx_job.specs.Steady.{AreSpare, Spends, HaveRoom, UseRoom};
+ghost use Rattle.wx_job.specs.Stands.{Stands, Stops, SameJob, kit_of, child_of, grace_of, begun_of, holds, choice_of};
 
 use crate::choice::Choice;
+use crate::context::JobTaskContext;
+use crate::function::{Begun, Function};
 use crate::grace::{Grace, Standing};
 use crate::outside::{Host, JobHooks};
 use crate::state::CommandState;
@@ -46,8 +48,7 @@ impl JobTask {
         requires what { what ≡ twice self.old.command (is_some what) }
         requires runs { IfSome what (λ two. child_of self.old.state ≡ None) }
         requires before { before_spawn self.old.id journal.old.past ≡ self.old.state }
-        requires room { AreSpare (3) journal.old (H.seen host.old) }
-        requires hooks_room { 1 ≤ (K.seen hooks.old).spare }
+        requires room { HaveRoom (4) 2 journal.old (H.seen host.old) (K.seen hooks.old) }
         ensures stands { Stands self.new journal.new.past }
         ensures ok { OnOk result (Follows (fresh_or (is_some what) self.old.id (kit_of self.old) ticket) journal.old.past (H.seen host.old) (K.seen hooks.old).told Done journal.new.past (H.seen host.new) (K.seen hooks.new).told) }
         ensures err { OnErr result (GivesUp (fresh_or (is_some what) self.old.id (kit_of self.old) ticket) journal.old.past (H.seen host.old) (K.seen hooks.old).told journal.new.past (H.seen host.new) (K.seen hooks.new).told) }
@@ -55,8 +56,7 @@ impl JobTask {
         ensures pending { OnErr result (self.new.state ≡ Pending) }
         ensures fields { self.new ≡ record self.old { state = self.new.state; previous = self.new.previous; kept = self.new.kept } }
         ensures keeps { KeepsOn K.seen K.rule K.stands hooks.old journal.old.past hooks.new journal.new.past }
-        ensures spends { Spends (3) journal.old (H.seen host.old) journal.new (H.seen host.new) }
-        ensures hooks_room { (K.seen hooks.old).spare ≤ (K.seen hooks.new).spare + 1 }
+        ensures uses { UseRoom (4) 2 journal.old (H.seen host.old) (K.seen hooks.old) journal.new (H.seen host.new) (K.seen hooks.new) }
     {
         if let Some((what, listed)) = what {
             self.fresh(alloc, what, listed, at, host, hooks, journal)?;
@@ -66,26 +66,28 @@ impl JobTask {
     }
 
     /// The case of Stop.
-    fn stop<H: Host>(
+    fn stop<H: Host, K: JobHooks>(
         &mut self,
         ticket: u64,
         done: &Flag,
         at: u64,
         host: &mut H,
+        hooks: &mut K,
         journal: &mut Journal,
     )
         requires stands { Stands self.old journal.old.past }
         requires here { self.old.gone ≡ false }
         requires unheld { holds ticket self.old ≡ 0 }
         requires at { moment journal.old.past ≡ at }
-        requires room { AreSpare (5 + length self.old.parked.tickets) journal.old (H.seen host.old) }
+        requires room { HaveRoom (7 + length self.old.parked.tickets) 2 journal.old (H.seen host.old) (K.seen hooks.old) }
         ensures stands { Stands self.new journal.new.past }
-        ensures follows { FollowsHost (row self.old.id (kit_of self.old) ticket Stop (child_of self.old.state)) journal.old.past (H.seen host.old) Done journal.new.past (H.seen host.new) }
+        ensures follows { Follows (row self.old.id (kit_of self.old) ticket Stop (child_of self.old.state)) journal.old.past (H.seen host.old) (K.seen hooks.old).told Done journal.new.past (H.seen host.new) (K.seen hooks.new).told }
         ensures fields { self.new ≡ record self.old { state = self.new.state; kept = self.new.kept; grace = self.new.grace; parked = self.new.parked } }
-        ensures spends { Spends (5 + length self.old.parked.tickets) journal.old (H.seen host.old) journal.new (H.seen host.new) }
+        ensures keeps { KeepsOn K.seen K.rule K.stands hooks.old journal.old.past hooks.new journal.new.past }
+        ensures uses { UseRoom (7 + length self.old.parked.tickets) 2 journal.old (H.seen host.old) (K.seen hooks.old) journal.new (H.seen host.new) (K.seen hooks.new) }
     {
         if let Some(child) = child_of(self.state) {
-            let Ok(standing) = self.reap(child, ticket, done, at, host, journal) else {
+            let Ok(standing) = self.reap(child, ticket, done, at, host, hooks, journal) else {
                 return;
             };
             self.raise_parked(host, journal);
@@ -97,14 +99,14 @@ impl JobTask {
     }
 
     /// The cases of GracefulStop and TryGracefulRestart: the child is sent a signal, and is given a grace.
-    #[tactic(auto, using(crate::proofs::Sets::steps, crate::proofs::KeptLemmas::quiets))]
-    fn graceful<H: Host>(
+    fn graceful<H: Host, K: JobHooks>(
         &mut self,
         picked: Picked,
         signal: Signal,
         ends: u128,
         restarts: bool,
         host: &mut H,
+        hooks: &mut K,
         journal: &mut Journal,
     )
         requires stands { Stands self.old journal.old.past }
@@ -112,12 +114,12 @@ impl JobTask {
         requires unheld { holds picked.ticket self.old ≡ 0 }
         requires named { picked.ticket < ticket_count journal.old.past }
         requires begins { begins_by (just_picked self.old.id journal.old.past) (moment journal.old.past) (grace_of self.old) ≡ Some (record { ends = ends; ticket = picked.ticket; restarts = restarts }) }
-        requires room { AreSpare (2) journal.old (H.seen host.old) }
+        requires room { HaveRoom (3) 1 journal.old (H.seen host.old) (K.seen hooks.old) }
         ensures stands { Stands self.new journal.new.past }
-        ensures follows { FollowsHost (graceful signal picked.ticket (child_of self.old.state)) journal.old.past (H.seen host.old) Done journal.new.past (H.seen host.new) }
+        ensures follows { Follows (graceful self.old.id self.old.handler signal picked.ticket (child_of self.old.state)) journal.old.past (H.seen host.old) (K.seen hooks.old).told Done journal.new.past (H.seen host.new) (K.seen hooks.new).told }
         ensures fields { self.new ≡ record self.old { grace = self.new.grace } }
-        ensures quiet { Quiet journal.old.past journal.new.past }
-        ensures spends { Spends (2) journal.old (H.seen host.old) journal.new (H.seen host.new) }
+        ensures keeps { KeepsOn K.seen K.rule K.stands hooks.old journal.old.past hooks.new journal.new.past }
+        ensures uses { UseRoom (3) 1 journal.old (H.seen host.old) (K.seen hooks.old) journal.new (H.seen host.new) (K.seen hooks.new) }
     {
         let Some(child) = child_of(self.state) else {
             self.raise(picked.ticket, &picked.done, host, journal);
@@ -132,7 +134,7 @@ impl JobTask {
             done: picked.done,
         };
         let number = number_of(signal);
-        if let Some(back) = self.begin(child, number, standing, host, journal) {
+        if let Some(back) = self.begin(child, number, standing, host, hooks, journal) {
             self.raise(back.grace.ticket, &back.done, host, journal);
         }
     }
@@ -156,19 +158,20 @@ impl JobTask {
         requires runs { child_of self.old.state ≡ Some child }
         requires at { moment journal.old.past ≡ at }
         requires what { what ≡ twice self.old.command (is_some what) }
-        requires room { AreSpare (6 + length self.old.parked.tickets) journal.old (H.seen host.old) }
-        requires hooks_room { 1 ≤ (K.seen hooks.old).spare }
+        requires room { HaveRoom (9 + length self.old.parked.tickets) 4 journal.old (H.seen host.old) (K.seen hooks.old) }
         ensures stands { Stands self.new journal.new.past }
-        ensures ok { OnOk result (Follows (reap child ticket (waiters self.old.parked.tickets (fresh_or (is_some what) self.old.id (kit_of self.old) ticket))) journal.old.past (H.seen host.old) (K.seen hooks.old).told Done journal.new.past (H.seen host.new) (K.seen hooks.new).told) }
-        ensures err { OnErr result (GivesUp (reap child ticket (waiters self.old.parked.tickets (fresh_or (is_some what) self.old.id (kit_of self.old) ticket))) journal.old.past (H.seen host.old) (K.seen hooks.old).told journal.new.past (H.seen host.new) (K.seen hooks.new).told) }
+        ensures ok { OnOk result (Follows (reap self.old.id self.old.handler child ticket (waiters self.old.parked.tickets (fresh_or (is_some what) self.old.id (kit_of self.old) ticket))) journal.old.past (H.seen host.old) (K.seen hooks.old).told Done journal.new.past (H.seen host.new) (K.seen hooks.new).told) }
+        ensures err { OnErr result (GivesUp (reap self.old.id self.old.handler child ticket (waiters self.old.parked.tickets (fresh_or (is_some what) self.old.id (kit_of self.old) ticket))) journal.old.past (H.seen host.old) (K.seen hooks.old).told journal.new.past (H.seen host.new) (K.seen hooks.new).told) }
         ensures memory { OnErr result (is_some what ≡ true) }
         ensures pending { OnErr result (self.new.state ≡ Pending) }
         ensures fields { self.new ≡ record self.old { state = self.new.state; previous = self.new.previous; kept = self.new.kept; grace = self.new.grace; parked = self.new.parked } }
         ensures keeps { KeepsOn K.seen K.rule K.stands hooks.old journal.old.past hooks.new journal.new.past }
-        ensures spends { Spends (6 + length self.old.parked.tickets) journal.old (H.seen host.old) journal.new (H.seen host.new) }
-        ensures hooks_room { (K.seen hooks.old).spare ≤ (K.seen hooks.new).spare + 1 }
+        ensures uses { UseRoom (9 + length self.old.parked.tickets) 4 journal.old (H.seen host.old) (K.seen hooks.old) journal.new (H.seen host.new) (K.seen hooks.new) }
     {
-        if self.reap(child, ticket, done, at, host, journal).is_err() {
+        if self
+            .reap(child, ticket, done, at, host, hooks, journal)
+            .is_err()
+        {
             return Ok(());
         }
         self.raise_parked(host, journal);
@@ -193,8 +196,7 @@ impl JobTask {
         requires at { moment journal.old.past ≡ at }
         requires what { what ≡ twice self.old.command (is_some what) }
         requires before { before_spawn self.old.id journal.old.past ≡ self.old.state }
-        requires room { AreSpare (6 + length self.old.parked.tickets) journal.old (H.seen host.old) }
-        requires hooks_room { 1 ≤ (K.seen hooks.old).spare }
+        requires room { HaveRoom (9 + length self.old.parked.tickets) 4 journal.old (H.seen host.old) (K.seen hooks.old) }
         ensures stands { Stands self.new journal.new.past }
         ensures ok { OnOk result (Follows (fresh_in self.old.id (kit_of self.old) picked.now.ticket (is_some what) (child_of self.old.state)) journal.old.past (H.seen host.old) (K.seen hooks.old).told Done journal.new.past (H.seen host.new) (K.seen hooks.new).told) }
         ensures err { OnErr result (GivesUp (fresh_in self.old.id (kit_of self.old) picked.now.ticket (is_some what) (child_of self.old.state)) journal.old.past (H.seen host.old) (K.seen hooks.old).told journal.new.past (H.seen host.new) (K.seen hooks.new).told) }
@@ -202,8 +204,7 @@ impl JobTask {
         ensures pending { OnErr result (self.new.state ≡ Pending) }
         ensures fields { self.new ≡ record self.old { state = self.new.state; previous = self.new.previous; kept = self.new.kept; grace = self.new.grace; parked = self.new.parked } }
         ensures keeps { KeepsOn K.seen K.rule K.stands hooks.old journal.old.past hooks.new journal.new.past }
-        ensures spends { Spends (6 + length self.old.parked.tickets) journal.old (H.seen host.old) journal.new (H.seen host.new) }
-        ensures hooks_room { (K.seen hooks.old).spare ≤ (K.seen hooks.new).spare + 1 }
+        ensures uses { UseRoom (9 + length self.old.parked.tickets) 4 journal.old (H.seen host.old) (K.seen hooks.old) journal.new (H.seen host.new) (K.seen hooks.new) }
     {
         let ticket = picked.ticket;
         let done = &picked.done;
@@ -214,27 +215,27 @@ impl JobTask {
     }
 
     /// The case of Signal.
-    #[tactic(auto, using(crate::proofs::Sets::steps, crate::proofs::KeptLemmas::quiets))]
-    fn send_signal<H: Host>(
+    fn send_signal<H: Host, K: JobHooks>(
         &mut self,
         picked: &Picked,
         signal: Signal,
         host: &mut H,
+        hooks: &mut K,
         journal: &mut Journal,
     )
         requires stands { Stands self.old journal.old.past }
         requires here { self.old.gone ≡ false }
         requires unheld { holds picked.now.ticket self.old ≡ 0 }
         requires begins { begins_by (just_picked self.old.id journal.old.past) (moment journal.old.past) (grace_of self.old) ≡ grace_of self.old }
-        requires room { AreSpare (2) journal.old (H.seen host.old) }
+        requires room { HaveRoom (3) 1 journal.old (H.seen host.old) (K.seen hooks.old) }
         ensures stands { Stands self.new journal.new.past }
-        ensures follows { FollowsHost (signalled signal picked.now.ticket (child_of self.old.state)) journal.old.past (H.seen host.old) Done journal.new.past (H.seen host.new) }
+        ensures follows { Follows (signalled self.old.id self.old.handler signal picked.now.ticket (child_of self.old.state)) journal.old.past (H.seen host.old) (K.seen hooks.old).told Done journal.new.past (H.seen host.new) (K.seen hooks.new).told }
         ensures fields { self.new ≡ self.old }
-        ensures quiet { Quiet journal.old.past journal.new.past }
-        ensures spends { Spends (2) journal.old (H.seen host.old) journal.new (H.seen host.new) }
+        ensures keeps { KeepsOn K.seen K.rule K.stands hooks.old journal.old.past hooks.new journal.new.past }
+        ensures uses { UseRoom (3) 1 journal.old (H.seen host.old) (K.seen hooks.old) journal.new (H.seen host.new) (K.seen hooks.new) }
     {
         if let Some(child) = child_of(self.state) {
-            self.signal(child, number_of(signal), host, journal);
+            self.signal(child, number_of(signal), host, hooks, journal);
         }
         self.raise(picked.ticket, &picked.done, host, journal);
     }
@@ -247,7 +248,7 @@ impl JobTask {
         requires room { AreSpare (3) journal.old (H.seen host.old) }
         ensures stands { Stands self.new journal.new.past }
         ensures follows { FollowsHost (row self.old.id (kit_of self.old) picked.now.ticket Delete (child_of self.old.state)) journal.old.past (H.seen host.old) Done journal.new.past (H.seen host.new) }
-        ensures fields { self.new ≡ record self.old { waiting = self.new.waiting; kept = false; gone = true; grace = None; parked = self.new.parked } }
+        ensures fields { self.new ≡ record self.old { waiting = self.new.waiting; kept = false; gone = true; grace = None; begun = None; parked = self.new.parked } }
         ensures spends { Spends (3) journal.old (H.seen host.old) journal.new (H.seen host.new) }
     {
         self.raise(picked.ticket, &picked.done, host, journal);
@@ -272,8 +273,7 @@ impl JobTask {
         requires stood { grace_of self.old ≡ Some grace }
         requires at { moment journal.old.past ≡ at }
         requires what { what ≡ twice self.old.command (grace.restarts) }
-        requires room { AreSpare (7 + length self.old.parked.tickets) journal.old (H.seen host.old) }
-        requires hooks_room { 1 ≤ (K.seen hooks.old).spare }
+        requires room { HaveRoom (10 + length self.old.parked.tickets) 4 journal.old (H.seen host.old) (K.seen hooks.old) }
         ensures stands { Stands self.new journal.new.past }
         ensures ok { OnOk result (Follows (over self.old.id (kit_of self.old) child grace) journal.old.past (H.seen host.old) (K.seen hooks.old).told Done journal.new.past (H.seen host.new) (K.seen hooks.new).told) }
         ensures err { OnErr result (GivesUp (over self.old.id (kit_of self.old) child grace) journal.old.past (H.seen host.old) (K.seen hooks.old).told journal.new.past (H.seen host.new) (K.seen hooks.new).told) }
@@ -281,8 +281,7 @@ impl JobTask {
         ensures pending { OnErr result (self.new.state ≡ Pending) }
         ensures fields { self.new ≡ record self.old { state = self.new.state; previous = self.new.previous; kept = self.new.kept; grace = self.new.grace; parked = self.new.parked } }
         ensures keeps { KeepsOn K.seen K.rule K.stands hooks.old journal.old.past hooks.new journal.new.past }
-        ensures spends { Spends (7 + length self.old.parked.tickets) journal.old (H.seen host.old) journal.new (H.seen host.new) }
-        ensures hooks_room { (K.seen hooks.old).spare ≤ (K.seen hooks.new).spare + 1 }
+        ensures uses { UseRoom (10 + length self.old.parked.tickets) 4 journal.old (H.seen host.old) (K.seen hooks.old) journal.new (H.seen host.new) (K.seen hooks.new) }
     {
         let Some(standing) = self.grace.take() else {
             unreachable!()
@@ -319,8 +318,7 @@ impl JobTask {
         requires runs { child_of self.old.state ≡ Some child }
         requires at { moment journal.old.past ≡ at }
         requires what { what ≡ twice self.old.command (is_restart (grace_of self.old)) }
-        requires room { AreSpare (4 + length self.old.parked.tickets) journal.old (H.seen host.old) }
-        requires hooks_room { 1 ≤ (K.seen hooks.old).spare }
+        requires room { HaveRoom (6 + length self.old.parked.tickets) 3 journal.old (H.seen host.old) (K.seen hooks.old) }
         ensures stands { Stands self.new journal.new.past }
         ensures ok { OnOk result (Follows (ended self.old.id (kit_of self.old) child) journal.old.past (H.seen host.old) (K.seen hooks.old).told Done journal.new.past (H.seen host.new) (K.seen hooks.new).told) }
         ensures err { OnErr result (GivesUp (ended self.old.id (kit_of self.old) child) journal.old.past (H.seen host.old) (K.seen hooks.old).told journal.new.past (H.seen host.new) (K.seen hooks.new).told) }
@@ -328,10 +326,9 @@ impl JobTask {
         ensures pending { OnErr result (self.new.state ≡ Pending) }
         ensures fields { self.new ≡ record self.old { state = self.new.state; previous = self.new.previous; kept = self.new.kept; grace = self.new.grace; parked = self.new.parked } }
         ensures keeps { KeepsOn K.seen K.rule K.stands hooks.old journal.old.past hooks.new journal.new.past }
-        ensures spends { Spends (4 + length self.old.parked.tickets) journal.old (H.seen host.old) journal.new (H.seen host.new) }
-        ensures hooks_room { (K.seen hooks.old).spare ≤ (K.seen hooks.new).spare + 1 }
+        ensures uses { UseRoom (6 + length self.old.parked.tickets) 3 journal.old (H.seen host.old) (K.seen hooks.old) journal.new (H.seen host.new) (K.seen hooks.new) }
     {
-        let Ok(standing) = self.wait(child, at, host, journal) else {
+        let Ok(standing) = self.wait(child, at, host, hooks, journal) else {
             return Ok(());
         };
         let Some(standing) = standing else {
@@ -349,11 +346,115 @@ impl JobTask {
         self.start(alloc, ticket, done, what, at, host, hooks, journal)
     }
 
+    /// The case of SyncFunc: the function of this number is called, and the ticket is raised.
+    fn run<H: Host, K: JobHooks>(
+        &self,
+        picked: &Picked,
+        n: u32,
+        host: &mut H,
+        hooks: &mut K,
+        journal: &mut Journal,
+    )
+        requires stands { Stands self.now journal.old.past }
+        requires unheld { holds picked.now.ticket self.now ≡ 0 }
+        requires room { HaveRoom 2 1 journal.old (H.seen host.old) (K.seen hooks.old) }
+        ensures stands { Stands self.now journal.new.past }
+        ensures follows { Follows (adds (Entry.Run self.now.id n) (raises picked.now.ticket)) journal.old.past (H.seen host.old) (K.seen hooks.old).told Done journal.new.past (H.seen host.new) (K.seen hooks.new).told }
+        ensures keeps { KeepsOn K.seen K.rule K.stands hooks.old journal.old.past hooks.new journal.new.past }
+        ensures uses { UseRoom 2 1 journal.old (H.seen host.old) (K.seen hooks.old) journal.new (H.seen host.new) (K.seen hooks.new) }
+    {
+        let job = self.id;
+        hooks.run(job, n, &self.context());
+        journal.push(Entry::Run { job, n });
+        self.raise(picked.ticket, &picked.done, host, journal);
+    }
+
+    /// The case of AsyncFunc: the function of this number is begun, and holds the ticket.
+    fn begin_function<K: JobHooks>(
+        &mut self,
+        picked: Picked,
+        n: u32,
+        hooks: &mut K,
+        journal: &mut Journal,
+    )
+        requires stands { Stands self.old journal.old.past }
+        requires here { self.old.gone ≡ false }
+        requires just { just_picked self.old.id journal.old.past ≡ Some (picked.ticket, AsyncFunc n) }
+        requires unheld { holds picked.ticket self.old ≡ 0 }
+        requires named { picked.ticket < ticket_count journal.old.past }
+        requires none { begun_of self.old ≡ None }
+        requires journal_room { 1 ≤ journal.old.spare }
+        requires hooks_room { 1 ≤ (K.seen hooks.old).spare }
+        ensures stands { Stands self.new journal.new.past }
+        ensures follows { FollowsHooks (adds (Entry.Begun self.old.id n) Done) journal.old.past (K.seen hooks.old).told Done journal.new.past (K.seen hooks.new).told }
+        ensures fields { self.new ≡ record self.old { begun = self.new.begun } }
+        ensures keeps { KeepsOn K.seen K.rule K.stands hooks.old journal.old.past hooks.new journal.new.past }
+        ensures now { moment journal.new.past ≡ moment journal.old.past }
+        ensures journal_room { journal.old.spare ≤ journal.new.spare + 1 }
+        ensures hooks_room { (K.seen hooks.old).spare ≤ (K.seen hooks.new).spare + 1 }
+    {
+        let job = self.id;
+        hooks.begin(job, n, &self.context());
+        journal.push(Entry::Begun { job, n });
+        self.begun = Some(Begun {
+            function: Function {
+                n,
+                ticket: picked.ticket,
+            },
+            done: picked.done,
+        });
+    }
+
+    /// The case of a begun function: it is polled, and where it is ready the ticket that it holds is raised.
+    fn poll<H: Host, K: JobHooks>(
+        &mut self,
+        function: Function,
+        host: &mut H,
+        hooks: &mut K,
+        journal: &mut Journal,
+    )
+        requires stands { Stands self.old journal.old.past }
+        requires here { self.old.gone ≡ false }
+        requires begun { begun_of self.old ≡ Some function }
+        requires room { HaveRoom 2 1 journal.old (H.seen host.old) (K.seen hooks.old) }
+        ensures stands { Stands self.new journal.new.past }
+        ensures follows { Follows (polled self.old.id function) journal.old.past (H.seen host.old) (K.seen hooks.old).told Done journal.new.past (H.seen host.new) (K.seen hooks.new).told }
+        ensures fields { self.new ≡ record self.old { begun = self.new.begun } }
+        ensures keeps { KeepsOn K.seen K.rule K.stands hooks.old journal.old.past hooks.new journal.new.past }
+        ensures uses { UseRoom 2 1 journal.old (H.seen host.old) (K.seen hooks.old) journal.new (H.seen host.new) (K.seen hooks.new) }
+    {
+        let (job, n) = (self.id, function.n);
+        let ready = hooks.poll(job, n);
+        journal.push(Entry::Poll { job, n, ready });
+        if !ready {
+            journal.push(Entry::Word(Word::Later));
+            return;
+        }
+        let Some(begun) = self.begun.take() else {
+            unreachable!()
+        };
+        self.raise(function.ticket, &begun.done, host, journal);
+    }
+
+    /// What functions and hooks are shown of the job.
+    pub(crate) fn context(&self) -> JobTaskContext<'_>
+        ensures { result.command.now ≡ self.now.command }
+    {
+        JobTaskContext {
+            command: self.command.get(),
+            current: &self.state,
+            previous: self.previous.as_ref(),
+        }
+    }
+
     /// What a step picks at this moment.
     pub(crate) fn choose(&self, at: u64) -> Choice
         requires here { self.now.gone ≡ false }
         ensures chosen { result ≡ choice_of self.now at }
     {
+        if let Some(begun) = &self.begun {
+            return Choice::Poll(begun.function);
+        }
         if let Some(child) = child_of(self.state) {
             if let Some(standing) = &self.grace {
                 if standing.grace.ends <= at as u128 {
@@ -366,6 +467,7 @@ impl JobTask {
         }
         match self.waiting.first(self.grace.is_some()) {
             Some((ticket, control)) => Choice::Next { ticket, control },
+            None if self.closed && self.grace.is_none() => Choice::Leave,
             None => Choice::Nothing,
         }
     }
@@ -397,8 +499,8 @@ impl JobTask {
         }
     }
 
-    /// Takes the control that is picked out of those that wait. It sets or clears the spawn hook and what spawns. There is
-    /// none to do where its ticket is parked.
+    /// Takes the control that is picked out of those that wait. It sets or clears the spawn hook, the error handler
+    /// and what spawns. There is none to do where its ticket is parked.
     fn pick(&mut self, ticket: u64, control: Control, journal: &mut Journal) -> Option<Picked>
         requires stands { Stands self.old journal.old.past }
         requires here { self.old.gone ≡ false }
@@ -410,7 +512,7 @@ impl JobTask {
         ensures unheld { IfSome result (λ x. holds ticket self.new ≡ 0) }
         ensures entry { journal.new.past ≡ Entry.Pick self.old.id ticket ∷ journal.old.past }
         ensures just { just_picked self.old.id journal.new.past ≡ Some (ticket, control) }
-        ensures fields { self.new ≡ record self.old { waiting = self.new.waiting; parked = self.new.parked; hook = set_hook (Some control) self.old.hook; tag = set_tag (Some control) self.old.tag } }
+        ensures fields { self.new ≡ record self.old { waiting = self.new.waiting; parked = self.new.parked; hook = set_hook (Some control) self.old.hook; handler = set_handler (Some control) self.old.handler; tag = set_tag (Some control) self.old.tag } }
         ensures kept { IfSome result (λ x. self.new.parked ≡ self.old.parked) }
         ensures journal_room { journal.old.spare ≤ journal.new.spare + 1 }
     {
@@ -422,6 +524,7 @@ impl JobTask {
             ticket: picked.ticket,
         });
         self.hook = hook_after(picked.control, self.hook);
+        self.handler = handler_after(picked.control, self.handler);
         self.tag = tag_after(picked.control, self.tag);
         if is_parking(picked.control, self.state) {
             self.parked.park(picked.ticket, picked.done);
@@ -448,11 +551,11 @@ impl JobTask {
         requires at { moment journal.old.past ≡ at }
         requires just { just_picked self.old.id journal.old.past ≡ Some (picked.ticket, control) }
         requires named { picked.ticket < ticket_count journal.old.past }
+        requires none { begun_of self.old ≡ None }
         requires in_hand { is_parking control self.old.state ≡ false }
         requires what { what ≡ prepared self.old.command control (child_of self.old.state) }
         requires before { before_spawn self.old.id journal.old.past ≡ self.old.state }
-        requires room { AreSpare (6 + length self.old.parked.tickets) journal.old (H.seen host.old) }
-        requires hooks_room { 1 ≤ (K.seen hooks.old).spare }
+        requires room { HaveRoom (9 + length self.old.parked.tickets) 4 journal.old (H.seen host.old) (K.seen hooks.old) }
         ensures stands { Stands self.new journal.new.past }
         ensures ok { OnOk result (Follows (row self.old.id (kit_of self.old) picked.ticket control (child_of self.old.state)) journal.old.past (H.seen host.old) (K.seen hooks.old).told Done journal.new.past (H.seen host.new) (K.seen hooks.new).told) }
         ensures err { OnErr result (GivesUp (row self.old.id (kit_of self.old) picked.ticket control (child_of self.old.state)) journal.old.past (H.seen host.old) (K.seen hooks.old).told journal.new.past (H.seen host.new) (K.seen hooks.new).told) }
@@ -461,8 +564,7 @@ impl JobTask {
         ensures gone { self.new.gone ≡ deletes control }
         ensures job { SameJob self.old self.new }
         ensures keeps { KeepsOn K.seen K.rule K.stands hooks.old journal.old.past hooks.new journal.new.past }
-        ensures spends { Spends (6 + length self.old.parked.tickets) journal.old (H.seen host.old) journal.new (H.seen host.new) }
-        ensures hooks_room { (K.seen hooks.old).spare ≤ (K.seen hooks.new).spare + 1 }
+        ensures uses { UseRoom (9 + length self.old.parked.tickets) 4 journal.old (H.seen host.old) (K.seen hooks.old) journal.new (H.seen host.new) (K.seen hooks.new) }
     {
         match control {
             Control::Start => {
@@ -470,29 +572,55 @@ impl JobTask {
                 self.start(alloc, ticket, done, what, at, host, hooks, journal)
             }
             Control::Stop => {
-                self.stop(picked.ticket, &picked.done, at, host, journal);
+                self.stop(picked.ticket, &picked.done, at, host, hooks, journal);
                 Ok(())
             }
             Control::GracefulStop { signal, grace } => {
-                self.graceful(picked, signal, over_at(at, grace), false, host, journal);
+                self.graceful(
+                    picked,
+                    signal,
+                    over_at(at, grace),
+                    false,
+                    host,
+                    hooks,
+                    journal,
+                );
                 Ok(())
             }
             Control::TryGracefulRestart { signal, grace } => {
-                self.graceful(picked, signal, over_at(at, grace), true, host, journal);
+                self.graceful(
+                    picked,
+                    signal,
+                    over_at(at, grace),
+                    true,
+                    host,
+                    hooks,
+                    journal,
+                );
                 Ok(())
             }
             Control::TryRestart | Control::ContinueTryGracefulRestart => {
                 self.start_afresh(alloc, &picked, what, at, host, hooks, journal)
             }
             Control::Signal(signal) => {
-                self.send_signal(&picked, signal, host, journal);
+                self.send_signal(&picked, signal, host, hooks, journal);
                 Ok(())
             }
             Control::Delete => {
                 self.delete(&picked, host, journal);
                 Ok(())
             }
+            Control::SyncFunc(n) => {
+                self.run(&picked, n, host, hooks, journal);
+                Ok(())
+            }
+            Control::AsyncFunc(n) => {
+                self.begin_function(picked, n, hooks, journal);
+                Ok(())
+            }
             Control::NextEnding
+            | Control::SetSyncErrorHandler(_)
+            | Control::UnsetErrorHandler
             | Control::SetSyncSpawnHook(_)
             | Control::UnsetSpawnHook
             | Control::SetSpawnFn(_)
@@ -518,8 +646,7 @@ impl JobTask {
         requires here { self.old.gone ≡ false }
         requires chosen { choice ≡ choice_of self.old at }
         requires at { moment journal.old.past ≡ at }
-        requires room { AreSpare (7 + length self.old.parked.tickets) journal.old (H.seen host.old) }
-        requires hooks_room { 1 ≤ (K.seen hooks.old).spare }
+        requires room { HaveRoom (10 + length self.old.parked.tickets) 4 journal.old (H.seen host.old) (K.seen hooks.old) }
         ensures stands { Stands self.new journal.new.past }
         ensures ok { OnOk result (Follows (case self.old.id (kit_of self.old) (child_of self.old.state) choice) journal.old.past (H.seen host.old) (K.seen hooks.old).told Done journal.new.past (H.seen host.new) (K.seen hooks.new).told) }
         ensures err { OnErr result (Stops self.old journal.old host.old hooks.old self.new journal.new host.new hooks.new (GivesUp (case self.old.id (kit_of self.old) (child_of self.old.state) choice) journal.old.past (H.seen host.old) (K.seen hooks.old).told journal.new.past (H.seen host.new) (K.seen hooks.new).told)) }
@@ -527,11 +654,14 @@ impl JobTask {
         ensures gone { self.new.gone ≡ is_deletion choice }
         ensures job { SameJob self.old self.new }
         ensures keeps { KeepsOn K.seen K.rule K.stands hooks.old journal.old.past hooks.new journal.new.past }
-        ensures spends { Spends (7 + length self.old.parked.tickets) journal.old (H.seen host.old) journal.new (H.seen host.new) }
-        ensures hooks_room { (K.seen hooks.old).spare ≤ (K.seen hooks.new).spare + 1 }
+        ensures uses { UseRoom (10 + length self.old.parked.tickets) 4 journal.old (H.seen host.old) (K.seen hooks.old) journal.new (H.seen host.new) (K.seen hooks.new) }
     {
         let what = self.prepare(alloc, choice)?;
         match choice {
+            Choice::Poll(function) => {
+                self.poll(function, host, hooks, journal);
+                Ok(())
+            }
             Choice::Over(child, grace) => {
                 self.end_grace(alloc, child, grace, what, at, host, hooks, journal)
             }
@@ -542,6 +672,10 @@ impl JobTask {
                 }
                 None => Ok(()),
             },
+            Choice::Leave => {
+                self.let_go(child_of(self.state), host, journal);
+                Ok(())
+            }
             Choice::Nothing => {
                 journal.push(Entry::Word(Word::Idle));
                 Ok(())
@@ -558,7 +692,7 @@ fn is_spawning(choice: Choice, child: Option<u64>, restarts: bool) -> bool
         Choice::Over(_, grace) => grace.restarts,
         Choice::End(_) => restarts,
         Choice::Next { control, .. } => spawns(control, child),
-        Choice::Nothing => false,
+        Choice::Poll(_) | Choice::Leave | Choice::Nothing => false,
     }
 }
 
@@ -576,6 +710,10 @@ fn spawns(control: Control, child: Option<u64>) -> bool
         | Control::Signal(_)
         | Control::Delete
         | Control::NextEnding
+        | Control::SyncFunc(_)
+        | Control::AsyncFunc(_)
+        | Control::SetSyncErrorHandler(_)
+        | Control::UnsetErrorHandler
         | Control::SetSyncSpawnHook(_)
         | Control::UnsetSpawnHook
         | Control::SetSpawnFn(_)
@@ -618,6 +756,17 @@ fn hook_after(control: Control, before: Option<u32>) -> Option<u32>
     match control {
         Control::SetSyncSpawnHook(n) => Some(n),
         Control::UnsetSpawnHook => None,
+        _ => before,
+    }
+}
+
+/// The error handler that is set once this control was picked.
+fn handler_after(control: Control, before: Option<u32>) -> Option<u32>
+    ensures { result ≡ set_handler (Some control) before }
+{
+    match control {
+        Control::SetSyncErrorHandler(n) => Some(n),
+        Control::UnsetErrorHandler => None,
         _ => before,
     }
 }

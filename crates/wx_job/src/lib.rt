@@ -5,6 +5,7 @@ mod calls;
 mod case;
 mod choice;
 mod context;
+mod function;
 mod grace;
 mod laws;
 mod outside;

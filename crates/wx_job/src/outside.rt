@@ -96,6 +96,34 @@ pub trait JobHooks {
         ensures room { OnOk result (n ≤ (seen self.new).spare) }
         ensures rest { OnlyHooksRoom seen stands self.old self.new };
 
+    /// Calls the function of this number.
+    fn run(&mut self, job: Id, n: u32, cx: &JobTaskContext<'_>)
+        requires { 1 ≤ (seen self.old).spare }
+        ensures told { (seen self.new).told ≡ tell (Entry.Run job n) (seen self.old).told }
+        ensures spare { (seen self.old).spare ≤ (seen self.new).spare + 1 }
+        ensures keeps { (p : List AnEntry) → Keeps seen rule stands self.old p (Entry.Run job n) self.new };
+
+    /// Begins the function of this number, which is then polled until it is ready.
+    fn begin(&mut self, job: Id, n: u32, cx: &JobTaskContext<'_>)
+        requires { 1 ≤ (seen self.old).spare }
+        ensures told { (seen self.new).told ≡ tell (Entry.Begun job n) (seen self.old).told }
+        ensures spare { (seen self.old).spare ≤ (seen self.new).spare + 1 }
+        ensures keeps { (p : List AnEntry) → Keeps seen rule stands self.old p (Entry.Begun job n) self.new };
+
+    /// Polls the begun function of this number: whether it is ready.
+    fn poll(&mut self, job: Id, n: u32) -> bool
+        requires { 1 ≤ (seen self.old).spare }
+        ensures told { (seen self.new).told ≡ tell (Entry.Poll job n result) (seen self.old).told }
+        ensures spare { (seen self.old).spare ≤ (seen self.new).spare + 1 }
+        ensures keeps { (p : List AnEntry) → Keeps seen rule stands self.old p (Entry.Poll job n result) self.new };
+
+    /// Shows the fault of a call on the child of a job to the error handler of this number.
+    fn job_error(&mut self, job: Id, n: u32, fault: HostFault)
+        requires { 1 ≤ (seen self.old).spare }
+        ensures told { (seen self.new).told ≡ tell (Entry.JobError job n fault.0) (seen self.old).told }
+        ensures spare { (seen self.old).spare ≤ (seen self.new).spare + 1 }
+        ensures keeps { (p : List AnEntry) → Keeps seen rule stands self.old p (Entry.JobError job n fault.0) self.new };
+
     /// Lets the spawn hook of this number change what a job is about to spawn, which is what its command spawns. Where
     /// it has no memory that is as it was.
     fn spawn_hook(

@@ -1,29 +1,30 @@
 // What is kept of a job.
-ghost use Rattle.std.specs.Prelude.{◌≡◌, ℕ, ◌+◌, ◌≤◌, ◌∷◌, ◌||◌, length, OnOk, OnErr, IfOk, List, Option, Some, None, option_map, true, false};
+ghost use Rattle.std.specs.Prelude.{◌≡◌, ℕ, ◌+◌, ◌≤◌, ◌∷◌, ◌||◌, length, is_some, OnOk, OnErr, IfOk, List, Option, Some, None, option_map, true, false};
 ghost use Rattle.wx_control.specs.Asks.{sends_of};
 ghost use Rattle.wx_control.specs.Waits.{waiting_count};
 ghost use Rattle.wx_journal.specs.declared.entry.Entry.{Entry};
 ghost use Rattle.wx_journal.specs.declared.entry.Entry.TheVariants.{Turn as Turned, Made};
 ghost use Rattle.wx_journal.specs.declared.entry.TurnKind.TheVariants.{Ended};
 ghost use Rattle.wx_journal.specs.Names.{moment, NamesItsOwn};
-ghost use Rattle.wx_job.specs.History.{child as running, state, previous, grace, parked, RunsOnly};
-ghost use Rattle.wx_job.specs.Table.{Plan, Done, adds, asks, send_plan, pick, is_spawning, answer_of, deletes, is_deletion, step_plan, leave, end_plan};
+ghost use Rattle.wx_job.specs.History.{child as running, state, previous, grace, begun, parked, RunsOnly};
+ghost use Rattle.wx_job.specs.Table.{Plan, Done, adds, asks, send_plan, pick_by, is_spawning, answer_of, deletes, is_deletion, step_by, leave, end_plan};
 ghost use Rattle.wx_job.specs.Case.{Ran, FollowsHost, FollowsAlone, Follows, GaveUp, GivesUp};
 ghost use Rattle.wx_job.specs.Faults.{Counted};
-ghost use Rattle.wx_job.specs.Steady.{AreSpare, Spends};
+ghost use Rattle.wx_job.specs.Steady.{AreSpare, Spends, HaveRoom, UseRoom};
 ghost use Rattle.wx_job.specs.Kept.{KeepsOn, Promised};
 ghost use Rattle.wx_job.specs.Leaves.{LeavesLaws};
-ghost use Rattle.wx_job.specs.Stands.{Stands, Stops, HasInHand, SameJob, SameTask, IsEnding, child_of, id_of, command_of, gone_of, running_of, parked_count, with_end};
+ghost use Rattle.wx_job.specs.Stands.{Stands, Stops, HasInHand, SameJob, SameTask, IsEnding, IsTicketOf, child_of, id_of, command_of, flag_of, closed_of, gone_of, running_of, begun_of, parked_count, with_end, with_close};
 
 use crate::case::child_of;
 use crate::choice::{Choice, Stepped};
+use crate::function::Begun;
 use crate::grace::Standing;
 use crate::outside::{Host, JobHooks};
 use crate::parking::Parking;
 use crate::state::CommandState;
 use std::alloc::Global;
 use wx_command::{Command, SharedCommand};
-use wx_control::{Ask, Control, Flag, Id, Job, Level, ThreeLists, Ticket};
+use wx_control::{Ask, Control, Flag, Id, Job, Level, Mirror, ThreeLists, Ticket};
 use wx_events::{Copies, Memory};
 use wx_journal::{Entry, Journal, SpawnTag};
 
@@ -42,10 +43,18 @@ pub struct JobTask {
     pub(crate) gone: bool,
     /// The spawn hook that is set.
     pub(crate) hook: Option<u32>,
+    /// The error handler that is set.
+    pub(crate) handler: Option<u32>,
     /// What spawns the next child.
     pub(crate) tag: SpawnTag,
     /// The grace that the running child was given.
     pub(crate) grace: Option<Standing>,
+    /// The function that was begun and isn't ready.
+    pub(crate) begun: Option<Begun>,
+    /// There are no more handles.
+    pub(crate) closed: bool,
+    /// What handles show of the child.
+    pub(crate) mirror: Mirror,
     /// The tickets that are raised when the child ends, in the order in which they were picked.
     pub(crate) parked: Parking,
 }
@@ -53,13 +62,19 @@ pub struct JobTask {
 /// A job of this name that runs this command, and a handle on it. It stands for its job behind the entry that it was
 /// made, in a journal that doesn't list that it was created to run another command. It fails only for want of memory.
 pub fn start_job(alloc: Global, id: Id, command: Command) -> Result<(Job, JobTask), Memory>
-    ensures handle { IfOk result (λ made. (made.0.id ≡ id) × (made.0.command ≡ command)) }
-    ensures task { IfOk result (λ made. (id_of made.1 ≡ id) × (command_of made.1 ≡ command) × (gone_of made.1 ≡ false)) }
+    ensures handle { IfOk result (λ made. (made.0.id ≡ id) × (made.0.command ≡ command) × (made.0.gone ≡ flag_of made.1)) }
+    ensures task { IfOk result (λ made. (id_of made.1 ≡ id) × (command_of made.1 ≡ command) × (gone_of made.1 ≡ false) × (closed_of made.1 ≡ false)) }
     ensures stands { IfOk result (λ made. (p : List Entry) → RunsOnly id command p → Stands made.1 (Made id ∷ p)) }
 {
     let command = SharedCommand::new(alloc, command)?;
     let flag = Flag::new(alloc, false)?;
-    let job = Job::new(id, command.copy(alloc)?, flag.copy(alloc)?);
+    let mirror = Mirror::new(alloc)?;
+    let job = Job::new(
+        id,
+        command.copy(alloc)?,
+        flag.copy(alloc)?,
+        mirror.copy(alloc)?,
+    );
     let task = JobTask {
         id,
         command,
@@ -70,8 +85,12 @@ pub fn start_job(alloc: Global, id: Id, command: Command) -> Result<(Job, JobTas
         kept: false,
         gone: false,
         hook: None,
+        handler: None,
         tag: SpawnTag::Default,
         grace: None,
+        begun: None,
+        closed: false,
+        mirror,
         parked: Parking::new(alloc),
     };
     Ok((job, task))
@@ -80,8 +99,8 @@ pub fn start_job(alloc: Global, id: Id, command: Command) -> Result<(Job, JobTas
 #[tactic(auto, using(crate::proofs::Sets::steps))]
 impl JobTask {
     /// Asks this of the job: its controls wait, one entry each, numbered on from the journal. A job that is gone writes
-    /// nothing. It answers the ticket of the last control, over `last` where that is given. It fails only for want of
-    /// memory.
+    /// nothing. It answers the ticket of the last control, over copies of the flag of the job and of `last` where that is
+    /// given; that of a gone job is over copies of the flag of the job alone. It fails only for want of memory.
     pub fn send(
         &mut self,
         alloc: Global,
@@ -93,6 +112,7 @@ impl JobTask {
         ensures stands { Stands self.new journal.new.past }
         ensures job { SameJob self.old self.new }
         ensures gone { gone_of self.new ≡ gone_of self.old }
+        ensures ticket { IfOk result (λ ticket. IsTicketOf self.old last ticket) }
         ensures leads { OnOk result (FollowsAlone (send_plan (id_of self.old) (sends_of ask) journal.old.past) journal.old.past Done journal.new.past) }
         ensures task { OnErr result (SameTask self.old self.new) }
         ensures past { OnErr result (journal.new.past ≡ journal.old.past) }
@@ -102,10 +122,10 @@ impl JobTask {
         self.put(alloc, ask, last, journal)
     }
 
-    /// One step: what is picked is done. It answers `Gone` where the job is gone then, `Idle` where nothing could be picked,
-    /// and else `Did`. Want of memory comes only where a child would be spawned: before anything was done, or behind the
-    /// call of a spawn hook. Then the case is given up, its ticket is in hand, and later steps go on. `at` is the
-    /// moment of the journal's last turn, in nanoseconds.
+    /// One step: what is picked is done. It answers `Gone` where the job is gone then, `Later` where the begun function
+    /// was polled and isn't ready, `Idle` where nothing could be picked, and else `Did`. Want of memory comes only where a
+    /// child would be spawned: before anything was done, or behind the call of a spawn hook. Then the case is given up, its
+    /// ticket is in hand, and later steps go on. `at` is the moment of the journal's last turn, in nanoseconds.
     pub fn step<H: Host, K: JobHooks>(
         &mut self,
         alloc: Global,
@@ -120,11 +140,11 @@ impl JobTask {
         requires hooks_room { 16 ≤ (K.seen hooks.old).spare }
         ensures stands { Stands self.new journal.new.past }
         ensures job { SameJob self.old self.new }
-        ensures leads { OnOk result (Ran (step_plan (id_of self.old) (command_of self.old) journal.old.past) journal.old.past (H.seen host.old) (K.seen hooks.old).told Done journal.new.past (H.seen host.new) (K.seen hooks.new).told) }
-        ensures answer { IfOk result (λ stepped. stepped ≡ answer_of (gone_of self.old) (pick (id_of self.old) journal.old.past)) }
-        ensures gone { gone_of self.new ≡ (gone_of self.old || is_deletion (pick (id_of self.old) journal.old.past)) }
-        ensures memory { OnErr result (is_spawning (pick (id_of self.old) journal.old.past) (running (id_of self.old) journal.old.past) (grace (id_of self.old) journal.old.past) ≡ true) }
-        ensures err { OnErr result (Stops self.old journal.old host.old hooks.old self.new journal.new host.new hooks.new (GaveUp (step_plan (id_of self.old) (command_of self.old) journal.old.past) journal.old.past (H.seen host.old) (K.seen hooks.old).told journal.new.past (H.seen host.new) (K.seen hooks.new).told × HasInHand (id_of self.old) (grace (id_of self.old) journal.old.past) (pick (id_of self.old) journal.old.past) journal.old.past journal.new.past)) }
+        ensures leads { OnOk result (Ran (step_by (closed_of self.old) (id_of self.old) (command_of self.old) journal.old.past) journal.old.past (H.seen host.old) (K.seen hooks.old).told Done journal.new.past (H.seen host.new) (K.seen hooks.new).told) }
+        ensures answer { IfOk result (λ stepped. stepped ≡ answer_of (gone_of self.old) (pick_by (closed_of self.old) (id_of self.old) journal.old.past) (is_some (begun (id_of self.old) journal.new.past))) }
+        ensures gone { gone_of self.new ≡ (gone_of self.old || is_deletion (pick_by (closed_of self.old) (id_of self.old) journal.old.past)) }
+        ensures memory { OnErr result (is_spawning (pick_by (closed_of self.old) (id_of self.old) journal.old.past) (running (id_of self.old) journal.old.past) (grace (id_of self.old) journal.old.past) ≡ true) }
+        ensures err { OnErr result (Stops self.old journal.old host.old hooks.old self.new journal.new host.new hooks.new (GaveUp (step_by (closed_of self.old) (id_of self.old) (command_of self.old) journal.old.past) journal.old.past (H.seen host.old) (K.seen hooks.old).told journal.new.past (H.seen host.new) (K.seen hooks.new).told × HasInHand (id_of self.old) (grace (id_of self.old) journal.old.past) (pick_by (closed_of self.old) (id_of self.old) journal.old.past) journal.old.past journal.new.past)) }
         ensures leaves { LeavesLaws (id_of self.old) journal.old.past journal.new.past }
         ensures keeps { KeepsOn K.seen K.rule K.stands hooks.old journal.old.past hooks.new journal.new.past }
         ensures promised { NamesItsOwn journal.old.past → Promised K.seen K.rule K.stands hooks.old journal.old.past hooks.new journal.new.past }
@@ -163,11 +183,11 @@ impl JobTask {
         requires hooks_room { 16 ≤ (K.seen hooks.old).spare }
         ensures stands { Stands self.new journal.new.past }
         ensures job { SameJob self.old self.new }
-        ensures leads { OnOk result (Ran (step_plan (id_of self.old) (command_of self.old) journal.old.past) journal.old.past (H.seen host.old) (K.seen hooks.old).told Done journal.new.past (H.seen host.new) (K.seen hooks.new).told) }
-        ensures answer { IfOk result (λ stepped. stepped ≡ answer_of (gone_of self.old) (pick (id_of self.old) journal.old.past)) }
-        ensures gone { gone_of self.new ≡ (gone_of self.old || is_deletion (pick (id_of self.old) journal.old.past)) }
-        ensures memory { OnErr result (is_spawning (pick (id_of self.old) journal.old.past) (running (id_of self.old) journal.old.past) (grace (id_of self.old) journal.old.past) ≡ true) }
-        ensures err { OnErr result (Stops (with_end self.old) journal.old host.old hooks.old self.new journal.new host.new hooks.new (GaveUp (step_plan (id_of self.old) (command_of self.old) journal.old.past) journal.old.past (H.seen host.old) (K.seen hooks.old).told journal.new.past (H.seen host.new) (K.seen hooks.new).told × HasInHand (id_of self.old) (grace (id_of self.old) journal.old.past) (pick (id_of self.old) journal.old.past) journal.old.past journal.new.past)) }
+        ensures leads { OnOk result (Ran (step_by (closed_of self.old) (id_of self.old) (command_of self.old) journal.old.past) journal.old.past (H.seen host.old) (K.seen hooks.old).told Done journal.new.past (H.seen host.new) (K.seen hooks.new).told) }
+        ensures answer { IfOk result (λ stepped. stepped ≡ answer_of (gone_of self.old) (pick_by (closed_of self.old) (id_of self.old) journal.old.past) (is_some (begun (id_of self.old) journal.new.past))) }
+        ensures gone { gone_of self.new ≡ (gone_of self.old || is_deletion (pick_by (closed_of self.old) (id_of self.old) journal.old.past)) }
+        ensures memory { OnErr result (is_spawning (pick_by (closed_of self.old) (id_of self.old) journal.old.past) (running (id_of self.old) journal.old.past) (grace (id_of self.old) journal.old.past) ≡ true) }
+        ensures err { OnErr result (Stops (with_end self.old) journal.old host.old hooks.old self.new journal.new host.new hooks.new (GaveUp (step_by (closed_of self.old) (id_of self.old) (command_of self.old) journal.old.past) journal.old.past (H.seen host.old) (K.seen hooks.old).told journal.new.past (H.seen host.new) (K.seen hooks.new).told × HasInHand (id_of self.old) (grace (id_of self.old) journal.old.past) (pick_by (closed_of self.old) (id_of self.old) journal.old.past) journal.old.past journal.new.past)) }
         ensures leaves { LeavesLaws (id_of self.old) journal.old.past journal.new.past }
         ensures keeps { KeepsOn K.seen K.rule K.stands hooks.old journal.old.past hooks.new journal.new.past }
         ensures promised { NamesItsOwn journal.old.past → Promised K.seen K.rule K.stands hooks.old journal.old.past hooks.new journal.new.past }
@@ -177,6 +197,14 @@ impl JobTask {
     {
         self.keep_end(child, at, journal);
         self.step(alloc, at, host, hooks, journal)
+    }
+
+    /// There are no more handles of the job: a later step that finds nothing to pick, and no grace that stands, ends it.
+    pub fn close(&mut self)
+        ensures task { self.new ≡ with_close self.old }
+        ensures stands { (p : List Entry) → Stands self.old p → Stands self.new p }
+    {
+        self.closed = true;
     }
 
     /// The end of the job: a running child is let go, and the job is gone. A job that is gone stays as it is.
@@ -258,13 +286,14 @@ impl JobTask {
         ensures stands { Stands self.new journal.new.past }
         ensures job { SameJob self.old self.new }
         ensures gone { gone_of self.new ≡ gone_of self.old }
+        ensures ticket { IfOk result (λ ticket. IsTicketOf self.old last ticket) }
         ensures leads { OnOk result (FollowsAlone (send_plan (id_of self.old) (sends_of ask) journal.old.past) journal.old.past Done journal.new.past) }
         ensures task { OnErr result (SameTask self.old self.new) }
         ensures past { OnErr result (journal.new.past ≡ journal.old.past) }
         ensures journal_room { journal.old.spare ≤ journal.new.spare + 2 }
     {
         if self.gone {
-            return self.ticket(alloc, &self.flag);
+            return Ticket::resolved(alloc, &self.flag);
         }
         let sends = ask.controls();
         let done = match last {
@@ -350,7 +379,7 @@ impl JobTask {
         requires room { AreSpare 2 journal.old (H.seen host.old) }
         ensures stands { Stands self.new journal.new.past }
         ensures follows { FollowsHost (leave self.old.id child) journal.old.past (H.seen host.old) Done journal.new.past (H.seen host.new) }
-        ensures fields { self.new ≡ record self.old { waiting = self.new.waiting; kept = false; gone = true; grace = None; parked = self.new.parked } }
+        ensures fields { self.new ≡ record self.old { waiting = self.new.waiting; kept = false; gone = true; grace = None; begun = None; parked = self.new.parked } }
         ensures spends { Spends 2 journal.old (H.seen host.old) journal.new (H.seen host.new) }
     {
         if let Some(child) = child {
@@ -362,8 +391,10 @@ impl JobTask {
         self.waiting.clear();
         self.parked.clear();
         self.grace = None;
+        self.begun = None;
         self.kept = false;
         self.gone = true;
+        self.mirror.tell(false);
     }
 
     /// A step.
@@ -377,35 +408,37 @@ impl JobTask {
     ) -> Result<Stepped, Memory>
         requires stands { Stands self.old journal.old.past }
         requires at { moment journal.old.past ≡ at }
-        requires room { AreSpare (7 + parked_count self.old) journal.old (H.seen host.old) }
-        requires hooks_room { 1 ≤ (K.seen hooks.old).spare }
+        requires room { HaveRoom (10 + parked_count self.old) 4 journal.old (H.seen host.old) (K.seen hooks.old) }
         ensures stands { Stands self.new journal.new.past }
         ensures job { SameJob self.old self.new }
-        ensures leads { OnOk result (Follows (step_plan (id_of self.old) (command_of self.old) journal.old.past) journal.old.past (H.seen host.old) (K.seen hooks.old).told Done journal.new.past (H.seen host.new) (K.seen hooks.new).told) }
-        ensures answer { IfOk result (λ stepped. stepped ≡ answer_of (gone_of self.old) (pick (id_of self.old) journal.old.past)) }
-        ensures gone { gone_of self.new ≡ (gone_of self.old || is_deletion (pick (id_of self.old) journal.old.past)) }
-        ensures memory { OnErr result (is_spawning (pick (id_of self.old) journal.old.past) (running (id_of self.old) journal.old.past) (grace (id_of self.old) journal.old.past) ≡ true) }
-        ensures err { OnErr result (Stops self.old journal.old host.old hooks.old self.new journal.new host.new hooks.new (GivesUp (step_plan (id_of self.old) (command_of self.old) journal.old.past) journal.old.past (H.seen host.old) (K.seen hooks.old).told journal.new.past (H.seen host.new) (K.seen hooks.new).told)) }
+        ensures leads { OnOk result (Follows (step_by (closed_of self.old) (id_of self.old) (command_of self.old) journal.old.past) journal.old.past (H.seen host.old) (K.seen hooks.old).told Done journal.new.past (H.seen host.new) (K.seen hooks.new).told) }
+        ensures answer { IfOk result (λ stepped. stepped ≡ answer_of (gone_of self.old) (pick_by (closed_of self.old) (id_of self.old) journal.old.past) (is_some (begun (id_of self.old) journal.new.past))) }
+        ensures gone { gone_of self.new ≡ (gone_of self.old || is_deletion (pick_by (closed_of self.old) (id_of self.old) journal.old.past)) }
+        ensures memory { OnErr result (is_spawning (pick_by (closed_of self.old) (id_of self.old) journal.old.past) (running (id_of self.old) journal.old.past) (grace (id_of self.old) journal.old.past) ≡ true) }
+        ensures err { OnErr result (Stops self.old journal.old host.old hooks.old self.new journal.new host.new hooks.new (GivesUp (step_by (closed_of self.old) (id_of self.old) (command_of self.old) journal.old.past) journal.old.past (H.seen host.old) (K.seen hooks.old).told journal.new.past (H.seen host.new) (K.seen hooks.new).told)) }
         ensures keeps { KeepsOn K.seen K.rule K.stands hooks.old journal.old.past hooks.new journal.new.past }
-        ensures spends { Spends (7 + parked_count self.old) journal.old (H.seen host.old) journal.new (H.seen host.new) }
-        ensures hooks_room { (K.seen hooks.old).spare ≤ (K.seen hooks.new).spare + 1 }
+        ensures uses { UseRoom (10 + parked_count self.old) 4 journal.old (H.seen host.old) (K.seen hooks.old) journal.new (H.seen host.new) (K.seen hooks.new) }
     {
         if self.gone {
             return Ok(Stepped::Gone);
         }
         let choice = self.choose(at);
-        self.act(alloc, choice, at, host, hooks, journal)?;
-        Ok(stepped(choice))
+        let done = self.act(alloc, choice, at, host, hooks, journal);
+        self.mirror.tell(self.running_child().is_some());
+        done?;
+        Ok(stepped(choice, self.begun.is_some()))
     }
 }
 
-/// What a step answers that did this.
-fn stepped(choice: Choice) -> Stepped
-    ensures { result ≡ answer_of false choice }
+/// What a step answers that did this, where a function is begun then or none is.
+fn stepped(choice: Choice, begun: bool) -> Stepped
+    ensures { result ≡ answer_of false choice begun }
 {
     match choice {
+        Choice::Poll(_) if begun => Stepped::Later,
         Choice::Next { control, .. } if deletes(control) => Stepped::Gone,
-        Choice::Over(..) | Choice::End(_) | Choice::Next { .. } => Stepped::Did,
+        Choice::Leave => Stepped::Gone,
+        Choice::Poll(_) | Choice::Over(..) | Choice::End(_) | Choice::Next { .. } => Stepped::Did,
         Choice::Nothing => Stepped::Idle,
     }
 }
@@ -424,6 +457,10 @@ fn deletes(control: Control) -> bool
         | Control::ContinueTryGracefulRestart
         | Control::Signal(_)
         | Control::NextEnding
+        | Control::SyncFunc(_)
+        | Control::AsyncFunc(_)
+        | Control::SetSyncErrorHandler(_)
+        | Control::UnsetErrorHandler
         | Control::SetSyncSpawnHook(_)
         | Control::UnsetSpawnHook
         | Control::SetSpawnFn(_)

@@ -11,3 +11,5 @@ mod player;
 mod test_world;
 #[cfg(test)]
 mod tests;
+#[cfg(test)]
+mod ticket_tests;

@@ -1,14 +1,15 @@
 // One job in a world of its own, which is driven by moves that stand in a text.
+ghost use Rattle.std.specs.Prelude.{IfOk};
 ghost use Rattle.wx_job.specs.Stands.{Stands};
 
 use crate::test_world::{
-    TestHost, World, ask, end_child, end_job, lines_of, make_job, new_world, step,
+    TestHost, World, ask, end_child, end_job, lines_of, make_first, make_job, new_world, step,
 };
 use std::alloc::Global;
 use std::process::Abort;
 use std::test::Fail;
-use wx_control::{Ask, Id};
-use wx_events::{Memory, Spelled, Text, Words};
+use wx_control::{Ask, Flag, Id, Job, Ticket};
+use wx_events::{Copies, Memory, Spelled, Text, Words};
 use wx_job::{CommandState, JobTask, Stepped};
 use wx_journal::{Entry, Journal, put_entry};
 
@@ -20,6 +21,9 @@ pub(crate) enum Move {
     Step(u64),
     /// A turn at this moment that tells the end of the running child.
     Ended(u64),
+    /// Nothing is asked: a poll that comes later finds its function ready, or it doesn't.
+    Poll(bool),
+    Close,
     End,
 }
 
@@ -30,10 +34,26 @@ fn read<T: Spelled>(alloc: Global, words: &[u8]) -> Result<Option<T>, Memory> {
     if words.is_done() { Ok(found) } else { Ok(None) }
 }
 
+/// The move that these words alone stand for.
+fn read_word(words: &[u8]) -> Option<Move> {
+    let moves: [(&[u8], Move); 4] = [
+        (b"end", Move::End),
+        (b"close", Move::Close),
+        (b"poll ready", Move::Poll(true)),
+        (b"poll later", Move::Poll(false)),
+    ];
+    for (spelling, with) in moves {
+        if words == spelling {
+            return Some(with);
+        }
+    }
+    None
+}
+
 /// The move of these words.
 fn read_move(alloc: Global, words: &[u8]) -> Result<Option<Move>, Memory> {
-    if words == b"end".as_slice() {
-        return Ok(Some(Move::End));
+    if let Some(with) = read_word(words) {
+        return Ok(Some(with));
     }
     if let Some(at) = words.strip_prefix(b"step ") {
         return Ok(read::<u64>(alloc, at)?.map(|at| Move::Step(at)));
@@ -55,19 +75,48 @@ pub(crate) struct Played {
     pub(crate) answer: Result<Option<Stepped>, Memory>,
 }
 
-/// Job 0, which runs the program `a`, in a world of its own.
+/// A ticket that was given, and the name that it has in the journal. That of a job that was gone has none.
+#[derive(Drop)]
+pub(crate) struct Given {
+    pub(crate) name: Option<u64>,
+    pub(crate) ticket: Ticket,
+}
+
+/// Job 0, which runs the program `a`, in a world of its own, with a handle on it and the tickets that were given.
 #[derive(Drop)]
 pub(crate) struct One {
+    pub(crate) handle: Job,
+    pub(crate) tickets: Vec<Given>,
     pub(crate) task: JobTask,
     pub(crate) world: World,
     ghost stands: { Stands task world.journal.past },
 }
 
-/// Job 0 as it was made, with this host. What is long is dropped by generic code here, which is quicker to prove.
+/// Job 0 as it was made, with this host.
 pub(crate) fn one_job(alloc: Global, host: TestHost) -> Result<One, Memory> {
     let mut world = new_world(alloc, host)?;
-    match make_job(alloc, Id(0), b"a", &mut world) {
-        Ok(task) => Ok(One { task, world }),
+    let made = make_job(alloc, Id(0), b"a", &mut world);
+    one_of(alloc, made, world)
+}
+
+/// The same, in a journal whose first entry is that the job was made.
+pub(crate) fn made_job(alloc: Global, host: TestHost) -> Result<One, Memory> {
+    let mut world = new_world(alloc, host)?;
+    let made = make_first(alloc, Id(0), &mut world);
+    one_of(alloc, made, world)
+}
+
+/// The job that was made in this world. What is long is dropped by generic code here, which is quicker to prove.
+fn one_of(alloc: Global, made: Result<(Job, JobTask), Memory>, world: World) -> Result<One, Memory>
+    requires { IfOk made (λ x. Stands x.1 world.journal.past) }
+{
+    match made {
+        Ok((handle, task)) => Ok(One {
+            handle,
+            tickets: Vec::new(alloc),
+            task,
+            world,
+        }),
         Err(want) => {
             drop(world);
             Err(want)
@@ -80,16 +129,63 @@ impl One {
     pub(crate) fn play(&mut self, alloc: Global, with: Move) -> Result<Option<Stepped>, Memory> {
         match with {
             Move::Ask(wish) => {
-                let _ticket = ask(&mut self.task, alloc, wish, &mut self.world)?;
+                let named = self.world.journal.tickets();
+                let ticket = ask(&mut self.task, alloc, wish, &mut self.world)?;
+                self.keep(named, ticket)?;
                 Ok(None)
             }
             Move::Step(at) => Ok(Some(step(&mut self.task, Id(0), alloc, at, &mut self.world)?)),
             Move::Ended(at) => Ok(Some(end_child(&mut self.task, alloc, at, &mut self.world)?)),
+            Move::Poll(ready) => {
+                self.world.hooks.polls.reserve(1)?;
+                self.world.hooks.polls.push_reserved(ready);
+                Ok(None)
+            }
+            Move::Close => {
+                self.task.close();
+                Ok(None)
+            }
             Move::End => {
                 end_job(&mut self.task, &mut self.world)?;
                 Ok(None)
             }
         }
+    }
+
+    /// Asks this over a flag of the caller. Its ticket isn't kept here.
+    pub(crate) fn ask_over(
+        &mut self,
+        alloc: Global,
+        wish: Ask,
+        last: &Flag,
+    ) -> Result<Ticket, Memory> {
+        let last = Some(last.copy(alloc)?);
+        self.task.send(alloc, wish, last, &mut self.world.journal)
+    }
+
+    /// Keeps a ticket that was given when so many had names before.
+    fn keep(&mut self, named: u64, ticket: Ticket) -> Result<(), Memory> {
+        let last = self.world.journal.tickets().checked_sub(1);
+        let name = last.filter(|name| *name >= named);
+        self.tickets.reserve(1)?;
+        self.tickets.push_reserved(Given { name, ticket });
+        Ok(())
+    }
+
+    /// Whether the flags of each ticket are raised just where the journal says so, and the handle tells what the task does.
+    fn is_told(&mut self) -> bool {
+        let gone = self.task.is_gone();
+        for given in self.tickets.iter() {
+            let done = match given.name {
+                Some(name) => is_raised(name, &self.world.journal),
+                None => gone,
+            };
+            if given.ticket.done.raised() != done || given.ticket.gone.raised() != gone {
+                return false;
+            }
+        }
+        let runs = self.task.running_child().is_some();
+        self.handle.is_dead() == gone && self.handle.is_running() == runs
     }
 
     /// Makes the moves of a line. Where a number stands behind ` ! ` in it, the call on the host of this number in this line,
@@ -120,6 +216,16 @@ impl One {
     }
 }
 
+/// Whether the journal lists that the ticket of this name was raised.
+fn is_raised(name: u64, journal: &Journal) -> bool {
+    for entry in journal.iter() {
+        if matches!(entry, Entry::Raise(ticket) if *ticket == name) {
+            return true;
+        }
+    }
+    false
+}
+
 /// A host that fails at the call `bad`, and whose children end with success.
 pub(crate) fn host(alloc: Global, bad: Option<u64>) -> Result<TestHost, Memory> {
     TestHost::new(alloc, bad, Vec::new(alloc))
@@ -136,6 +242,7 @@ fn answer_word(answer: Result<Option<Stepped>, Memory>) -> &'static str {
     match answer {
         Ok(Some(Stepped::Did)) => " did",
         Ok(Some(Stepped::Idle)) => " idle",
+        Ok(Some(Stepped::Later)) => " later",
         Ok(Some(Stepped::Gone)) => " gone",
         Ok(None) => "",
         Err(Memory) => " memory",
@@ -203,8 +310,8 @@ fn seen_of(alloc: Global, job: &mut One, line: &str) -> Result<Text, Fail> {
 }
 
 /// Plays a line, `MOVES = SEEN` or `MOVES ! NUMBER = SEEN`, and holds what comes of its last move to what stands there: the
-/// entries but the turn; `did`, `idle`, `gone` or `memory`; the state; `until` and the end of the grace that stands; `parks`
-/// and how many tickets are parked.
+/// entries but the turn; `did`, `idle`, `later`, `gone` or `memory`; the state; `until` and the end of the grace that stands;
+/// `parks` and how many tickets are parked. The tickets and the handle have to tell what the journal and the task do.
 pub(crate) fn expect_line(
     rt: &impl Abort,
     alloc: Global,
@@ -214,5 +321,6 @@ pub(crate) fn expect_line(
     let (moves, want) = line.split_once(" = ").ok_or("moves and what is seen")?;
     let seen = seen_of(alloc, job, moves)?;
     assert!(rt; seen.as_slice() == want.as_bytes(), "at {line}");
+    assert!(rt; job.is_told(), "flags at {line}");
     Ok(())
 }

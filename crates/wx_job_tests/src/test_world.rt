@@ -7,7 +7,7 @@ ghost use Rattle.wx_job.specs.Stands.{Stands, id_of, running_of, parked_count};
 
 use std::alloc::Global;
 use wx_command::{Command, Program, SpawnOptions, Spawnable};
-use wx_control::{Ask, Flag, Id, Ticket};
+use wx_control::{Ask, Flag, Id, Job, Ticket};
 use wx_events::{Copies, List, Memory, ProcessEnd, Text};
 use wx_job::{CommandState, Host, JobHooks, JobTask, JobTaskContext, Outside, Stepped, start_job};
 use wx_journal::{Act, Entry, HostFault, Journal, SpawnTag, Turn, TurnKind, put_entry};
@@ -125,21 +125,47 @@ impl Host for TestHost {
         self.told.push(Entry::Dropped(child));
     }
 
-    fn raise(&mut self, ticket: u64, _flag: &Flag) {
+    fn raise(&mut self, ticket: u64, flag: &Flag) {
+        flag.raise();
         self.told.push(Entry::Raise(ticket));
     }
 
-    fn gone(&mut self, job: Id, _flag: &Flag) {
+    fn gone(&mut self, job: Id, flag: &Flag) {
+        flag.raise();
         self.told.push(Entry::Gone(job));
     }
 }
 
+/// What a context showed: the first letter of the program, the state and the one before.
+pub(crate) type Shown = (Option<char>, CommandState, Option<CommandState>);
+
 /// Hooks that tell nothing. A spawn hook adds the last of these words to what is spawned, but the one of the number 9 has
-/// no memory. The states of the last context that was shown are kept.
+/// no memory. A poll answers the first of `polls`, or else that the function is ready. What the last context showed is kept.
 #[derive(Drop)]
 pub(crate) struct TestHooks {
     pub(crate) words: Vec<Text>,
-    pub(crate) shown: Option<(CommandState, Option<CommandState>)>,
+    pub(crate) polls: Vec<bool>,
+    pub(crate) shown: Option<Shown>,
+}
+
+impl TestHooks {
+    /// Hooks before their first call.
+    fn new(alloc: Global) -> TestHooks {
+        TestHooks {
+            words: Vec::new(alloc),
+            polls: Vec::new(alloc),
+            shown: None,
+        }
+    }
+
+    /// Keeps what a context shows.
+    fn keep(&mut self, cx: &JobTaskContext<'_>) {
+        let letter = match &cx.command.program {
+            Program::Exec { prog, .. } => prog.as_slice().first().map(|byte| *byte as char),
+            Program::Shell { .. } => None,
+        };
+        self.shown = Some((letter, *cx.current, cx.previous.copied()));
+    }
 }
 
 impl JobHooks for TestHooks {
@@ -157,6 +183,23 @@ impl JobHooks for TestHooks {
         Ok(())
     }
 
+    fn run(&mut self, _job: Id, _n: u32, cx: &JobTaskContext<'_>) {
+        self.keep(cx);
+    }
+
+    fn begin(&mut self, _job: Id, _n: u32, cx: &JobTaskContext<'_>) {
+        self.keep(cx);
+    }
+
+    fn poll(&mut self, _job: Id, _n: u32) -> bool {
+        if self.polls.is_empty() {
+            return true;
+        }
+        self.polls.remove(0)
+    }
+
+    fn job_error(&mut self, _job: Id, _n: u32, _fault: HostFault) {}
+
     fn spawn_hook(
         &mut self,
         _job: Id,
@@ -164,7 +207,7 @@ impl JobHooks for TestHooks {
         what: &mut Spawnable,
         cx: &JobTaskContext<'_>,
     ) -> Result<(), Memory> {
-        self.shown = Some((*cx.current, cx.previous.copied()));
+        self.keep(cx);
         if n == 9 {
             return Err(Memory);
         }
@@ -191,10 +234,7 @@ pub(crate) fn new_world(alloc: Global, host: TestHost) -> Result<World, Memory>
 {
     Ok(World {
         host,
-        hooks: TestHooks {
-            words: Vec::new(alloc),
-            shown: None,
-        },
+        hooks: TestHooks::new(alloc),
         journal: Journal::new(alloc)?,
     })
 }
@@ -223,15 +263,15 @@ pub(crate) fn command_of(alloc: Global, prog: &[u8]) -> Result<Command, Memory> 
     })
 }
 
-/// A job of this name is created, which runs this program, and made.
+/// A job of this name is created, which runs this program, and made. It answers a handle on it too.
 pub(crate) fn make_job(
     alloc: Global,
     id: Id,
     prog: &[u8],
     world: &mut World,
-) -> Result<JobTask, Memory>
-    ensures id { IfOk result (λ k. id_of k ≡ id) }
-    ensures stands { IfOk result (λ k. Stands k world.new.journal.past) }
+) -> Result<(Job, JobTask), Memory>
+    ensures id { IfOk result (λ made. id_of made.1 ≡ id) }
+    ensures stands { IfOk result (λ made. Stands made.1 world.new.journal.past) }
     ensures names { NamesItsOwn world.old.journal.past → NamesItsOwn world.new.journal.past }
     ensures others { NamesItsOwn world.old.journal.past → (k : the-JobTask) → id_of k ≢ id → Stands k world.old.journal.past → Stands k world.new.journal.past }
 {
@@ -239,14 +279,25 @@ pub(crate) fn make_job(
     let command = command_of(alloc, prog)?;
     let acts = vec![in alloc; Act::Create(id, command.copy(alloc)?)]?;
     let (handle, task) = start_job(alloc, id, command)?;
-    drop(handle);
     world.journal.push(Entry::Hand {
         n: 0,
         names: List::new(alloc),
         acts: List::from_vec(acts),
     });
     world.journal.push(Entry::Made(id));
-    Ok(task)
+    Ok((handle, task))
+}
+
+/// A job of this name, which runs the program `a`, is made. Its entry is the journal's first, and nothing lists that it was
+/// created.
+pub(crate) fn make_first(alloc: Global, id: Id, world: &mut World) -> Result<(Job, JobTask), Memory>
+    requires empty { world.old.journal.past ≡ [] }
+    ensures stands { IfOk result (λ made. Stands made.1 world.new.journal.past) }
+{
+    world.journal.reserve(1)?;
+    let (handle, task) = start_job(alloc, id, command_of(alloc, b"a")?)?;
+    world.journal.push(Entry::Made(id));
+    Ok((handle, task))
 }
 
 /// This is asked of the job.

@@ -1,7 +1,7 @@
 // Tests of jobs: their journals and states are worked out by hand.
 //
-// A test plays moves, which stand in a text with commas between them: what is asked, `step` or `ended` and a moment, or
-// `end`. What is seen of the job behind them is held to a text.
+// A test plays moves, which stand in a text with commas between them: what is asked, `step` or `ended` and a moment, `poll
+// ready` or `poll later` for what a later poll answers, `close`, or `end`. What is seen of the job behind them is held to a text.
 ghost use Rattle.std.specs.Prelude.{◌≡◌, ◌≢◌, ◌≤◌, [], IfOk};
 ghost use Rattle.wx_journal.specs.Names.{NamesItsOwn};
 ghost use Rattle.wx_job.specs.Stands.{Stands, id_of};
@@ -277,8 +277,8 @@ fn calls_that_fail(rt: HostRuntime) -> Result<(), Fail> {
 }
 
 /// Plays these moves, where the first spawn hook with memory adds the word -v. Holds the lines of the journal behind its
-/// first one to these. How many moves had no memory, the state, the one before, and the states that the last spawn hook was
-/// shown are held to a text.
+/// first one to these. How many moves had no memory, the state, the one before, and what the last hook or function was shown
+/// are held to a text.
 fn expect_hooks(
     rt: &impl Abort,
     alloc: Global,
@@ -351,13 +351,42 @@ const TAGGED: &str =
 #[test]
 fn spawn_hooks_and_functions(rt: HostRuntime) -> Result<(), Fail> {
     let hooked =
-        "0 Running { child: 1, started: 5 } Some(Finished { status: Success, started: 1, finished: 2 }) Some((Pending, Some(Finished { status: Success, started: 1, finished: 2 })))";
+        "0 Running { child: 1, started: 5 } Some(Finished { status: Success, started: 1, finished: 2 }) Some((Some('a'), Pending, Some(Finished { status: Success, started: 1, finished: 2 })))";
     expect_hooked(&rt, rt.alloc(), HOOKS, HOOKED, hooked)?;
     let unhooked = "0 Running { child: 0, started: 3 } Some(Pending) None";
     expect_hooked(&rt, rt.alloc(), UNHOOKS, UNHOOKED, unhooked)?;
     let tagged =
         "0 Running { child: 1, started: 7 } Some(Finished { status: Success, started: 3, finished: 4 }) None";
     expect_hooked(&rt, rt.alloc(), FUNCTIONS, TAGGED, tagged)
+}
+
+const CALLS: &str = "run 5,start,run 6,step 1,step 2,step 3";
+
+const CALLED: &str = "asked 0 0 normal run 5\nasked 1 0 normal start\nasked 2 0 normal run 6\n\
+    turn 1 job 0\npick 0 0\nrun 0 5\nraise 0\n\
+    turn 2 job 0\npick 0 1\nspawn 0 0 default ---- 1 a ok\nraise 1\n\
+    turn 3 job 0\npick 0 2\nrun 0 6\nraise 2\n";
+
+const BEGINS: &str = "start,stop,runasync 5,poll later,step 1,step 2,step 3,step 4,step 5";
+
+const BEGUN: &str = "asked 0 0 normal start\nasked 1 0 normal stop\nasked 2 0 normal runasync 5\n\
+    turn 1 job 0\npick 0 0\nspawn 0 0 default ---- 1 a ok\nraise 0\n\
+    turn 2 job 0\npick 0 1\nkill 0 ok\nwait 0 success\nraise 1\n\
+    turn 3 job 0\npick 0 2\nbegun 0 5\n\
+    turn 4 job 0\npoll 0 5 later\nword later\n\
+    turn 5 job 0\npoll 0 5 ready\nraise 2\n";
+
+#[test]
+fn functions_and_what_they_are_shown(rt: HostRuntime) -> Result<(), Fail> {
+    let first = "asked 0 0 normal run 5\nturn 1 job 0\npick 0 0\nrun 0 5\nraise 0\n";
+    let before = "0 Pending None Some((Some('a'), Pending, None))";
+    expect_hooked(&rt, rt.alloc(), "run 5,step 1", first, before)?;
+    let called =
+        "0 Running { child: 0, started: 2 } Some(Pending) Some((Some('a'), Running { child: 0, started: 2 }, Some(Pending)))";
+    expect_hooked(&rt, rt.alloc(), CALLS, CALLED, called)?;
+    let begun =
+        "0 Finished { status: Success, started: 1, finished: 2 } Some(Pending) Some((Some('a'), Finished { status: Success, started: 1, finished: 2 }, Some(Pending)))";
+    expect_hooked(&rt, rt.alloc(), BEGINS, BEGUN, begun)
 }
 
 /// The hook of number 9 has no memory.
@@ -383,9 +412,10 @@ const GONE_ON: &str = "asked 0 0 normal sethook 9\nasked 1 0 normal start\nasked
 #[test]
 fn spawn_hooks_without_memory(rt: HostRuntime) -> Result<(), Fail> {
     let given_up =
-        "1 Pending Some(Finished { status: Success, started: 1, finished: 2 }) Some((Pending, Some(Finished { status: Success, started: 1, finished: 2 })))";
+        "1 Pending Some(Finished { status: Success, started: 1, finished: 2 }) Some((Some('a'), Pending, Some(Finished { status: Success, started: 1, finished: 2 })))";
     expect_hooked(&rt, rt.alloc(), GIVES_UP, GIVEN_UP, given_up)?;
-    let gone_on = "2 Running { child: 0, started: 5 } Some(Pending) Some((Pending, Some(Pending)))";
+    let gone_on =
+        "2 Running { child: 0, started: 5 } Some(Pending) Some((Some('a'), Pending, Some(Pending)))";
     expect_hooked(&rt, rt.alloc(), GOES_ON, GONE_ON, gone_on)
 }
 
@@ -408,7 +438,8 @@ const BOTH: &str = "made 0\nmade 1\n\
     drop 0\ngone 1\n\
     turn 4 job 0\nword idle\n";
 
-/// Makes one move of the job of this id beside another one. The end of its child isn't told here.
+/// Makes one move of the job of this id beside another one. The end of its child isn't told here, no function is polled, and
+/// it isn't closed.
 fn play_beside(
     task: &mut JobTask,
     other: &JobTask,
@@ -435,7 +466,7 @@ fn play_beside(
             Ok(None)
         }
         Move::Step(at) => Ok(Some(step(task, id, alloc, at, world)?)),
-        Move::Ended(_) => Ok(None),
+        Move::Ended(_) | Move::Poll(_) | Move::Close => Ok(None),
         Move::End => {
             end_job(task, world)?;
             Ok(None)
@@ -551,9 +582,11 @@ fn expect_both(
 fn expect_two(rt: &impl Abort, alloc: Global, world: &mut World) -> Result<(), Fail>
     requires { world.old.journal.past ≡ [] }
 {
-    let mut a = make_job(alloc, Id(0), b"a", world)?;
+    let (handle, mut a) = make_job(alloc, Id(0), b"a", world)?;
+    drop(handle);
     let held = match make_job(alloc, Id(1), b"b", world) {
-        Ok(mut b) => {
+        Ok((handle, mut b)) => {
+            drop(handle);
             let held = expect_both(rt, alloc, &mut a, &mut b, world);
             drop(b);
             held

@@ -70,6 +70,22 @@ verdict_so = search
 unfoldable pub verdict : Spelling line (Result Bool RuntimeError)
 verdict = choice verdict_rows verdict_word verdict_behind verdict_made verdict_so refl
 
+-- ---- the answer of the poll of a begun function: whether it is ready
+
+abbrev pub ready_word : Bool → List ℕ
+ready_word true = codes "ready"
+ready_word false = codes "later"
+
+abbrev pub ready_all : List Bool
+ready_all = true ∷ false ∷ []
+
+pub ready_found : HasWords ready_word ready_all
+ready_found true = refl
+ready_found false = refl
+
+unfoldable pub readied : Spelling line Bool
+readied = keyword ready_word ready_all ready_found refl
+
 -- ---- the answer of a spawn hook: what it left to be spawned, or that it had no memory
 
 abbrev pub memory_word : Memory → List ℕ

@@ -29,7 +29,7 @@ use Rattle.wx_control.specs.declared.id.Id.{Id}
 use Rattle.wx_control.specs.declared.level.Level.{Level}
 use Rattle.wx_control.specs.declared.control.Control.{Control}
 use Rattle.wx_journal.specs.Acts.{JournalAct, act}
-use Rattle.wx_journal.specs.Answers.{done, waited, verdict, hooked}
+use Rattle.wx_journal.specs.Answers.{done, waited, verdict, readied, hooked}
 use Rattle.wx_journal.specs.Kinds.{ranked, turn}
 use Rattle.wx_journal.specs.Wishes.{wish}
 use Rattle.wx_journal.specs.Tags.{tag}
@@ -39,7 +39,7 @@ use Rattle.wx_journal.specs.declared.child.HostFault.{HostFault}
 use Rattle.wx_journal.specs.declared.wish.Wish.{Wish}
 use Rattle.wx_journal.specs.declared.entry.Offered.{Offered}
 use Rattle.wx_journal.specs.declared.entry.Entry.{Entry}
-use Rattle.wx_journal.specs.declared.entry.Entry.TheVariants.{Begin, Sent, Turn as Turned, TurnFault, Offer, Word as Said, Take, Filter, Show, Hand, Made, Asked, Pick, GraceOver, Spawn, Signal, Kill, Wait, Dropped, Raise, Gone, Hook}
+use Rattle.wx_journal.specs.declared.entry.Entry.TheVariants.{Begin, Sent, Turn as Turned, TurnFault, Offer, Word as Said, Take, Filter, Show, Hand, Made, Asked, Pick, GraceOver, Spawn, Signal, Kill, Wait, Dropped, Raise, Gone, Run, Begun, Poll, Hook, JobError}
 
 -- ---- what stands behind the first word of an entry
 
@@ -92,6 +92,15 @@ wait = both (as_line number) waited
 abbrev pub hook : Spelling line (Id × (ℕ × Result Spawnable Memory))
 hook = both id (both u32 hooked)
 
+abbrev pub run : Spelling line (Id × ℕ)
+run = both id u32
+
+abbrev pub poll : Spelling line (Id × (ℕ × Bool))
+poll = both id (both u32 readied)
+
+abbrev pub job_error : Spelling line (Id × (ℕ × ℕ))
+job_error = both id (both u32 u32)
+
 abbrev pub unread : Spelling line (ℕ × (List ℕ × List JournalAct))
 unread = never
 
@@ -124,7 +133,11 @@ entry_rows =
     ∷ row (codes "drop") (as_line number) Dropped
     ∷ row (codes "raise") (as_line number) Raise
     ∷ row (codes "gone") id Gone
+    ∷ row (codes "run") run (λ p. Run p.0 p.1)
+    ∷ row (codes "begun") run (λ p. Begun p.0 p.1)
+    ∷ row (codes "poll") poll (λ p. Poll p.0 p.1.0 p.1.1)
     ∷ row (codes "hook") hook (λ p. Hook p.0 p.1.0 p.1.1)
+    ∷ row (codes "joberror") job_error (λ p. JobError p.0 p.1.0 p.1.1)
     ∷ []
 
 abbrev pub entry_word : Entry → List ℕ
@@ -149,7 +162,11 @@ entry_word (Wait _ _) = codes "wait"
 entry_word (Dropped _) = codes "drop"
 entry_word (Raise _) = codes "raise"
 entry_word (Gone _) = codes "gone"
+entry_word (Run _ _) = codes "run"
+entry_word (Begun _ _) = codes "begun"
+entry_word (Poll _ _ _) = codes "poll"
 entry_word (Hook _ _ _) = codes "hook"
+entry_word (JobError _ _ _) = codes "joberror"
 
 abbrev pub entry_behind : Entry → Behind line
 entry_behind (Begin throttle size errors keyboard follow jobsignals how cwd paths) = fields settings ((throttle, (size, errors)), ((keyboard, (follow, jobsignals)), (how, (cwd, paths))))
@@ -173,7 +190,11 @@ entry_behind (Wait child answer) = fields wait (child, answer)
 entry_behind (Dropped child) = fields (as_line number) child
 entry_behind (Raise ticket) = fields (as_line number) ticket
 entry_behind (Gone job) = fields id job
+entry_behind (Run job n) = fields run (job, n)
+entry_behind (Begun job n) = fields run (job, n)
+entry_behind (Poll job n ready) = fields poll (job, (n, ready))
 entry_behind (Hook job n answer) = fields hook (job, (n, answer))
+entry_behind (JobError job n code) = fields job_error (job, (n, code))
 
 pub entry_made : MadeAgain entry_rows entry_word entry_behind
 entry_made (Begin throttle size errors keyboard follow jobsignals how cwd paths) = (_, refl, refl)

@@ -5,7 +5,7 @@ use Rattle.wx_control.specs.declared.id.Id.{Id}
 use Rattle.wx_journal.specs.Acts.{JournalAct as Act}
 use Rattle.wx_journal.specs.declared.entry.Act.TheVariants.{Create, Ask, Quit}
 use Rattle.wx_journal.specs.declared.entry.Entry.{Entry}
-use Rattle.wx_journal.specs.declared.entry.Entry.TheVariants.{Begin, Sent, Turn as Turned, TurnFault, Offer, Word as Said, Take, Filter, Show, Hand, Made, Asked, Pick, GraceOver, Spawn, Signal, Kill, Wait, Dropped, Raise, Gone, Hook}
+use Rattle.wx_journal.specs.declared.entry.Entry.TheVariants.{Begin, Sent, Turn as Turned, TurnFault, Offer, Word as Said, Take, Filter, Show, Hand, Made, Asked, Pick, GraceOver, Spawn, Signal, Kill, Wait, Dropped, Raise, Gone, Run, Begun, Poll, Hook, JobError}
 
 -- the moment of the last turn, 0 before the first
 abbrev pub moment : List Entry → ℕ
@@ -36,7 +36,11 @@ names_event (Wait child answer) = false
 names_event (Dropped child) = false
 names_event (Raise ticket) = false
 names_event (Gone job) = false
+names_event (Run job n) = false
+names_event (Begun job n) = false
+names_event (Poll job n ready) = false
 names_event (Hook job n answer) = false
+names_event (JobError job n code) = false
 
 abbrev pub names_ticket : Entry → Bool
 names_ticket (Begin throttle size errors keyboard follow jobsignals watcher cwd paths) = false
@@ -60,7 +64,11 @@ names_ticket (Wait child answer) = false
 names_ticket (Dropped child) = false
 names_ticket (Raise ticket) = false
 names_ticket (Gone job) = false
+names_ticket (Run job n) = false
+names_ticket (Begun job n) = false
+names_ticket (Poll job n ready) = false
 names_ticket (Hook job n answer) = false
+names_ticket (JobError job n code) = false
 
 abbrev pub names_child : Entry → Bool
 names_child (Begin throttle size errors keyboard follow jobsignals watcher cwd paths) = false
@@ -84,7 +92,11 @@ names_child (Wait child answer) = false
 names_child (Dropped child) = false
 names_child (Raise ticket) = false
 names_child (Gone job) = false
+names_child (Run job n) = false
+names_child (Begun job n) = false
+names_child (Poll job n ready) = false
 names_child (Hook job n answer) = false
+names_child (JobError job n code) = false
 
 -- how many entries are of a kind
 abbrev pub count : (Entry → Bool) → List Entry → ℕ
@@ -155,7 +167,11 @@ Names p (Wait child answer) = child < child_count p
 Names p (Dropped child) = child < child_count p
 Names p (Raise ticket) = ticket < ticket_count p
 Names p (Gone job) = Unit {0}
+Names p (Run job n) = Unit {0}
+Names p (Begun job n) = Unit {0}
+Names p (Poll job n ready) = Unit {0}
 Names p (Hook job n answer) = Unit {0}
+Names p (JobError job n code) = Unit {0}
 
 -- a journal names only what its own entries made
 abbrev pub NamesItsOwn : List Entry → Type 0

@@ -1,7 +1,7 @@
 -- What the outside is told, and what its counts and rules mean.
 use Rattle.std.specs.Prelude.{◌≡◌, ℕ, ◌≤◌, ◌+◌, ◌-◌, ◌^◌, min, Bool, true, false, if◌then◌else◌, Option, None, Some, List, [], ◌∷◌}
 use Rattle.wx_journal.specs.declared.entry.Entry.{Entry}
-use Rattle.wx_journal.specs.declared.entry.Entry.TheVariants.{Begin, Sent, Turn as Turned, TurnFault, Offer, Word as Said, Take, Filter, Show, Hand, Made, Asked, Pick, GraceOver, Spawn, Signal, Kill, Wait, Dropped, Raise, Gone, Hook}
+use Rattle.wx_journal.specs.declared.entry.Entry.TheVariants.{Begin, Sent, Turn as Turned, TurnFault, Offer, Word as Said, Take, Filter, Show, Hand, Made, Asked, Pick, GraceOver, Spawn, Signal, Kill, Wait, Dropped, Raise, Gone, Run, Begun, Poll, Hook, JobError}
 
 -- what is told after one entry more, where anything is told
 abbrev pub tell : Entry → Option (List Entry) → Option (List Entry)
@@ -43,7 +43,11 @@ is_world p (Wait child answer) = true
 is_world p (Dropped child) = true
 is_world p (Raise ticket) = true
 is_world p (Gone job) = true
+is_world p (Run job n) = false
+is_world p (Begun job n) = false
+is_world p (Poll job n ready) = false
 is_world p (Hook job n answer) = false
+is_world p (JobError job n code) = false
 
 -- the entries that are calls on the hooks
 abbrev pub is_hooks : Entry → Bool
@@ -68,7 +72,11 @@ is_hooks (Wait child answer) = false
 is_hooks (Dropped child) = false
 is_hooks (Raise ticket) = false
 is_hooks (Gone job) = false
+is_hooks (Run job n) = true
+is_hooks (Begun job n) = true
+is_hooks (Poll job n ready) = true
 is_hooks (Hook job n answer) = true
+is_hooks (JobError job n code) = true
 
 -- the entries that hand a batch
 abbrev pub is_hand : Entry → Bool
@@ -93,7 +101,11 @@ is_hand (Wait child answer) = false
 is_hand (Dropped child) = false
 is_hand (Raise ticket) = false
 is_hand (Gone job) = false
+is_hand (Run job n) = false
+is_hand (Begun job n) = false
+is_hand (Poll job n ready) = false
 is_hand (Hook job n answer) = false
+is_hand (JobError job n code) = false
 
 -- the turns and their faults
 abbrev pub is_turn : Entry → Bool
@@ -118,7 +130,11 @@ is_turn (Wait child answer) = false
 is_turn (Dropped child) = false
 is_turn (Raise ticket) = false
 is_turn (Gone job) = false
+is_turn (Run job n) = false
+is_turn (Begun job n) = false
+is_turn (Poll job n ready) = false
 is_turn (Hook job n answer) = false
+is_turn (JobError job n code) = false
 
 -- a count that rose, or stands at the end of its range
 abbrev pub Rose : ℕ → ℕ → Type 0

@@ -6,9 +6,9 @@ use Rattle.wx_words.specs.Parts.{line, HasWords, keyword}
 use Rattle.wx_journal.specs.declared.entry.Offered.{Offered}
 use Rattle.wx_journal.specs.declared.entry.Offered.TheVariants.{Queued, Full, Closed}
 use Rattle.wx_journal.specs.declared.entry.Entry.{Entry}
-use Rattle.wx_journal.specs.declared.entry.Entry.TheVariants.{Begin, Sent, Turn as Turned, TurnFault, Offer, Word as Said, Take, Filter, Show, Hand, Made, Asked, Pick, GraceOver, Spawn, Signal, Kill, Wait, Dropped, Raise, Gone, Hook}
+use Rattle.wx_journal.specs.declared.entry.Entry.TheVariants.{Begin, Sent, Turn as Turned, TurnFault, Offer, Word as Said, Take, Filter, Show, Hand, Made, Asked, Pick, GraceOver, Spawn, Signal, Kill, Wait, Dropped, Raise, Gone, Run, Begun, Poll, Hook, JobError}
 use Rattle.wx_journal.specs.declared.entry.Word.{Word}
-use Rattle.wx_journal.specs.declared.entry.Word.TheVariants.{Idle, Ignored}
+use Rattle.wx_journal.specs.declared.entry.Word.TheVariants.{Idle, Ignored, Later}
 
 abbrev pub offered_word : Offered → List ℕ
 offered_word Queued = codes "queued"
@@ -29,13 +29,15 @@ offered = keyword offered_word offered_all offered_found refl
 abbrev pub said_word : Word → List ℕ
 said_word Idle = codes "idle"
 said_word Ignored = codes "ignored"
+said_word Later = codes "later"
 
 abbrev pub said_all : List Word
-said_all = Idle ∷ Ignored ∷ []
+said_all = Idle ∷ Ignored ∷ Later ∷ []
 
 pub said_found : HasWords said_word said_all
 said_found Idle = refl
 said_found Ignored = refl
+said_found Later = refl
 
 unfoldable pub said : Spelling line Word
 said = keyword said_word said_all said_found refl
@@ -69,4 +71,8 @@ is_of_job (Wait child answer) = true
 is_of_job (Dropped child) = true
 is_of_job (Raise ticket) = true
 is_of_job (Gone job) = true
+is_of_job (Run job n) = true
+is_of_job (Begun job n) = true
+is_of_job (Poll job n ready) = true
 is_of_job (Hook job n answer) = true
+is_of_job (JobError job n code) = true

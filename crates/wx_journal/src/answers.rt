@@ -9,7 +9,7 @@ ghost use Rattle.wx_journal.specs.declared.child.HostFault.{HostFault as AFault}
 ghost use Rattle.wx_config.specs.declared.runtime.RuntimeError.{RuntimeError as AnError};
 ghost use Rattle.wx_words.specs.declared.list.Memory.{Memory as NoMemory};
 ghost use Rattle.wx_command.specs.declared.spawnable.Spawnable.{Spawnable as ASpawnable};
-ghost use Rattle.wx_journal.specs.Answers.{done, waited, verdict, hooked};
+ghost use Rattle.wx_journal.specs.Answers.{done, waited, verdict, readied, hooked};
 
 use crate::child::HostFault;
 use std::alloc::Global;
@@ -73,6 +73,28 @@ pub fn read_verdict(
     )
 }
 
+/// Whether a begun function is ready, lent to be written.
+#[derive(Clone, Copy)]
+pub struct ReadyRef<'a> {
+    pub ready: &'a bool,
+}
+
+#[tactic(auto, unfolding(crate::specs::Answers::readied))]
+impl<'a> Fields for ReadyRef<'a> {
+    ghost use Rattle.wx_journal.specs.Answers.{readied};
+
+    ghost fits = { λ lent. readied.fits lent.ready.now };
+
+    ghost words = { λ lent. readied.words lent.ready.now };
+
+    fn put_fields(&self, out: &mut Text) -> Result<(), Memory> {
+        match self.ready {
+            true => put_word(b"ready", out),
+            false => put_word(b"later", out),
+        }
+    }
+}
+
 /// What a spawn hook answered, lent to be written.
 #[derive(Clone, Copy)]
 pub struct HookedRef<'a> {
@@ -100,9 +122,11 @@ pub fn answers_are_read_again()
     ensures done { IsForm text_in done.fits done.words done.read }
     ensures waited { IsForm text_in waited.fits waited.words waited.read }
     ensures verdict { IsForm text_in verdict.fits verdict.words verdict.read }
+    ensures readied { IsForm text_in readied.fits readied.words readied.read }
     ensures hooked { IsForm text_in hooked.fits hooked.words hooked.read }
     ensures done_clean { (x : AResult (Unit {0}) AFault) → done.fits x → AllClean (done.words x) }
     ensures waited_clean { (x : AResult AnEnd AFault) → waited.fits x → AllClean (waited.words x) }
     ensures verdict_clean { (x : AResult Bool AnError) → verdict.fits x → AllClean (verdict.words x) }
+    ensures readied_clean { (x : Bool) → readied.fits x → AllClean (readied.words x) }
     ensures hooked_clean { (x : AResult ASpawnable NoMemory) → hooked.fits x → AllClean (hooked.words x) }
 {}

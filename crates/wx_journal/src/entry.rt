@@ -48,6 +48,8 @@ pub enum Word {
     Idle,
     /// What the turn or the act is about isn't there.
     Ignored,
+    /// The begun function isn't ready.
+    Later,
 }
 
 /// What a handler asks of the engine. A `J` says which job is to be created: in a journal that is its name.
@@ -169,12 +171,34 @@ pub enum Entry {
     Raise(u64),
     /// The job of this name is gone.
     Gone(Id),
+    /// The function of this number was called for a job.
+    Run {
+        job: Id,
+        n: u32,
+    },
+    /// The function of this number was begun for a job, which polls it until it is ready.
+    Begun {
+        job: Id,
+        n: u32,
+    },
+    /// The begun function of this number was polled: whether it is ready.
+    Poll {
+        job: Id,
+        n: u32,
+        ready: bool,
+    },
     /// The spawn hook of this number was called before a job spawned: what it left to be spawned, or that it had no
     /// memory.
     Hook {
         job: Id,
         n: u32,
         answer: Result<Spawnable, Memory>,
+    },
+    /// The fault of a call on a child, of this code, was shown to the error handler of this number.
+    JobError {
+        job: Id,
+        n: u32,
+        code: u32,
     },
 }
 

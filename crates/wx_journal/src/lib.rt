@@ -11,7 +11,7 @@ mod lines;
 mod wish;
 mod words;
 
-pub use answers::{HookedRef, VerdictRef, answers_are_read_again, read_verdict};
+pub use answers::{HookedRef, ReadyRef, VerdictRef, answers_are_read_again, read_verdict};
 pub use child::{HostFault, SpawnTag};
 pub use entry::{Act, Entry, Named, Offered, Turn, TurnKind, Word};
 pub use journal::{Entries, Journal};

@@ -5,7 +5,7 @@ ghost use Rattle.wx_journal.specs.Entries.{entry_words, EntryFits};
 ghost use Rattle.wx_journal.specs.Words.{is_begin, is_of_job};
 ghost use Rattle.wx_journal.specs.declared.entry.Entry.TheVariants.{Hand};
 
-use crate::answers::{HookedRef, VerdictRef};
+use crate::answers::{HookedRef, ReadyRef, VerdictRef};
 use crate::entry::{Act, Entry, Offered, Word};
 use std::alloc::Global;
 use wx_events::{List, Memory, Spelled, Text, Words, put_items};
@@ -44,6 +44,7 @@ impl Spelled for Word {
         match self {
             Word::Idle => put_word(b"idle", out),
             Word::Ignored => put_word(b"ignored", out),
+            Word::Later => put_word(b"later", out),
         }
     }
 
@@ -51,6 +52,7 @@ impl Spelled for Word {
         read_rows!(_alloc, line;
             b"idle" => Word::Idle,
             b"ignored" => Word::Ignored,
+            b"later" => Word::Later,
         )
     }
 }
@@ -157,9 +159,15 @@ fn put_job_entry(entry: &Entry, out: &mut Text) -> Result<(), Memory>
         Entry::Dropped(child) => begin_row(b"drop", &child, out),
         Entry::Raise(ticket) => begin_row(b"raise", &ticket, out),
         Entry::Gone(job) => begin_row(b"gone", &job, out),
+        Entry::Run { job, n } => begin_row(b"run", &(job, n), out),
+        Entry::Begun { job, n } => begin_row(b"begun", &(job, n), out),
+        Entry::Poll { job, n, ready } => {
+            begin_row(b"poll", &(job, (n, ReadyRef { ready })), out)
+        }
         Entry::Hook { job, n, answer } => {
             begin_row(b"hook", &(job, (n, HookedRef { answer })), out)
         }
+        Entry::JobError { job, n, code } => begin_row(b"joberror", &(job, (n, code)), out),
         _ => Ok(()),
     }
 }
@@ -204,6 +212,10 @@ pub fn append_entry(entry: &Entry, out: &mut Text) -> Result<(), Memory>
         | Entry::Dropped(_)
         | Entry::Raise(_)
         | Entry::Gone(_)
-        | Entry::Hook { .. } => put_job_entry(entry, out),
+        | Entry::Run { .. }
+        | Entry::Begun { .. }
+        | Entry::Poll { .. }
+        | Entry::Hook { .. }
+        | Entry::JobError { .. } => put_job_entry(entry, out),
     }
 }

@@ -172,6 +172,7 @@ fn entries_of_runs(rt: HostRuntime) -> Result<(), Fail> {
     expect_line(&rt, alloc, Entry::TurnFault(5), b"turnfault 5")?;
     expect_line(&rt, alloc, Entry::Word(Word::Idle), b"word idle")?;
     expect_line(&rt, alloc, Entry::Word(Word::Ignored), b"word ignored")?;
+    expect_line(&rt, alloc, Entry::Word(Word::Later), b"word later")?;
     expect_line(&rt, alloc, Entry::Take(1), b"take 1")?;
     Ok(())
 }
@@ -420,6 +421,29 @@ fn entries_of_hooks(rt: HostRuntime) -> Result<(), Fail> {
     let left = Spawnable { words, options };
     expect_line(&rt, alloc, hook(Ok(left)), b"hook 3 2 ---- 2 sh a%20b")?;
     expect_line(&rt, alloc, hook(Err(Memory)), b"hook 3 2 memory")?;
+    Ok(())
+}
+
+/// The function 7 of job 3 was polled, and answered so.
+fn poll(ready: bool) -> Entry {
+    Entry::Poll {
+        job: Id(3),
+        n: 7,
+        ready,
+    }
+}
+
+#[test]
+fn entries_of_functions_and_faults(rt: HostRuntime) -> Result<(), Fail> {
+    let alloc = rt.alloc();
+    let (job, n) = (Id(3), 7);
+    expect_line(&rt, alloc, Entry::Run { job, n }, b"run 3 7")?;
+    expect_line(&rt, alloc, Entry::Begun { job, n }, b"begun 3 7")?;
+    expect_line(&rt, alloc, poll(true), b"poll 3 7 ready")?;
+    expect_line(&rt, alloc, poll(false), b"poll 3 7 later")?;
+    let code = 4294967295;
+    let shown = Entry::JobError { job, n, code };
+    expect_line(&rt, alloc, shown, b"joberror 3 7 4294967295")?;
     Ok(())
 }
 

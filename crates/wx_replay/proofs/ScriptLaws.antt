@@ -14,7 +14,7 @@ use Rattle.wx_engine.specs.declared.script.ScriptTurn.TheVariants.{Turn, Fault}
 use Rattle.wx_engine.specs.Follows.{IsScript}
 use Rattle.wx_engine.specs.FollowLaws.{rises_turn, rises_fault, come_more}
 use Rattle.wx_replay.specs.declared.lines.Line.{Line}
-use Rattle.wx_replay.specs.declared.lines.Line.TheVariants.{Nothing, Throttle, Size, ErrorSize, Send, Turn as Turned, Fault as Failed, Acts, Filter, Wishes, Hook, Spawn, Signal, Kill, Wait}
+use Rattle.wx_replay.specs.declared.lines.Line.TheVariants.{Nothing, Throttle, Size, ErrorSize, Send, Turn as Turned, Fault as Failed, Acts, Filter, Wishes, Poll, Hook, Spawn, Signal, Kill, Wait}
 use Rattle.wx_replay.specs.Lines.{can_bring, is_scripted, if_scripted, read_form, line_in}
 use Rattle.wx_replay.specs.Scripts.{start, accepts, step, begun_by, IsScriptOf}
 
@@ -83,6 +83,7 @@ accepts_lawful s t (Failed code) is come e =
 accepts_lawful s t (Acts acts) is come e = subst IsScript (some_same e) (record { size = is.size; error_size = is.error_size; sends = is.sends; comes = is.comes; rises = is.rises })
 accepts_lawful s t (Filter answer) is come e = subst IsScript (some_same e) (record { size = is.size; error_size = is.error_size; sends = is.sends; comes = is.comes; rises = is.rises })
 accepts_lawful s t (Wishes wish) is come e = subst IsScript (some_same e) (record { size = is.size; error_size = is.error_size; sends = is.sends; comes = is.comes; rises = is.rises })
+accepts_lawful s t (Poll ready) is come e = subst IsScript (some_same e) (record { size = is.size; error_size = is.error_size; sends = is.sends; comes = is.comes; rises = is.rises })
 accepts_lawful s t (Hook words) is come e = subst IsScript (some_same e) (record { size = is.size; error_size = is.error_size; sends = is.sends; comes = is.comes; rises = is.rises })
 accepts_lawful s t (Spawn answer) is come e = subst IsScript (some_same e) (record { size = is.size; error_size = is.error_size; sends = is.sends; comes = is.comes; rises = is.rises })
 accepts_lawful s t (Signal answer) is come e = subst IsScript (some_same e) (record { size = is.size; error_size = is.error_size; sends = is.sends; comes = is.comes; rises = is.rises })

@@ -4,14 +4,14 @@ use Rattle.wx_words.specs.Line.{words_of, ◌>>=◌}
 use Rattle.wx_words.specs.Combine.{Reader, read_as, read_rows, whole}
 use Rattle.wx_words.specs.Parts.{number, u32, list_of, text}
 use Rattle.wx_words.specs.ToEnd.{read_to_end}
-use Rattle.wx_journal.specs.Answers.{done, waited, verdict}
+use Rattle.wx_journal.specs.Answers.{done, waited, verdict, readied}
 use Rattle.wx_journal.specs.Wishes.{wish}
 use Rattle.wx_journal.specs.Kinds.{ranked, turn}
 use Rattle.wx_journal.specs.declared.entry.TurnKind.{TurnKind}
 use Rattle.wx_journal.specs.declared.entry.TurnKind.TheVariants.{Last}
 use Rattle.wx_engine.specs.Wishes.{script_act}
 use Rattle.wx_replay.specs.declared.lines.Line.{Line}
-use Rattle.wx_replay.specs.declared.lines.Line.TheVariants.{Nothing, Throttle, Size, ErrorSize, Send, Turn as Turned, Fault, Acts, Filter, Wishes, Hook, Spawn, Signal, Kill, Wait}
+use Rattle.wx_replay.specs.declared.lines.Line.TheVariants.{Nothing, Throttle, Size, ErrorSize, Send, Turn as Turned, Fault, Acts, Filter, Wishes, Poll, Hook, Spawn, Signal, Kill, Wait}
 
 -- what a script can say that a turn brings: all but a last turn
 abbrev pub can_bring : TurnKind → Bool
@@ -43,6 +43,7 @@ form_rows =
     ∷ (codes "turnfault", read_as Fault u32.read)
     ∷ (codes "filter", read_as Filter verdict.read)
     ∷ (codes "error", read_as Wishes wish.read)
+    ∷ (codes "poll", read_as Poll readied.read)
     ∷ (codes "hook", read_as Hook (list_of text).read)
     ∷ (codes "spawn", read_as Spawn done.read)
     ∷ (codes "signal", read_as Signal done.read)

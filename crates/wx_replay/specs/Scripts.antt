@@ -7,11 +7,11 @@ use Rattle.wx_engine.specs.declared.script.ScriptTurn.TheVariants.{Turn, Fault}
 use Rattle.wx_engine.specs.HostCalls.{no_answers}
 use Rattle.wx_replay.specs.Lines.{line_in}
 use Rattle.wx_replay.specs.declared.lines.Line.{Line}
-use Rattle.wx_replay.specs.declared.lines.Line.TheVariants.{Nothing, Throttle, Size, ErrorSize, Send, Turn as Turned, Fault as Failed, Acts, Filter, Wishes, Hook, Spawn, Signal, Kill, Wait}
+use Rattle.wx_replay.specs.declared.lines.Line.TheVariants.{Nothing, Throttle, Size, ErrorSize, Send, Turn as Turned, Fault as Failed, Acts, Filter, Wishes, Poll, Hook, Spawn, Signal, Kill, Wait}
 
 -- the script of no lines
 abbrev pub start : Script
-start = record { throttle = default_config.throttle; size = default_config.event_channel_size; error_size = default_config.error_channel_size; sends = []; turns = []; actions = []; filters = []; errors = []; hooks = []; answers = no_answers; last = 0 }
+start = record { throttle = default_config.throttle; size = default_config.event_channel_size; error_size = default_config.error_channel_size; sends = []; turns = []; actions = []; filters = []; errors = []; polls = []; hooks = []; answers = no_answers; last = 0 }
 
 -- the script with what one more line says, where that can stand there
 abbrev pub accepts : Script → Line → Option Script
@@ -25,6 +25,7 @@ accepts s (Failed code) = Some (record s { turns = s.turns ++ Fault code ∷ [] 
 accepts s (Acts acts) = Some (record s { actions = s.actions ++ acts ∷ [] })
 accepts s (Filter answer) = Some (record s { filters = s.filters ++ answer ∷ [] })
 accepts s (Wishes wish) = Some (record s { errors = s.errors ++ wish ∷ [] })
+accepts s (Poll ready) = Some (record s { polls = s.polls ++ ready ∷ [] })
 accepts s (Hook words) = Some (record s { hooks = s.hooks ++ words ∷ [] })
 accepts s (Spawn answer) = Some (record s { answers = record s.answers { spawns = s.answers.spawns ++ answer ∷ [] } })
 accepts s (Signal answer) = Some (record s { answers = record s.answers { signals = s.answers.signals ++ answer ∷ [] } })

@@ -3,6 +3,7 @@ ghost use Rattle.std.specs.Prelude.{◌≡◌, IfOk};
 ghost use Rattle.wx_words.specs.Line.{Reads};
 ghost use Rattle.wx_words.specs.Combine.{read_as};
 ghost use Rattle.wx_words.specs.Parts.{list_of, text};
+ghost use Rattle.wx_journal.specs.Answers.{readied};
 ghost use Rattle.wx_journal.specs.Wishes.{wish};
 ghost use Rattle.wx_replay.specs.declared.lines.Line.TheVariants.{Wishes, Hook};
 ghost use Rattle.wx_replay.specs.Lines.{can_bring, is_scripted, read_set, read_form, line_in};
@@ -37,6 +38,8 @@ pub enum Line {
     Filter(Result<bool, RuntimeError>),
     /// The error handler wishes this.
     Wishes(Wish),
+    /// Whether a begun function is ready in one poll.
+    Poll(bool),
     /// A spawn hook appends these words in one call.
     Hook(List<Text>),
     /// The host answers this to a spawn.
@@ -91,6 +94,17 @@ fn take_wish(alloc: Global, line: &mut Words) -> Result<Option<Line>, Memory>
     }
 }
 
+/// Takes whether a begun function is ready, or loses the place.
+#[tactic(auto, unfolding(wx_journal::specs::Answers::readied))]
+fn take_ready(alloc: Global, line: &mut Words) -> Result<Option<bool>, Memory>
+    ensures { IfOk result (λ ready. Reads line.new ready (readied.read line.old)) }
+{
+    read_rows!(alloc, line;
+        b"ready" => true,
+        b"later" => false,
+    )
+}
+
 /// Takes the words that a spawn hook appends, or loses the place.
 fn take_words(alloc: Global, line: &mut Words) -> Result<Option<Line>, Memory>
     ensures { IfOk result (λ said. Reads line.new said (read_as Hook (list_of text).read line.old)) }
@@ -114,6 +128,7 @@ fn take_form(alloc: Global, line: &mut Words) -> Result<Option<Line>, Memory>
         b"turnfault" (code) => Line::Fault(code),
         b"filter" (answer = read_verdict) => Line::Filter(answer),
         b"error" (said = take_wish) => said,
+        b"poll" (ready = take_ready) => Line::Poll(ready),
         b"hook" (said = take_words) => said,
         b"spawn" (answer = read_result) => Line::Spawn(answer),
         b"signal" (answer = read_result) => Line::Signal(answer),

@@ -28,6 +28,7 @@ fn start(alloc: Global) -> Script
         actions: List::new(alloc),
         filters: List::new(alloc),
         errors: List::new(alloc),
+        polls: List::new(alloc),
         hooks: List::new(alloc),
         answers: Answers::new(alloc),
         last: 0,
@@ -117,6 +118,10 @@ fn add(script: &mut Script, said: Line) -> Result<bool, Memory>
         }
         Line::Wishes(wish) => {
             script.errors.push(wish)?;
+            Ok(true)
+        }
+        Line::Poll(ready) => {
+            script.polls.push(ready)?;
             Ok(true)
         }
         Line::Hook(words) => {

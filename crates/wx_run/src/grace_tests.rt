@@ -9,7 +9,7 @@ use wx_events::cut;
 use wx_replay::Status;
 
 /// Each script of the table has its journal, and its run ends well.
-fn each_is_replayed(rt: &impl Abort, alloc: Global, table: &str) -> Result<(), Fail> {
+pub(crate) fn each_is_replayed(rt: &impl Abort, alloc: Global, table: &str) -> Result<(), Fail> {
     for case in table.split("\n\n") {
         let (script, journal) = case.split_once("=>\n").ok_or("a script and a journal")?;
         let (sink, status) = run(alloc, b"replay", script.as_bytes())?;

@@ -4,6 +4,8 @@
 #[cfg(test)]
 mod feeding_tests;
 #[cfg(test)]
+mod function_tests;
+#[cfg(test)]
 mod grace_tests;
 #[cfg(test)]
 mod random;

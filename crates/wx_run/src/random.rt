@@ -315,6 +315,7 @@ struct Draft {
     wished: usize,
     hooked: usize,
     signalled: usize,
+    polled: usize,
     // the jobs that the action lines so far create
     created: u32,
     rules: Rules,
@@ -333,6 +334,7 @@ impl Draft {
             wished: 0,
             hooked: 0,
             signalled: 0,
+            polled: 0,
             created: 0,
             rules: Rules {
                 size: 0,
@@ -347,6 +349,7 @@ impl Draft {
                 said: Said {
                     hooks: Vec::new(alloc),
                     signals: Vec::new(alloc),
+                    polls: Vec::new(alloc),
                 },
                 outcome: Outcome::Well,
                 is_over: false,
@@ -374,6 +377,10 @@ impl Draft {
         for _ in 0..draft.draw(4) {
             let is_sent = draft.draw(2) == 0;
             draft.rules.said.signals.push(is_sent)?;
+        }
+        for _ in 0..draft.draw(8) {
+            let is_ready = draft.draw(2) == 0;
+            draft.rules.said.polls.push(is_ready)?;
         }
         draft.put_work(alloc)?;
         for _ in 0..30 + draft.draw(60) {
@@ -416,7 +423,7 @@ impl Draft {
 
     /// A control but a start.
     fn draw_control(&mut self) -> Control {
-        match self.draw(40) {
+        match self.draw(52) {
             0..=3 => Control::Stop,
             4..=9 => Control::GracefulStop,
             10..=13 => Control::TryRestart,
@@ -429,7 +436,11 @@ impl Draft {
             33 => Control::Unhook,
             34 | 35 => Control::Command,
             36 | 37 => Control::Child,
-            _ => Control::Clear,
+            38 | 39 => Control::Clear,
+            40 | 41 => Control::Run,
+            42..=45 => Control::RunAsync,
+            46..=49 => Control::Handler,
+            _ => Control::NoHandler,
         }
     }
 
@@ -551,7 +562,7 @@ impl Draft {
 
     /// A line of any form that may stand in the middle.
     fn put_line(&mut self, alloc: Global) -> Result<(), Memory> {
-        match self.draw(44) {
+        match self.draw(45) {
             0..=5 => self.put_arrival(),
             6..=11 => self.put_work(alloc),
             12..=27 => self.put_step(),
@@ -563,6 +574,7 @@ impl Draft {
             39 => self.put_wish(),
             40 => self.put_hook(),
             41 => self.put_signal(),
+            42 => self.put_poll(),
             _ => self.put_action(),
         }
     }
@@ -679,6 +691,19 @@ impl Draft {
         Ok(())
     }
 
+    /// The answer of the next poll, where one is left.
+    fn put_poll(&mut self) -> Result<(), Memory> {
+        if let Some(is_ready) = self.rules.said.polls.get(self.polled).copied() {
+            self.text.append(if is_ready {
+                b"poll ready\n".as_slice()
+            } else {
+                b"poll later\n".as_slice()
+            })?;
+            self.polled = self.polled.saturating_add(1);
+        }
+        Ok(())
+    }
+
     /// The actions, answers, wishes and words of hooks that are left, and at times a fault with lines behind it.
     fn put_tail(&mut self, alloc: Global) -> Result<(), Memory> {
         if self.draw(4) == 0 {
@@ -704,6 +729,9 @@ impl Draft {
         for _ in 0..self.rules.said.signals.len() {
             self.put_signal()?;
         }
+        for _ in 0..self.rules.said.polls.len() {
+            self.put_poll()?;
+        }
         self.rules.end();
         Ok(())
     }
@@ -715,6 +743,9 @@ fn random_scripts_have_the_lines_that_are_due(rt: HostRuntime) -> Result<(), Fai
     words.push(Text::from_slice(rt.alloc(), b"replay")?)?;
     let mut graces = 0u32;
     let mut faults = 0u32;
+    let mut shown = 0u32;
+    let mut polls = 0u32;
+    let mut later = 0u32;
     for seed in 0..300 {
         let draft = Draft::new(rt.alloc(), seed)?;
         let mut source = MemSource::new(rt.alloc(), draft.text.as_slice())?;
@@ -728,7 +759,11 @@ fn random_scripts_have_the_lines_that_are_due(rt: HostRuntime) -> Result<(), Fai
         assert!(rt; !raises_twice(text), "seed {seed}");
         graces = graces.saturating_add(draft.rules.counts.graces);
         faults = faults.saturating_add(draft.rules.counts.failed_signals);
+        shown = shown.saturating_add(draft.rules.counts.job_errors);
+        later = later.saturating_add(draft.rules.counts.later_polls);
+        polls = polls.saturating_add(draft.rules.counts.polls);
     }
-    assert!(rt; graces > 0 && faults > 0);
+    assert!(rt; graces > 0 && faults > 0 && shown > 0);
+    assert!(rt; later > 0 && polls > later);
     Ok(())
 }

@@ -15,6 +15,7 @@ pub(crate) struct Counts {
     pub(crate) closed: u32,
     pub(crate) idle: u32,
     pub(crate) ignored: u32,
+    pub(crate) later: u32,
     pub(crate) takes: u32,
     pub(crate) filters: u32,
     pub(crate) shows: u32,
@@ -22,6 +23,11 @@ pub(crate) struct Counts {
     pub(crate) made: u32,
     pub(crate) asked: u32,
     pub(crate) picks: u32,
+    pub(crate) runs: u32,
+    pub(crate) begun: u32,
+    pub(crate) polls: u32,
+    // those that found no function ready
+    pub(crate) later_polls: u32,
     pub(crate) hooks: u32,
     // the words that hooks appended
     pub(crate) words: u32,
@@ -32,6 +38,7 @@ pub(crate) struct Counts {
     pub(crate) signals: u32,
     // those that failed
     pub(crate) failed_signals: u32,
+    pub(crate) job_errors: u32,
     pub(crate) graces: u32,
     pub(crate) kills: u32,
     pub(crate) waits: u32,
@@ -80,9 +87,13 @@ impl Counts {
             Some(b"made") => up(&mut self.made),
             Some(b"asked") => up(&mut self.asked),
             Some(b"pick") => up(&mut self.picks),
+            Some(b"run") => up(&mut self.runs),
+            Some(b"begun") => up(&mut self.begun),
+            Some(b"poll") => self.add_poll(line),
             Some(b"hook") => self.add_hook(line),
             Some(b"spawn") => self.add_spawn(&mut words),
             Some(b"signal") => self.add_signal(line),
+            Some(b"joberror") => up(&mut self.job_errors),
             Some(b"grace") => up(&mut self.graces),
             Some(b"kill") => up(&mut self.kills),
             Some(b"wait") => up(&mut self.waits),
@@ -91,6 +102,14 @@ impl Counts {
             Some(b"gone") => up(&mut self.gone),
             Some(b"end") => up(&mut self.ends),
             _ => up(&mut self.others),
+        }
+    }
+
+    /// Counts a poll.
+    fn add_poll(&mut self, line: &[u8]) {
+        up(&mut self.polls);
+        if line.ends_with(b" later") {
+            up(&mut self.later_polls);
         }
     }
 
@@ -139,6 +158,7 @@ impl Counts {
         match words.next() {
             Some(b"idle") => up(&mut self.idle),
             Some(b"ignored") => up(&mut self.ignored),
+            Some(b"later") => up(&mut self.later),
             _ => up(&mut self.others),
         }
     }

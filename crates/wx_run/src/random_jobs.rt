@@ -20,8 +20,12 @@ pub(crate) enum Control {
     Signal,
     Delete,
     NextEnding,
+    Run,
+    RunAsync,
     Hook,
     Unhook,
+    Handler,
+    NoHandler,
     Command,
     Child,
     Clear,
@@ -40,8 +44,12 @@ impl Control {
             Control::Signal => b" signal custom.64",
             Control::Delete => b" delete",
             Control::NextEnding => b" nextending",
+            Control::Run => b" run 4",
+            Control::RunAsync => b" runasync 6",
             Control::Hook => b" sethook 2",
             Control::Unhook => b" unsethook",
+            Control::Handler => b" seterror 5",
+            Control::NoHandler => b" unseterror",
             Control::Command => b" setspawn 7",
             Control::Child => b" setchild 5",
             Control::Clear => b" clearspawn",
@@ -93,11 +101,13 @@ enum Spawner {
     Child,
 }
 
-/// What the script says of calls: how many words each of a hook appends, and whether each signal is sent well.
+/// What the script says of calls: how many words each of a hook appends, whether each signal is sent well, and whether each poll
+/// finds its function ready.
 #[derive(Drop)]
 pub(crate) struct Said {
     pub(crate) hooks: Vec<u32>,
     pub(crate) signals: Vec<bool>,
+    pub(crate) polls: Vec<bool>,
 }
 
 /// Controls, and how many of them were picked.
@@ -140,9 +150,14 @@ pub(crate) struct Task {
     high: Waits,
     normal: Waits,
     is_hooked: bool,
+    has_handler: bool,
+    // a function that was begun, and was not ready yet
+    is_begun: bool,
     spawner: Spawner,
     // the number of the child that runs
     child: Option<u32>,
+    // it has ended, and was not waited for yet
+    is_kept: bool,
     has_ended: bool,
     grace: Option<Grace>,
     // tickets that wait for the end of the child
@@ -160,8 +175,11 @@ impl Task {
             high: Waits::new(alloc),
             normal: Waits::new(alloc),
             is_hooked: false,
+            has_handler: false,
+            is_begun: false,
             spawner: Spawner::Default,
             child: None,
+            is_kept: false,
             has_ended: false,
             grace: None,
             parked: 0,
@@ -208,7 +226,10 @@ impl Task {
     pub(crate) fn step(&mut self, at: u64, said: &Said, counts: &mut Counts) {
         if self.is_gone {
             up(&mut counts.ignored);
-        } else if !self.ends_grace(at, said, counts) {
+        } else if !self.polls(said, counts)
+            && !self.ends_grace(at, said, counts)
+            && !self.ends_child(said, counts)
+        {
             match self.pick() {
                 Some(control) => {
                     up(&mut counts.picks);
@@ -221,8 +242,31 @@ impl Task {
 
     /// A step at this moment, in which the child that runs has ended.
     pub(crate) fn end(&mut self, at: u64, said: &Said, counts: &mut Counts) {
-        if self.ends_grace(at, said, counts) {
-            return;
+        self.is_kept = true;
+        self.step(at, said, counts);
+    }
+
+    /// Whether a function was begun, which is polled.
+    fn polls(&mut self, said: &Said, counts: &mut Counts) -> bool {
+        if !self.is_begun {
+            return false;
+        }
+        let next = said.polls.get(counts.polls as usize).copied();
+        up(&mut counts.polls);
+        if next.unwrap_or(true) {
+            self.is_begun = false;
+            up(&mut counts.raises);
+        } else {
+            up(&mut counts.later_polls);
+            up(&mut counts.later);
+        }
+        true
+    }
+
+    /// Whether the end of the child is kept, which is waited for.
+    fn ends_child(&mut self, said: &Said, counts: &mut Counts) -> bool {
+        if !self.is_kept {
+            return false;
         }
         self.wait(counts);
         if let Some(grace) = self.grace.take() {
@@ -231,6 +275,7 @@ impl Task {
             }
             up(&mut counts.raises);
         }
+        true
     }
 
     /// Whether a grace is over at this moment, which kills the child.
@@ -270,6 +315,7 @@ impl Task {
             Control::GracefulStop => self.begins(at, STOP_GRACE, false, said, counts),
             Control::TryGracefulRestart => self.begins(at, RESTART_GRACE, true, said, counts),
             Control::NextEnding => !self.has_ended,
+            Control::RunAsync => true,
             _ => false,
         };
         match control {
@@ -282,8 +328,15 @@ impl Task {
             }
             Control::Delete => self.let_go(counts),
             Control::NextEnding if is_held => up(&mut self.parked),
+            Control::Run => up(&mut counts.runs),
+            Control::RunAsync => {
+                up(&mut counts.begun);
+                self.is_begun = true;
+            }
             Control::Hook => self.is_hooked = true,
             Control::Unhook => self.is_hooked = false,
+            Control::Handler => self.has_handler = true,
+            Control::NoHandler => self.has_handler = false,
             Control::Command => self.spawner = Spawner::Command,
             Control::Child => self.spawner = Spawner::Child,
             Control::Clear => self.spawner = Spawner::Default,
@@ -304,6 +357,9 @@ impl Task {
         up(&mut counts.signals);
         if !is_sent {
             up(&mut counts.failed_signals);
+            if self.has_handler {
+                up(&mut counts.job_errors);
+            }
         }
         is_sent
     }
@@ -351,6 +407,7 @@ impl Task {
     fn wait(&mut self, counts: &mut Counts) {
         up(&mut counts.waits);
         self.child = None;
+        self.is_kept = false;
         self.has_ended = true;
         counts.raises = counts.raises.saturating_add(self.parked);
         self.parked = 0;

@@ -230,6 +230,63 @@ fn refuses_lines_about_hooks(rt: HostRuntime) {
     }
 }
 
+/// What the polls of the script of these bytes answer, if it is one.
+fn has_polls(alloc: Global, bytes: &[u8], want: &[bool]) -> bool {
+    match script_in(alloc, bytes) {
+        Some(script) => script.polls.as_slice() == want,
+        None => false,
+    }
+}
+
+#[test]
+fn reads_lines_about_functions(rt: HostRuntime) {
+    let alloc = rt.alloc();
+    let table: [(&[u8], &[bool]); 5] = [
+        (b"", &[]),
+        (b"poll ready\n", &[true]),
+        (b"poll later\nset size 2\npoll ready\n", &[false, true]),
+        (
+            b"send low 0\npoll later\nturn 0 work\npoll later\naction ask 0 run 0 ask 0 runasync 4294967295\npoll ready\n",
+            &[false, false, true],
+        ),
+        (
+            b"turn 0 ask 0 seterror 4294967295\nturn 0 ask 0 unseterror\nturn 0 ask 0 runasync 7\npoll ready\n",
+            &[true],
+        ),
+    ];
+    for (bytes, want) in table {
+        assert!(rt; has_polls(alloc, bytes, want), "at {bytes:?}");
+    }
+}
+
+#[test]
+fn refuses_lines_about_functions(rt: HostRuntime) {
+    let alloc = rt.alloc();
+    let table: [&[u8]; 18] = [
+        b"poll\n",
+        b"poll \n",
+        b"poll ok\n",
+        b"poll on\n",
+        b"poll Ready\n",
+        b"poll 1\n",
+        b"poll ready \n",
+        b"poll ready 0\n",
+        b"poll later ready\n",
+        b"polls ready\n",
+        b"action ask 0 run\n",
+        b"action ask 0 run 01\n",
+        b"action ask 0 runasync\n",
+        b"action ask 0 runasync 4294967296\n",
+        b"action ask 0 seterror\n",
+        b"action ask 0 seterror x\n",
+        b"action ask 0 unseterror 5\n",
+        b"turn 0 ask 0 run 1 2\n",
+    ];
+    for bytes in table {
+        assert!(rt; bad_line(alloc, bytes) == Some(1), "at {bytes:?}");
+    }
+}
+
 #[test]
 fn refuses_lines_about_jobs(rt: HostRuntime) {
     let alloc = rt.alloc();

@@ -353,7 +353,7 @@ fn the_settings_stand_in_the_first_line(rt: HostRuntime) -> Result<(), Fail> {
 
 #[test]
 fn what_is_no_script(rt: HostRuntime) -> Result<(), Fail> {
-    let table: [(&[u8], &[u8]); 12] = [
+    let table: [(&[u8], &[u8]); 13] = [
         (b"turn 0 work", b"bad line 1\n"),
         (b"# c\nturn 0 work\nturn 0 last\n", b"bad line 3\n"),
         (b"turn 00 work\n", b"bad line 1\n"),
@@ -366,6 +366,7 @@ fn what_is_no_script(rt: HostRuntime) -> Result<(), Fail> {
         (b"set size 1\nsend low 0\nsend low 0\n", b"bad line 3\n"),
         (b"turnfault 4294967296\n", b"bad line 1\n"),
         (b"turn 0 work \n", b"bad line 1\n"),
+        (b"poll ready\npoll later\n\npoll\n", b"bad line 4\n"),
     ];
     for (script, text) in table {
         let (sink, status) = run(rt.alloc(), b"replay", script)?;

@@ -15,7 +15,7 @@ use Rattle.wx_action.proofs.JobLemmas.{lent, same_lent}
 use Rattle.wx_action.proofs.PerformLemmas.{OneDone, ignored_one, asked_one}
 use Rattle.wx_action.proofs.acts_done.ask_or_ignore.Goals as goal
 
-none : (g : _) (c : goal.After-push g) (rest : List Todo) (more : Agenda) → OwesActs g.start c.args.journal.now.past (todo.Ask c.args.id c.args.ask c.args.done ∷ rest) more → OneDone g.start c.args.worker.now rest more c.args.journal.now.past c.push.new.self.past
+none : (g : _) (c : goal.After-drop-done-inside-then-not-lives g) (rest : List Todo) (more : Agenda) → OwesActs g.start c.args.journal.now.past (todo.Ask c.args.id c.args.ask c.args.done ∷ rest) more → OneDone g.start c.args.worker.now rest more c.args.journal.now.past c.push.new.self.past
 none g c rest more owes =
     let gone : lives c.args.id c.args.journal.now.past ≡ false = sym (alive_is g.start c.args.worker.now c.args.journal.now.past c.args.id c.requires.1.0) ∙ sym c.lives.ensures ∙ c.if-not-lives.true in
     ignored_one g.start c.args.worker.now c.args.id c.args.ask c.args.done rest more c.args.journal.now.past c.push.new.self.past owes c.requires.1.0 gone (rw c.in_ok-reserve.ensures.same at c.push.ensures.past)
@@ -40,7 +40,7 @@ returns-in_err-send-clause-grows g c =
     let same = c.in_err-send.ensures.past ∙ c.in_ok-reserve.ensures.same in
     grows_none _ _ _ _ _ (same_lent g.start c.args.worker.now _ c.args.id c.task_mut-task.result.now c.send.new.self c.args.journal.now.past c.send.new.journal.past c.requires.1.0 same l refl refl c.send.ensures.job c.send.ensures.stands) same (ap (λ n. 2 * n) (length_with _ _ _))
 
-done : (g : _) (c : goal.In_ok-send g) (rest : List Todo) (more : Agenda) → OwesActs g.start c.args.journal.now.past (todo.Ask c.args.id c.args.ask c.args.done ∷ rest) more → OneDone g.start (record c.args.worker.now { jobs = with_task c.args.id c.args.worker.now.jobs c.send.new.self }) rest more c.args.journal.now.past c.send.new.journal.past
+done : (g : _) (c : goal.After-drop-branch-2 g) (rest : List Todo) (more : Agenda) → OwesActs g.start c.args.journal.now.past (todo.Ask c.args.id c.args.ask c.args.done ∷ rest) more → OneDone g.start (record c.args.worker.now { jobs = with_task c.args.id c.args.worker.now.jobs c.send.new.self }) rest more c.args.journal.now.past c.send.new.journal.past
 done g c rest more owes =
     let l = lent g.start c.args.worker.now c.args.journal.now.past c.args.id c.task_mut-task.result.now c.requires.1.0 c.task_mut-task.ensures.task in
     let alive : lives c.args.id c.args.journal.now.past ≡ true = sym (alive_is g.start c.args.worker.now c.args.journal.now.past c.args.id c.requires.1.0) ∙ sym c.lives.ensures ∙ c.if-not-lives.false in

@@ -38,7 +38,7 @@ returns-in_err-send-clause-grows g c =
 pub returns-in_err-send-clause-room : goal.returns-in_err-send-clause-room
 returns-in_err-send-clause-room g c = λ room. omega (arith, ap (λ n. 2 * n) (length_with c.args.id c.args.worker.now.jobs c.send.new.self), c.in_ok-reserve.ensures.room, c.send.ensures.journal_room)
 
-done : (g : _) (c : goal.In_ok-send g) → AskDone g.start (record c.args.worker.now { jobs = with_task c.args.id c.args.worker.now.jobs c.send.new.self }) c.args.journal.now.past c.send.new.journal.past
+done : (g : _) (c : goal.After-drop-branch-2 g) → AskDone g.start (record c.args.worker.now { jobs = with_task c.args.id c.args.worker.now.jobs c.send.new.self }) c.args.journal.now.past c.send.new.journal.past
 done g c =
     let at = at_turn g.start c.args.worker.now c.requires.0 (Ask c.args.id c.args.ask) c.args.journal.now.past tt c.requires.1 in
     let l = lent g.start c.args.worker.now c.args.journal.now.past c.args.id c.task_mut-task.result.now at.stands c.task_mut-task.ensures.task in

@@ -1,5 +1,5 @@
 use Rattle.std.proofs.Common.{◌*◌, refl, ap, sym, ◌∙◌}
-use Rattle.wx_job.specs.Stands.{id_of, command_of}
+use Rattle.wx_job.specs.Stands.{id_of, command_of, flag_of, closed_of}
 use Rattle.wx_action.proofs.JobListLemmas.{length_with}
 use Rattle.wx_action.proofs.JobLemmas.{lent, none_ended, one_ends, can_end, end_kept}
 use Rattle.wx_action.proofs.job_turns.keep_end.Goals as goal
@@ -19,7 +19,7 @@ returns g c =
     let one = one_ends g.start c.args.worker.now c.args.at c.args.child c.in-Some.id c.args.journal.now.past c.requires (sym c.parent.ensures ∙ c.in-Some.is) in
     let l = lent g.start c.args.worker.now c.requires.before c.in-Some.id c.task_mut-task.result.now c.requires.stands c.task_mut-task.ensures.task in
     let k = end_kept g.start c.args.worker.now _ c.args.at c.args.child c.in-Some.id c.task_mut-task.result.now c.keep_end.new.self c.args.journal.now.past c.requires one l refl refl
-    (record { same_id = ap id_of c.keep_end.ensures.fields; same_command = ap command_of c.keep_end.ensures.fields }) c.keep_end.ensures.stands in
+    (record { same_id = ap id_of c.keep_end.ensures.fields; same_command = ap command_of c.keep_end.ensures.fields; same_flag = ap flag_of c.keep_end.ensures.fields; same_closed = ap closed_of c.keep_end.ensures.fields }) c.keep_end.ensures.stands in
     record { stands = k.stands; some = k.step; none = tt; room = ap (λ n. 2 * n) (length_with _ _ _) }
 
 pub returns-in_default : goal.returns-in_default

@@ -1,4 +1,4 @@
-use Rattle.wx_journal.specs.Answers.{done, waited, verdict, hooked}
+use Rattle.wx_journal.specs.Answers.{done, waited, verdict, readied, hooked}
 use Rattle.wx_journal.proofs.answers.answers_are_read_again.Goals as goal
 
 pub returns-clause-done : goal.returns-clause-done
@@ -18,6 +18,12 @@ returns-clause-verdict c = verdict.form
 
 pub returns-clause-verdict_clean : goal.returns-clause-verdict_clean
 returns-clause-verdict_clean c = verdict.clean
+
+pub returns-clause-readied : goal.returns-clause-readied
+returns-clause-readied c = readied.form
+
+pub returns-clause-readied_clean : goal.returns-clause-readied_clean
+returns-clause-readied_clean c = readied.clean
 
 pub returns-clause-hooked : goal.returns-clause-hooked
 returns-clause-hooked c = hooked.form

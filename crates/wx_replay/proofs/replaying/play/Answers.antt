@@ -11,7 +11,7 @@ use Rattle.wx_replay.proofs.replaying.play.Goals as goal
 pub returns-clause-text : goal.returns-clause-text
 returns-clause-text c = IfOk-weaker c.shown-out.result _ (λ r. IsReplay c.args.script.now r.0 r.1) (λ r whole.
     let j : List Entry = c.main-answer.new.journal.past in
-    let kept = wished_follows (record { actions = c.in_ok-hooks.hooks.actions; filters = c.in_ok-hooks.hooks.filters; errors = c.in_ok-hooks.hooks.errors; hooks = c.in_ok-hooks.hooks.hooks }) c.args.script.now.actions c.args.script.now.filters c.args.script.now.errors c.args.script.now.hooks j c.in_ok-hooks.ensures.plan c.in_ok-hooks.ensures.filters c.in_ok-hooks.ensures.errors c.in_ok-hooks.ensures.hooks (c.main-answer.ensures.rule (sym c.short.ensures ∙ whole.0) c.in_ok-hooks.ensures.stands) in
+    let kept = wished_follows c.args.script.now _ j c.in_ok-hooks.ensures.plan (c.main-answer.ensures.rule (sym c.short.ensures ∙ whole.0) c.in_ok-hooks.ensures.stands) in
     let shown = whole.1 in
     record {
       journal = j;
@@ -25,7 +25,8 @@ returns-clause-text c = IfOk-weaker c.shown-out.result _ (λ r. IsReplay c.args.
         acts = kept.0;
         filtered = kept.1;
         wished = kept.2;
-        hooked = kept.3;
+        polled = kept.3;
+        hooked = kept.4;
         answers = follows_answers c.args.script.now _ c.main-answer.new.world.told.past j
             (c.main-answer.ensures.world_plan ∙ c.in_ok-world.ensures.plan)
             (λ k. (c.main-answer.new.world.answered k).0)

@@ -48,3 +48,6 @@ returns-clause-graces g c = graces_have_children _
 
 pub returns-clause-pressing : goal.returns-clause-pressing
 returns-clause-pressing g c = (ran_is_placed c.args.self _ (answered_ran c.args.self _ c.run.result c.run.ensures.answers)).pressing
+
+pub returns-clause-functions : goal.returns-clause-functions
+returns-clause-functions g c = (ran_is_placed c.args.self _ (answered_ran c.args.self _ c.run.result c.run.ensures.answers)).polled

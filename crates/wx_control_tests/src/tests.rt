@@ -1,82 +1,17 @@
-// Words, asks and sends: the expected values are worked out by hand.
-ghost use Rattle.std.specs.Prelude.{Some, []};
-
-use crate::ask::Ask;
-use crate::control::Control;
-use crate::flag::{Flag, Ticket};
-use crate::id::Id;
-use crate::job::Job;
-use crate::laws::{are_equal_ids, are_equal_levels, compare_ids, compare_levels};
-use crate::level::Level;
-use crate::sink::{Controls, Refused};
-use crate::three_lists::{Picked, ThreeLists};
+// Words, asks, levels and lists: the expected values are worked out by hand.
 use std::alloc::Global;
 use std::cmp::Ordering;
 use std::fmt;
 use std::process::Abort;
 use std::test::Fail;
-use wx_command::{Command, Program, SharedCommand, SpawnOptions};
-use wx_events::{Copies, List, Memory, Signal, Spelled, Text, Words};
-
-/// A sink that keeps the asks that it takes, counts all sends, and refuses each where it is told to.
-#[derive(Drop, Debug)]
-struct Kept {
-    asks: List<(Id, Ask)>,
-    sends: u64,
-    fulls: u64,
-    refuses: Option<Refused>,
-}
-
-impl Controls for Kept {
-    ghost Rest = { Unit {0} };
-
-    ghost sink = { λ k. record { asks = k.asks; sends = Some k.sends; fulls = k.fulls; rest = tt; place = [] } };
-
-    fn send(&mut self, alloc: Global, job: &Job, ask: Ask) -> Result<Ticket, Refused> {
-        self.sends = self.sends.saturating_add(1);
-        match self.refuses {
-            Some(Refused::Full) => {
-                self.fulls = self.fulls.saturating_add(1);
-                Err(Refused::Full)
-            }
-            Some(Refused::Memory) => Err(Refused::Memory),
-            None => {
-                let ticket = Ticket {
-                    gone: job.gone().copy(alloc)?,
-                    done: Flag::new(alloc, false)?,
-                };
-                self.asks.push((job.id(), ask))?;
-                Ok(ticket)
-            }
-        }
-    }
-}
-
-/// A sink that holds nothing and answers this.
-fn sink(alloc: Global, refuses: Option<Refused>) -> Kept {
-    Kept {
-        asks: List::new(alloc),
-        sends: 0,
-        fulls: 0,
-        refuses,
-    }
-}
-
-/// A job of this name, which runs `true`.
-fn job(alloc: Global, number: u32) -> Result<Job, Memory> {
-    let command = Command {
-        program: Program::Exec {
-            prog: Text::from_slice(alloc, b"true")?,
-            args: List::new(alloc),
-        },
-        options: SpawnOptions::default(),
-    };
-    let command = SharedCommand::new(alloc, command)?;
-    Ok(Job::new(Id(number), command, Flag::new(alloc, false)?))
-}
+use wx_control::{
+    Ask, Control, Flag, Id, Level, Picked, ThreeLists, are_equal_ids, are_equal_levels,
+    compare_ids, compare_levels,
+};
+use wx_events::{Copies, Memory, Spelled, Text, Words};
 
 /// The words of this value with one space between them.
-fn line_of<T: Spelled>(alloc: Global, value: &T) -> Result<Text, Memory> {
+pub fn line_of<T: Spelled>(alloc: Global, value: &T) -> Result<Text, Memory> {
     let mut line = Text::new(alloc);
     value.put(&mut line)?;
     Ok(line)
@@ -87,18 +22,6 @@ fn read_line<T: Spelled>(alloc: Global, line: &[u8]) -> Result<Option<T>, Memory
     let mut words = Words::new(line);
     let found = T::take(alloc, &mut words)?;
     if words.is_done() { Ok(found) } else { Ok(None) }
-}
-
-/// The asks of this sink: for each the job and the words of what was asked, with a comma behind.
-fn asks_of(alloc: Global, sink: &Kept) -> Result<Text, Memory> {
-    let mut line = Text::new(alloc);
-    for (id, ask) in sink.asks.as_slice() {
-        id.put(&mut line)?;
-        line.append(b" ")?;
-        ask.put(&mut line)?;
-        line.append(b",")?;
-    }
-    Ok(line)
 }
 
 #[test]
@@ -168,8 +91,12 @@ continue = ContinueTryGracefulRestart
 signal suspend = Signal(TerminalSuspend)
 delete = Delete
 nextending = NextEnding
+run 0 = SyncFunc(0)
+runasync 4294967295 = AsyncFunc(4294967295)
 sethook 0 = SetSyncSpawnHook(0)
 unsethook = UnsetSpawnHook
+seterror 12 = SetSyncErrorHandler(12)
+unseterror = UnsetErrorHandler
 setspawn 7 = SetSpawnFn(7)
 setchild 4294967295 = SetSpawnChildFn(4294967295)
 clearspawn = ClearSpawnFn
@@ -222,9 +149,18 @@ signal none
 signal 15
 delete 0
 nextending 0
+run
+run start
+run 4294967296
+run async 1
+runasync
+runasync -1
 sethook
 sethook 4294967296
 unsethook 1
+seterror
+seterror 4294967296
+unseterror 0
 setchild -1
 restart 1
 restartsignal
@@ -280,7 +216,7 @@ fn a_name_a_level_and_a_control(rt: HostRuntime) -> Result<(), Fail> {
 }
 
 /// Appends the controls that an ask sends, then their level.
-fn put_sends(ask: &Ask, out: &mut Text) -> Result<(), Memory> {
+pub fn put_sends(ask: &Ask, out: &mut Text) -> Result<(), Memory> {
     let sends = ask.controls();
     sends.first.put(out)?;
     if let Some(second) = sends.second {
@@ -297,16 +233,6 @@ fn is_sent(alloc: Global, line: &str, text: &str) -> Result<bool, Fail> {
     let mut sent = Text::new(alloc);
     put_sends(&ask, &mut sent)?;
     Ok(sent.as_slice() == text.as_bytes())
-}
-
-/// What the asks of this sink send, with a bar behind each.
-fn sends_of(alloc: Global, sink: &Kept) -> Result<Text, Memory> {
-    let mut line = Text::new(alloc);
-    for (_, ask) in sink.asks.as_slice() {
-        put_sends(ask, &mut line)?;
-        line.append(b" | ")?;
-    }
-    Ok(line)
 }
 
 const SENDS: &str = "\
@@ -328,158 +254,6 @@ fn asks_and_their_controls(rt: HostRuntime) -> Result<(), Fail> {
         let alone = format!(in rt.alloc(); "{line}; normal")?;
         assert!(rt; is_sent(rt.alloc(), line, alone.as_str())?, "at {case}");
     }
-    Ok(())
-}
-
-#[test]
-fn each_sender_sends_once(rt: HostRuntime) -> Result<(), Fail> {
-    let alloc = rt.alloc();
-    let one = job(alloc, 3)?;
-    let other = job(alloc, 0)?;
-    let mut sink = sink(alloc, None);
-    assert!(rt; one.start(alloc, &mut sink).is_ok());
-    assert!(rt; other.stop(alloc, &mut sink).is_ok());
-    assert!(rt; one.control(alloc, &mut sink, Control::Stop).is_ok());
-    assert!(rt; one.control(alloc, &mut sink, Control::Start).is_ok());
-    let asks = asks_of(alloc, &sink)?;
-    assert_eq!(rt;
-        asks.as_slice(),
-        b"3 start,0 stop,3 stop,3 start,".as_slice()
-    );
-    assert_eq!(rt; sink.sends, 4);
-    Ok(())
-}
-
-#[test]
-fn senders_for_spawning(rt: HostRuntime) -> Result<(), Fail> {
-    let alloc = rt.alloc();
-    let one = job(alloc, 3)?;
-    let mut sink = sink(alloc, None);
-    assert!(rt; one.set_spawn_hook(alloc, &mut sink, 2).is_ok());
-    assert!(rt; one.unset_spawn_hook(alloc, &mut sink).is_ok());
-    assert!(rt; one.set_spawn_fn(alloc, &mut sink, 5).is_ok());
-    assert!(rt; one.unset_spawn_fn(alloc, &mut sink).is_ok());
-    assert!(rt; one.set_spawn_child_fn(alloc, &mut sink, 6).is_ok());
-    assert!(rt; one.unset_spawn_child_fn(alloc, &mut sink).is_ok());
-    let asks = asks_of(alloc, &sink)?;
-    let expected =
-        b"3 sethook 2,3 unsethook,3 setspawn 5,3 clearspawn,3 setchild 6,3 clearspawn,".as_slice();
-    assert_eq!(rt; asks.as_slice(), expected);
-    assert_eq!(rt; sink.sends, 6);
-    Ok(())
-}
-
-#[test]
-fn senders_of_stops_and_restarts(rt: HostRuntime) -> Result<(), Fail> {
-    let alloc = rt.alloc();
-    let one = job(alloc, 3)?;
-    let mut sink = sink(alloc, None);
-    let user1 = Signal::User1;
-    assert!(rt; one.stop_with_signal(alloc, &mut sink, user1, 0).is_ok());
-    assert!(rt; one.restart(alloc, &mut sink).is_ok());
-    assert!(rt; one.restart_with_signal(alloc, &mut sink, user1, 5).is_ok());
-    assert!(rt; one.try_restart(alloc, &mut sink).is_ok());
-    assert!(rt;
-        one.try_restart_with_signal(alloc, &mut sink, user1, 6)
-            .is_ok()
-    );
-    assert!(rt; one.signal(alloc, &mut sink, user1).is_ok());
-    let asks = asks_of(alloc, &sink)?;
-    let expected = "3 gracefulstop user1 0,3 restart,3 restartsignal user1 5,3 tryrestart,\
-        3 trygracefulrestart user1 6,3 signal user1,";
-    assert_eq!(rt; asks.as_slice(), expected.as_bytes());
-    let sends = sends_of(alloc, &sink)?;
-    let expected =
-        "gracefulstop user1 0; normal | stop, start; normal | gracefulstop user1 5, start; normal | \
-        tryrestart; normal | trygracefulrestart user1 6; normal | signal user1; normal | ";
-    assert_eq!(rt; sends.as_slice(), expected.as_bytes());
-    assert_eq!(rt; sink.sends, 6);
-    Ok(())
-}
-
-#[test]
-fn senders_of_ends(rt: HostRuntime) -> Result<(), Fail> {
-    let alloc = rt.alloc();
-    let one = job(alloc, 3)?;
-    let mut sink = sink(alloc, None);
-    assert!(rt; one.delete(alloc, &mut sink).is_ok());
-    assert!(rt; one.delete_now(alloc, &mut sink).is_ok());
-    assert!(rt; one.to_wait(alloc, &mut sink).is_ok());
-    assert!(rt; one.control(alloc, &mut sink, Control::Delete).is_ok());
-    let asks = asks_of(alloc, &sink)?;
-    let expected = b"3 stopdelete,3 deletenow,3 towait,3 delete,".as_slice();
-    assert_eq!(rt; asks.as_slice(), expected);
-    let sends = sends_of(alloc, &sink)?;
-    let expected =
-        b"stop, delete; normal | stop, delete; urgent | nextending; high | delete; normal | ";
-    assert_eq!(rt; sends.as_slice(), expected.as_slice());
-    assert_eq!(rt; sink.sends, 4);
-    Ok(())
-}
-
-#[test]
-fn refused_sends_leave_nothing(rt: HostRuntime) -> Result<(), Fail> {
-    let alloc = rt.alloc();
-    let one = job(alloc, 3)?;
-    for (refusal, fulls) in [(Refused::Full, 4), (Refused::Memory, 0)] {
-        let mut sink = sink(alloc, Some(refusal));
-        assert_eq!(rt; one.start(alloc, &mut sink).err(), Some(refusal));
-        assert_eq!(rt; one.stop(alloc, &mut sink).err(), Some(refusal));
-        assert_eq!(rt;
-            one.control(alloc, &mut sink, Control::Stop).err(),
-            Some(refusal)
-        );
-        assert_eq!(rt; one.delete_now(alloc, &mut sink).err(), Some(refusal));
-        assert!(rt; sink.asks.is_empty());
-        assert_eq!(rt; sink.sends, 4);
-        assert_eq!(rt; sink.fulls, fulls);
-    }
-    Ok(())
-}
-
-/// The words of the command of a copy of a job.
-fn command_of_a_copy(alloc: Global) -> Result<Text, Memory> {
-    let copy = job(alloc, 9)?.copy(alloc)?;
-    line_of(alloc, copy.command())
-}
-
-/// Starts a job by a copy of its handle, and copies the ticket.
-fn start_by_a_copy(alloc: Global, sink: &mut Kept) -> Result<(), Fail> {
-    let copy = job(alloc, 9)?.copy(alloc)?;
-    let ticket = copy.start(alloc, sink).ok().ok_or("a ticket")?;
-    let _second = ticket.copy(alloc)?;
-    Ok(())
-}
-
-#[test]
-fn copies_are_equal(rt: HostRuntime) -> Result<(), Fail> {
-    let alloc = rt.alloc();
-    let line = command_of_a_copy(alloc)?;
-    assert_eq!(rt; line.as_slice(), b"exec ---- 1 true".as_slice());
-    let mut sink = sink(alloc, None);
-    start_by_a_copy(alloc, &mut sink)?;
-    let asks = asks_of(alloc, &sink)?;
-    assert_eq!(rt; asks.as_slice(), b"9 start,".as_slice());
-    assert_eq!(rt; Control::Stop.copy(alloc)?, Control::Stop);
-    let ask = Ask::One(Control::Start);
-    assert_eq!(rt; ask.copy(alloc)?, ask);
-    Ok(())
-}
-
-/// Takes only what may move between threads.
-fn moves<T: Send>(_value: &T) {}
-
-#[test]
-fn handles_may_move_between_threads(rt: HostRuntime) -> Result<(), Fail> {
-    let alloc = rt.alloc();
-    let flag = Flag::new(alloc, true)?;
-    moves(&flag);
-    let ticket = Ticket {
-        gone: flag.copy(alloc)?,
-        done: flag,
-    };
-    moves(&ticket);
-    moves(&job(alloc, 1)?);
     Ok(())
 }
 
@@ -581,5 +355,27 @@ fn what_is_put_behind_a_pick_waits_behind(rt: HostRuntime) -> Result<(), Fail> {
     assert_eq!(rt; lists.count(), Some(0));
     assert_eq!(rt; lists.first(false), None);
     assert!(rt; lists.pick(false).is_none());
+    Ok(())
+}
+
+/// Picks one control, and raises its flag.
+fn finish_one(lists: &mut ThreeLists) {
+    if let Some(picked) = lists.pick(false) {
+        picked.done.raise();
+    }
+}
+
+#[test]
+fn each_pick_has_the_flag_that_was_put_with_it(rt: HostRuntime) -> Result<(), Fail> {
+    let alloc = rt.alloc();
+    let later = Flag::new(alloc, false)?;
+    let sooner = Flag::new(alloc, false)?;
+    let mut lists = ThreeLists::new(alloc);
+    lists.put(0, later.copy(alloc)?, Control::Stop, Level::Normal)?;
+    lists.put(1, sooner.copy(alloc)?, Control::Stop, Level::Urgent)?;
+    finish_one(&mut lists);
+    assert!(rt; sooner.raised() && !later.raised());
+    finish_one(&mut lists);
+    assert!(rt; later.raised());
     Ok(())
 }

@@ -1,0 +1,450 @@
+// Hooks that hold boxes, as a user makes them, and runs with them: their texts are worked out by hand.
+ghost use Rattle.std.specs.Prelude.{◌≡◌, false, Ok as Well, OnErr};
+ghost use Rattle.wx_engine.specs.Follows.{IsScript};
+
+use crate::engine_tests::{root, run_text, script_of};
+use crate::own_hooks::created;
+use std::alloc::Global;
+use std::process::Abort;
+use std::test::Fail;
+use wx_action::{ActionHandler, ErrorHook};
+use wx_command::Spawnable;
+use wx_config::{Config, Filterer, RuntimeError};
+use wx_control::{Flag, Id, Job};
+use wx_engine::{BoxedHooks, OnAction, OnError, OnFault, OnJob, OnSpawn, Script, Watchexec};
+use wx_events::{Copies, Event, List, Memory, Priority, Signal, Tag, Text, cut};
+use wx_job::{CommandState, JobTaskContext};
+use wx_journal::HostFault;
+
+/// Rejects each event.
+#[derive(Drop)]
+struct Rejects;
+
+impl Filterer for Rejects {
+    ghost judges = { λ _ _ _ answer. answer ≡ Well false };
+
+    fn check_event(&self, _event: &Event, _priority: Priority) -> Result<bool, RuntimeError> {
+        Ok(false)
+    }
+}
+
+/// Fails at each event.
+#[derive(Drop)]
+struct Fails;
+
+impl Filterer for Fails {
+    ghost judges = { λ _ _ _ _. Unit {0} };
+
+    fn check_event(&self, _event: &Event, _priority: Priority) -> Result<bool, RuntimeError> {
+        Err(RuntimeError::ProcessDeadOnArrival)
+    }
+}
+
+/// Does nothing.
+#[derive(Drop)]
+struct Idle;
+
+impl OnAction for Idle {
+    fn act(&mut self, _handler: &mut ActionHandler<'_>) {}
+}
+
+impl OnError for Idle {
+    fn error(&mut self, _hook: &mut ErrorHook) {}
+}
+
+/// Elevates each error.
+#[derive(Drop)]
+struct Elevates;
+
+impl OnError for Elevates {
+    fn error(&mut self, hook: &mut ErrorHook) {
+        hook.elevate();
+    }
+}
+
+/// Creates a job at each batch.
+#[derive(Drop)]
+struct Creates {
+    alloc: Global,
+}
+
+impl OnAction for Creates {
+    fn act(&mut self, handler: &mut ActionHandler<'_>) {
+        drop(created(self.alloc, Id(0), b"make", handler));
+    }
+}
+
+/// Restarts a program at each batch, and quits at an interrupt.
+#[derive(Drop)]
+struct Restarts {
+    alloc: Global,
+    job: Option<Job>,
+}
+
+impl OnAction for Restarts {
+    fn act(&mut self, handler: &mut ActionHandler<'_>) {
+        if is_interrupt(handler.events()) {
+            handler.quit();
+        } else {
+            restart(self.alloc, &mut self.job, handler);
+        }
+    }
+}
+
+/// Whether one of these events is an interrupt.
+fn is_interrupt(events: &List<Event>) -> bool {
+    events.as_slice().iter().any(|event| {
+        event
+            .tags
+            .as_slice()
+            .iter()
+            .any(|tag| matches!(tag, Tag::Signal(Signal::Interrupt)))
+    })
+}
+
+/// Restarts the job, which is created where there is none. Where that fails the run ends.
+fn restart(alloc: Global, slot: &mut Option<Job>, handler: &mut ActionHandler<'_>)
+    ensures past { handler.new.past ≡ handler.old.past }
+    ensures names { handler.new.names ≡ handler.old.names }
+    ensures open { handler.new.handed ≡ handler.old.handed }
+{
+    if slot.is_none() {
+        *slot = created(alloc, Id(0), b"make", handler);
+    }
+    ask_restart(alloc, slot, handler);
+}
+
+/// Asks for a restart of the job. Where there is none, or that fails, the run ends.
+fn ask_restart(alloc: Global, slot: &Option<Job>, handler: &mut ActionHandler<'_>)
+    ensures past { handler.new.past ≡ handler.old.past }
+    ensures names { handler.new.names ≡ handler.old.names }
+    ensures open { handler.new.handed ≡ handler.old.handed }
+{
+    match slot {
+        Some(job) => {
+            if job.restart(alloc, handler).is_err() {
+                handler.quit();
+            }
+        }
+        None => handler.quit(),
+    }
+}
+
+/// An engine without a throttle whose filter, error handler and action handler have these numbers.
+fn engine_of(alloc: Global, filter: u32, error: u32, action: u32) -> Result<Watchexec, Memory> {
+    let folder = root(alloc)?;
+    let mut config = Config::new(alloc)?;
+    config.throttle.replace(0);
+    config.filterer = filter;
+    config.error_handler = error;
+    config.action_handler = action;
+    Watchexec::with_config(alloc, config, folder)
+}
+
+/// The text of a run of such an engine that follows this script.
+fn text_by(
+    alloc: Global,
+    numbers: (u32, u32, u32),
+    script: &Script,
+    hooks: &mut BoxedHooks,
+) -> Result<Text, Memory>
+    requires { IsScript script.now }
+{
+    let engine = engine_of(alloc, numbers.0, numbers.1, numbers.2)?;
+    run_text(alloc, engine, script, hooks)
+}
+
+/// Whether the run of such an engine that follows these lines has this text behind its first line.
+fn runs_so(
+    alloc: Global,
+    numbers: (u32, u32, u32),
+    lines: &[u8],
+    hooks: &mut BoxedHooks,
+    want: &[u8],
+) -> Result<bool, Fail> {
+    let script = script_of(alloc, lines)?;
+    let text = text_by(alloc, numbers, &script, hooks);
+    drop(script);
+    let text = text?;
+    let rest = cut(text.as_slice(), 10).map(|parts| parts.1);
+    Ok(rest == Some(want))
+}
+
+const BATCHES: &[u8] =
+    b"turn 0 arrive urgent 0\nturn 0 work\nturn 1 job 0\nturn 2 job 0\nturn 3 arrive urgent 1 signal hangup\nturn 3 work\nturn 4 job 0\nturn 5 job 0\nturn 6 arrive urgent 1 signal interrupt\nturn 6 work\n";
+
+const RESTARTED: &[u8] =
+    b"turn 0 arrive urgent 0\noffer 0 - queued urgent 0\nturn 0 work\ntake 0\nhand 0 1 0 create 0 exec ---- 1 make ask 0 restart\nmade 0\nasked 0 0 normal stop\nasked 1 0 normal start\nturn 1 job 0\npick 0 0\nraise 0\nturn 2 job 0\npick 0 1\nspawn 0 0 default ---- 1 make ok\nraise 1\nturn 3 arrive urgent 1 signal hangup\noffer 1 - queued urgent 1 signal hangup\nturn 3 work\ntake 1\nhand 0 1 1 ask 0 restart\nasked 2 0 normal stop\nasked 3 0 normal start\nturn 4 job 0\npick 0 2\nkill 0 ok\nwait 0 success\nraise 2\nturn 5 job 0\npick 0 3\nspawn 1 0 default ---- 1 make ok\nraise 3\nturn 6 arrive urgent 1 signal interrupt\noffer 2 - queued urgent 1 signal interrupt\nturn 6 work\ntake 2\nhand 0 1 2 quit\ndrop 1\ngone 0\nend ok lost 0\n";
+
+#[test]
+fn a_boxed_handler_restarts_a_program(rt: HostRuntime) -> Result<(), Fail> {
+    let alloc = rt.alloc();
+    let mut actions: Vec<Box<dyn OnAction + Drop>> = Vec::new(alloc);
+    actions.push(Box::new(alloc, Restarts { alloc, job: None })?)?;
+    let mut hooks = BoxedHooks::new(
+        alloc,
+        Vec::new(alloc),
+        actions,
+        Vec::new(alloc),
+        Vec::new(alloc),
+        Vec::new(alloc),
+        Vec::new(alloc),
+    );
+    let is_so = runs_so(alloc, (0, 0, 0), BATCHES, &mut hooks, RESTARTED);
+    drop(hooks);
+    assert!(rt; is_so?);
+    Ok(())
+}
+
+/// One event, which the filter is asked about.
+const SHOWN: &[u8] = b"turn 0 arrive low 1 unknown\nturn 0 work\n";
+
+#[test]
+fn boxes_are_called_by_their_numbers(rt: HostRuntime) -> Result<(), Fail> {
+    let alloc = rt.alloc();
+    let mut filters: Vec<Box<dyn Filterer + Drop>> = Vec::new(alloc);
+    filters.push(Box::new(alloc, Rejects)?)?;
+    filters.push(Box::new(alloc, Fails)?)?;
+    let mut actions: Vec<Box<dyn OnAction + Drop>> = Vec::new(alloc);
+    actions.push(Box::new(alloc, Idle)?)?;
+    actions.push(Box::new(alloc, Restarts { alloc, job: None })?)?;
+    let mut errors: Vec<Box<dyn OnError + Drop>> = Vec::new(alloc);
+    errors.push(Box::new(alloc, Idle)?)?;
+    errors.push(Box::new(alloc, Elevates)?)?;
+    let mut hooks = BoxedHooks::new(
+        alloc,
+        filters,
+        actions,
+        errors,
+        Vec::new(alloc),
+        Vec::new(alloc),
+        Vec::new(alloc),
+    );
+    let held = expect_ends(&rt, alloc, &mut hooks);
+    drop(hooks);
+    held
+}
+
+/// Holds the runs that follow `SHOWN` to what their numbers ask for. Two numbers of each kind are held.
+fn expect_ends(rt: &impl Abort, alloc: Global, hooks: &mut BoxedHooks) -> Result<(), Fail> {
+    let table: [((u32, u32, u32), &[u8]); 8] = [
+        (
+            (0, 0, 1),
+            b"filter 0 0 reject\nturn 0 last\nend ok lost 0\n",
+        ),
+        (
+            (1, 0, 1),
+            b"filter 1 0 fail deadonarrival\nshow 0 deadonarrival none\nturn 0 last\nend ok lost 0\n",
+        ),
+        (
+            (1, 1, 1),
+            b"filter 1 0 fail deadonarrival\nshow 1 deadonarrival elevate\nend error elevated deadonarrival none lost 0\n",
+        ),
+        (
+            (1, 2, 1),
+            b"filter 1 0 fail deadonarrival\nshow 2 deadonarrival none\nturn 0 last\nend ok lost 0\n",
+        ),
+        (
+            (2, 1, 0),
+            b"filter 2 0 pass\nhand 0 1 0\nturn 0 last\nend ok lost 0\n",
+        ),
+        (
+            (4_294_967_295, 1, 2),
+            b"filter 4294967295 0 pass\nhand 2 1 0\nturn 0 last\nend ok lost 0\n",
+        ),
+        (
+            (2, 1, 4_294_967_295),
+            b"filter 2 0 pass\nhand 4294967295 1 0\nturn 0 last\nend ok lost 0\n",
+        ),
+        (
+            (2, 1, 1),
+            b"filter 2 0 pass\nhand 1 1 0 create 0 exec ---- 1 make ask 0 restart\nmade 0\nasked 0 0 normal stop\nasked 1 0 normal start\nturn 0 last\ngone 0\nend ok lost 0\n",
+        ),
+    ];
+    for (numbers, end) in table {
+        assert!(rt; ends_so(alloc, numbers, hooks, end)?, "by {numbers:?}");
+    }
+    Ok(())
+}
+
+/// Whether the run of such an engine that follows `SHOWN` has this text behind the taking of the event.
+fn ends_so(
+    alloc: Global,
+    numbers: (u32, u32, u32),
+    hooks: &mut BoxedHooks,
+    end: &[u8],
+) -> Result<bool, Fail> {
+    let mut want = Text::from_slice(
+        alloc,
+        b"turn 0 arrive low 1 unknown\noffer 0 - queued low 1 unknown\nturn 0 work\ntake 0\n",
+    )?;
+    want.append(end)?;
+    runs_so(alloc, numbers, SHOWN, hooks, want.as_slice())
+}
+
+/// A function that raises a flag where it is called for the first job and no child of this ran yet. Once begun, its second poll
+/// finds it ready.
+#[derive(Drop)]
+struct Function {
+    called: Flag,
+    left: u32,
+}
+
+impl OnJob for Function {
+    fn run(&mut self, job: Id, cx: &JobTaskContext<'_>) {
+        if job == Id(0) && *cx.current == CommandState::Pending && cx.previous.is_none() {
+            self.called.raise();
+        }
+    }
+
+    fn begin(&mut self, _job: Id, _cx: &JobTaskContext<'_>) {
+        self.left = 1;
+    }
+
+    fn poll(&mut self, _job: Id) -> bool {
+        let is_ready = self.left == 0;
+        self.left = self.left.saturating_sub(1);
+        is_ready
+    }
+}
+
+/// Is never ready.
+#[derive(Drop)]
+struct Never;
+
+impl OnJob for Never {
+    fn run(&mut self, _job: Id, _cx: &JobTaskContext<'_>) {}
+
+    fn begin(&mut self, _job: Id, _cx: &JobTaskContext<'_>) {}
+
+    fn poll(&mut self, _job: Id) -> bool {
+        false
+    }
+}
+
+/// Adds a word to what is spawned.
+#[derive(Drop)]
+struct Adds {
+    alloc: Global,
+    word: &'static [u8],
+}
+
+impl OnSpawn for Adds {
+    fn hook(
+        &mut self,
+        _job: Id,
+        what: &mut Spawnable,
+        _cx: &JobTaskContext<'_>,
+    ) -> Result<(), Memory> {
+        let word = Text::from_slice(self.alloc, self.word)?;
+        what.words.push(word)
+    }
+}
+
+/// Has no memory, and adds nothing.
+#[derive(Drop)]
+struct Wants;
+
+impl OnSpawn for Wants {
+    fn hook(
+        &mut self,
+        _job: Id,
+        _what: &mut Spawnable,
+        _cx: &JobTaskContext<'_>,
+    ) -> Result<(), Memory> {
+        Err(Memory)
+    }
+}
+
+/// Raises a flag where this fault of the first job is shown.
+#[derive(Drop)]
+struct Notes {
+    code: u32,
+    shown: Flag,
+}
+
+impl OnFault for Notes {
+    fn fault(&mut self, job: Id, fault: HostFault) {
+        if job == Id(0) && fault.0 == self.code {
+            self.shown.raise();
+        }
+    }
+}
+
+/// Functions, hooks and error handlers of jobs of numbers that are held and of others.
+const ASKED: &[u8] =
+    b"signal fault 6\nsignal fault 7\nturn 0 arrive urgent 0\nturn 0 work\nturn 0 ask 0 run 1\nturn 0 ask 0 run 5\nturn 0 ask 0 runasync 1\nturn 0 ask 0 runasync 5\nturn 0 ask 0 sethook 1\nturn 0 ask 0 start\nturn 0 ask 0 sethook 5\nturn 0 ask 0 tryrestart\nturn 0 ask 0 seterror 5\nturn 0 ask 0 signal hangup\nturn 0 ask 0 seterror 1\nturn 0 ask 0 signal hangup\nturn 1 job 0\nturn 2 job 0\nturn 3 job 0\nturn 4 job 0\nturn 5 job 0\nturn 6 job 0\nturn 7 job 0\nturn 8 job 0\nturn 9 job 0\nturn 10 job 0\nturn 11 job 0\nturn 12 job 0\nturn 13 job 0\nturn 14 job 0\nturn 15 job 0\n";
+
+const DONE: &[u8] =
+    b"turn 0 arrive urgent 0\noffer 0 - queued urgent 0\nturn 0 work\ntake 0\nhand 0 1 0 create 0 exec ---- 1 make\nmade 0\nturn 0 ask 0 run 1\nasked 0 0 normal run 1\nturn 0 ask 0 run 5\nasked 1 0 normal run 5\nturn 0 ask 0 runasync 1\nasked 2 0 normal runasync 1\nturn 0 ask 0 runasync 5\nasked 3 0 normal runasync 5\nturn 0 ask 0 sethook 1\nasked 4 0 normal sethook 1\nturn 0 ask 0 start\nasked 5 0 normal start\nturn 0 ask 0 sethook 5\nasked 6 0 normal sethook 5\nturn 0 ask 0 tryrestart\nasked 7 0 normal tryrestart\nturn 0 ask 0 seterror 5\nasked 8 0 normal seterror 5\nturn 0 ask 0 signal hangup\nasked 9 0 normal signal hangup\nturn 0 ask 0 seterror 1\nasked 10 0 normal seterror 1\nturn 0 ask 0 signal hangup\nasked 11 0 normal signal hangup\nturn 1 job 0\npick 0 0\nrun 0 1\nraise 0\nturn 2 job 0\npick 0 1\nrun 0 5\nraise 1\nturn 3 job 0\npick 0 2\nbegun 0 1\nturn 4 job 0\npoll 0 1 later\nword later\nturn 5 job 0\npoll 0 1 ready\nraise 2\nturn 6 job 0\npick 0 3\nbegun 0 5\nturn 7 job 0\npoll 0 5 ready\nraise 3\nturn 8 job 0\npick 0 4\nraise 4\nturn 9 job 0\npick 0 5\nhook 0 1 ---- 2 make -v\nspawn 0 0 default ---- 2 make -v ok\nraise 5\nturn 10 job 0\npick 0 6\nraise 6\nturn 11 job 0\npick 0 7\nkill 0 ok\nwait 0 success\nhook 0 5 ---- 1 make\nspawn 1 0 default ---- 1 make ok\nraise 7\nturn 12 job 0\npick 0 8\nraise 8\nturn 13 job 0\npick 0 9\nsignal 1 1 fault 6\njoberror 0 5 6\nraise 9\nturn 14 job 0\npick 0 10\nraise 10\nturn 15 job 0\npick 0 11\nsignal 1 1 fault 7\njoberror 0 1 7\nraise 11\nturn 15 last\ndrop 1\ngone 0\nend ok lost 0\n";
+
+#[test]
+fn boxes_of_jobs_are_called_by_their_numbers(rt: HostRuntime) -> Result<(), Fail> {
+    let alloc = rt.alloc();
+    let called = Flag::new(alloc, false)?;
+    let other = Flag::new(alloc, false)?;
+    let shown = Flag::new(alloc, false)?;
+    let mut actions: Vec<Box<dyn OnAction + Drop>> = Vec::new(alloc);
+    actions.push(Box::new(alloc, Creates { alloc })?)?;
+    let mut functions: Vec<Box<dyn OnJob + Drop>> = Vec::new(alloc);
+    functions.push(Box::new(alloc, Never)?)?;
+    let function = Function {
+        called: called.copy(alloc)?,
+        left: 0,
+    };
+    functions.push(Box::new(alloc, function)?)?;
+    let mut spawn_hooks: Vec<Box<dyn OnSpawn + Drop>> = Vec::new(alloc);
+    spawn_hooks.push(Box::new(alloc, Wants)?)?;
+    spawn_hooks.push(Box::new(alloc, Adds { alloc, word: b"-v" })?)?;
+    let mut faults: Vec<Box<dyn OnFault + Drop>> = Vec::new(alloc);
+    for flag in [&other, &shown] {
+        let notes = Notes {
+            code: 7,
+            shown: flag.copy(alloc)?,
+        };
+        faults.push(Box::new(alloc, notes)?)?;
+    }
+    let mut hooks = BoxedHooks::new(
+        alloc,
+        Vec::new(alloc),
+        actions,
+        Vec::new(alloc),
+        functions,
+        spawn_hooks,
+        faults,
+    );
+    let is_so = runs_so(alloc, (0, 0, 0), ASKED, &mut hooks, DONE);
+    drop(hooks);
+    assert!(rt; is_so?);
+    assert!(rt; called.raised() && shown.raised() && !other.raised());
+    Ok(())
+}
+
+/// A spawn hook that has no memory.
+const WANTS: &[u8] =
+    b"turn 0 arrive urgent 0\nturn 0 work\nturn 0 ask 0 sethook 0\nturn 0 ask 0 start\nturn 1 job 0\nturn 2 job 0\n";
+
+const WANTED: &[u8] =
+    b"turn 0 arrive urgent 0\noffer 0 - queued urgent 0\nturn 0 work\ntake 0\nhand 0 1 0 create 0 exec ---- 1 make\nmade 0\nturn 0 ask 0 sethook 0\nasked 0 0 normal sethook 0\nturn 0 ask 0 start\nasked 1 0 normal start\nturn 1 job 0\npick 0 0\nraise 0\nturn 2 job 0\npick 0 1\nhook 0 0 memory\ngone 0\nend error memory lost 0\n";
+
+#[test]
+fn want_of_memory_of_a_boxed_hook_is_its_answer(rt: HostRuntime) -> Result<(), Fail> {
+    let alloc = rt.alloc();
+    let mut actions: Vec<Box<dyn OnAction + Drop>> = Vec::new(alloc);
+    actions.push(Box::new(alloc, Creates { alloc })?)?;
+    let mut spawn_hooks: Vec<Box<dyn OnSpawn + Drop>> = Vec::new(alloc);
+    spawn_hooks.push(Box::new(alloc, Wants)?)?;
+    let mut hooks = BoxedHooks::new(
+        alloc,
+        Vec::new(alloc),
+        actions,
+        Vec::new(alloc),
+        Vec::new(alloc),
+        spawn_hooks,
+        Vec::new(alloc),
+    );
+    let is_so = runs_so(alloc, (0, 0, 0), WANTS, &mut hooks, WANTED);
+    drop(hooks);
+    assert!(rt; is_so?);
+    Ok(())
+}

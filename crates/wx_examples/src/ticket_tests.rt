@@ -1,0 +1,231 @@
+// An executor that awaits the tickets of a handler while turns go on.
+ghost use Rattle.std.specs.Prelude.{◌≡◌, false};
+ghost use Rattle.wx_engine.specs.Follows.{IsScript};
+
+use crate::engine_tests::{root, script_of, text_in};
+use crate::own_hooks::created;
+use futures::Future;
+use futures::executor::{LocalPool, LocalSpawner};
+use futures::task::{Context, Poll};
+use std::alloc::Global;
+use std::test::Fail;
+use wx_action::{ActionHandler, Host, Outside, TurnFault, Turned, World};
+use wx_command::Spawnable;
+use wx_control::{Flag, Id, Job, Ticket};
+use wx_engine::{BoxedHooks, OnAction, Script, ScriptWorld, Watchexec};
+use wx_events::{Copies, Memory, ProcessEnd, Signal, Text, cut};
+use wx_journal::{HostFault, SpawnTag};
+
+/// Awaits a ticket, and then raises a flag.
+#[derive(Drop)]
+struct Awaits {
+    ticket: Ticket,
+    ready: Flag,
+}
+
+impl Future for Awaits {
+    type Output = ();
+
+    fn poll(&mut self, cx: &mut Context<'_>) -> Poll<()> {
+        match self.ticket.poll(cx) {
+            Poll::Ready(()) => {
+                self.ready.raise();
+                Poll::Ready(())
+            }
+            Poll::Pending => Poll::Pending,
+        }
+    }
+}
+
+/// Starts a program at each batch and stops it with a grace of 10. Both tickets are awaited in a pool.
+#[derive(Drop)]
+struct StartsAndStops {
+    alloc: Global,
+    spawner: LocalSpawner<Awaits>,
+    started: Flag,
+    stopped: Flag,
+}
+
+impl OnAction for StartsAndStops {
+    fn act(&mut self, handler: &mut ActionHandler<'_>) {
+        if ask(self, handler).is_none() {
+            handler.quit();
+        }
+    }
+}
+
+/// Creates the job, asks for both, and lets the tickets be awaited, or answers nothing where a call failed.
+fn ask(boxed: &StartsAndStops, handler: &mut ActionHandler<'_>) -> Option<()>
+    ensures past { handler.new.past ≡ handler.old.past }
+    ensures names { handler.new.names ≡ handler.old.names }
+    ensures open { handler.new.handed ≡ handler.old.handed }
+{
+    let job = created(boxed.alloc, Id(0), b"make", handler)?;
+    let asked = ask_of(boxed, &job, handler);
+    drop(job);
+    asked
+}
+
+/// Asks for both, and lets the tickets be awaited, or answers nothing where a call failed.
+fn ask_of(boxed: &StartsAndStops, job: &Job, handler: &mut ActionHandler<'_>) -> Option<()>
+    ensures past { handler.new.past ≡ handler.old.past }
+    ensures names { handler.new.names ≡ handler.old.names }
+    ensures open { handler.new.handed ≡ handler.old.handed }
+{
+    let alloc = boxed.alloc;
+    let start = job.start(alloc, handler).ok()?;
+    wait_for(boxed, start, &boxed.started)?;
+    let stop = job
+        .stop_with_signal(alloc, handler, Signal::Terminate, 10)
+        .ok()?;
+    wait_for(boxed, stop, &boxed.stopped)
+}
+
+/// Lets a ticket be awaited, by a task that then raises this flag, or answers nothing where that failed.
+fn wait_for(boxed: &StartsAndStops, ticket: Ticket, flag: &Flag) -> Option<()> {
+    let ready = flag.copy(boxed.alloc).ok()?;
+    boxed.spawner.spawn(Awaits { ticket, ready }).ok()
+}
+
+/// A world in which tasks are polled between the turns. It notes before each turn whether the tickets were ready.
+#[derive(Drop)]
+struct Polls<W> {
+    inner: W,
+    pool: LocalPool<Awaits>,
+    started: Flag,
+    stopped: Flag,
+    noted: Text,
+}
+
+impl<W: World> Outside for Polls<W> {
+    ghost Plan = { W.Plan };
+
+    ghost seen = { λ s. W.seen s.inner };
+}
+
+impl<W: World> Host for Polls<W> {
+    fn reserve(&mut self, n: u64) -> Result<(), Memory> {
+        self.inner.reserve(n)
+    }
+
+    fn spawn(
+        &mut self,
+        child: u64,
+        job: Id,
+        what: Spawnable,
+        tag: SpawnTag,
+    ) -> Result<(), HostFault> {
+        self.inner.spawn(child, job, what, tag)
+    }
+
+    fn signal(&mut self, child: u64, number: i32) -> Result<(), HostFault> {
+        self.inner.signal(child, number)
+    }
+
+    fn kill(&mut self, child: u64) -> Result<(), HostFault> {
+        self.inner.kill(child)
+    }
+
+    fn wait(&mut self, child: u64) -> Result<ProcessEnd, HostFault> {
+        self.inner.wait(child)
+    }
+
+    fn drop_child(&mut self, child: u64) {
+        self.inner.drop_child(child);
+    }
+
+    fn raise(&mut self, ticket: u64, flag: &Flag) {
+        self.inner.raise(ticket, flag);
+    }
+
+    fn gone(&mut self, job: Id, flag: &Flag) {
+        self.inner.gone(job, flag);
+    }
+}
+
+impl<W: World> World for Polls<W> {
+    fn turn(&mut self) -> Result<Turned, TurnFault> {
+        self.pool.run_until_stalled(16);
+        // a note that found no memory is missed at the end
+        let _noted = self.noted.append(note(&self.started, &self.stopped));
+        self.inner.turn()
+    }
+}
+
+/// What is noted of two tickets, by the flags that were raised once they were ready.
+fn note(started: &Flag, stopped: &Flag) -> &'static [u8] {
+    match (started.raised(), stopped.raised()) {
+        (false, false) => b"none ",
+        (true, false) => b"started ",
+        (false, true) => b"stopped ",
+        (true, true) => b"both ",
+    }
+}
+
+/// A batch, and then turns of the job within its grace, past it, and of the worker.
+const TURNS: &[u8] =
+    b"turn 0 arrive urgent 0\nturn 0 work\nturn 1 job 0\nturn 2 job 0\nturn 3 job 0\nturn 12 job 0\nturn 13 work\n";
+
+const STOPPED: &[u8] =
+    b"turn 0 arrive urgent 0\noffer 0 - queued urgent 0\nturn 0 work\ntake 0\nhand 0 1 0 create 0 exec ---- 1 make ask 0 start ask 0 gracefulstop terminate 10\nmade 0\nasked 0 0 normal start\nasked 1 0 normal gracefulstop terminate 10\nturn 1 job 0\npick 0 0\nspawn 0 0 default ---- 1 make ok\nraise 0\nturn 2 job 0\npick 0 1\nsignal 0 15 ok\nturn 3 job 0\nword idle\nturn 12 job 0\ngrace 0\nkill 0 ok\nwait 0 success\nraise 1\nturn 13 work\nword idle\nturn 13 last\ngone 0\nend ok lost 0\n";
+
+/// Before the first two turns no ticket is there, and before the third none is ready.
+const NOTED: &[u8] = b"none none none started started started both both ";
+
+/// The text of a run that follows this script, with tasks of this pool between its turns, and what was noted.
+fn text_between(
+    alloc: Global,
+    script: &Script,
+    pool: LocalPool<Awaits>,
+    flags: (Flag, Flag),
+    hooks: &mut BoxedHooks,
+) -> Result<(Text, Text), Memory>
+    requires { IsScript script.now }
+{
+    let mut world = Polls {
+        inner: ScriptWorld::new(alloc, script)?,
+        pool,
+        started: flags.0,
+        stopped: flags.1,
+        noted: Text::new(alloc),
+    };
+    let engine = Watchexec::new(alloc, 0, root(alloc)?)?;
+    let text = text_in(alloc, engine, &mut world, hooks)?;
+    let noted = world.noted.copy(alloc)?;
+    drop(world);
+    Ok((text, noted))
+}
+
+#[test]
+fn tickets_are_awaited_while_turns_go_on(rt: HostRuntime) -> Result<(), Fail> {
+    let alloc = rt.alloc();
+    let pool = LocalPool::new(&rt)?;
+    let started = Flag::new(alloc, false)?;
+    let stopped = Flag::new(alloc, false)?;
+    let boxed = StartsAndStops {
+        alloc,
+        spawner: pool.spawner()?,
+        started: started.copy(alloc)?,
+        stopped: stopped.copy(alloc)?,
+    };
+    let mut actions: Vec<Box<dyn OnAction + Drop>> = Vec::new(alloc);
+    actions.push(Box::new(alloc, boxed)?)?;
+    let mut hooks = BoxedHooks::new(
+        alloc,
+        Vec::new(alloc),
+        actions,
+        Vec::new(alloc),
+        Vec::new(alloc),
+        Vec::new(alloc),
+        Vec::new(alloc),
+    );
+    let script = script_of(alloc, TURNS)?;
+    let ran = text_between(alloc, &script, pool, (started, stopped), &mut hooks);
+    drop(script);
+    drop(hooks);
+    let (text, noted) = ran?;
+    let rest = cut(text.as_slice(), 10).map(|parts| parts.1);
+    assert!(rt; rest == Some(STOPPED));
+    assert!(rt; noted.as_slice() == NOTED);
+    Ok(())
+}
