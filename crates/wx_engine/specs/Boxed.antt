@@ -1,6 +1,6 @@
 -- What hooks do that hold boxes of their caller: nothing, under a number under which they hold none; and what their filters
 -- answer.
-use Rattle.std.specs.Prelude.{◌≡◌, ◌≤◌, ◌⊎◌, ℕ, Bool, true, false, Some, IfSome, Ok, Err, IfOk, List, [], ◌∷◌, slice_get}
+use Rattle.std.specs.Prelude.{◌≡◌, ◌≤◌, ◌⊎◌, ℕ, true, Some, IfSome, Ok, Err, IfOk, List, [], ◌∷◌, slice_get}
 use Rattle.wx_command.specs.declared.command.Command.{Command}
 use Rattle.wx_command.specs.Spawnables.{spawnable_of}
 use Rattle.wx_config.specs.declared.runtime.RuntimeError.TheVariants.{Memory}

@@ -9,6 +9,7 @@ pub mod Case
 pub mod Prepared
 pub mod Faults
 pub mod Stands
+pub mod Calls
 pub mod Laws
 pub mod TicketLaws
 pub mod Leaves

@@ -10,6 +10,7 @@ ghost use Rattle.wx_job.specs.History.{finish, before_spawn, just_picked, begins
 ghost use Rattle.wx_job.specs.Table.{Plan, Done, Words, Signals, Kills, Waits, adds, shows, tries, reap, waiters, spawn, fresh};
 ghost use Rattle.wx_job.specs.Case.{FollowsHost, FollowsHooks, Follows, GivesUp, HookedOnly, words_of, newest_code};
 ghost use Rattle.wx_job.specs.Kept.{Quiet, KeepsOn};
+ghost use Rattle.wx_job.specs.Calls.{IsReady, IsReadyAt, AreRoomy, HasCalled, HasWaited, HasServed};
 ghost use Rattle.wx_job.specs.Steady.{AreSpare, Spends, HaveRoom, UseRoom};
 ghost use Rattle.wx_job.specs.Stands.{Stands, kit_of, child_of, grace_of, holds};
 
@@ -71,14 +72,9 @@ impl JobTask {
     fn show<K: JobHooks>(&self, fault: HostFault, hooks: &mut K, journal: &mut Journal)
         requires stands { Stands self.now journal.old.past }
         requires newest { newest_code journal.old.past ≡ fault.0 }
-        requires journal_room { 1 ≤ journal.old.spare }
-        requires hooks_room { 1 ≤ (K.seen hooks.old).spare }
-        ensures stands { Stands self.now journal.new.past }
+        requires room { AreRoomy 1 1 journal.old (K.seen hooks.old) }
         ensures follows { (k : Plan) → FollowsHooks (shows self.now.id self.now.handler k) journal.old.past (K.seen hooks.old).told k journal.new.past (K.seen hooks.new).told }
-        ensures keeps { KeepsOn K.seen K.rule K.stands hooks.old journal.old.past hooks.new journal.new.past }
-        ensures now { moment journal.new.past ≡ moment journal.old.past }
-        ensures journal_room { journal.old.spare ≤ journal.new.spare + 1 }
-        ensures hooks_room { (K.seen hooks.old).spare ≤ (K.seen hooks.new).spare + 1 }
+        ensures called { HasCalled K.seen K.rule K.stands 1 1 journal.old hooks.old self.now journal.new hooks.new }
     {
         let Some(n) = self.handler else {
             return;
@@ -101,13 +97,10 @@ impl JobTask {
         hooks: &mut K,
         journal: &mut Journal,
     )
-        requires stands { Stands self.now journal.old.past }
         requires begins { begins_by (just_picked self.now.id journal.old.past) (moment journal.old.past) (grace_of self.now) ≡ grace_of self.now }
-        requires room { HaveRoom 2 1 journal.old (H.seen host.old) (K.seen hooks.old) }
-        ensures stands { Stands self.now journal.new.past }
+        requires ready { IsReady self.now 2 1 journal.old (H.seen host.old) (K.seen hooks.old) }
         ensures follows { (k : Plan) → Follows (tries self.now.id self.now.handler (Signals child number) k k) journal.old.past (H.seen host.old) (K.seen hooks.old).told k journal.new.past (H.seen host.new) (K.seen hooks.new).told }
-        ensures keeps { KeepsOn K.seen K.rule K.stands hooks.old journal.old.past hooks.new journal.new.past }
-        ensures uses { UseRoom 2 1 journal.old (H.seen host.old) (K.seen hooks.old) journal.new (H.seen host.new) (K.seen hooks.new) }
+        ensures served { HasServed K.seen K.rule K.stands 2 1 journal.old (H.seen host.old) hooks.old self.now journal.new (H.seen host.new) hooks.new }
     {
         let answer = host.signal(child, number);
         journal.push(Entry::Signal {
@@ -131,20 +124,16 @@ impl JobTask {
         hooks: &mut K,
         journal: &mut Journal,
     ) -> Option<Standing>
-        requires stands { Stands self.old journal.old.past }
         requires runs { child_of self.old.state ≡ Some child }
-        requires here { self.old.gone ≡ false }
         requires begins { begins_by (just_picked self.old.id journal.old.past) (moment journal.old.past) (grace_of self.old) ≡ Some standing.grace }
         requires unheld { holds standing.grace.ticket self.old ≡ 0 }
         requires named { standing.grace.ticket < ticket_count journal.old.past }
-        requires room { HaveRoom 2 1 journal.old (H.seen host.old) (K.seen hooks.old) }
-        ensures stands { Stands self.new journal.new.past }
+        requires ready { IsReady self.old 2 1 journal.old (H.seen host.old) (K.seen hooks.old) }
         ensures begun { IfNone result ((k : Plan) (f : Plan) → Follows (tries self.old.id self.old.handler (Signals child number) k f) journal.old.past (H.seen host.old) (K.seen hooks.old).told k journal.new.past (H.seen host.new) (K.seen hooks.new).told) }
         ensures failed { IfSome result (λ back. (k : Plan) (f : Plan) → Follows (tries self.old.id self.old.handler (Signals child number) k f) journal.old.past (H.seen host.old) (K.seen hooks.old).told f journal.new.past (H.seen host.new) (K.seen hooks.new).told) }
         ensures back { IfSome result (λ back. (back ≡ standing) × (self.new ≡ self.old)) }
         ensures fields { self.new ≡ record self.old { grace = self.new.grace } }
-        ensures keeps { KeepsOn K.seen K.rule K.stands hooks.old journal.old.past hooks.new journal.new.past }
-        ensures uses { UseRoom 2 1 journal.old (H.seen host.old) (K.seen hooks.old) journal.new (H.seen host.new) (K.seen hooks.new) }
+        ensures served { HasServed K.seen K.rule K.stands 2 1 journal.old (H.seen host.old) hooks.old self.new journal.new (H.seen host.new) hooks.new }
     {
         let answer = host.signal(child, number);
         journal.push(Entry::Signal {
@@ -168,13 +157,10 @@ impl JobTask {
         hooks: &mut K,
         journal: &mut Journal,
     ) -> Result<(), HostFault>
-        requires stands { Stands self.now journal.old.past }
-        requires room { HaveRoom 2 1 journal.old (H.seen host.old) (K.seen hooks.old) }
-        ensures stands { Stands self.now journal.new.past }
+        requires ready { IsReady self.now 2 1 journal.old (H.seen host.old) (K.seen hooks.old) }
         ensures ok { OnOk result ((k : Plan) (f : Plan) → Follows (tries self.now.id self.now.handler (Kills child) k f) journal.old.past (H.seen host.old) (K.seen hooks.old).told k journal.new.past (H.seen host.new) (K.seen hooks.new).told) }
         ensures err { OnErr result ((k : Plan) (f : Plan) → Follows (tries self.now.id self.now.handler (Kills child) k f) journal.old.past (H.seen host.old) (K.seen hooks.old).told f journal.new.past (H.seen host.new) (K.seen hooks.new).told) }
-        ensures keeps { KeepsOn K.seen K.rule K.stands hooks.old journal.old.past hooks.new journal.new.past }
-        ensures uses { UseRoom 2 1 journal.old (H.seen host.old) (K.seen hooks.old) journal.new (H.seen host.new) (K.seen hooks.new) }
+        ensures served { HasServed K.seen K.rule K.stands 2 1 journal.old (H.seen host.old) hooks.old self.now journal.new (H.seen host.new) hooks.new }
     {
         let answer = host.kill(child);
         journal.push(Entry::Kill { child, answer });
@@ -194,24 +180,14 @@ impl JobTask {
         hooks: &mut K,
         journal: &mut Journal,
     ) -> Result<Option<Standing>, HostFault>
-        requires stands { Stands self.old journal.old.past }
         requires runs { child_of self.old.state ≡ Some child }
-        requires here { self.old.gone ≡ false }
-        requires at { moment journal.old.past ≡ at }
-        requires room { HaveRoom 2 1 journal.old (H.seen host.old) (K.seen hooks.old) }
-        ensures stands { Stands self.new journal.new.past }
+        requires ready { IsReadyAt at self.old 2 1 journal.old (H.seen host.old) (K.seen hooks.old) }
         ensures ok { OnOk result ((k : Plan) (f : Plan) → Follows (tries self.old.id self.old.handler (Waits child) k f) journal.old.past (H.seen host.old) (K.seen hooks.old).told k journal.new.past (H.seen host.new) (K.seen hooks.new).told) }
         ensures err { OnErr result ((k : Plan) (f : Plan) → Follows (tries self.old.id self.old.handler (Waits child) k f) journal.old.past (H.seen host.old) (K.seen hooks.old).told f journal.new.past (H.seen host.new) (K.seen hooks.new).told) }
-        ensures fields { self.new ≡ record self.old { state = self.new.state; kept = self.new.kept; grace = self.new.grace } }
-        ensures runs { OnErr result (self.new.state ≡ self.old.state) }
+        ensures waited { HasWaited result self.old self.new }
         ensures stays { OnErr result (self.new.grace ≡ self.old.grace) }
-        ensures ended { IfOk result (λ standing. option_map (λ s. s.grace) standing ≡ grace_of self.old) }
-        ensures unheld { IfOk result (λ standing. IfSome standing (λ s. holds s.grace.ticket self.new ≡ 0)) }
-        ensures none { OnOk result ((child_of self.new.state ≡ None) × (grace_of self.new ≡ None)) }
-        ensures held { (t : ℕ) → holds t self.new ≤ holds t self.old }
         ensures before { OnOk result (before_spawn self.new.id journal.new.past ≡ self.new.state) }
-        ensures keeps { KeepsOn K.seen K.rule K.stands hooks.old journal.old.past hooks.new journal.new.past }
-        ensures uses { UseRoom 2 1 journal.old (H.seen host.old) (K.seen hooks.old) journal.new (H.seen host.new) (K.seen hooks.new) }
+        ensures served { HasServed K.seen K.rule K.stands 2 1 journal.old (H.seen host.old) hooks.old self.new journal.new (H.seen host.new) hooks.new }
     {
         let answer = host.wait(child);
         journal.push(Entry::Wait { child, answer });
@@ -240,24 +216,14 @@ impl JobTask {
         hooks: &mut K,
         journal: &mut Journal,
     ) -> Result<Option<Standing>, HostFault>
-        requires stands { Stands self.old journal.old.past }
         requires unheld { holds ticket self.old ≡ 0 }
         requires runs { child_of self.old.state ≡ Some child }
-        requires here { self.old.gone ≡ false }
-        requires at { moment journal.old.past ≡ at }
-        requires room { HaveRoom 5 2 journal.old (H.seen host.old) (K.seen hooks.old) }
-        ensures stands { Stands self.new journal.new.past }
+        requires ready { IsReadyAt at self.old 5 2 journal.old (H.seen host.old) (K.seen hooks.old) }
         ensures ok { OnOk result ((k : Plan) → Follows (reap self.old.id self.old.handler child ticket k) journal.old.past (H.seen host.old) (K.seen hooks.old).told k journal.new.past (H.seen host.new) (K.seen hooks.new).told) }
         ensures err { OnErr result ((k : Plan) → Follows (reap self.old.id self.old.handler child ticket k) journal.old.past (H.seen host.old) (K.seen hooks.old).told Done journal.new.past (H.seen host.new) (K.seen hooks.new).told) }
-        ensures fields { self.new ≡ record self.old { state = self.new.state; kept = self.new.kept; grace = self.new.grace } }
-        ensures runs { OnErr result (self.new.state ≡ self.old.state) }
-        ensures ended { IfOk result (λ standing. option_map (λ s. s.grace) standing ≡ grace_of self.old) }
-        ensures unheld { IfOk result (λ standing. IfSome standing (λ s. holds s.grace.ticket self.new ≡ 0)) }
-        ensures none { OnOk result ((child_of self.new.state ≡ None) × (grace_of self.new ≡ None)) }
-        ensures held { (t : ℕ) → holds t self.new ≤ holds t self.old }
+        ensures waited { HasWaited result self.old self.new }
         ensures before { before_spawn self.new.id journal.new.past ≡ self.new.state }
-        ensures keeps { KeepsOn K.seen K.rule K.stands hooks.old journal.old.past hooks.new journal.new.past }
-        ensures uses { UseRoom 5 2 journal.old (H.seen host.old) (K.seen hooks.old) journal.new (H.seen host.new) (K.seen hooks.new) }
+        ensures served { HasServed K.seen K.rule K.stands 5 2 journal.old (H.seen host.old) hooks.old self.new journal.new (H.seen host.new) hooks.new }
     {
         if let Err(fault) = self.kill(child, host, hooks, journal) {
             self.raise(ticket, done, host, journal);
@@ -284,18 +250,13 @@ impl JobTask {
         hooks: &mut K,
         journal: &mut Journal,
     )
-        requires stands { Stands self.old journal.old.past }
         requires runs { child_of self.old.state ≡ None }
-        requires here { self.old.gone ≡ false }
-        requires at { moment journal.old.past ≡ at }
         requires listed { listed ≡ what }
         requires before { before ≡ before_spawn self.old.id journal.old.past }
-        requires room { HaveRoom 2 1 journal.old (H.seen host.old) (K.seen hooks.old) }
-        ensures stands { Stands self.new journal.new.past }
+        requires ready { IsReadyAt at self.old 2 1 journal.old (H.seen host.old) (K.seen hooks.old) }
         ensures follows { (words : Words) → words_of journal.old.past words ≡ what → (k : Plan) → Follows (spawn self.old.id self.old.handler self.old.tag words k) journal.old.past (H.seen host.old) (K.seen hooks.old).told k journal.new.past (H.seen host.new) (K.seen hooks.new).told }
         ensures fields { self.new ≡ record self.old { state = self.new.state; previous = self.new.previous; kept = self.new.kept } }
-        ensures keeps { KeepsOn K.seen K.rule K.stands hooks.old journal.old.past hooks.new journal.new.past }
-        ensures uses { UseRoom 2 1 journal.old (H.seen host.old) (K.seen hooks.old) journal.new (H.seen host.new) (K.seen hooks.new) }
+        ensures served { HasServed K.seen K.rule K.stands 2 1 journal.old (H.seen host.old) hooks.old self.new journal.new (H.seen host.new) hooks.new }
     {
         let child = journal.children();
         let answer = host.spawn(child, self.id, what, self.tag);
@@ -333,18 +294,13 @@ impl JobTask {
         requires runs { child_of self.old.state ≡ None }
         requires here { self.old.gone ≡ false }
         requires what { what ≡ spawnable_of self.old.command }
-        requires journal_room { 1 ≤ journal.old.spare }
-        requires hooks_room { 1 ≤ (K.seen hooks.old).spare }
-        ensures stands { Stands self.new journal.new.past }
+        requires room { AreRoomy 1 1 journal.old (K.seen hooks.old) }
         ensures same { IfOk result (λ two. two.1 ≡ two.0) }
         ensures past { IfOk result (λ two. journal.new.past ≡ Entry.Hook self.old.id n (Ok two.0) ∷ journal.old.past) }
         ensures told { IfOk result (λ two. (K.seen hooks.new).told ≡ tell (Entry.Hook self.old.id n (Ok two.0)) (K.seen hooks.old).told) }
         ensures err { OnErr result (HookedOnly self.old.id n journal.old.past (K.seen hooks.old).told journal.new.past (K.seen hooks.new).told) }
         ensures fields { self.new ≡ record self.old { state = Pending; previous = Some self.old.state } }
-        ensures keeps { KeepsOn K.seen K.rule K.stands hooks.old journal.old.past hooks.new journal.new.past }
-        ensures now { moment journal.new.past ≡ moment journal.old.past }
-        ensures journal_room { journal.old.spare ≤ journal.new.spare + 1 }
-        ensures hooks_room { (K.seen hooks.old).spare ≤ (K.seen hooks.new).spare + 1 }
+        ensures called { HasCalled K.seen K.rule K.stands 1 1 journal.old hooks.old self.new journal.new hooks.new }
     {
         self.previous = Some(self.state);
         self.state = CommandState::Pending;
@@ -382,21 +338,16 @@ impl JobTask {
         hooks: &mut K,
         journal: &mut Journal,
     ) -> Result<(), Memory>
-        requires stands { Stands self.old journal.old.past }
         requires runs { child_of self.old.state ≡ None }
-        requires here { self.old.gone ≡ false }
-        requires at { moment journal.old.past ≡ at }
         requires what { what ≡ spawnable_of self.old.command }
         requires listed { listed ≡ what }
         requires before { before_spawn self.old.id journal.old.past ≡ self.old.state }
-        requires room { HaveRoom 3 2 journal.old (H.seen host.old) (K.seen hooks.old) }
-        ensures stands { Stands self.new journal.new.past }
+        requires ready { IsReadyAt at self.old 3 2 journal.old (H.seen host.old) (K.seen hooks.old) }
         ensures ok { OnOk result ((k : Plan) → Follows (fresh self.old.id (kit_of self.old) k) journal.old.past (H.seen host.old) (K.seen hooks.old).told k journal.new.past (H.seen host.new) (K.seen hooks.new).told) }
         ensures err { OnErr result ((k : Plan) → GivesUp (fresh self.old.id (kit_of self.old) k) journal.old.past (H.seen host.old) (K.seen hooks.old).told journal.new.past (H.seen host.new) (K.seen hooks.new).told) }
         ensures pending { OnErr result (self.new.state ≡ Pending) }
         ensures fields { self.new ≡ record self.old { state = self.new.state; previous = self.new.previous; kept = self.new.kept } }
-        ensures keeps { KeepsOn K.seen K.rule K.stands hooks.old journal.old.past hooks.new journal.new.past }
-        ensures uses { UseRoom 3 2 journal.old (H.seen host.old) (K.seen hooks.old) journal.new (H.seen host.new) (K.seen hooks.new) }
+        ensures served { HasServed K.seen K.rule K.stands 3 2 journal.old (H.seen host.old) hooks.old self.new journal.new (H.seen host.new) hooks.new }
     {
         let before = self.state;
         let Some(n) = self.hook else {

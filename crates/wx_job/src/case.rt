@@ -11,6 +11,7 @@ ghost use Rattle.wx_job.specs.Table.{Plan, Done, adds, raises, reap, waiters, ro
 ghost use Rattle.wx_job.specs.Prepared.{twice, prepared, prepared_for, fresh_or, fresh_in};
 ghost use Rattle.wx_job.specs.Case.{FollowsHost, FollowsHooks, Follows, GivesUp};
 ghost use Rattle.wx_job.specs.Kept.{KeepsOn};
+ghost use Rattle.wx_job.specs.Calls.{IsReady, IsReadyAt, AreRoomy, HasCalled, HasWaited, HasServed, HasDone};
 ghost use Rattle.wx_job.specs.Steady.{AreSpare, Spends, HaveRoom, UseRoom};
 ghost use Rattle.wx_job.specs.Stands.{Stands, Stops, SameJob, kit_of, child_of, grace_of, begun_of, holds, choice_of};
 
@@ -41,22 +42,14 @@ impl JobTask {
         hooks: &mut K,
         journal: &mut Journal,
     ) -> Result<(), Memory>
-        requires stands { Stands self.old journal.old.past }
-        requires here { self.old.gone ≡ false }
         requires unheld { holds ticket self.old ≡ 0 }
-        requires at { moment journal.old.past ≡ at }
         requires what { what ≡ twice self.old.command (is_some what) }
         requires runs { IfSome what (λ two. child_of self.old.state ≡ None) }
         requires before { before_spawn self.old.id journal.old.past ≡ self.old.state }
-        requires room { HaveRoom (4) 2 journal.old (H.seen host.old) (K.seen hooks.old) }
-        ensures stands { Stands self.new journal.new.past }
-        ensures ok { OnOk result (Follows (fresh_or (is_some what) self.old.id (kit_of self.old) ticket) journal.old.past (H.seen host.old) (K.seen hooks.old).told Done journal.new.past (H.seen host.new) (K.seen hooks.new).told) }
-        ensures err { OnErr result (GivesUp (fresh_or (is_some what) self.old.id (kit_of self.old) ticket) journal.old.past (H.seen host.old) (K.seen hooks.old).told journal.new.past (H.seen host.new) (K.seen hooks.new).told) }
-        ensures memory { OnErr result (is_some what ≡ true) }
-        ensures pending { OnErr result (self.new.state ≡ Pending) }
+        requires ready { IsReadyAt at self.old (4) 2 journal.old (H.seen host.old) (K.seen hooks.old) }
+        ensures done { HasDone result self.new (is_some what) (fresh_or (is_some what) self.old.id (kit_of self.old) ticket) journal.old.past (H.seen host.old) (K.seen hooks.old).told journal.new.past (H.seen host.new) (K.seen hooks.new).told }
         ensures fields { self.new ≡ record self.old { state = self.new.state; previous = self.new.previous; kept = self.new.kept } }
-        ensures keeps { KeepsOn K.seen K.rule K.stands hooks.old journal.old.past hooks.new journal.new.past }
-        ensures uses { UseRoom (4) 2 journal.old (H.seen host.old) (K.seen hooks.old) journal.new (H.seen host.new) (K.seen hooks.new) }
+        ensures served { HasServed K.seen K.rule K.stands (4) 2 journal.old (H.seen host.old) hooks.old self.new journal.new (H.seen host.new) hooks.new }
     {
         if let Some((what, listed)) = what {
             self.fresh(alloc, what, listed, at, host, hooks, journal)?;
@@ -75,16 +68,11 @@ impl JobTask {
         hooks: &mut K,
         journal: &mut Journal,
     )
-        requires stands { Stands self.old journal.old.past }
-        requires here { self.old.gone ≡ false }
         requires unheld { holds ticket self.old ≡ 0 }
-        requires at { moment journal.old.past ≡ at }
-        requires room { HaveRoom (7 + length self.old.parked.tickets) 2 journal.old (H.seen host.old) (K.seen hooks.old) }
-        ensures stands { Stands self.new journal.new.past }
+        requires ready { IsReadyAt at self.old (7 + length self.old.parked.tickets) 2 journal.old (H.seen host.old) (K.seen hooks.old) }
         ensures follows { Follows (row self.old.id (kit_of self.old) ticket Stop (child_of self.old.state)) journal.old.past (H.seen host.old) (K.seen hooks.old).told Done journal.new.past (H.seen host.new) (K.seen hooks.new).told }
         ensures fields { self.new ≡ record self.old { state = self.new.state; kept = self.new.kept; grace = self.new.grace; parked = self.new.parked } }
-        ensures keeps { KeepsOn K.seen K.rule K.stands hooks.old journal.old.past hooks.new journal.new.past }
-        ensures uses { UseRoom (7 + length self.old.parked.tickets) 2 journal.old (H.seen host.old) (K.seen hooks.old) journal.new (H.seen host.new) (K.seen hooks.new) }
+        ensures served { HasServed K.seen K.rule K.stands (7 + length self.old.parked.tickets) 2 journal.old (H.seen host.old) hooks.old self.new journal.new (H.seen host.new) hooks.new }
     {
         if let Some(child) = child_of(self.state) {
             let Ok(standing) = self.reap(child, ticket, done, at, host, hooks, journal) else {
@@ -109,17 +97,13 @@ impl JobTask {
         hooks: &mut K,
         journal: &mut Journal,
     )
-        requires stands { Stands self.old journal.old.past }
-        requires here { self.old.gone ≡ false }
         requires unheld { holds picked.ticket self.old ≡ 0 }
         requires named { picked.ticket < ticket_count journal.old.past }
         requires begins { begins_by (just_picked self.old.id journal.old.past) (moment journal.old.past) (grace_of self.old) ≡ Some (record { ends = ends; ticket = picked.ticket; restarts = restarts }) }
-        requires room { HaveRoom (3) 1 journal.old (H.seen host.old) (K.seen hooks.old) }
-        ensures stands { Stands self.new journal.new.past }
+        requires ready { IsReady self.old (3) 1 journal.old (H.seen host.old) (K.seen hooks.old) }
         ensures follows { Follows (graceful self.old.id self.old.handler signal picked.ticket (child_of self.old.state)) journal.old.past (H.seen host.old) (K.seen hooks.old).told Done journal.new.past (H.seen host.new) (K.seen hooks.new).told }
         ensures fields { self.new ≡ record self.old { grace = self.new.grace } }
-        ensures keeps { KeepsOn K.seen K.rule K.stands hooks.old journal.old.past hooks.new journal.new.past }
-        ensures uses { UseRoom (3) 1 journal.old (H.seen host.old) (K.seen hooks.old) journal.new (H.seen host.new) (K.seen hooks.new) }
+        ensures served { HasServed K.seen K.rule K.stands (3) 1 journal.old (H.seen host.old) hooks.old self.new journal.new (H.seen host.new) hooks.new }
     {
         let Some(child) = child_of(self.state) else {
             self.raise(picked.ticket, &picked.done, host, journal);
@@ -152,21 +136,13 @@ impl JobTask {
         hooks: &mut K,
         journal: &mut Journal,
     ) -> Result<(), Memory>
-        requires stands { Stands self.old journal.old.past }
-        requires here { self.old.gone ≡ false }
         requires unheld { holds ticket self.old ≡ 0 }
         requires runs { child_of self.old.state ≡ Some child }
-        requires at { moment journal.old.past ≡ at }
         requires what { what ≡ twice self.old.command (is_some what) }
-        requires room { HaveRoom (9 + length self.old.parked.tickets) 4 journal.old (H.seen host.old) (K.seen hooks.old) }
-        ensures stands { Stands self.new journal.new.past }
-        ensures ok { OnOk result (Follows (reap self.old.id self.old.handler child ticket (waiters self.old.parked.tickets (fresh_or (is_some what) self.old.id (kit_of self.old) ticket))) journal.old.past (H.seen host.old) (K.seen hooks.old).told Done journal.new.past (H.seen host.new) (K.seen hooks.new).told) }
-        ensures err { OnErr result (GivesUp (reap self.old.id self.old.handler child ticket (waiters self.old.parked.tickets (fresh_or (is_some what) self.old.id (kit_of self.old) ticket))) journal.old.past (H.seen host.old) (K.seen hooks.old).told journal.new.past (H.seen host.new) (K.seen hooks.new).told) }
-        ensures memory { OnErr result (is_some what ≡ true) }
-        ensures pending { OnErr result (self.new.state ≡ Pending) }
+        requires ready { IsReadyAt at self.old (9 + length self.old.parked.tickets) 4 journal.old (H.seen host.old) (K.seen hooks.old) }
+        ensures done { HasDone result self.new (is_some what) (reap self.old.id self.old.handler child ticket (waiters self.old.parked.tickets (fresh_or (is_some what) self.old.id (kit_of self.old) ticket))) journal.old.past (H.seen host.old) (K.seen hooks.old).told journal.new.past (H.seen host.new) (K.seen hooks.new).told }
         ensures fields { self.new ≡ record self.old { state = self.new.state; previous = self.new.previous; kept = self.new.kept; grace = self.new.grace; parked = self.new.parked } }
-        ensures keeps { KeepsOn K.seen K.rule K.stands hooks.old journal.old.past hooks.new journal.new.past }
-        ensures uses { UseRoom (9 + length self.old.parked.tickets) 4 journal.old (H.seen host.old) (K.seen hooks.old) journal.new (H.seen host.new) (K.seen hooks.new) }
+        ensures served { HasServed K.seen K.rule K.stands (9 + length self.old.parked.tickets) 4 journal.old (H.seen host.old) hooks.old self.new journal.new (H.seen host.new) hooks.new }
     {
         if self
             .reap(child, ticket, done, at, host, hooks, journal)
@@ -190,21 +166,13 @@ impl JobTask {
         hooks: &mut K,
         journal: &mut Journal,
     ) -> Result<(), Memory>
-        requires stands { Stands self.old journal.old.past }
-        requires here { self.old.gone ≡ false }
         requires unheld { holds picked.now.ticket self.old ≡ 0 }
-        requires at { moment journal.old.past ≡ at }
         requires what { what ≡ twice self.old.command (is_some what) }
         requires before { before_spawn self.old.id journal.old.past ≡ self.old.state }
-        requires room { HaveRoom (9 + length self.old.parked.tickets) 4 journal.old (H.seen host.old) (K.seen hooks.old) }
-        ensures stands { Stands self.new journal.new.past }
-        ensures ok { OnOk result (Follows (fresh_in self.old.id (kit_of self.old) picked.now.ticket (is_some what) (child_of self.old.state)) journal.old.past (H.seen host.old) (K.seen hooks.old).told Done journal.new.past (H.seen host.new) (K.seen hooks.new).told) }
-        ensures err { OnErr result (GivesUp (fresh_in self.old.id (kit_of self.old) picked.now.ticket (is_some what) (child_of self.old.state)) journal.old.past (H.seen host.old) (K.seen hooks.old).told journal.new.past (H.seen host.new) (K.seen hooks.new).told) }
-        ensures memory { OnErr result (is_some what ≡ true) }
-        ensures pending { OnErr result (self.new.state ≡ Pending) }
+        requires ready { IsReadyAt at self.old (9 + length self.old.parked.tickets) 4 journal.old (H.seen host.old) (K.seen hooks.old) }
+        ensures done { HasDone result self.new (is_some what) (fresh_in self.old.id (kit_of self.old) picked.now.ticket (is_some what) (child_of self.old.state)) journal.old.past (H.seen host.old) (K.seen hooks.old).told journal.new.past (H.seen host.new) (K.seen hooks.new).told }
         ensures fields { self.new ≡ record self.old { state = self.new.state; previous = self.new.previous; kept = self.new.kept; grace = self.new.grace; parked = self.new.parked } }
-        ensures keeps { KeepsOn K.seen K.rule K.stands hooks.old journal.old.past hooks.new journal.new.past }
-        ensures uses { UseRoom (9 + length self.old.parked.tickets) 4 journal.old (H.seen host.old) (K.seen hooks.old) journal.new (H.seen host.new) (K.seen hooks.new) }
+        ensures served { HasServed K.seen K.rule K.stands (9 + length self.old.parked.tickets) 4 journal.old (H.seen host.old) hooks.old self.new journal.new (H.seen host.new) hooks.new }
     {
         let ticket = picked.ticket;
         let done = &picked.done;
@@ -223,16 +191,12 @@ impl JobTask {
         hooks: &mut K,
         journal: &mut Journal,
     )
-        requires stands { Stands self.old journal.old.past }
-        requires here { self.old.gone ≡ false }
         requires unheld { holds picked.now.ticket self.old ≡ 0 }
         requires begins { begins_by (just_picked self.old.id journal.old.past) (moment journal.old.past) (grace_of self.old) ≡ grace_of self.old }
-        requires room { HaveRoom (3) 1 journal.old (H.seen host.old) (K.seen hooks.old) }
-        ensures stands { Stands self.new journal.new.past }
+        requires ready { IsReady self.old (3) 1 journal.old (H.seen host.old) (K.seen hooks.old) }
         ensures follows { Follows (signalled self.old.id self.old.handler signal picked.now.ticket (child_of self.old.state)) journal.old.past (H.seen host.old) (K.seen hooks.old).told Done journal.new.past (H.seen host.new) (K.seen hooks.new).told }
         ensures fields { self.new ≡ self.old }
-        ensures keeps { KeepsOn K.seen K.rule K.stands hooks.old journal.old.past hooks.new journal.new.past }
-        ensures uses { UseRoom (3) 1 journal.old (H.seen host.old) (K.seen hooks.old) journal.new (H.seen host.new) (K.seen hooks.new) }
+        ensures served { HasServed K.seen K.rule K.stands (3) 1 journal.old (H.seen host.old) hooks.old self.new journal.new (H.seen host.new) hooks.new }
     {
         if let Some(child) = child_of(self.state) {
             self.signal(child, number_of(signal), host, hooks, journal);
@@ -267,21 +231,13 @@ impl JobTask {
         hooks: &mut K,
         journal: &mut Journal,
     ) -> Result<(), Memory>
-        requires stands { Stands self.old journal.old.past }
-        requires here { self.old.gone ≡ false }
         requires runs { child_of self.old.state ≡ Some child }
         requires stood { grace_of self.old ≡ Some grace }
-        requires at { moment journal.old.past ≡ at }
         requires what { what ≡ twice self.old.command (grace.restarts) }
-        requires room { HaveRoom (10 + length self.old.parked.tickets) 4 journal.old (H.seen host.old) (K.seen hooks.old) }
-        ensures stands { Stands self.new journal.new.past }
-        ensures ok { OnOk result (Follows (over self.old.id (kit_of self.old) child grace) journal.old.past (H.seen host.old) (K.seen hooks.old).told Done journal.new.past (H.seen host.new) (K.seen hooks.new).told) }
-        ensures err { OnErr result (GivesUp (over self.old.id (kit_of self.old) child grace) journal.old.past (H.seen host.old) (K.seen hooks.old).told journal.new.past (H.seen host.new) (K.seen hooks.new).told) }
-        ensures memory { OnErr result (grace.restarts ≡ true) }
-        ensures pending { OnErr result (self.new.state ≡ Pending) }
+        requires ready { IsReadyAt at self.old (10 + length self.old.parked.tickets) 4 journal.old (H.seen host.old) (K.seen hooks.old) }
+        ensures done { HasDone result self.new (grace.restarts) (over self.old.id (kit_of self.old) child grace) journal.old.past (H.seen host.old) (K.seen hooks.old).told journal.new.past (H.seen host.new) (K.seen hooks.new).told }
         ensures fields { self.new ≡ record self.old { state = self.new.state; previous = self.new.previous; kept = self.new.kept; grace = self.new.grace; parked = self.new.parked } }
-        ensures keeps { KeepsOn K.seen K.rule K.stands hooks.old journal.old.past hooks.new journal.new.past }
-        ensures uses { UseRoom (10 + length self.old.parked.tickets) 4 journal.old (H.seen host.old) (K.seen hooks.old) journal.new (H.seen host.new) (K.seen hooks.new) }
+        ensures served { HasServed K.seen K.rule K.stands (10 + length self.old.parked.tickets) 4 journal.old (H.seen host.old) hooks.old self.new journal.new (H.seen host.new) hooks.new }
     {
         let Some(standing) = self.grace.take() else {
             unreachable!()
@@ -313,20 +269,12 @@ impl JobTask {
         hooks: &mut K,
         journal: &mut Journal,
     ) -> Result<(), Memory>
-        requires stands { Stands self.old journal.old.past }
-        requires here { self.old.gone ≡ false }
         requires runs { child_of self.old.state ≡ Some child }
-        requires at { moment journal.old.past ≡ at }
         requires what { what ≡ twice self.old.command (is_restart (grace_of self.old)) }
-        requires room { HaveRoom (6 + length self.old.parked.tickets) 3 journal.old (H.seen host.old) (K.seen hooks.old) }
-        ensures stands { Stands self.new journal.new.past }
-        ensures ok { OnOk result (Follows (ended self.old.id (kit_of self.old) child) journal.old.past (H.seen host.old) (K.seen hooks.old).told Done journal.new.past (H.seen host.new) (K.seen hooks.new).told) }
-        ensures err { OnErr result (GivesUp (ended self.old.id (kit_of self.old) child) journal.old.past (H.seen host.old) (K.seen hooks.old).told journal.new.past (H.seen host.new) (K.seen hooks.new).told) }
-        ensures memory { OnErr result (is_restart (grace_of self.old) ≡ true) }
-        ensures pending { OnErr result (self.new.state ≡ Pending) }
+        requires ready { IsReadyAt at self.old (6 + length self.old.parked.tickets) 3 journal.old (H.seen host.old) (K.seen hooks.old) }
+        ensures done { HasDone result self.new (is_restart (grace_of self.old)) (ended self.old.id (kit_of self.old) child) journal.old.past (H.seen host.old) (K.seen hooks.old).told journal.new.past (H.seen host.new) (K.seen hooks.new).told }
         ensures fields { self.new ≡ record self.old { state = self.new.state; previous = self.new.previous; kept = self.new.kept; grace = self.new.grace; parked = self.new.parked } }
-        ensures keeps { KeepsOn K.seen K.rule K.stands hooks.old journal.old.past hooks.new journal.new.past }
-        ensures uses { UseRoom (6 + length self.old.parked.tickets) 3 journal.old (H.seen host.old) (K.seen hooks.old) journal.new (H.seen host.new) (K.seen hooks.new) }
+        ensures served { HasServed K.seen K.rule K.stands (6 + length self.old.parked.tickets) 3 journal.old (H.seen host.old) hooks.old self.new journal.new (H.seen host.new) hooks.new }
     {
         let Ok(standing) = self.wait(child, at, host, hooks, journal) else {
             return Ok(());
@@ -355,13 +303,10 @@ impl JobTask {
         hooks: &mut K,
         journal: &mut Journal,
     )
-        requires stands { Stands self.now journal.old.past }
         requires unheld { holds picked.now.ticket self.now ≡ 0 }
-        requires room { HaveRoom 2 1 journal.old (H.seen host.old) (K.seen hooks.old) }
-        ensures stands { Stands self.now journal.new.past }
+        requires ready { IsReady self.now 2 1 journal.old (H.seen host.old) (K.seen hooks.old) }
         ensures follows { Follows (adds (Entry.Run self.now.id n) (raises picked.now.ticket)) journal.old.past (H.seen host.old) (K.seen hooks.old).told Done journal.new.past (H.seen host.new) (K.seen hooks.new).told }
-        ensures keeps { KeepsOn K.seen K.rule K.stands hooks.old journal.old.past hooks.new journal.new.past }
-        ensures uses { UseRoom 2 1 journal.old (H.seen host.old) (K.seen hooks.old) journal.new (H.seen host.new) (K.seen hooks.new) }
+        ensures served { HasServed K.seen K.rule K.stands 2 1 journal.old (H.seen host.old) hooks.old self.now journal.new (H.seen host.new) hooks.new }
     {
         let job = self.id;
         hooks.run(job, n, &self.context());
@@ -383,15 +328,10 @@ impl JobTask {
         requires unheld { holds picked.ticket self.old ≡ 0 }
         requires named { picked.ticket < ticket_count journal.old.past }
         requires none { begun_of self.old ≡ None }
-        requires journal_room { 1 ≤ journal.old.spare }
-        requires hooks_room { 1 ≤ (K.seen hooks.old).spare }
-        ensures stands { Stands self.new journal.new.past }
+        requires room { AreRoomy 1 1 journal.old (K.seen hooks.old) }
         ensures follows { FollowsHooks (adds (Entry.Begun self.old.id n) Done) journal.old.past (K.seen hooks.old).told Done journal.new.past (K.seen hooks.new).told }
         ensures fields { self.new ≡ record self.old { begun = self.new.begun } }
-        ensures keeps { KeepsOn K.seen K.rule K.stands hooks.old journal.old.past hooks.new journal.new.past }
-        ensures now { moment journal.new.past ≡ moment journal.old.past }
-        ensures journal_room { journal.old.spare ≤ journal.new.spare + 1 }
-        ensures hooks_room { (K.seen hooks.old).spare ≤ (K.seen hooks.new).spare + 1 }
+        ensures called { HasCalled K.seen K.rule K.stands 1 1 journal.old hooks.old self.new journal.new hooks.new }
     {
         let job = self.id;
         hooks.begin(job, n, &self.context());
@@ -413,15 +353,11 @@ impl JobTask {
         hooks: &mut K,
         journal: &mut Journal,
     )
-        requires stands { Stands self.old journal.old.past }
-        requires here { self.old.gone ≡ false }
         requires begun { begun_of self.old ≡ Some function }
-        requires room { HaveRoom 2 1 journal.old (H.seen host.old) (K.seen hooks.old) }
-        ensures stands { Stands self.new journal.new.past }
+        requires ready { IsReady self.old 2 1 journal.old (H.seen host.old) (K.seen hooks.old) }
         ensures follows { Follows (polled self.old.id function) journal.old.past (H.seen host.old) (K.seen hooks.old).told Done journal.new.past (H.seen host.new) (K.seen hooks.new).told }
         ensures fields { self.new ≡ record self.old { begun = self.new.begun } }
-        ensures keeps { KeepsOn K.seen K.rule K.stands hooks.old journal.old.past hooks.new journal.new.past }
-        ensures uses { UseRoom 2 1 journal.old (H.seen host.old) (K.seen hooks.old) journal.new (H.seen host.new) (K.seen hooks.new) }
+        ensures served { HasServed K.seen K.rule K.stands 2 1 journal.old (H.seen host.old) hooks.old self.new journal.new (H.seen host.new) hooks.new }
     {
         let (job, n) = (self.id, function.n);
         let ready = hooks.poll(job, n);
@@ -545,26 +481,18 @@ impl JobTask {
         hooks: &mut K,
         journal: &mut Journal,
     ) -> Result<(), Memory>
-        requires stands { Stands self.old journal.old.past }
-        requires here { self.old.gone ≡ false }
         requires unheld { holds picked.ticket self.old ≡ 0 }
-        requires at { moment journal.old.past ≡ at }
         requires just { just_picked self.old.id journal.old.past ≡ Some (picked.ticket, control) }
         requires named { picked.ticket < ticket_count journal.old.past }
         requires none { begun_of self.old ≡ None }
         requires in_hand { is_parking control self.old.state ≡ false }
         requires what { what ≡ prepared self.old.command control (child_of self.old.state) }
         requires before { before_spawn self.old.id journal.old.past ≡ self.old.state }
-        requires room { HaveRoom (9 + length self.old.parked.tickets) 4 journal.old (H.seen host.old) (K.seen hooks.old) }
-        ensures stands { Stands self.new journal.new.past }
-        ensures ok { OnOk result (Follows (row self.old.id (kit_of self.old) picked.ticket control (child_of self.old.state)) journal.old.past (H.seen host.old) (K.seen hooks.old).told Done journal.new.past (H.seen host.new) (K.seen hooks.new).told) }
-        ensures err { OnErr result (GivesUp (row self.old.id (kit_of self.old) picked.ticket control (child_of self.old.state)) journal.old.past (H.seen host.old) (K.seen hooks.old).told journal.new.past (H.seen host.new) (K.seen hooks.new).told) }
-        ensures memory { OnErr result (spawns control (child_of self.old.state) ≡ true) }
-        ensures pending { OnErr result (self.new.state ≡ Pending) }
+        requires ready { IsReadyAt at self.old (9 + length self.old.parked.tickets) 4 journal.old (H.seen host.old) (K.seen hooks.old) }
+        ensures done { HasDone result self.new (spawns control (child_of self.old.state)) (row self.old.id (kit_of self.old) picked.ticket control (child_of self.old.state)) journal.old.past (H.seen host.old) (K.seen hooks.old).told journal.new.past (H.seen host.new) (K.seen hooks.new).told }
         ensures gone { self.new.gone ≡ deletes control }
         ensures job { SameJob self.old self.new }
-        ensures keeps { KeepsOn K.seen K.rule K.stands hooks.old journal.old.past hooks.new journal.new.past }
-        ensures uses { UseRoom (9 + length self.old.parked.tickets) 4 journal.old (H.seen host.old) (K.seen hooks.old) journal.new (H.seen host.new) (K.seen hooks.new) }
+        ensures served { HasServed K.seen K.rule K.stands (9 + length self.old.parked.tickets) 4 journal.old (H.seen host.old) hooks.old self.new journal.new (H.seen host.new) hooks.new }
     {
         match control {
             Control::Start => {
@@ -642,19 +570,14 @@ impl JobTask {
         hooks: &mut K,
         journal: &mut Journal,
     ) -> Result<(), Memory>
-        requires stands { Stands self.old journal.old.past }
-        requires here { self.old.gone ≡ false }
         requires chosen { choice ≡ choice_of self.old at }
-        requires at { moment journal.old.past ≡ at }
-        requires room { HaveRoom (10 + length self.old.parked.tickets) 4 journal.old (H.seen host.old) (K.seen hooks.old) }
-        ensures stands { Stands self.new journal.new.past }
+        requires ready { IsReadyAt at self.old (10 + length self.old.parked.tickets) 4 journal.old (H.seen host.old) (K.seen hooks.old) }
         ensures ok { OnOk result (Follows (case self.old.id (kit_of self.old) (child_of self.old.state) choice) journal.old.past (H.seen host.old) (K.seen hooks.old).told Done journal.new.past (H.seen host.new) (K.seen hooks.new).told) }
         ensures err { OnErr result (Stops self.old journal.old host.old hooks.old self.new journal.new host.new hooks.new (GivesUp (case self.old.id (kit_of self.old) (child_of self.old.state) choice) journal.old.past (H.seen host.old) (K.seen hooks.old).told journal.new.past (H.seen host.new) (K.seen hooks.new).told)) }
         ensures memory { OnErr result (is_spawning choice (child_of self.old.state) (grace_of self.old) ≡ true) }
         ensures gone { self.new.gone ≡ is_deletion choice }
         ensures job { SameJob self.old self.new }
-        ensures keeps { KeepsOn K.seen K.rule K.stands hooks.old journal.old.past hooks.new journal.new.past }
-        ensures uses { UseRoom (10 + length self.old.parked.tickets) 4 journal.old (H.seen host.old) (K.seen hooks.old) journal.new (H.seen host.new) (K.seen hooks.new) }
+        ensures served { HasServed K.seen K.rule K.stands (10 + length self.old.parked.tickets) 4 journal.old (H.seen host.old) hooks.old self.new journal.new (H.seen host.new) hooks.new }
     {
         let what = self.prepare(alloc, choice)?;
         match choice {

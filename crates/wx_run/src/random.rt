@@ -358,36 +358,42 @@ impl Draft {
         };
         draft.rules.is_tagged = draft.draw(3) > 0;
         draft.put_head()?;
-        for _ in 0..draft.draw(6) {
-            let verdict = draft.draw_verdict();
-            draft.rules.verdicts.push(verdict)?;
-        }
-        for _ in 0..draft.draw(4) {
-            let wish = draft.draw_wish();
-            draft.rules.wishes.push(wish)?;
-        }
-        for _ in 0..draft.draw(6) {
-            let action = draft.draw_action(alloc)?;
-            draft.rules.actions.push(action)?;
-        }
-        for _ in 0..draft.draw(4) {
-            let words = draft.draw(3);
-            draft.rules.said.hooks.push(words)?;
-        }
-        for _ in 0..draft.draw(4) {
-            let is_sent = draft.draw(2) == 0;
-            draft.rules.said.signals.push(is_sent)?;
-        }
-        for _ in 0..draft.draw(8) {
-            let is_ready = draft.draw(2) == 0;
-            draft.rules.said.polls.push(is_ready)?;
-        }
+        draft.draw_answers(alloc)?;
         draft.put_work(alloc)?;
         for _ in 0..30 + draft.draw(60) {
             draft.put_line(alloc)?;
         }
         draft.put_tail(alloc)?;
         Ok(draft)
+    }
+
+    /// Draws what is answered in the run: by the filter, the error handler, the action handler, hooks, the host and functions.
+    fn draw_answers(&mut self, alloc: Global) -> Result<(), Memory> {
+        for _ in 0..self.draw(6) {
+            let verdict = self.draw_verdict();
+            self.rules.verdicts.push(verdict)?;
+        }
+        for _ in 0..self.draw(4) {
+            let wish = self.draw_wish();
+            self.rules.wishes.push(wish)?;
+        }
+        for _ in 0..self.draw(6) {
+            let action = self.draw_action(alloc)?;
+            self.rules.actions.push(action)?;
+        }
+        for _ in 0..self.draw(4) {
+            let words = self.draw(3);
+            self.rules.said.hooks.push(words)?;
+        }
+        for _ in 0..self.draw(4) {
+            let is_sent = self.draw(2) == 0;
+            self.rules.said.signals.push(is_sent)?;
+        }
+        for _ in 0..self.draw(8) {
+            let is_ready = self.draw(2) == 0;
+            self.rules.said.polls.push(is_ready)?;
+        }
+        Ok(())
     }
 
     /// A number below this one.

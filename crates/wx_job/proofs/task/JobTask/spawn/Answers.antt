@@ -1,0 +1,7 @@
+use Rattle.std.proofs.Common.{rules}
+use Rattle.wx_job.proofs.Sets.{steps}
+use Rattle.wx_job.proofs.StandsLemmas.{stands-spawn-ok}
+use Rattle.wx_job.proofs.task.JobTask.spawn.Goals as goal
+
+pub returns-in-Ok-clause-served : goal.returns-in-Ok-clause-served
+returns-in-Ok-clause-served g c = let stands = c.requires.ready.ready.stands in let here = c.requires.ready.ready.here in record { stood = rw (c.push.ensures.past, c.in-Ok.is, ← c.requires.ready.now) (stands-spawn-ok c.args.self.now c.args.journal.now.past _ _ _ _ _ stands here c.requires.before); keeps = search (rules, steps); uses = search (rules, steps) }

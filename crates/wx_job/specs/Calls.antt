@@ -1,0 +1,63 @@
+-- What the calls of a case ask for and leave.
+use Rattle.std.specs.Prelude.{◌≡◌, ◌≤◌, ◌+◌, ℕ, Bool, true, false, Option, None, IfSome, option_map, Result, IfOk, OnOk, OnErr, List}
+use Rattle.wx_words.specs.declared.list.Memory.{Memory}
+use Rattle.wx_journal.specs.declared.entry.Entry.{Entry}
+use Rattle.wx_journal.specs.Names.{moment}
+use Rattle.wx_journal.specs.Written.{Written}
+use Rattle.wx_job.specs.declared.grace.Standing.{Standing}
+use Rattle.wx_job.specs.declared.state.CommandState.TheVariants.{Pending}
+use Rattle.wx_job.specs.declared.task.JobTask.{JobTask}
+use Rattle.wx_job.specs.Table.{Plan, Done}
+use Rattle.wx_job.specs.Case.{Follows, GivesUp}
+use Rattle.wx_job.specs.Seen.{Seen, Hooked}
+use Rattle.wx_job.specs.Kept.{KeepsOn}
+use Rattle.wx_job.specs.Steady.{HaveRoom, UseRoom}
+use Rattle.wx_job.specs.Stands.{Stands, child_of, grace_of, holds}
+
+-- The task, whose job is there, stands for the journal, and there is so much room in journal and host, and so much in the hooks.
+pub record IsReady {Fixed Fixed' : Type 0} (k : JobTask) (n m : ℕ) (j : Written) (a : Seen Fixed) (x : Hooked Fixed') : Type 0 where
+  pub stands : Stands k j.past
+  pub here : k.gone ≡ false
+  pub room : HaveRoom n m j a x
+
+-- the same, where the journal's last turn has this moment
+pub record IsReadyAt {Fixed Fixed' : Type 0} (at : ℕ) (k : JobTask) (n m : ℕ) (j : Written) (a : Seen Fixed) (x : Hooked Fixed') : Type 0 where
+  pub ready : IsReady k n m j a x
+  pub now : moment j.past ≡ at
+
+-- so much room is there in the journal, and so much in the hooks
+pub record AreRoomy {Fixed' : Type 0} (n m : ℕ) (j : Written) (x : Hooked Fixed') : Type 0 where
+  pub in_journal : n ≤ j.spare
+  pub in_hooks : m ≤ x.spare
+
+-- The task stands for the journal afterwards, the hooks kept what each call on them promises, and at most so much room was used.
+pub record HasServed {K Fixed Fixed' : Type 0} (seen : K → Hooked Fixed') (rule : Fixed' → List Entry → Entry → Type 0) (stands : K → List Entry → Type 0) (n m : ℕ) (j : Written) (a : Seen Fixed) (x : K) (k' : JobTask) (j' : Written) (b : Seen Fixed) (x' : K) : Type 0 where
+  pub stood : Stands k' j'.past
+  pub keeps : KeepsOn seen rule stands x j.past x' j'.past
+  pub uses : UseRoom n m j a (seen x) j' b (seen x')
+
+-- the same of calls on hooks alone: the task stands, the hooks kept their promise, and at most so much room was used, in no new turn
+pub record HasCalled {K Fixed' : Type 0} (seen : K → Hooked Fixed') (rule : Fixed' → List Entry → Entry → Type 0) (stands : K → List Entry → Type 0) (n m : ℕ) (j : Written) (x : K) (k' : JobTask) (j' : Written) (x' : K) : Type 0 where
+  pub stood : Stands k' j'.past
+  pub keeps : KeepsOn seen rule stands x j.past x' j'.past
+  pub now : moment j'.past ≡ moment j.past
+  pub in_journal : j.spare ≤ j'.spare + n
+  pub in_hooks : (seen x).spare ≤ (seen x').spare + m
+
+-- A case that may spawn answered so: it followed its plan, or it was given up for want of memory, which comes only where it spawns,
+-- and the state is Pending.
+pub record HasDone {Fixed A : Type 0} (r : Result A Memory) (k' : JobTask) (spawning : Bool) (plan : Plan) (p : List Entry) (a : Seen Fixed) (hooks : Option (List Entry)) (p' : List Entry) (b : Seen Fixed) (hooks' : Option (List Entry)) : Type 0 where
+  pub ok : OnOk r (Follows plan p a hooks Done p' b hooks')
+  pub err : OnErr r (GivesUp plan p a hooks p' b hooks')
+  pub memory : OnErr r (spawning ≡ true)
+  pub pending : OnErr r (k'.state ≡ Pending)
+
+-- A wait for the child answered so. Where that is done no child runs, and a grace that stood has ended, and is answered; else the
+-- state stays. No ticket is held more often.
+pub record HasWaited {E : Type 0} (r : Result (Option Standing) E) (k k' : JobTask) : Type 0 where
+  pub fields : k' ≡ record k { state = k'.state; kept = k'.kept; grace = k'.grace }
+  pub runs : OnErr r (k'.state ≡ k.state)
+  pub ended : IfOk r (λ standing. option_map (λ (s : Standing). s.grace) standing ≡ grace_of k)
+  pub unheld : IfOk r (λ standing. IfSome standing (λ s. holds s.grace.ticket k' ≡ 0))
+  pub none : OnOk r ((child_of k'.state ≡ None) × (grace_of k' ≡ None))
+  pub held : (t : ℕ) → holds t k' ≤ holds t k
