@@ -1,5 +1,5 @@
 -- An event is offered to the queue, or listed as sent, or a word is said.
-use Rattle.std.proofs.Common.{◌≡◌, ℕ, ◌+◌, ◌<◌, true, false, List, ◌∷◌, length, arith, refl, ap, sym, subst, ◌∙◌}
+use Rattle.std.proofs.Common.{◌≡◌, ℕ, ◌+◌, ◌<◌, ◌≤◌, true, false, List, ◌∷◌, length, arith, refl, ap, sym, subst, ◌∙◌}
 use Rattle.std.specs.Prelude.{None}
 use Rattle.wx_events.specs.declared.event.Event.{Event}
 use Rattle.wx_events.specs.declared.priority.Priority.{Priority}
@@ -13,6 +13,7 @@ use Rattle.wx_journal.specs.declared.entry.Word.{Word}
 use Rattle.wx_journal.specs.declared.entry.Offered.{Offered}
 use Rattle.wx_journal.specs.declared.entry.Offered.TheVariants.{Queued, Full, Closed}
 use Rattle.wx_journal.specs.Names.{event_count}
+use Rattle.wx_journal.specs.Written.{Written}
 use Rattle.wx_action.specs.declared.worker_state.Worker.{Worker}
 use Rattle.wx_action.specs.Start.{Start}
 use Rattle.wx_action.specs.Journal.{closed, bag}
@@ -22,7 +23,7 @@ use Rattle.wx_action.proofs.SettleLaws.{settle_calm}
 use Rattle.wx_job.specs.Kept.{StaysQuiet, More}
 use Rattle.wx_action.specs.Leads.{FollowsAlone, Then}
 use Rattle.wx_action.specs.Turns.{StaysInTurn}
-use Rattle.wx_action.specs.Serves.{Grows}
+use Rattle.wx_action.specs.Serves.{Adds, Grows}
 use Rattle.wx_action.proofs.ServesLaws.{adds, adds_none}
 use Rattle.wx_action.proofs.JobLaws.{turns_over}
 use Rattle.wx_action.specs.Stands.{Stands, IsOffered, end_room}
@@ -35,13 +36,16 @@ pub record Steps (s : Start) (w : Worker) (p p' : List Entry) : Type 0 where
   pub quiet : StaysQuiet p p'
   pub turns : StaysInTurn p p'
 
--- so it grows
-pub grows : (s : Start) (w w' : Worker) (p p' : List Entry) → Steps s w' p p' → end_room w' ≡ end_room w → Grows s w p w' p'
-grows s w w' p p' d same = record { stands = d.stands; adds = adds s p p' d.follows d.quiet d.turns; end_kept = same }
+pub steps_add : (s : Start) (w : Worker) (p p' : List Entry) → Steps s w p p' → Adds s p p'
+steps_add s w p p' d = adds s p p' d.follows d.quiet d.turns
+
+-- so it grows, where the room for the end is left
+pub grows : (s : Start) (w w' : Worker) (j j' : Written) → Steps s w' j.past j'.past → end_room w' ≡ end_room w → end_room w ≤ j'.spare → Grows s w j w' j'
+grows s w w' j j' d same room = record { stands = d.stands; adds = steps_add s w' j.past j'.past d; end_kept = same; room = λ r. omega (arith, same, room) }
 
 -- where no entry was added
-pub grows_none : (s : Start) (w w' : Worker) (p p' : List Entry) → Stands s w' p' → p' ≡ p → end_room w' ≡ end_room w → Grows s w p w' p'
-grows_none s w w' p p' stands same room = record { stands = stands; adds = rw same (adds_none s p); end_kept = room }
+pub grows_none : (s : Start) (w w' : Worker) (j j' : Written) → Stands s w' j'.past → j'.past ≡ j.past → end_room w' ≡ end_room w → (end_room w ≤ j.spare → end_room w' ≤ j'.spare) → Grows s w j w' j'
+grows_none s w w' j j' stands same end room = record { stands = stands; adds = rw same (adds_none s j.past); end_kept = end; room = room }
 
 -- nothing is owed behind an offer, or a word
 pub offered_then : (s : Start) (p p' : List Entry) (name : ℕ) (event : Event) (priority : Priority) (result : Offered) → IsOrderly s p → agenda s p ≡ Offers event priority Open → p' ≡ Offer name None result event priority ∷ p → agenda s p' ≡ Open

@@ -1,14 +1,15 @@
 -- What calls serve, one after another.
-use Rattle.std.proofs.Common.{◌≡◌, Option, List, arith, refl}
+use Rattle.std.proofs.Common.{◌≡◌, ◌≤◌, ℕ, Option, List, arith, refl}
 use Rattle.wx_journal.specs.declared.entry.Entry.{Entry}
+use Rattle.wx_journal.specs.Written.{Written}
 use Rattle.wx_job.specs.Seen.{Seen, Hooked}
 use Rattle.wx_job.specs.Kept.{OnlyHooksRoom, Same, KeepsOn, Past, Roomy}
 use Rattle.wx_job.specs.Steady.{OnlyRoom}
 use Rattle.wx_job.proofs.SteadyLemmas.{steady_none, steady_then}
 use Rattle.wx_action.specs.Start.{Start}
 use Rattle.wx_action.specs.declared.worker_state.Worker.{Worker}
-use Rattle.wx_action.specs.Serves.{Adds, AddsHand, Serves, Grows, GrowsHand, Continues}
-use Rattle.wx_action.specs.Stands.{Stands}
+use Rattle.wx_action.specs.Serves.{Adds, AddsHand, Serves, Grows, GrowsHand, GrowsWithin, Continues}
+use Rattle.wx_action.specs.Stands.{Stands, end_room}
 
 -- only room was taken
 pub serves_room : {Fixed : Type 0} (s : Start) (p p' : List Entry) (a b : Seen Fixed) (hooks hooks' : Option (List Entry)) → OnlyRoom a b → p' ≡ p → hooks' ≡ hooks → Serves s p a hooks p' b hooks'
@@ -44,56 +45,72 @@ pub keeps_adds : {K Fixed : Type 0} (seen : K → Hooked Fixed) (rule : Fixed �
 keeps_adds seen rule stands x s p p' adds = λ x₀ p₀ k. Past x p p' k (adds.quiet p Same)
 
 -- what grows where neither is called continues where both may be
-pub continues_grows : {K Fixed Plan : Type 0} (seen : K → Hooked Fixed) (rule : Fixed → List Entry → Entry → Type 0) (holds : K → List Entry → Type 0) (s : Start) (w : Worker) (p : List Entry) (a : Seen Plan) (x : K) (w' : Worker) (p' : List Entry) → Grows s w p w' p' → Continues seen rule holds s p a x w' p' a x
-continues_grows seen rule holds s w p a x w' p' g = record { stands = g.stands; serves = serves_adds s p p' a (seen x).told g.adds; keeps = keeps_adds seen rule holds x s p p' g.adds }
+pub continues_grows : {K Fixed Plan : Type 0} (seen : K → Hooked Fixed) (rule : Fixed → List Entry → Entry → Type 0) (holds : K → List Entry → Type 0) (s : Start) (w : Worker) (j : Written) (a : Seen Plan) (x : K) (w' : Worker) (j' : Written) → Grows s w j w' j' → Continues seen rule holds s w j a x w' j' a x
+continues_grows seen rule holds s w j a x w' j' g = record {
+  stands = g.stands;
+  serves = serves_adds s j.past j'.past a (seen x).told g.adds;
+  keeps = keeps_adds seen rule holds x s j.past j'.past g.adds;
+  room = λ r. record { in_journal = g.room r.in_journal; in_host = omega (arith, g.end_kept, r.in_host) };
+}
 
 -- only room was taken
 pub hooks_none : {K Fixed : Type 0} (seen : K → Hooked Fixed) (holds : K → List Entry → Type 0) (x : K) → OnlyHooksRoom seen holds x x
 hooks_none seen holds x = record { plan_kept = refl; told_kept = refl; short_kept = refl; place_kept = refl; spare_kept = omega arith; stands_kept = λ p h. h }
 
-pub continues_room : {K Fixed Plan : Type 0} (seen : K → Hooked Fixed) (rule : Fixed → List Entry → Entry → Type 0) (holds : K → List Entry → Type 0) (s : Start) (p p' : List Entry) (a b : Seen Plan) (x x' : K) (w : Worker) → Stands s w p → p' ≡ p → OnlyRoom a b → OnlyHooksRoom seen holds x x' → Continues seen rule holds s p a x w p' b x'
-continues_room seen rule holds s p p' a b x x' w stands same only hooks_only = record {
+pub continues_room : {K Fixed Plan : Type 0} (seen : K → Hooked Fixed) (rule : Fixed → List Entry → Entry → Type 0) (holds : K → List Entry → Type 0) (s : Start) (w : Worker) (j j' : Written) (a b : Seen Plan) (x x' : K) → Stands s w j.past → j'.past ≡ j.past → j.spare ≤ j'.spare → OnlyRoom a b → OnlyHooksRoom seen holds x x' → Continues seen rule holds s w j a x w j' b x'
+continues_room seen rule holds s w j j' a b x x' stands same kept only hooks_only = record {
   stands = rw same stands;
-  serves = serves_room s p p' a b (seen x).told (seen x').told only same hooks_only.told_kept;
-  keeps = λ x₀ p₀ k. rw same (Roomy x x' p k hooks_only);
-}
-
--- nothing was done
-pub continues_none : {K Fixed Plan : Type 0} (seen : K → Hooked Fixed) (rule : Fixed → List Entry → Entry → Type 0) (holds : K → List Entry → Type 0) (s : Start) (p p' : List Entry) (a b : Seen Plan) (x x' : K) (w : Worker) → Stands s w p' → p' ≡ p → b ≡ a → x' ≡ x → Continues seen rule holds s p a x w p' b x'
-continues_none seen rule holds s p p' a b x x' w stands same same_host same_hooks = record {
-  stands = stands;
-  serves = rw (same, same_host, same_hooks) (record { follows = λ p₀ world₀ hooks₀ l. l; turns = λ p₀ t. t; counts = λ p₀ n₀ c. c; steady = steady_none });
-  keeps = rw (same, same_hooks) (λ x₀ p₀ k. k);
+  serves = serves_room s j.past j'.past a b (seen x).told (seen x').told only same hooks_only.told_kept;
+  keeps = λ x₀ p₀ k. rw same (Roomy x x' j.past k hooks_only);
+  room = λ r. record { in_journal = omega (arith, r.in_journal, kept); in_host = omega (arith, r.in_host, only.kept) };
 }
 
 -- it continues, once room was taken
-pub continues_after : {K Fixed Plan : Type 0} (seen : K → Hooked Fixed) (rule : Fixed → List Entry → Entry → Type 0) (holds : K → List Entry → Type 0) (s : Start) (p q r : List Entry) (a b c : Seen Plan) (x y z : K) (w : Worker) → q ≡ p → OnlyRoom a b → OnlyHooksRoom seen holds x y → Continues seen rule holds s q b y w r c z → Continues seen rule holds s p a x w r c z
-continues_after seen rule holds s p q r a b c x y z w same only hooks_only h = record {
+pub continues_after : {K Fixed Plan : Type 0} (seen : K → Hooked Fixed) (rule : Fixed → List Entry → Entry → Type 0) (holds : K → List Entry → Type 0) (s : Start) (v w : Worker) (j k l : Written) (a b c : Seen Plan) (x y z : K) → k.past ≡ j.past → j.spare ≤ k.spare → OnlyRoom a b → OnlyHooksRoom seen holds x y → Continues seen rule holds s v k b y w l c z → Continues seen rule holds s v j a x w l c z
+continues_after seen rule holds s v w j k l a b c x y z same kept only hooks_only h = record {
   stands = h.stands;
-  serves = serves_then s p q r a b c (seen x).told (seen y).told (seen z).told h.serves (serves_room s p q a b (seen x).told (seen y).told only same hooks_only.told_kept);
-  keeps = λ x₀ p₀ k. h.keeps x₀ p₀ (rw same (Roomy x y p k hooks_only));
+  serves = serves_then s j.past k.past l.past a b c (seen x).told (seen y).told (seen z).told h.serves (serves_room s j.past k.past a b (seen x).told (seen y).told only same hooks_only.told_kept);
+  keeps = λ x₀ p₀ before. h.keeps x₀ p₀ (rw same (Roomy x y j.past before hooks_only));
+  room = λ r. h.room (record { in_journal = omega (arith, r.in_journal, kept); in_host = omega (arith, r.in_host, only.kept) });
+}
+
+-- it continues, once an end was kept with a job
+pub continues_from : {K Fixed Plan : Type 0} (seen : K → Hooked Fixed) (rule : Fixed → List Entry → Entry → Type 0) (holds : K → List Entry → Type 0) (s : Start) (u v w : Worker) (j k : Written) (a b : Seen Plan) (x y : K) → end_room v ≡ end_room u → Continues seen rule holds s v j a x w k b y → Continues seen rule holds s u j a x w k b y
+continues_from seen rule holds s u v w j k a b x y same h = record {
+  stands = h.stands;
+  serves = h.serves;
+  keeps = h.keeps;
+  room = λ r. h.room (record { in_journal = omega (arith, same, r.in_journal); in_host = omega (arith, same, r.in_host) });
 }
 
 -- it continues where only hooks were called
-pub continues_grown : {K Fixed Plan : Type 0} (seen : K → Hooked Fixed) (rule : Fixed → List Entry → Entry → Type 0) (holds : K → List Entry → Type 0) (s : Start) (p p' : List Entry) (a : Seen Plan) (x x' : K) (w : Worker) → GrowsHand seen rule holds s p x w p' x' → Continues seen rule holds s p a x w p' a x'
-continues_grown seen rule holds s p p' a x x' w g = record { stands = g.stands; serves = serves_hand s p p' a (seen x).told (seen x').told g.adds; keeps = g.keeps }
+pub continues_grown : {K Fixed Plan : Type 0} (seen : K → Hooked Fixed) (rule : Fixed → List Entry → Entry → Type 0) (holds : K → List Entry → Type 0) (s : Start) (n m : ℕ) (v w : Worker) (j k : Written) (a : Seen Plan) (x y : K) → GrowsWithin seen rule holds s n m v j x w k y → (end_room v ≤ j.spare → end_room w ≤ k.spare) → Continues seen rule holds s v j a x w k a y
+continues_grown seen rule holds s n m v w j k a x y g room = record {
+  stands = g.grows.stands;
+  serves = serves_hand s j.past k.past a (seen x).told (seen y).told g.grows.adds;
+  keeps = g.grows.keeps;
+  room = λ r. record { in_journal = room r.in_journal; in_host = omega (arith, g.end_kept, r.in_host) };
+}
 
 -- and once hooks may have been called
-pub continues_hand : {K Fixed Plan : Type 0} (seen : K → Hooked Fixed) (rule : Fixed → List Entry → Entry → Type 0) (holds : K → List Entry → Type 0) (s : Start) (p q r : List Entry) (a b : Seen Plan) (x y z : K) (v w : Worker) → GrowsHand seen rule holds s p x v q y → Continues seen rule holds s q a y w r b z → Continues seen rule holds s p a x w r b z
-continues_hand seen rule holds s p q r a b x y z v w g h = record {
-  stands = h.stands;
-  serves = serves_then s p q r a a b (seen x).told (seen y).told (seen z).told h.serves (serves_hand s p q a (seen x).told (seen y).told g.adds);
-  keeps = λ x₀ p₀ k. h.keeps x₀ p₀ (g.keeps x₀ p₀ k);
-}
+pub continues_hand : {K Fixed Plan : Type 0} (seen : K → Hooked Fixed) (rule : Fixed → List Entry → Entry → Type 0) (holds : K → List Entry → Type 0) (s : Start) (n m : ℕ) (u v w : Worker) (j k l : Written) (a b : Seen Plan) (x y z : K) → GrowsWithin seen rule holds s n m u j x v k y → (end_room u ≤ j.spare → end_room v ≤ k.spare) → Continues seen rule holds s v k a y w l b z → Continues seen rule holds s u j a x w l b z
+continues_hand seen rule holds s n m u v w j k l a b x y z g room h =
+    let before = continues_grown seen rule holds s n m u v j k a x y g room in
+    record {
+      stands = h.stands;
+      serves = serves_then s j.past k.past l.past a a b (seen x).told (seen y).told (seen z).told h.serves before.serves;
+      keeps = λ x₀ p₀ b₀. h.keeps x₀ p₀ (before.keeps x₀ p₀ b₀);
+      room = λ r. h.room (before.room r);
+    }
 
 -- ---- where the world isn't called
 
--- what grows where neither is called grows where hooks may be
-pub hand_grows : {K Fixed : Type 0} (seen : K → Hooked Fixed) (rule : Fixed → List Entry → Entry → Type 0) (holds : K → List Entry → Type 0) (s : Start) (w : Worker) (p : List Entry) (x : K) (w' : Worker) (p' : List Entry) → Grows s w p w' p' → GrowsHand seen rule holds s p x w' p' x
-hand_grows seen rule holds s w p x w' p' g = record {
-  stands = g.stands;
-  adds = record { follows = λ world. g.adds.follows world (seen x).told; turns = g.adds.turns; counts = g.adds.counts };
-  keeps = keeps_adds seen rule holds x s p p' g.adds;
+-- what is added where neither is called grows where hooks may be
+pub hand_adds : {K Fixed : Type 0} (seen : K → Hooked Fixed) (rule : Fixed → List Entry → Entry → Type 0) (holds : K → List Entry → Type 0) (s : Start) (p : List Entry) (x : K) (w' : Worker) (p' : List Entry) → Stands s w' p' → Adds s p p' → GrowsHand seen rule holds s p x w' p' x
+hand_adds seen rule holds s p x w' p' stands adds = record {
+  stands = stands;
+  adds = record { follows = λ world. adds.follows world (seen x).told; turns = adds.turns; counts = adds.counts };
+  keeps = keeps_adds seen rule holds x s p p' adds;
 }
 
 -- only room was taken in the hooks

@@ -1,5 +1,5 @@
 -- What is still to be done for the acts of a batch.
-use Rattle.std.specs.Prelude.{◌≡◌, Some, List, [], ◌∷◌}
+use Rattle.std.specs.Prelude.{◌≡◌, Some, Result, OnOk, OnErr, List, [], ◌∷◌}
 use Rattle.wx_journal.specs.declared.entry.Entry.{Entry}
 use Rattle.wx_journal.specs.Acts.{JournalAct as Act}
 use Rattle.wx_journal.specs.declared.entry.Act.TheVariants.{Create, Ask, Quit}
@@ -32,3 +32,8 @@ IsFirst s p todo = (rest : List Todo) × (more : Agenda) × OwesActs s p (todo �
 -- it was done: what was owed behind it is owed
 abbrev pub IsDone : Start → List Entry → Todo → List Entry → Type 0
 IsDone s p todo p' = (rest : List Todo) (more : Agenda) → OwesActs s p (todo ∷ rest) more → OwesActs s p' rest more
+
+-- where it went well it was done, and else no entry was added
+pub record Does {X E : Type 0} (result : Result X E) (s : Start) (p : List Entry) (todo : Todo) (p' : List Entry) : Type 0 where
+  pub done : OnOk result (IsDone s p todo p')
+  pub err : OnErr result (p' ≡ p)

@@ -1,5 +1,5 @@
 -- What a turn did to a journal, and what it told.
-use Rattle.std.specs.Prelude.{◌≡◌, ◌⊎◌, ℕ, Option, Result, OnOk, OnErr, List}
+use Rattle.std.specs.Prelude.{◌≡◌, ◌≤◌, ◌+◌, ◌⊎◌, ℕ, Option, Result, OnOk, OnErr, List, []}
 use Rattle.wx_journal.specs.declared.entry.Entry.{Entry}
 use Rattle.wx_journal.specs.Written.{Written}
 use Rattle.wx_job.specs.Seen.{Seen, Hooked}
@@ -8,11 +8,15 @@ use Rattle.wx_job.specs.Faults.{CountsOn}
 use Rattle.wx_job.specs.Steady.{IsSteady, OnlyRoom}
 use Rattle.wx_action.specs.declared.worker_state.Worker.{Worker}
 use Rattle.wx_action.specs.Start.{Start}
-use Rattle.wx_action.specs.Stands.{Stands, Ready, end_room}
+use Rattle.wx_action.specs.Stands.{Stands, Ready, HasRoom, end_room}
 use Rattle.wx_job.specs.Table.{Plan}
 use Rattle.wx_job.specs.Case.{IsCut}
-use Rattle.wx_action.specs.Due.{agenda, Open, Plans}
+use Rattle.wx_action.specs.Due.{agenda, Open, Ends, Plans}
 use Rattle.wx_action.specs.Leads.{Follows, FollowsHooks, FollowsAlone}
+use Rattle.wx_action.specs.Answer.{Dying}
+use Rattle.wx_action.specs.Jobs.{jobs}
+use Rattle.wx_action.specs.Told.{TellsOn}
+use Rattle.wx_journal.specs.Told.{is_world}
 use Rattle.wx_action.specs.Turns.{StaysInTurn}
 
 -- what calls add that are none on the world, nor on the hooks: entries that were due, none of them a turn, and no fault
@@ -37,11 +41,12 @@ pub record Serves {Fixed : Type 0} (s : Start) (p : List Entry) (a : Seen Fixed)
 
 -- ---- with the worker, which stands for the longer journal
 
--- where neither world nor hooks are called; as many jobs are held
-pub record Grows (s : Start) (w : Worker) (p : List Entry) (w' : Worker) (p' : List Entry) : Type 0 where
-  pub stands : Stands s w' p'
-  pub adds : Adds s p p'
+-- where neither world nor hooks are called; as many jobs are held, and the room for their end is kept where it was there
+pub record Grows (s : Start) (w : Worker) (j : Written) (w' : Worker) (j' : Written) : Type 0 where
+  pub stands : Stands s w' j'.past
+  pub adds : Adds s j.past j'.past
   pub end_kept : end_room w' ≡ end_room w
+  pub room : end_room w ≤ j.spare → end_room w' ≤ j'.spare
 
 -- where jobs may be made, for which room is taken in the world too
 pub record Performs {Plan : Type 0} (s : Start) (p : List Entry) (a : Seen Plan) (w' : Worker) (j' : Written) (b : Seen Plan) : Type 0 where
@@ -55,11 +60,29 @@ pub record GrowsHand {K Fixed : Type 0} (seen : K → Hooked Fixed) (rule : Fixe
   pub adds : AddsHand s p (seen x).told p' (seen x').told
   pub keeps : KeepsOn seen rule holds x p x' p'
 
--- where both may be
-pub record Continues {K Fixed Plan : Type 0} (seen : K → Hooked Fixed) (rule : Fixed → List Entry → Entry → Type 0) (holds : K → List Entry → Type 0) (s : Start) (p : List Entry) (a : Seen Plan) (x : K) (w' : Worker) (p' : List Entry) (b : Seen Plan) (x' : K) : Type 0 where
-  pub stands : Stands s w' p'
-  pub serves : Serves s p a (seen x).told p' b (seen x').told
-  pub keeps : KeepsOn seen rule holds x p x' p'
+-- the same where as many jobs are held, and at most so much room was used, and so much in the hooks
+pub record GrowsWithin {K Fixed : Type 0} (seen : K → Hooked Fixed) (rule : Fixed → List Entry → Entry → Type 0) (holds : K → List Entry → Type 0) (s : Start) (n m : ℕ) (w : Worker) (j : Written) (x : K) (w' : Worker) (j' : Written) (x' : K) : Type 0 where
+  pub grows : GrowsHand seen rule holds s j.past x w' j'.past x'
+  pub end_kept : end_room w' ≡ end_room w
+  pub in_journal : j.spare ≤ j'.spare + n
+  pub in_hooks : (seen x).spare ≤ (seen x').spare + m
+
+-- where both may be; the room for the end of all jobs is kept where it was there
+pub record Continues {K Fixed Plan : Type 0} (seen : K → Hooked Fixed) (rule : Fixed → List Entry → Entry → Type 0) (holds : K → List Entry → Type 0) (s : Start) (w : Worker) (j : Written) (a : Seen Plan) (x : K) (w' : Worker) (j' : Written) (b : Seen Plan) (x' : K) : Type 0 where
+  pub stands : Stands s w' j'.past
+  pub serves : Serves s j.past a (seen x).told j'.past b (seen x').told
+  pub keeps : KeepsOn seen rule holds x j.past x' j'.past
+  pub room : HasRoom w j.spare a.spare → HasRoom w' j'.spare b.spare
+
+-- The end of all jobs: the entries on top are those of the end, each told by the world alone, and no job lives. Where the end was
+-- due each was due. The world's plan, its place, and where it is in its turns stay, and each fault raised its count.
+pub record EndsJobs {Plan : Type 0} (s : Start) (p : List Entry) (a : Seen Plan) (p' : List Entry) (b : Seen Plan) : Type 0 where
+  pub dying : Dying p p'
+  pub none : jobs p' ≡ []
+  pub told : TellsOn is_world p a.shown.told p' b.shown.told
+  pub follows : agenda s p ≡ Ends → (hooks : Option (List Entry)) → Follows s p a.shown.told hooks p' b.shown.told hooks
+  pub kept : IsSteady a b
+  pub faults : CountsOn p a.shown.faults p' b.shown.faults
 
 -- ---- with the answer
 

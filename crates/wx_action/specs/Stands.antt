@@ -35,7 +35,7 @@ use Rattle.wx_action.specs.declared.work_turn.Worked.{Worked}
 use Rattle.wx_action.specs.declared.work_turn.Worked.TheVariants as worked
 use Rattle.wx_action.specs.Start.{Start}
 use Rattle.wx_action.specs.Journal.{settings, passes_unseen, closed, named, bag, window, first, is_over}
-use Rattle.wx_action.specs.Due.{is_quitting, agenda, plans, Open, Shows, Hands, Ends}
+use Rattle.wx_action.specs.Due.{Agenda, is_quitting, agenda, plans, Open, Shows, Hands, Ends}
 use Rattle.wx_action.specs.Handled.{AreEvents, lookup}
 use Rattle.wx_action.specs.Orderly.{IsOrderly}
 
@@ -87,6 +87,17 @@ pub record HasRoom (w : Worker) (journal host : ℕ) : Type 0 where
 pub record Ready {Plan : Type 0} (s : Start) (w : Worker) (j : Written) (a : Seen Plan) : Type 0 where
   pub stands : Stands s w j.past
   pub room : HasRoom w j.spare a.spare
+
+-- the worker stands for the journal, and this is due
+pub record Owes (s : Start) (w : Worker) (p : List Entry) (k : Agenda) : Type 0 where
+  pub stands : Stands s w p
+  pub due : agenda s p ≡ k
+
+-- the same, where the last turn has this moment
+pub record OwesAt (s : Start) (w : Worker) (at : ℕ) (p : List Entry) (k : Agenda) : Type 0 where
+  pub stands : Stands s w p
+  pub due : agenda s p ≡ k
+  pub now : moment p ≡ at
 
 -- the journal's last entry is a turn of this moment and kind, and the worker stands for it without that turn
 pub record AtTurn (s : Start) (w : Worker) (at : ℕ) (kind : TurnKind) (p : List Entry) : Type 0 where

@@ -1,13 +1,12 @@
 // What acts ask for is done.
-ghost use Rattle.std.specs.Prelude.{◌≡◌, ◌<◌, ◌≤◌, List, Some, OnOk, OnErr};
-ghost use Rattle.wx_journal.specs.declared.entry.Word.TheVariants.{Ignored};
+ghost use Rattle.std.specs.Prelude.{◌≡◌, List, OnOk};
 ghost use Rattle.wx_action.specs.declared.handler.Todo.{Todo as ATodo};
 ghost use Rattle.wx_action.specs.declared.handler.Todo.TheVariants as todo;
 ghost use Rattle.wx_action.specs.Serves.{Grows, Performs};
 ghost use Rattle.wx_action.specs.Start.{Start};
 ghost use Rattle.wx_action.specs.Due.{Agenda, agenda};
-ghost use Rattle.wx_action.specs.Perform.{OwesActs, IsFirst, IsDone};
-ghost use Rattle.wx_action.specs.Stands.{Stands, Ready, end_room};
+ghost use Rattle.wx_action.specs.Perform.{OwesActs, IsFirst, Does};
+ghost use Rattle.wx_action.specs.Stands.{Stands, Ready};
 
 use crate::handler::Todo;
 use crate::worker_state::{Held, Worker};
@@ -29,8 +28,7 @@ fn make<W: Host>(
     requires owes { IsFirst start journal.old.past (todo.Create held) }
     requires ready { Ready start worker.old journal.old (W.seen host.old) }
     ensures performs { Performs start journal.old.past (W.seen host.old) worker.new journal.new (W.seen host.new) }
-    ensures owes { OnOk result (IsDone start journal.old.past (todo.Create held) journal.new.past) }
-    ensures err { OnErr result (journal.new.past ≡ journal.old.past) }
+    ensures does { Does result start journal.old.past (todo.Create held) journal.new.past }
 {
     worker.reserve(3, journal)?;
     worker.reserve_host(2, host)?;
@@ -53,11 +51,8 @@ fn ask_or_ignore(
     ghost start: { Start }
     requires owes { IsFirst start journal.old.past (todo.Ask id ask done) }
     requires stands { Stands start worker.old journal.old.past }
-    requires room { end_room worker.old ≤ journal.old.spare }
-    ensures grows { Grows start worker.old journal.old.past worker.new journal.new.past }
-    ensures owes { OnOk result (IsDone start journal.old.past (todo.Ask id ask done) journal.new.past) }
-    ensures err { OnErr result (journal.new.past ≡ journal.old.past) }
-    ensures room { end_room worker.new ≤ journal.new.spare }
+    ensures grows { Grows start worker.old journal.old worker.new journal.new }
+    ensures does { Does result start journal.old.past (todo.Ask id ask done) journal.new.past }
 {
     worker.reserve(2, journal)?;
     if !worker.jobs.lives(id) {
@@ -81,8 +76,7 @@ fn perform_one<W: Host>(
     requires owes { IsFirst start journal.old.past todo }
     requires ready { Ready start worker.old journal.old (W.seen host.old) }
     ensures performs { Performs start journal.old.past (W.seen host.old) worker.new journal.new (W.seen host.new) }
-    ensures owes { OnOk result (IsDone start journal.old.past todo journal.new.past) }
-    ensures err { OnErr result (journal.new.past ≡ journal.old.past) }
+    ensures does { Does result start journal.old.past todo journal.new.past }
 {
     match todo {
         Todo::Create(held) => make(worker, held, host, journal),

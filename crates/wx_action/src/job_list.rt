@@ -1,22 +1,14 @@
 // The jobs that a worker holds, and those that an action sees.
-ghost use Rattle.std.specs.Prelude.{◌≡◌, ℕ, [], ◌∷◌, ◌++◌, ◌*◌, ◌<◌, ◌≤◌, true, is_some, length, List as Listed, Option as Maybe, Some, option_map, OnOk, OnErr};
+ghost use Rattle.std.specs.Prelude.{◌≡◌, [], ◌∷◌, ◌++◌, ◌*◌, ◌≤◌, true, is_some, length, Some, option_map, OnOk, OnErr};
 ghost use Rattle.std.specs.Borrow.{sem};
 ghost use Rattle.std.specs.List.{find, filter, position};
 ghost use Rattle.std.specs.Iterator.{YieldsFirstBy, item_count};
-ghost use Rattle.wx_journal.specs.declared.entry.Entry.{Entry};
 ghost use Rattle.wx_journal.specs.Names.{NamesItsOwn};
-ghost use Rattle.wx_journal.specs.Told.{is_world};
-ghost use Rattle.wx_job.specs.Faults.{CountsOn};
-ghost use Rattle.wx_job.specs.Steady.{IsSteady};
-ghost use Rattle.wx_action.specs.Answer.{Dying};
-ghost use Rattle.wx_action.specs.Due.{agenda, Ends};
 ghost use Rattle.wx_action.specs.HeldJobs.{is_of, is_here, is_alive, runs_child, handles, handle_id, task_of, parked_at};
-ghost use Rattle.wx_action.specs.Jobs.{jobs};
-ghost use Rattle.wx_action.specs.Leads.{Follows};
 ghost use Rattle.wx_action.specs.LentTask.{LendsTask};
+ghost use Rattle.wx_action.specs.Serves.{EndsJobs};
 ghost use Rattle.wx_action.specs.Stands.{JobsStand};
 ghost use Rattle.wx_action.specs.Start.{Start};
-ghost use Rattle.wx_action.specs.Told.{TellsOn};
 
 use crate::worker_state::Held;
 use std::alloc::Global;
@@ -148,12 +140,7 @@ impl JobList {
         requires own { NamesItsOwn journal.old.past }
         requires room { 2 * length self.old ≤ journal.old.spare }
         requires host_room { 2 * length self.old ≤ (W.seen host.old).spare }
-        ensures dying { Dying journal.old.past journal.new.past }
-        ensures none { jobs journal.new.past ≡ [] }
-        ensures told { TellsOn is_world journal.old.past (W.seen host.old).shown.told journal.new.past (W.seen host.new).shown.told }
-        ensures follows { agenda start journal.old.past ≡ Ends → (hooks : Maybe (Listed Entry)) → Follows start journal.old.past (W.seen host.old).shown.told hooks journal.new.past (W.seen host.new).shown.told hooks }
-        ensures kept { IsSteady (W.seen host.old) (W.seen host.new) }
-        ensures faults { CountsOn journal.old.past (W.seen host.old).shown.faults journal.new.past (W.seen host.new).shown.faults }
+        ensures { EndsJobs start journal.old.past (W.seen host.old) journal.new.past (W.seen host.new) }
     {
         for place in 0..self.items.len() {
             self.items[place].task.end(host, journal);

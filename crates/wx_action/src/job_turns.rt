@@ -1,20 +1,13 @@
 // The turns of jobs.
-ghost use Rattle.std.specs.Prelude.{◌≡◌, ℕ, [], ◌+◌, ◌<◌, ◌≤◌, List, Option, IfSome, IfNone, IfOk, OnOk, OnErr};
-ghost use Rattle.wx_journal.specs.declared.entry.Entry.{Entry as AnEntry};
-ghost use Rattle.wx_journal.specs.Told.{is_world};
+ghost use Rattle.std.specs.Prelude.{◌≡◌, ℕ, ◌+◌, IfSome, IfNone, IfOk};
 ghost use Rattle.wx_journal.specs.declared.entry.TurnKind.TheVariants.{Ask as AsksTurn, Job as JobTurn, Ended as EndedTurn};
 ghost use Rattle.wx_journal.specs.declared.entry.Word.TheVariants.{Ignored};
-ghost use Rattle.wx_job.specs.Steady.{IsSteady};
-ghost use Rattle.wx_action.specs.Serves.{Grows, Continues, Steps, Settles};
+ghost use Rattle.wx_job.specs.Steady.{HaveRoom};
+ghost use Rattle.wx_action.specs.Serves.{Grows, Continues, EndsJobs, Steps, Settles};
 ghost use Rattle.wx_action.specs.Start.{Start};
 ghost use Rattle.wx_action.specs.HeldJobs.{parked_at};
-ghost use Rattle.wx_action.specs.Jobs.{jobs};
-ghost use Rattle.wx_action.specs.Due.{agenda, Says, Open, Ends};
-ghost use Rattle.wx_action.specs.Answer.{Dying};
-ghost use Rattle.wx_action.specs.Told.{TellsOn};
-ghost use Rattle.wx_job.specs.Faults.{CountsOn};
-ghost use Rattle.wx_action.specs.Leads.{Follows};
-ghost use Rattle.wx_action.specs.Stands.{Stands, Ready, AtTurn, IsStepOf, HasRoom, end_room};
+ghost use Rattle.wx_action.specs.Due.{agenda, Says, Open};
+ghost use Rattle.wx_action.specs.Stands.{Stands, Ready, AtTurn, IsStepOf, end_room};
 
 use crate::outside::Hooks;
 use crate::worker_state::Worker;
@@ -34,9 +27,8 @@ pub fn ask_turn(
 ) -> Result<(), Memory>
     ghost start: { Start }
     requires turn { (at : ℕ) × AtTurn start worker.old at (AsksTurn id ask) journal.old.past }
-    ensures grows { Grows start worker.old journal.old.past worker.new journal.new.past }
+    ensures grows { Grows start worker.old journal.old worker.new journal.new }
     ensures settles { Settles result start journal.old.past journal.new.past }
-    ensures room { end_room worker.old ≤ journal.old.spare → end_room worker.new ≤ journal.new.spare }
 {
     if !worker.jobs.lives(id) {
         return worker.ignored(journal);
@@ -61,12 +53,9 @@ fn step_of<W: Host, H: Hooks>(
     ghost start: { Start }
     requires due { IsStepOf start id at journal.old.past }
     requires stands { Stands start worker.old journal.old.past }
-    requires room { 16 + parked_at id worker.old.jobs + end_room worker.old ≤ journal.old.spare }
-    requires host_room { 16 + parked_at id worker.old.jobs + end_room worker.old ≤ (W.seen host.old).spare }
-    requires hooks_room { 16 ≤ (H.seen hooks.old).spare }
-    ensures continues { Continues H.seen H.rule H.stands start journal.old.past (W.seen host.old) hooks.old worker.new journal.new.past (W.seen host.new) hooks.new }
+    requires room { HaveRoom (16 + parked_at id worker.old.jobs + end_room worker.old) 16 journal.old (W.seen host.old) (H.seen hooks.old) }
+    ensures continues { Continues H.seen H.rule H.stands start worker.old journal.old (W.seen host.old) hooks.old worker.new journal.new (W.seen host.new) hooks.new }
     ensures steps { Steps result start journal.old.past journal.new.past }
-    ensures room { HasRoom worker.new journal.new.spare (W.seen host.new).spare }
 {
     let task = worker.jobs.task_mut(id);
     task.step(alloc, at, host, hooks, journal)?;
@@ -96,9 +85,8 @@ fn take_step<W: Host, H: Hooks>(
     ghost start: { Start }
     requires due { IsStepOf start id at journal.old.past }
     requires stands { Stands start worker.old journal.old.past }
-    ensures continues { Continues H.seen H.rule H.stands start journal.old.past (W.seen host.old) hooks.old worker.new journal.new.past (W.seen host.new) hooks.new }
+    ensures continues { Continues H.seen H.rule H.stands start worker.old journal.old (W.seen host.old) hooks.old worker.new journal.new (W.seen host.new) hooks.new }
     ensures steps { Steps result start journal.old.past journal.new.past }
-    ensures room { HasRoom worker.old journal.old.spare (W.seen host.old).spare → HasRoom worker.new journal.new.spare (W.seen host.new).spare }
 {
     let room = step_room(worker, id)?;
     worker.reserve(room, journal)?;
@@ -120,9 +108,8 @@ pub fn job_turn<W: Host, H: Hooks>(
 ) -> Result<(), Memory>
     ghost start: { Start }
     requires turn { AtTurn start worker.old at (JobTurn id) journal.old.past }
-    ensures continues { Continues H.seen H.rule H.stands start journal.old.past (W.seen host.old) hooks.old worker.new journal.new.past (W.seen host.new) hooks.new }
+    ensures continues { Continues H.seen H.rule H.stands start worker.old journal.old (W.seen host.old) hooks.old worker.new journal.new (W.seen host.new) hooks.new }
     ensures steps { Steps result start journal.old.past journal.new.past }
-    ensures room { HasRoom worker.old journal.old.spare (W.seen host.old).spare → HasRoom worker.new journal.new.spare (W.seen host.new).spare }
 {
     if !worker.jobs.lives(id) {
         return worker.ignored(journal);
@@ -160,9 +147,8 @@ pub fn ended_turn<W: Host, H: Hooks>(
 ) -> Result<(), Memory>
     ghost start: { Start }
     requires turn { AtTurn start worker.old at (EndedTurn child) journal.old.past }
-    ensures continues { Continues H.seen H.rule H.stands start journal.old.past (W.seen host.old) hooks.old worker.new journal.new.past (W.seen host.new) hooks.new }
+    ensures continues { Continues H.seen H.rule H.stands start worker.old journal.old (W.seen host.old) hooks.old worker.new journal.new (W.seen host.new) hooks.new }
     ensures steps { Steps result start journal.old.past journal.new.past }
-    ensures room { HasRoom worker.old journal.old.spare (W.seen host.old).spare → HasRoom worker.new journal.new.spare (W.seen host.new).spare }
 {
     let Some(id) = keep_end(worker, child, at, journal) else {
         return worker.ignored(journal);
@@ -175,12 +161,7 @@ pub fn ended_turn<W: Host, H: Hooks>(
 pub fn end_jobs<W: Host>(worker: &mut Worker, host: &mut W, journal: &mut Journal)
     ghost start: { Start }
     requires ready { Ready start worker.old journal.old (W.seen host.old) }
-    ensures dying { Dying journal.old.past journal.new.past }
-    ensures none { jobs journal.new.past ≡ [] }
-    ensures told { TellsOn is_world journal.old.past (W.seen host.old).shown.told journal.new.past (W.seen host.new).shown.told }
-    ensures follows { agenda start journal.old.past ≡ Ends → (hooks : Option (List AnEntry)) → Follows start journal.old.past (W.seen host.old).shown.told hooks journal.new.past (W.seen host.new).shown.told hooks }
-    ensures kept { IsSteady (W.seen host.old) (W.seen host.new) }
-    ensures faults { CountsOn journal.old.past (W.seen host.old).shown.faults journal.new.past (W.seen host.new).shown.faults }
+    ensures { EndsJobs start journal.old.past (W.seen host.old) journal.new.past (W.seen host.new) }
 {
     worker.jobs.end_all(host, journal);
 }

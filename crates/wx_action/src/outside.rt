@@ -68,8 +68,7 @@ pub trait Hooks: JobHooks {
         requires room { 1 ≤ (Self.seen self.old).spare }
         requires open { handler.old.handed ≡ false }
         requires fresh { handler.old.acts ≡ [] }
-        ensures past { handler.new.past ≡ handler.old.past }
-        ensures names { handler.new.names ≡ handler.old.names }
+        ensures same { handler.new ≡ record handler.old { acts = handler.new.acts; handed = handler.new.handed } }
         ensures told { (Self.seen self.new).told ≡ tell (Entry.Hand n handler.new.names handler.new.acts) (Self.seen self.old).told }
         ensures spare { (Self.seen self.old).spare ≤ (Self.seen self.new).spare + 1 }
         ensures keeps { Keeps Self.seen Self.rule Self.stands self.old handler.old.past (Entry.Hand n handler.new.names handler.new.acts) self.new };

@@ -5,15 +5,15 @@ ghost use Rattle.wx_journal.specs.declared.entry.Entry.TheVariants.{Filter};
 ghost use Rattle.wx_journal.specs.Names.{moment};
 ghost use Rattle.wx_events.specs.Priority.{is_urgent};
 ghost use Rattle.wx_config.specs.declared.error.CriticalError.TheVariants.{Memory as WantOfMemory};
-ghost use Rattle.wx_job.specs.Steady.{IsSteady};
-ghost use Rattle.wx_action.specs.Serves.{Grows, GrowsHand, Continues};
+ghost use Rattle.wx_job.specs.Calls.{AreRoomy};
+ghost use Rattle.wx_action.specs.Serves.{GrowsHand, GrowsWithin, Continues};
 ghost use Rattle.wx_action.specs.Start.{Start};
 ghost use Rattle.wx_action.specs.Journal.{listed, is_unseen, lets_pass, is_exit, is_close, ending, bag, is_over, is_over_of};
 ghost use Rattle.wx_action.specs.Due.{agenda, work, has_quit, Open, Takes, Filters, Shows, Hands, after_acts};
 ghost use Rattle.wx_action.specs.Answer.{NoneIsToGo, BreaksOff, BreaksHere, Fails};
 ghost use Rattle.wx_action.specs.Perform.{OwesActs};
 ghost use Rattle.wx_action.specs.Laws.{NoneUrgentWaits};
-ghost use Rattle.wx_action.specs.Stands.{Stands, AtWork, MayShow, Finds, Collects, IsDropped, IsJudged, LeavesRoom, Works, HasRoom, end_room};
+ghost use Rattle.wx_action.specs.Stands.{Owes, OwesAt, AtWork, MayShow, Finds, Collects, IsDropped, IsJudged, LeavesRoom, Works, end_room};
 
 use crate::acts_done::perform;
 use crate::batch::Batch;
@@ -200,18 +200,13 @@ impl Worker {
         journal: &mut Journal,
     ) -> Found
         ghost start: { Start }
-        requires due { agenda start journal.old.past ≡ Filters item.name }
+        requires owes { OwesAt start self.old at journal.old.past (Filters item.name) }
         requires listed { listed item.name journal.old.past ≡ Some (item.event, priority) }
-        requires moment { moment journal.old.past ≡ at }
-        requires stands { Stands start self.old journal.old.past }
-        requires room { 1 ≤ journal.old.spare }
+        requires room { AreRoomy 1 1 journal.old (H.seen hooks.old) }
         requires batch_room { 1 ≤ self.old.batch.room }
-        requires hooks_room { 1 ≤ (H.seen hooks.old).spare }
-        ensures grows { GrowsHand H.seen H.rule H.stands start journal.old.past hooks.old self.new journal.new.past hooks.new }
+        ensures within { GrowsWithin H.seen H.rule H.stands start 1 1 self.old journal.old hooks.old self.new journal.new hooks.new }
         ensures judged { IsJudged start journal.old.past item.name result journal.new.past }
-        ensures end_kept { end_room self.new ≡ end_room self.old }
         ensures room { journal.new.spare + 1 ≡ journal.old.spare }
-        ensures hooks_room { (H.seen hooks.old).spare ≤ (H.seen hooks.new).spare + 1 }
     {
         let n = self.config.filterer;
         let name = item.name;
@@ -257,18 +252,12 @@ impl Worker {
         journal: &mut Journal,
     ) -> Found
         ghost start: { Start }
-        requires due { agenda start journal.old.past ≡ Takes }
+        requires owes { OwesAt start self.old at journal.old.past Takes }
         requires some { (length (bag journal.old.past) == 0) ≡ false }
-        requires moment { moment journal.old.past ≡ at }
-        requires stands { Stands start self.old journal.old.past }
-        requires room { 2 ≤ journal.old.spare }
+        requires room { AreRoomy 2 1 journal.old (H.seen hooks.old) }
         requires batch_room { 1 ≤ self.old.batch.room }
-        requires hooks_room { 1 ≤ (H.seen hooks.old).spare }
-        ensures grows { GrowsHand H.seen H.rule H.stands start journal.old.past hooks.old self.new journal.new.past hooks.new }
+        ensures within { GrowsWithin H.seen H.rule H.stands start 2 1 self.old journal.old hooks.old self.new journal.new hooks.new }
         ensures found { Finds start journal.old.past result journal.new.past }
-        ensures end_kept { end_room self.new ≡ end_room self.old }
-        ensures room { journal.old.spare ≤ journal.new.spare + 2 }
-        ensures hooks_room { (H.seen hooks.old).spare ≤ (H.seen hooks.new).spare + 1 }
     {
         let Some((item, priority)) = self.queue.try_recv() else {
             unreachable!()
@@ -289,17 +278,12 @@ impl Worker {
         journal: &mut Journal,
     ) -> Result<Found, Memory>
         ghost start: { Start }
-        requires due { agenda start journal.old.past ≡ work start journal.old.past at }
-        requires moment { moment journal.old.past ≡ at }
-        requires stands { Stands start self.old journal.old.past }
-        ensures grows { GrowsHand H.seen H.rule H.stands start journal.old.past hooks.old self.new journal.new.past hooks.new }
+        requires owes { OwesAt start self.old at journal.old.past (work start journal.old.past at) }
+        ensures within { GrowsWithin H.seen H.rule H.stands start 2 1 self.old journal.old hooks.old self.new journal.new hooks.new }
         ensures found { IfOk result (λ found. Finds start journal.old.past found journal.new.past) }
         ensures left { IfOk result (λ found. LeavesRoom found (end_room self.new) journal.new.spare (H.seen hooks.new).spare) }
         ensures unchanged { OnErr result (journal.new.past ≡ journal.old.past) }
-        ensures end_kept { end_room self.new ≡ end_room self.old }
-        ensures room { journal.old.spare ≤ journal.new.spare + 2 }
         ensures kept_room { end_room self.old ≤ journal.old.spare → end_room self.new ≤ journal.new.spare }
-        ensures hooks_room { (H.seen hooks.old).spare ≤ (H.seen hooks.new).spare + 1 }
     {
         if self.queue.is_closed() {
             return Ok(Found::Stop);
@@ -327,17 +311,12 @@ impl Worker {
         journal: &mut Journal,
     ) -> Result<(), CriticalError>
         ghost start: { Start }
-        requires due { agenda start journal.old.past ≡ Shows error }
-        requires stands { Stands start self.old journal.old.past }
-        requires room { 1 ≤ journal.old.spare }
-        requires hooks_room { 1 ≤ (H.seen hooks.old).spare }
-        ensures grows { GrowsHand H.seen H.rule H.stands start journal.old.past hooks.old self.new journal.new.past hooks.new }
+        requires owes { Owes start self.old journal.old.past (Shows error) }
+        requires room { AreRoomy 1 1 journal.old (H.seen hooks.old) }
+        ensures within { GrowsWithin H.seen H.rule H.stands start 1 1 self.old journal.old hooks.old self.new journal.new hooks.new }
         ensures adds { MayShow journal.old.past journal.new.past }
         ensures done { OnOk result (agenda start journal.new.past ≡ Open) }
         ensures breaks { IfErr result (λ error. BreaksHere start journal.new.past error) }
-        ensures end_kept { end_room self.new ≡ end_room self.old }
-        ensures room { journal.old.spare ≤ journal.new.spare + 1 }
-        ensures hooks_room { (H.seen hooks.old).spare ≤ (H.seen hooks.new).spare + 1 }
     {
         let n = self.config.error_handler;
         let mut hook = ErrorHook::new(alloc, error)?;
@@ -369,13 +348,10 @@ pub fn throttle_collect<H: Hooks>(
 ) -> Result<Collected, CriticalError>
     ghost start: { Start }
     requires { AtWork start worker.old at journal.old.past }
-    ensures grows { GrowsHand H.seen H.rule H.stands start journal.old.past hooks.old worker.new journal.new.past hooks.new }
+    ensures within { GrowsWithin H.seen H.rule H.stands start 3 2 worker.old journal.old hooks.old worker.new journal.new hooks.new }
     ensures collected { IfOk result (λ found. Collects start journal.old.past found journal.new.past) }
     ensures fails { IfErr result (λ error. Fails start journal.old.past journal.new.past error) }
-    ensures room { journal.old.spare ≤ journal.new.spare + 3 }
-    ensures end_room { end_room worker.new ≡ end_room worker.old }
     ensures kept_room { end_room worker.old ≤ journal.old.spare → end_room worker.new ≤ journal.new.spare }
-    ensures hooks_room { (H.seen hooks.old).spare ≤ (H.seen hooks.new).spare + 2 }
 {
     match worker.collect(alloc, at, hooks, journal)? {
         Found::Stop => Ok(Collected::Stop),
@@ -406,10 +382,8 @@ fn hand_batch<H: Hooks>(
     journal: &mut Journal,
 ) -> (bool, Vec<Todo>)
     ghost start: { Start }
-    requires due { agenda start journal.old.past ≡ Hands }
-    requires stands { Stands start worker.old journal.old.past }
-    requires room { 1 + end_room worker.old ≤ journal.old.spare }
-    requires hooks_room { 1 ≤ (H.seen hooks.old).spare }
+    requires owes { Owes start worker.old journal.old.past Hands }
+    requires room { AreRoomy (1 + end_room worker.old) 1 journal.old (H.seen hooks.old) }
     ensures grows { GrowsHand H.seen H.rule H.stands start journal.old.past hooks.old worker.new journal.new.past hooks.new }
     ensures owes { OwesActs start journal.new.past result.1.items (after_acts result.0) }
     ensures calm { NoneUrgentWaits journal.new.past }
@@ -437,16 +411,13 @@ fn hand<W: Host, H: Hooks>(
     journal: &mut Journal,
 ) -> Result<Worked, Memory>
     ghost start: { Start }
-    requires due { agenda start journal.old.past ≡ Hands }
-    requires stands { Stands start worker.old journal.old.past }
-    requires room { 1 + end_room worker.old ≤ journal.old.spare }
+    requires owes { Owes start worker.old journal.old.past Hands }
+    requires room { AreRoomy (1 + end_room worker.old) 1 journal.old (H.seen hooks.old) }
     requires host_room { end_room worker.old ≤ (W.seen host.old).spare }
-    requires hooks_room { 1 ≤ (H.seen hooks.old).spare }
-    ensures continues { Continues H.seen H.rule H.stands start journal.old.past (W.seen host.old) hooks.old worker.new journal.new.past (W.seen host.new) hooks.new }
+    ensures continues { Continues H.seen H.rule H.stands start worker.old journal.old (W.seen host.old) hooks.old worker.new journal.new (W.seen host.new) hooks.new }
     ensures works { IfOk result (λ worked. Works start worked journal.new.past) }
     ensures cut { OnErr result (NoneIsToGo (agenda start journal.new.past)) }
     ensures calm { NoneUrgentWaits journal.new.past }
-    ensures room { HasRoom worker.new journal.new.spare (W.seen host.new).spare }
 {
     let (ends, todo) = hand_batch(alloc, worker, hooks, journal);
     perform(alloc, worker, todo, host, journal)?;
@@ -468,11 +439,10 @@ pub fn worker<W: Host, H: Hooks>(
 ) -> Result<Worked, CriticalError>
     ghost start: { Start }
     requires { AtWork start worker.old at journal.old.past }
-    ensures continues { Continues H.seen H.rule H.stands start journal.old.past (W.seen host.old) hooks.old worker.new journal.new.past (W.seen host.new) hooks.new }
+    ensures continues { Continues H.seen H.rule H.stands start worker.old journal.old (W.seen host.old) hooks.old worker.new journal.new (W.seen host.new) hooks.new }
     ensures works { IfOk result (λ worked. Works start worked journal.new.past) }
     ensures breaks { IfErr result (λ error. BreaksOff start journal.new.past error) }
     ensures calm { NoneUrgentWaits journal.old.past → NoneUrgentWaits journal.new.past }
-    ensures room { HasRoom worker.old journal.old.spare (W.seen host.old).spare → HasRoom worker.new journal.new.spare (W.seen host.new).spare }
 {
     worker.reserve(4, journal)?;
     worker.reserve_host(0, host)?;

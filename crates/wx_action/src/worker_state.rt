@@ -11,7 +11,7 @@ ghost use Rattle.wx_action.specs.Serves.{Grows, Settles};
 ghost use Rattle.wx_action.specs.Start.{Start, IsSize};
 ghost use Rattle.wx_action.specs.Journal.{closed, bag};
 ghost use Rattle.wx_action.specs.Due.{agenda, Open, Sends, rest, Offers, Says, begin_of};
-ghost use Rattle.wx_action.specs.Stands.{Stands, IsOffered, end_room};
+ghost use Rattle.wx_action.specs.Stands.{Stands, Owes, IsOffered, end_room};
 ghost use Rattle.wx_action.specs.HeldJobs.{is_here, runs_child};
 
 use crate::batch::Batch;
@@ -123,17 +123,15 @@ impl Worker {
         journal: &mut Journal,
     ) -> Result<(), Memory>
         ghost start: { Start }
-        requires due { (more : List (AnEvent × APriority)) × (agenda start journal.old.past ≡ Sends event priority more) }
-        requires stands { Stands start self.old journal.old.past }
+        requires owes { (more : List (AnEvent × APriority)) × Owes start self.old journal.old.past (Sends event priority more) }
         requires fits { length (bag journal.old.past) < start.config.event_channel_size }
         requires takes { closed journal.old.past ≡ false }
-        ensures grows { Grows start self.old journal.old.past self.new journal.new.past }
+        ensures grows { Grows start self.old journal.old self.new journal.new }
         ensures done { OnOk result (agenda start journal.new.past ≡ rest (Entry.Sent self.old.named event priority) (agenda start journal.old.past)) }
         ensures bag { OnOk result (length (bag journal.new.past) ≡ length (bag journal.old.past) + 1) }
         ensures takes { closed journal.new.past ≡ false }
         ensures err { OnErr result (journal.new.past ≡ journal.old.past) }
         ensures same { OnErr result (self.new ≡ self.old) }
-        ensures room { end_room self.old ≤ journal.old.spare → end_room self.new ≤ journal.new.spare }
     {
         self.reserve(1, journal)?;
         let name = self.named;
@@ -158,12 +156,10 @@ impl Worker {
         journal: &mut Journal,
     ) -> Result<(), Memory>
         ghost start: { Start }
-        requires due { agenda start journal.old.past ≡ Offers event priority Open }
-        requires stands { Stands start self.old journal.old.past }
-        ensures grows { Grows start self.old journal.old.past self.new journal.new.past }
+        requires owes { Owes start self.old journal.old.past (Offers event priority Open) }
+        ensures grows { Grows start self.old journal.old self.new journal.new }
         ensures settles { Settles result start journal.old.past journal.new.past }
         ensures same { OnErr result (self.new ≡ self.old) }
-        ensures room { end_room self.old ≤ journal.old.spare → end_room self.new ≤ journal.new.spare }
     {
         self.reserve(1, journal)?;
         let name = self.named;
@@ -183,11 +179,9 @@ impl Worker {
     /// Says of a turn that what it is about isn't there. It fails only for want of memory, and adds no entry then.
     pub fn ignored(&self, journal: &mut Journal) -> Result<(), Memory>
         ghost start: { Start }
-        requires due { agenda start journal.old.past ≡ Says Ignored Open }
-        requires stands { Stands start self.now journal.old.past }
-        ensures grows { Grows start self.now journal.old.past self.now journal.new.past }
+        requires owes { Owes start self.now journal.old.past (Says Ignored Open) }
+        ensures grows { Grows start self.now journal.old self.now journal.new }
         ensures settles { Settles result start journal.old.past journal.new.past }
-        ensures room { end_room self.now ≤ journal.old.spare → end_room self.now ≤ journal.new.spare }
     {
         self.reserve(1, journal)?;
         journal.push(Entry::Word(Word::Ignored));

@@ -7,7 +7,6 @@ use std::alloc::Global;
 use std::fmt;
 use std::hash::{DefaultHasher, Hash, Hasher};
 use std::process::Abort;
-use std::test::Fail;
 use wx_config::{
     Changeable, Config, CriticalError, EntryKind, Filterer, FsWatcherError, NotifyFault,
     RuntimeError, ScanFault, WatchedPath, Watcher,
@@ -29,7 +28,7 @@ fn is_spelled<T: Spelled>(alloc: Global, value: &T, line: &str) -> Result<bool, 
 }
 
 /// Whether this value is shown by this line.
-fn is_shown<T: fmt::Display>(alloc: Global, value: &T, line: &str) -> Result<bool, Fail> {
+fn is_shown<T: fmt::Display>(alloc: Global, value: &T, line: &str) -> Result<bool, Memory> {
     let shown = format!(in alloc; "{value}")?;
     Ok(shown.as_str() == line)
 }
@@ -39,34 +38,57 @@ fn is_written<T: Spelled + fmt::Display>(
     alloc: Global,
     value: &T,
     line: &str,
-) -> Result<bool, Fail> {
+) -> Result<bool, Memory> {
     Ok(is_spelled(alloc, value, line)? && is_shown(alloc, value, line)?)
 }
 
 /// The same of a value that is handed in: this function drops it, since to drop a long enum by name is slow to prove.
-fn is_made<T: Spelled + fmt::Display>(alloc: Global, value: T, line: &str) -> Result<bool, Fail> {
+fn is_made<T: Spelled + fmt::Display>(alloc: Global, value: T, line: &str) -> Result<bool, Memory> {
     is_written(alloc, &value, line)
 }
 
+/// Whether the copy of this value is written and shown by this line.
+fn is_copied<T: Spelled + Copies + fmt::Display>(
+    alloc: Global,
+    value: &T,
+    line: &str,
+) -> Result<bool, Memory> {
+    is_made(alloc, value.copy(alloc)?, line)
+}
+
+/// Whether the fields of this value are shown by this text.
+fn has_fields<T: fmt::Debug>(alloc: Global, value: &T, fields: &str) -> Result<bool, Memory> {
+    let shown = format!(in alloc; "{value:?}")?;
+    Ok(shown.as_str() == fields)
+}
+
 /// Whether the fields of this value are shown by a text that begins so.
-fn begins<T: fmt::Debug>(alloc: Global, value: &T, fields: &str) -> Result<bool, Fail> {
+fn begins<T: fmt::Debug>(alloc: Global, value: &T, fields: &str) -> Result<bool, Memory> {
     let shown = format!(in alloc; "{value:?}")?;
     Ok(shown.as_str().starts_with(fields))
 }
 
-/// Whether this value has such fields, and it and its copy are written and shown by this line.
-fn is_line_of<T: Spelled + Copies + fmt::Display + fmt::Debug>(
+/// Whether the line of this case is read as a value with such fields, which is written and shown by the line, as is its copy.
+fn is_case<T: Spelled + Copies + fmt::Display + fmt::Debug>(
     alloc: Global,
-    value: &T,
-    line: &str,
-    fields: &str,
-) -> Result<bool, Fail> {
-    let copy = value.copy(alloc)?;
-    Ok(
-        begins(alloc, value, fields)?
-            && is_written(alloc, value, line)?
-            && is_written(alloc, &copy, line)?,
-    )
+    case: &str,
+) -> Result<bool, Memory> {
+    let Some((line, fields)) = case.split_once(" = ") else {
+        return Ok(false);
+    };
+    match read_line::<T>(alloc, line.as_bytes())? {
+        Some(value) => Ok(
+            begins(alloc, &value, fields)?
+                && is_written(alloc, &value, line)?
+                && is_copied(alloc, &value, line)?,
+        ),
+        None => Ok(false),
+    }
+}
+
+/// Ends the test where the answer isn't yes, and says at which case.
+fn expect_yes(rt: &impl Abort, answer: Result<bool, Memory>, case: &str) {
+    assert!(rt; answer == Ok(true), "at {case}");
 }
 
 /// Each line of the table is read as a value with such fields, which is written and shown by the line, as is its copy.
@@ -74,22 +96,23 @@ fn each_is_read<T: Spelled + Copies + fmt::Display + fmt::Debug>(
     rt: &impl Abort,
     alloc: Global,
     table: &str,
-) -> Result<(), Fail> {
+) {
     for case in table.lines() {
-        let (line, fields) = case.split_once(" = ").ok_or("a line and fields")?;
-        let value: T = read_line(alloc, line.as_bytes())?.ok_or("a value")?;
-        assert!(rt; is_line_of(alloc, &value, line, fields)?, "at {case}");
+        expect_yes(rt, is_case::<T>(alloc, case), case);
     }
-    Ok(())
+}
+
+/// Whether this line is no value of this type.
+fn is_refused<T: Spelled>(alloc: Global, line: &str) -> Result<bool, Memory> {
+    let found: Option<T> = read_line(alloc, line.as_bytes())?;
+    Ok(found.is_none())
 }
 
 /// No line of the table is a value of this type.
-fn each_is_refused<T: Spelled>(rt: &impl Abort, alloc: Global, table: &str) -> Result<(), Fail> {
+fn each_is_refused<T: Spelled>(rt: &impl Abort, alloc: Global, table: &str) {
     for line in table.lines() {
-        let found: Option<T> = read_line(alloc, line.as_bytes())?;
-        assert!(rt; found.is_none(), "at {line}");
+        expect_yes(rt, is_refused::<T>(alloc, line), line);
     }
-    Ok(())
 }
 
 const DEFAULTS: &str = "Config { change_signal: 0, action_handler: 0, error_handler: 0, \
@@ -99,23 +122,25 @@ const DEFAULTS: &str = "Config { change_signal: 0, action_handler: 0, error_hand
     filterer: 0, error_channel_size: 64, event_channel_size: 4096 }";
 
 #[test]
-fn the_default_settings(rt: HostRuntime) -> Result<(), Fail> {
-    let config = Config::new(rt.alloc())?;
-    let shown = format!(in rt.alloc(); "{config:?}")?;
-    assert_eq!(rt; shown.as_str(), DEFAULTS);
-    Ok(())
+fn the_default_settings(rt: HostRuntime) {
+    let config = Config::new(rt.alloc()).expect(&rt, "settings");
+    expect_yes(&rt, has_fields(rt.alloc(), &config, DEFAULTS), DEFAULTS);
+    drop(config);
 }
 
 #[test]
-fn a_value_is_replaced(rt: HostRuntime) -> Result<(), Fail> {
+fn a_value_is_replaced(rt: HostRuntime) {
     let mut throttle = Changeable::new(5u64);
     throttle.replace(7);
-    assert_eq!(rt; *throttle.get(), 7);
-    Ok(())
+    assert!(rt; *throttle.get() == 7);
 }
 
 /// Whether this line is read as a value with these fields, which is written by the line.
-fn is_read<T: Spelled + fmt::Debug>(alloc: Global, line: &str, fields: &str) -> Result<bool, Fail> {
+fn is_read<T: Spelled + fmt::Debug>(
+    alloc: Global,
+    line: &str,
+    fields: &str,
+) -> Result<bool, Memory> {
     match read_line::<T>(alloc, line.as_bytes())? {
         Some(value) => { Ok(begins(alloc, &value, fields)? && is_spelled(alloc, &value, line)?) }
         None => Ok(false),
@@ -123,22 +148,42 @@ fn is_read<T: Spelled + fmt::Debug>(alloc: Global, line: &str, fields: &str) -> 
 }
 
 #[test]
-fn how_files_are_watched(rt: HostRuntime) -> Result<(), Fail> {
+fn how_files_are_watched(rt: HostRuntime) {
     let alloc = rt.alloc();
-    assert!(rt; is_read::<Watcher>(alloc, "native", "Native")?);
-    assert!(rt; is_read::<Watcher>(alloc, "poll 5", "Poll(5)")?);
-    each_is_refused::<Watcher>(&rt, alloc, "poll")
+    expect_yes(&rt, is_read::<Watcher>(alloc, "native", "Native"), "native");
+    expect_yes(
+        &rt,
+        is_read::<Watcher>(alloc, "poll 5", "Poll(5)"),
+        "poll 5",
+    );
+    each_is_refused::<Watcher>(&rt, alloc, "poll");
+}
+
+/// The watched path whose words are this line.
+fn watched_path(rt: &impl Abort, alloc: Global, line: &[u8]) -> WatchedPath {
+    let found = read_line(alloc, line).expect(rt, "a line");
+    found.expect(rt, "a path")
+}
+
+/// Whether a copy of this value is spelled by this line.
+fn is_spelled_by_a_copy(alloc: Global, path: &WatchedPath, line: &str) -> Result<bool, Memory> {
+    let copy = path.copy(alloc)?;
+    is_spelled(alloc, &copy, line)
 }
 
 #[test]
-fn what_is_watched(rt: HostRuntime) -> Result<(), Fail> {
+fn what_is_watched(rt: HostRuntime) {
     let alloc = rt.alloc();
-    let tree: WatchedPath = read_line(alloc, b"r /a%20b")?.ok_or("a path")?;
+    let tree = watched_path(&rt, alloc, b"r /a%20b");
     assert!(rt; tree.recursive);
-    assert!(rt; is_spelled(alloc, &tree.copy(alloc)?, "r /a%20b")?);
+    expect_yes(
+        &rt,
+        is_spelled_by_a_copy(alloc, &tree, "r /a%20b"),
+        "a tree",
+    );
     let folder = WatchedPath::non_recursive(tree.path);
-    assert!(rt; is_spelled(alloc, &folder, "n /a%20b")?);
-    Ok(())
+    expect_yes(&rt, is_spelled(alloc, &folder, "n /a%20b"), "a folder");
+    drop(folder);
 }
 
 const FAULTS_OF_BACKENDS: &str = "\
@@ -163,9 +208,9 @@ maxwatches 1
 ";
 
 #[test]
-fn faults_of_backends(rt: HostRuntime) -> Result<(), Fail> {
-    each_is_read::<NotifyFault>(&rt, rt.alloc(), FAULTS_OF_BACKENDS)?;
-    each_is_refused::<NotifyFault>(&rt, rt.alloc(), NO_FAULTS_OF_BACKENDS)
+fn faults_of_backends(rt: HostRuntime) {
+    each_is_read::<NotifyFault>(&rt, rt.alloc(), FAULTS_OF_BACKENDS);
+    each_is_refused::<NotifyFault>(&rt, rt.alloc(), NO_FAULTS_OF_BACKENDS);
 }
 
 const FAULTS_OF_SCANS: &str = "\
@@ -193,10 +238,10 @@ changed link dir /a
 ";
 
 #[test]
-fn faults_of_scans(rt: HostRuntime) -> Result<(), Fail> {
-    each_is_read::<ScanFault>(&rt, rt.alloc(), FAULTS_OF_SCANS)?;
-    each_is_read::<EntryKind>(&rt, rt.alloc(), ENTRIES)?;
-    each_is_refused::<ScanFault>(&rt, rt.alloc(), NO_FAULTS_OF_SCANS)
+fn faults_of_scans(rt: HostRuntime) {
+    each_is_read::<ScanFault>(&rt, rt.alloc(), FAULTS_OF_SCANS);
+    each_is_read::<EntryKind>(&rt, rt.alloc(), ENTRIES);
+    each_is_refused::<ScanFault>(&rt, rt.alloc(), NO_FAULTS_OF_SCANS);
 }
 
 const FILE_ERRORS: &str = "\
@@ -220,9 +265,9 @@ pathremove /a memory 0 0
 ";
 
 #[test]
-fn errors_of_the_watching_of_files(rt: HostRuntime) -> Result<(), Fail> {
-    each_is_read::<FsWatcherError>(&rt, rt.alloc(), FILE_ERRORS)?;
-    each_is_refused::<FsWatcherError>(&rt, rt.alloc(), NO_FILE_ERRORS)
+fn errors_of_the_watching_of_files(rt: HostRuntime) {
+    each_is_read::<FsWatcherError>(&rt, rt.alloc(), FILE_ERRORS);
+    each_is_refused::<FsWatcherError>(&rt, rt.alloc(), NO_FILE_ERRORS);
 }
 
 const RUNTIME_ERRORS: &str = "\
@@ -248,9 +293,10 @@ memory = Memory
 ";
 
 #[test]
-fn errors_that_a_run_goes_on_after(rt: HostRuntime) -> Result<(), Fail> {
-    assert!(rt; is_made(rt.alloc(), RuntimeError::from(Memory), "memory")?);
-    each_is_read::<RuntimeError>(&rt, rt.alloc(), RUNTIME_ERRORS)
+fn errors_that_a_run_goes_on_after(rt: HostRuntime) {
+    let memory = RuntimeError::from(Memory);
+    expect_yes(&rt, is_made(rt.alloc(), memory, "memory"), "memory");
+    each_is_read::<RuntimeError>(&rt, rt.alloc(), RUNTIME_ERRORS);
 }
 
 const NO_RUNTIME_ERRORS: &str = "
@@ -289,13 +335,13 @@ memories
 ";
 
 #[test]
-fn refuses_bad_errors(rt: HostRuntime) -> Result<(), Fail> {
-    each_is_refused::<RuntimeError>(&rt, rt.alloc(), NO_RUNTIME_ERRORS)?;
-    each_is_refused::<CriticalError>(&rt, rt.alloc(), NO_CRITICAL_ERRORS)
+fn refuses_bad_errors(rt: HostRuntime) {
+    each_is_refused::<RuntimeError>(&rt, rt.alloc(), NO_RUNTIME_ERRORS);
+    each_is_refused::<CriticalError>(&rt, rt.alloc(), NO_CRITICAL_ERRORS);
 }
 
 /// Whether an error about this, of the code 5, is written and shown by this line.
-fn is_about(alloc: Global, about: &[u8], line: &str) -> Result<bool, Fail> {
+fn is_about(alloc: Global, about: &[u8], line: &str) -> Result<bool, Memory> {
     let about = Text::from_slice(alloc, about)?;
     is_made(alloc, CriticalError::IoError { about, err: 5 }, line)
 }
@@ -312,12 +358,13 @@ memory = Memory
 ";
 
 #[test]
-fn errors_that_end_a_run(rt: HostRuntime) -> Result<(), Fail> {
+fn errors_that_end_a_run(rt: HostRuntime) {
     let alloc = rt.alloc();
-    each_is_read::<CriticalError>(&rt, alloc, CRITICAL_ERRORS)?;
-    assert!(rt; is_made(alloc, CriticalError::from(Memory), "memory")?);
-    assert!(rt; is_about(alloc, b"\xff\n", "io %FF%0A 5")?);
-    Ok(())
+    each_is_read::<CriticalError>(&rt, alloc, CRITICAL_ERRORS);
+    let memory = CriticalError::from(Memory);
+    expect_yes(&rt, is_made(alloc, memory, "memory"), "memory");
+    let about = is_about(alloc, b"\xff\n", "io %FF%0A 5");
+    expect_yes(&rt, about, "an error about bytes");
 }
 
 /// A filter that lets urgent events pass, and any folder but one.
@@ -358,26 +405,45 @@ fn enters<F: Filterer>(alloc: Global, filter: &F, path: &[u8]) -> Result<Option<
     Ok(filter.check_dir(&path).ok())
 }
 
+/// Holds what this filter answers of an event of this priority to be so.
+fn expect_passes<F: Filterer>(
+    rt: &impl Abort,
+    alloc: Global,
+    filter: &F,
+    priority: Priority,
+    so: bool,
+) {
+    assert!(rt; passes(alloc, filter, priority) == Some(so));
+}
+
+/// Holds what this filter answers of this folder to be so.
+fn expect_enters<F: Filterer>(rt: &impl Abort, alloc: Global, filter: &F, path: &[u8], so: bool) {
+    assert!(rt; enters(alloc, filter, path) == Ok(Some(so)));
+}
+
 #[test]
-fn filters_pass_on(rt: HostRuntime) -> Result<(), Fail> {
+fn filters_pass_on(rt: HostRuntime) {
     let alloc = rt.alloc();
-    assert_eq!(rt; passes(alloc, &(), Priority::Low), Some(true));
-    assert_eq!(rt; enters(alloc, &(), b"/a")?, Some(true));
-    let urgent = Urgent {
-        but: TextPath::new(Text::from_slice(alloc, b"/a")?),
-    };
-    let boxed: Box<dyn Filterer + Drop> = Box::new(alloc, urgent)?;
-    assert_eq!(rt; passes(alloc, &boxed, Priority::Urgent), Some(true));
-    assert_eq!(rt; passes(alloc, &boxed, Priority::High), Some(false));
-    assert_eq!(rt; enters(alloc, &boxed, b"/a")?, Some(false));
-    assert_eq!(rt; enters(alloc, &boxed, b"/b")?, Some(true));
-    Ok(())
+    expect_passes(&rt, alloc, &(), Priority::Low, true);
+    expect_enters(&rt, alloc, &(), b"/a", true);
+    let but = TextPath::new(text(&rt, alloc, b"/a"));
+    let made = Box::new(alloc, Urgent { but }).expect(&rt, "a filter");
+    let boxed: Box<dyn Filterer + Drop> = made;
+    expect_passes(&rt, alloc, &boxed, Priority::Urgent, true);
+    expect_passes(&rt, alloc, &boxed, Priority::High, false);
+    expect_enters(&rt, alloc, &boxed, b"/a", false);
+    expect_enters(&rt, alloc, &boxed, b"/b", true);
 }
 
 /// This path, watched so.
-fn watched(alloc: Global, path: &[u8], recursive: bool) -> Result<WatchedPath, Memory> {
-    let path = TextPath::new(Text::from_slice(alloc, path)?);
-    Ok(WatchedPath { path, recursive })
+fn watched(rt: &impl Abort, alloc: Global, path: &[u8], recursive: bool) -> WatchedPath {
+    let path = TextPath::new(text(rt, alloc, path));
+    WatchedPath { path, recursive }
+}
+
+/// The text of these bytes.
+fn text(rt: &impl Abort, alloc: Global, bytes: &[u8]) -> Text {
+    Text::from_slice(alloc, bytes).expect(rt, "a text")
 }
 
 /// The hash of this value.
@@ -388,38 +454,41 @@ fn hash_of<T: Hash>(value: &T) -> u64 {
 }
 
 #[test]
-fn watched_paths_compare_by_path_and_then_depth(rt: HostRuntime) -> Result<(), Fail> {
+fn watched_paths_compare_by_path_and_then_depth(rt: HostRuntime) {
     let alloc = rt.alloc();
-    let folder = watched(alloc, b"/a", false)?;
-    let tree = watched(alloc, b"/a", true)?;
-    let below = watched(alloc, b"/a/b", false)?;
+    let folder = watched(&rt, alloc, b"/a", false);
+    let tree = watched(&rt, alloc, b"/a", true);
+    let below = watched(&rt, alloc, b"/a/b", false);
     assert!(rt; folder < tree && tree < below && folder < below);
     assert!(rt; folder != tree && tree != below);
-    let copy = tree.copy(alloc)?;
-    assert!(rt; copy == tree);
-    assert_eq!(rt; hash_of(&copy), hash_of(&tree));
     assert!(rt; hash_of(&folder) != hash_of(&tree));
-    Ok(())
+    drop(below);
+    drop(folder);
+    let copy = tree.copy(alloc).expect(&rt, "a copy");
+    assert!(rt; copy == tree && hash_of(&copy) == hash_of(&tree));
+    drop(copy);
+    drop(tree);
 }
 
 #[test]
-fn paths_are_watched_with_all_below_them(rt: HostRuntime) -> Result<(), Fail> {
+fn paths_are_watched_with_all_below_them(rt: HostRuntime) {
     let alloc = rt.alloc();
-    let tree = watched(alloc, b"/a", true)?;
-    let of_text = WatchedPath::from(Text::from_slice(alloc, b"/a")?);
-    assert!(rt; of_text == tree);
-    let of_path = WatchedPath::from(TextPath::new(Text::from_slice(alloc, b"/a")?));
-    assert!(rt; of_path == tree);
+    let tree = watched(&rt, alloc, b"/a", true);
+    let of_text = WatchedPath::from(text(&rt, alloc, b"/a"));
+    let of_path = WatchedPath::from(TextPath::new(text(&rt, alloc, b"/a")));
+    assert!(rt; of_text == tree && of_path == tree);
+    drop(of_text);
+    drop(tree);
     assert!(rt; of_path.as_ref().text().as_slice() == b"/a".as_slice());
     let path = TextPath::from(of_path);
     assert!(rt; path.text().as_slice() == b"/a".as_slice());
-    Ok(())
+    drop(path);
 }
 
 #[test]
 fn a_default_is_that_of_the_value(rt: HostRuntime) {
     let throttle: Changeable<u64> = Changeable::default();
-    assert_eq!(rt; *throttle.get(), 0);
+    assert!(rt; *throttle.get() == 0);
     let watcher: Changeable<Watcher> = Changeable::default();
-    assert_eq!(rt; *watcher.get(), Watcher::Native);
+    assert!(rt; *watcher.get() == Watcher::Native);
 }

@@ -1,13 +1,13 @@
 // Senders of jobs that live and that are gone: the expected values are worked out by hand.
 ghost use Rattle.std.specs.Prelude.{Some, []};
 
-use crate::tests::{line_of, put_sends};
+use crate::flag_tests::is_ready;
+use crate::tests::{copy_of, expect_so, expect_yes, line_of, new_flag, put_sends};
 use futures::executor::block_on;
 use futures::future::join;
-use futures::task::Poll;
 use futures::test::MockTask;
 use std::alloc::Global;
-use std::test::Fail;
+use std::process::Abort;
 use std::thread;
 use wx_command::{Command, Program, SharedCommand, SpawnOptions};
 use wx_control::{Ask, Control, Controls, Flag, Id, Job, Mirror, Refused, Ticket};
@@ -39,16 +39,21 @@ impl Controls for Kept {
             Some(Refused::Memory) => Err(Refused::Memory),
             None => {
                 let done = Flag::new(alloc, false)?;
-                let ticket = Ticket {
-                    gone: job.gone().copy(alloc)?,
-                    done: done.copy(alloc)?,
-                };
+                let ticket = open_ticket(alloc, job, &done)?;
                 self.asks.push((job.id(), ask))?;
                 self.last = Some(done);
                 Ok(ticket)
             }
         }
     }
+}
+
+/// A ticket of this job that is done by this flag.
+fn open_ticket(alloc: Global, job: &Job, done: &Flag) -> Result<Ticket, Memory> {
+    Ok(Ticket {
+        gone: job.gone().copy(alloc)?,
+        done: done.copy(alloc)?,
+    })
 }
 
 /// A sink that holds nothing and answers this.
@@ -75,23 +80,40 @@ fn command(alloc: Global) -> Result<SharedCommand, Memory> {
 }
 
 /// A handle on the job of this name, which runs `true` and is gone once this flag is raised.
-fn job(alloc: Global, number: u32, gone: Flag) -> Result<Job, Memory> {
-    let command = command(alloc)?;
-    Ok(Job::new(Id(number), command, gone, Mirror::new(alloc)?))
+fn job(rt: &impl Abort, alloc: Global, number: u32, gone: Flag) -> Job {
+    let command = command(alloc).expect(rt, "a command");
+    let mirror = Mirror::new(alloc).expect(rt, "a mirror");
+    Job::new(Id(number), command, gone, mirror)
 }
 
-/// The asks of this sink, each on a line of its own: the job and what was asked, then its controls and their level.
+/// A handle on a job of this name that isn't gone.
+fn live_job(rt: &impl Abort, alloc: Global, number: u32) -> Job {
+    job(rt, alloc, number, new_flag(rt, alloc))
+}
+
+/// Appends an ask of a job: the job and what was asked, then its controls and their level.
+fn put_asked(id: Id, ask: &Ask, lines: &mut Text) -> Result<(), Memory> {
+    id.put(lines)?;
+    lines.append(b" ")?;
+    ask.put(lines)?;
+    lines.append(b" = ")?;
+    put_sends(ask, lines)
+}
+
+/// The asks of this sink, each on a line of its own.
 fn asks_of(alloc: Global, sink: &Kept) -> Result<Text, Memory> {
     let mut lines = Text::new(alloc);
     for (id, ask) in sink.asks.as_slice() {
-        id.put(&mut lines)?;
-        lines.append(b" ")?;
-        ask.put(&mut lines)?;
-        lines.append(b" = ")?;
-        put_sends(ask, &mut lines)?;
+        put_asked(*id, ask, &mut lines)?;
         lines.append(b"\n")?;
     }
     Ok(lines)
+}
+
+/// Holds the asks of this sink to be these lines.
+fn expect_asks(rt: &impl Abort, alloc: Global, sink: &Kept, want: &str) {
+    let asks = asks_of(alloc, sink).expect(rt, "the asks");
+    assert!(rt; asks.as_slice() == want.as_bytes());
 }
 
 /// How many senders a job has.
@@ -151,50 +173,94 @@ const ASKED: &str = "\
 3 unseterror = unseterror; normal
 ";
 
-/// Whether one poll by this task finds the ticket ready.
-fn is_ready(task: &MockTask, ticket: &mut Ticket) -> bool {
-    matches!(task.poll(ticket), Poll::Ready(()))
+/// The ticket that the sender of this number gives.
+fn ticket_of(rt: &impl Abort, alloc: Global, job: &Job, sink: &mut Kept, number: u32) -> Ticket {
+    call(job, alloc, sink, number).expect(rt, "a ticket")
+}
+
+/// Ends the test where this isn't so at the sender of this number.
+fn expect_at(rt: &impl Abort, so: bool, number: u32) {
+    assert!(rt; so, "at {number}");
+}
+
+/// Raises the flag of the last ask.
+fn raise_last(rt: &impl Abort, sink: &mut Kept) {
+    let done = sink.last.take().expect(rt, "a flag of the ask");
+    done.raise();
+}
+
+/// Calls the sender of this number, which sends and gives a ticket that is ready once its flag is raised.
+fn expect_sent(
+    rt: &impl Abort,
+    alloc: Global,
+    task: &MockTask,
+    job: &Job,
+    sink: &mut Kept,
+    number: u32,
+) {
+    let mut ticket = ticket_of(rt, alloc, job, sink, number);
+    expect_at(rt, sink.sends == number as u64 + 1, number);
+    expect_at(rt, !is_ready(task, &mut ticket), number);
+    raise_last(rt, sink);
+    expect_at(rt, is_ready(task, &mut ticket), number);
+    drop(ticket);
 }
 
 #[test]
-fn each_sender_of_a_live_job_sends_once(rt: HostRuntime) -> Result<(), Fail> {
+fn each_sender_of_a_live_job_sends_once(rt: HostRuntime) {
     let alloc = rt.alloc();
-    let task = MockTask::new(&rt)?;
-    let one = job(alloc, 3, Flag::new(alloc, false)?)?;
+    let task = MockTask::new(&rt).expect(&rt, "a task");
+    let one = live_job(&rt, alloc, 3);
     let mut sink = sink(alloc, None);
     for number in 0..SENDERS {
-        let answer = call(&one, alloc, &mut sink, number);
-        let mut ticket = answer.ok().ok_or("a ticket")?;
-        assert_eq!(rt; sink.sends, number as u64 + 1);
-        assert!(rt; !is_ready(&task, &mut ticket), "at {number}");
-        let done = sink.last.take().ok_or("its flag")?;
-        done.raise();
-        assert!(rt; is_ready(&task, &mut ticket), "at {number}");
+        expect_sent(&rt, alloc, &task, &one, &mut sink, number);
     }
-    assert_eq!(rt; asks_of(alloc, &sink)?.as_slice(), ASKED.as_bytes());
-    Ok(())
+    expect_asks(&rt, alloc, &sink, ASKED);
+    drop(sink);
+    drop(one);
+    drop(task);
+}
+
+/// Starts this job.
+fn start(rt: &impl Abort, alloc: Global, job: &Job, sink: &mut Kept) {
+    let ticket = job.start(alloc, sink).expect(rt, "a ticket");
+    drop(ticket);
+}
+
+/// Calls the sender of this number, which gives a ticket that is ready.
+fn expect_ready_at_once(
+    rt: &impl Abort,
+    alloc: Global,
+    task: &MockTask,
+    job: &Job,
+    sink: &mut Kept,
+    number: u32,
+) {
+    let mut ticket = ticket_of(rt, alloc, job, sink, number);
+    expect_at(rt, is_ready(task, &mut ticket), number);
+    drop(ticket);
 }
 
 #[test]
-fn no_sender_of_a_gone_job_sends(rt: HostRuntime) -> Result<(), Fail> {
+fn no_sender_of_a_gone_job_sends(rt: HostRuntime) {
     let alloc = rt.alloc();
-    let task = MockTask::new(&rt)?;
-    let gone = Flag::new(alloc, false)?;
-    let mut one = job(alloc, 3, gone.copy(alloc)?)?;
+    let task = MockTask::new(&rt).expect(&rt, "a task");
+    let gone = new_flag(&rt, alloc);
+    let mut one = job(&rt, alloc, 3, copy_of(&rt, alloc, &gone));
     let mut sink = sink(alloc, None);
-    assert!(rt; !one.is_dead());
+    expect_so(&rt, !one.is_dead(), "it lives");
     gone.raise();
-    assert!(rt; one.start(alloc, &mut sink).is_ok());
-    assert!(rt; one.is_dead());
+    drop(gone);
+    start(&rt, alloc, &one, &mut sink);
+    expect_so(&rt, one.is_dead(), "it is gone");
     for number in 0..SENDERS {
-        let answer = call(&one, alloc, &mut sink, number);
-        let mut ticket = answer.ok().ok_or("a ticket")?;
-        assert!(rt; is_ready(&task, &mut ticket), "at {number}");
+        expect_ready_at_once(&rt, alloc, &task, &one, &mut sink, number);
     }
-    let asks = asks_of(alloc, &sink)?;
-    assert_eq!(rt; asks.as_slice(), b"3 start = start; normal\n".as_slice());
-    assert_eq!(rt; sink.sends, 1);
-    Ok(())
+    expect_asks(&rt, alloc, &sink, "3 start = start; normal\n");
+    expect_so(&rt, sink.sends == 1, "one was sent");
+    drop(sink);
+    drop(one);
+    drop(task);
 }
 
 const OF_TWO_JOBS: &str = "\
@@ -204,120 +270,180 @@ const OF_TWO_JOBS: &str = "\
 3 start = start; normal
 ";
 
+/// Sends this control to this job.
+fn control(rt: &impl Abort, alloc: Global, job: &Job, sink: &mut Kept, control: Control) {
+    let ticket = job.control(alloc, sink, control).expect(rt, "a ticket");
+    drop(ticket);
+}
+
+/// Stops this job.
+fn stop(rt: &impl Abort, alloc: Global, job: &Job, sink: &mut Kept) {
+    let ticket = job.stop(alloc, sink).expect(rt, "a ticket");
+    drop(ticket);
+}
+
 #[test]
-fn asks_of_two_jobs_in_order(rt: HostRuntime) -> Result<(), Fail> {
+fn asks_of_two_jobs_in_order(rt: HostRuntime) {
     let alloc = rt.alloc();
-    let one = job(alloc, 3, Flag::new(alloc, false)?)?;
-    let other = job(alloc, 0, Flag::new(alloc, false)?)?;
+    let one = live_job(&rt, alloc, 3);
+    let other = live_job(&rt, alloc, 0);
     let mut sink = sink(alloc, None);
-    assert!(rt; one.start(alloc, &mut sink).is_ok());
-    assert!(rt; other.stop(alloc, &mut sink).is_ok());
-    assert!(rt; one.control(alloc, &mut sink, Control::Stop).is_ok());
-    assert!(rt; one.control(alloc, &mut sink, Control::Start).is_ok());
-    assert_eq!(rt; asks_of(alloc, &sink)?.as_slice(), OF_TWO_JOBS.as_bytes());
-    assert_eq!(rt; sink.sends, 4);
-    Ok(())
+    start(&rt, alloc, &one, &mut sink);
+    stop(&rt, alloc, &other, &mut sink);
+    control(&rt, alloc, &one, &mut sink, Control::Stop);
+    control(&rt, alloc, &one, &mut sink, Control::Start);
+    expect_asks(&rt, alloc, &sink, OF_TWO_JOBS);
+    expect_so(&rt, sink.sends == 4, "four were sent");
+    drop(sink);
+    drop(other);
+    drop(one);
 }
 
-#[test]
-fn refused_sends_leave_nothing(rt: HostRuntime) -> Result<(), Fail> {
-    let alloc = rt.alloc();
-    let one = job(alloc, 3, Flag::new(alloc, false)?)?;
-    for (refusal, fulls) in [(Refused::Full, 22), (Refused::Memory, 0)] {
-        let mut sink = sink(alloc, Some(refusal));
-        for number in 0..SENDERS {
-            let answer = call(&one, alloc, &mut sink, number);
-            assert_eq!(rt; answer.err(), Some(refusal), "at {number}");
-        }
-        assert!(rt; sink.asks.is_empty());
-        assert_eq!(rt; sink.sends, 22);
-        assert_eq!(rt; sink.fulls, fulls);
+/// Calls the sender of this number, which is refused so.
+fn expect_refusal(
+    rt: &impl Abort,
+    alloc: Global,
+    job: &Job,
+    sink: &mut Kept,
+    number: u32,
+    refusal: Refused,
+) {
+    let answer = call(job, alloc, sink, number).err();
+    expect_at(rt, answer == Some(refusal), number);
+}
+
+/// Calls each sender over a sink that refuses so: nothing is kept, and so many sends find no room.
+fn expect_refused(rt: &impl Abort, alloc: Global, job: &Job, refusal: Refused, fulls: u64) {
+    let mut sink = sink(alloc, Some(refusal));
+    for number in 0..SENDERS {
+        expect_refusal(rt, alloc, job, &mut sink, number, refusal);
     }
-    Ok(())
-}
-
-/// The words of the command of a copy of a job.
-fn command_of_a_copy(alloc: Global) -> Result<Text, Memory> {
-    let copy = job(alloc, 9, Flag::new(alloc, false)?)?.copy(alloc)?;
-    line_of(alloc, copy.command())
+    expect_so(rt, sink.asks.is_empty(), "no ask is kept");
+    expect_so(rt, sink.sends == 22 && sink.fulls == fulls, "22 sends");
+    drop(sink);
 }
 
 #[test]
-fn copies_are_equal(rt: HostRuntime) -> Result<(), Fail> {
+fn refused_sends_leave_nothing(rt: HostRuntime) {
+    let one = live_job(&rt, rt.alloc(), 3);
+    expect_refused(&rt, rt.alloc(), &one, Refused::Full, 22);
+    expect_refused(&rt, rt.alloc(), &one, Refused::Memory, 0);
+    drop(one);
+}
+
+/// Another handle on this job.
+fn copy_of_job(rt: &impl Abort, alloc: Global, job: &Job) -> Job {
+    job.copy(alloc).expect(rt, "a copy of the handle")
+}
+
+/// Holds the words of the command of this job to be these.
+fn expect_command(rt: &impl Abort, alloc: Global, job: &Job, want: &[u8]) {
+    let line = line_of(alloc, job.command()).expect(rt, "a line");
+    assert!(rt; line.as_slice() == want);
+}
+
+/// Whether a copy of this value equals it.
+fn is_copied<T: Copies + PartialEq + Drop>(alloc: Global, value: T) -> Result<bool, Memory> {
+    Ok(value.copy(alloc)? == value)
+}
+
+#[test]
+fn copies_are_equal(rt: HostRuntime) {
     let alloc = rt.alloc();
-    let line = command_of_a_copy(alloc)?;
-    assert_eq!(rt; line.as_slice(), b"exec ---- 1 true".as_slice());
-    assert_eq!(rt; Control::Stop.copy(alloc)?, Control::Stop);
-    let ask = Ask::One(Control::Start);
-    assert_eq!(rt; ask.copy(alloc)?, ask);
-    Ok(())
+    let one = live_job(&rt, alloc, 9);
+    let copy = copy_of_job(&rt, alloc, &one);
+    drop(one);
+    expect_command(&rt, alloc, &copy, b"exec ---- 1 true");
+    drop(copy);
+    expect_yes(&rt, is_copied(alloc, Control::Stop), "a control");
+    expect_yes(&rt, is_copied(alloc, Ask::One(Control::Start)), "an ask");
 }
 
 /// Starts a job by a copy of this handle: whether a copy of the ticket is ready then.
 fn start_by_a_copy(
-    task: &MockTask,
+    rt: &impl Abort,
     alloc: Global,
+    task: &MockTask,
     job: &Job,
     sink: &mut Kept,
-) -> Result<bool, Fail> {
-    let copy = job.copy(alloc)?;
-    let ticket = copy.start(alloc, sink).ok().ok_or("a ticket")?;
-    let mut second = ticket.copy(alloc)?;
-    Ok(is_ready(task, &mut second))
+) -> bool {
+    let copy = copy_of_job(rt, alloc, job);
+    let ticket = copy.start(alloc, sink).expect(rt, "a ticket");
+    drop(copy);
+    let mut second = ticket.copy(alloc).expect(rt, "a copy of the ticket");
+    drop(ticket);
+    let ready = is_ready(task, &mut second);
+    drop(second);
+    ready
 }
 
 #[test]
-fn a_copy_of_a_handle_keeps_what_was_seen(rt: HostRuntime) -> Result<(), Fail> {
+fn a_copy_of_a_handle_keeps_what_was_seen(rt: HostRuntime) {
     let alloc = rt.alloc();
-    let task = MockTask::new(&rt)?;
-    let mut one = job(alloc, 9, Flag::new(alloc, false)?)?;
+    let task = MockTask::new(&rt).expect(&rt, "a task");
+    let mut one = live_job(&rt, alloc, 9);
     let mut sink = sink(alloc, None);
-    assert!(rt; !start_by_a_copy(&task, alloc, &one, &mut sink)?);
+    let ready = start_by_a_copy(&rt, alloc, &task, &one, &mut sink);
+    expect_so(&rt, !ready, "it isn't ready");
     one.gone().raise();
-    assert!(rt; start_by_a_copy(&task, alloc, &one, &mut sink)?);
-    assert_eq!(rt; sink.sends, 2);
-    assert!(rt; one.is_dead());
-    assert!(rt; start_by_a_copy(&task, alloc, &one, &mut sink)?);
-    assert_eq!(rt; sink.sends, 2);
-    let twice = b"9 start = start; normal\n9 start = start; normal\n";
-    assert_eq!(rt; asks_of(alloc, &sink)?.as_slice(), twice.as_slice());
-    Ok(())
+    let ready = start_by_a_copy(&rt, alloc, &task, &one, &mut sink);
+    expect_so(&rt, ready && sink.sends == 2, "it is ready by the raise");
+    expect_so(&rt, one.is_dead(), "it is gone");
+    let ready = start_by_a_copy(&rt, alloc, &task, &one, &mut sink);
+    expect_so(&rt, ready && sink.sends == 2, "it is ready and not sent");
+    let twice = "9 start = start; normal\n9 start = start; normal\n";
+    expect_asks(&rt, alloc, &sink, twice);
+    drop(sink);
+    drop(one);
+    drop(task);
 }
 
 /// What a copy of this handle shows of the child.
-fn runs_by_a_copy(alloc: Global, job: &Job) -> Result<bool, Memory> {
-    Ok(job.copy(alloc)?.is_running())
+fn runs_by_a_copy(rt: &impl Abort, alloc: Global, job: &Job) -> bool {
+    let copy = copy_of_job(rt, alloc, job);
+    let runs = copy.is_running();
+    drop(copy);
+    runs
+}
+
+/// Tells of the child by this mirror, and holds what it and the handle show to be so.
+fn expect_told(rt: &impl Abort, alloc: Global, mirror: &Mirror, job: &Job, runs: bool) {
+    mirror.tell(runs);
+    expect_so(
+        rt,
+        mirror.told() == runs && job.is_running() == runs,
+        "it is told",
+    );
+    expect_so(rt, runs_by_a_copy(rt, alloc, job) == runs, "a copy is told");
 }
 
 #[test]
-fn a_handle_shows_what_was_told_of_its_child(rt: HostRuntime) -> Result<(), Fail> {
+fn a_handle_shows_what_was_told_of_its_child(rt: HostRuntime) {
     let alloc = rt.alloc();
-    let mirror = Mirror::new(alloc)?;
-    let gone = Flag::new(alloc, false)?;
-    let one = Job::new(Id(1), command(alloc)?, gone, mirror.copy(alloc)?);
-    assert!(rt; !mirror.told() && !one.is_running());
-    for runs in [true, false] {
-        mirror.tell(runs);
-        assert_eq!(rt; mirror.told(), runs);
-        assert_eq!(rt; one.is_running(), runs);
-        assert_eq!(rt; runs_by_a_copy(alloc, &one)?, runs);
-    }
-    Ok(())
+    let mirror = Mirror::new(alloc).expect(&rt, "a mirror");
+    let copy = mirror.copy(alloc).expect(&rt, "a copy of the mirror");
+    let command = command(alloc).expect(&rt, "a command");
+    let one = Job::new(Id(1), command, new_flag(&rt, alloc), copy);
+    expect_so(&rt, !mirror.told() && !one.is_running(), "none runs");
+    expect_told(&rt, alloc, &mirror, &one, true);
+    expect_told(&rt, alloc, &mirror, &one, false);
+    drop(one);
+    drop(mirror);
 }
 
 #[test]
-fn one_thread_awaits_what_another_raises(rt: HostRuntime) -> Result<(), Fail> {
+fn one_thread_awaits_what_another_raises(rt: HostRuntime) {
     let alloc = rt.alloc();
-    let gone = Flag::new(alloc, false)?;
-    let mut one = job(alloc, 1, gone.copy(alloc)?)?;
-    let both = join(gone.copy(alloc)?, Ticket::resolved(alloc, &gone)?);
+    let gone = new_flag(&rt, alloc);
+    let mut one = job(&rt, alloc, 1, copy_of(&rt, alloc, &gone));
+    let ticket = Ticket::resolved(alloc, &gone).expect(&rt, "a ticket");
+    let both = join(copy_of(&rt, alloc, &gone), ticket);
     let raise = move || {
         gone.raise();
         one.is_dead()
     };
     let rt = &rt;
     let (dead, awaited) = thread::join(rt, raise, move || block_on(rt, both));
-    assert!(rt; dead);
-    assert_eq!(rt; awaited?, ((), ()));
-    Ok(())
+    let awaited = awaited.expect(rt, "both are awaited");
+    assert!(rt; dead && awaited == ((), ()));
 }

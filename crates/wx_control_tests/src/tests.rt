@@ -3,7 +3,6 @@ use std::alloc::Global;
 use std::cmp::Ordering;
 use std::fmt;
 use std::process::Abort;
-use std::test::Fail;
 use wx_control::{
     Ask, Control, Flag, Id, Level, Picked, ThreeLists, are_equal_ids, are_equal_levels,
     compare_ids, compare_levels,
@@ -24,60 +23,73 @@ fn read_line<T: Spelled>(alloc: Global, line: &[u8]) -> Result<Option<T>, Memory
     if words.is_done() { Ok(found) } else { Ok(None) }
 }
 
-#[test]
-fn levels_as_words(rt: HostRuntime) -> Result<(), Fail> {
-    let alloc = rt.alloc();
-    let table: [(Level, &[u8]); 3] = [
-        (Level::Normal, b"normal"),
-        (Level::High, b"high"),
-        (Level::Urgent, b"urgent"),
-    ];
-    for (level, word) in table {
-        let line = line_of(alloc, &level)?;
-        assert_eq!(rt; line.as_slice(), word);
-        let found: Option<Level> = read_line(alloc, word)?;
-        assert_eq!(rt; found, Some(level));
-    }
-    let words: [&[u8]; 4] = [b"low", b"Normal", b"", b"normal "];
-    for word in words {
-        let found: Option<Level> = read_line(alloc, word)?;
-        assert_eq!(rt; found, None);
-    }
-    Ok(())
+/// Ends the test where this isn't so, and says what was looked at.
+pub fn expect_so(rt: &impl Abort, so: bool, what: &str) {
+    assert!(rt; so, "{what}");
 }
 
-/// Whether this line is read as the value with these fields, which is written by the line.
-fn is_line<T: Spelled + fmt::Debug>(alloc: Global, line: &str, fields: &str) -> Result<bool, Fail> {
+/// Ends the test where the answer isn't yes, and says what was asked.
+pub fn expect_yes(rt: &impl Abort, answer: Result<bool, Memory>, what: &str) {
+    assert!(rt; answer == Ok(true), "at {what}");
+}
+
+/// The case of a value: its words, and its fields behind ` = `.
+fn case_of<T: Spelled + fmt::Debug>(alloc: Global, value: &T) -> Result<Text, Memory> {
+    let fields = format!(in alloc; " = {value:?}")?;
+    let mut case = line_of(alloc, value)?;
+    case.append(fields.as_bytes())?;
+    Ok(case)
+}
+
+/// Whether the line of this case is read as the value with its fields, which is written by the line.
+fn is_case<T: Spelled + fmt::Debug>(alloc: Global, case: &str) -> Result<bool, Memory> {
+    let Some((line, _)) = case.split_once(" = ") else {
+        return Ok(false);
+    };
     match read_line::<T>(alloc, line.as_bytes())? {
-        Some(value) => {
-            let shown = format!(in alloc; "{value:?}")?;
-            let written = line_of(alloc, &value)?;
-            Ok(shown.as_str() == fields && written.as_slice() == line.as_bytes())
-        }
+        Some(value) => Ok(case_of(alloc, &value)?.as_slice() == case.as_bytes()),
         None => Ok(false),
     }
 }
 
 /// Each line of the table is read as the value with the fields behind ` = `, and is what it is written as.
-fn each_is_read<T: Spelled + fmt::Debug>(
-    rt: &impl Abort,
-    alloc: Global,
-    table: &str,
-) -> Result<(), Fail> {
+fn each_is_read<T: Spelled + fmt::Debug>(rt: &impl Abort, alloc: Global, table: &str) {
     for case in table.lines() {
-        let (line, fields) = case.split_once(" = ").ok_or("a line and fields")?;
-        assert!(rt; is_line::<T>(alloc, line, fields)?, "at {case}");
+        expect_yes(rt, is_case::<T>(alloc, case), case);
     }
-    Ok(())
+}
+
+/// Whether this line is no value of this type.
+fn is_refused<T: Spelled>(alloc: Global, line: &str) -> Result<bool, Memory> {
+    let found: Option<T> = read_line(alloc, line.as_bytes())?;
+    Ok(found.is_none())
 }
 
 /// No line of the table is a value of this type.
-fn each_is_refused<T: Spelled>(rt: &impl Abort, alloc: Global, table: &str) -> Result<(), Fail> {
+fn each_is_refused<T: Spelled>(rt: &impl Abort, alloc: Global, table: &str) {
     for line in table.lines() {
-        let found: Option<T> = read_line(alloc, line.as_bytes())?;
-        assert!(rt; found.is_none(), "at {line}");
+        expect_yes(rt, is_refused::<T>(alloc, line), line);
     }
-    Ok(())
+}
+
+const LEVELS: &str = "\
+normal = Normal
+high = High
+urgent = Urgent
+";
+
+// The last line has a space behind the word.
+const BAD_LEVELS: &str = "\
+low
+Normal
+
+normal\x20
+";
+
+#[test]
+fn levels_as_words(rt: HostRuntime) {
+    each_is_read::<Level>(&rt, rt.alloc(), LEVELS);
+    each_is_refused::<Level>(&rt, rt.alloc(), BAD_LEVELS);
 }
 
 const CONTROLS: &str = "\
@@ -103,8 +115,8 @@ clearspawn = ClearSpawnFn
 ";
 
 #[test]
-fn controls_as_words(rt: HostRuntime) -> Result<(), Fail> {
-    each_is_read::<Control>(&rt, rt.alloc(), CONTROLS)
+fn controls_as_words(rt: HostRuntime) {
+    each_is_read::<Control>(&rt, rt.alloc(), CONTROLS);
 }
 
 const ASKS: &str = "\
@@ -115,18 +127,21 @@ deletenow = DeleteNow
 towait = ToWait
 ";
 
+/// Whether the line of this case of a control is an ask too, of that control alone.
+fn is_one(alloc: Global, case: &str) -> Result<bool, Memory> {
+    let Some((line, fields)) = case.split_once(" = ") else {
+        return Ok(false);
+    };
+    let one = format!(in alloc; "{line} = One({fields})")?;
+    is_case::<Ask>(alloc, one.as_str())
+}
+
 #[test]
-fn asks_as_words(rt: HostRuntime) -> Result<(), Fail> {
-    each_is_read::<Ask>(&rt, rt.alloc(), ASKS)?;
+fn asks_as_words(rt: HostRuntime) {
+    each_is_read::<Ask>(&rt, rt.alloc(), ASKS);
     for case in CONTROLS.lines() {
-        let (line, fields) = case.split_once(" = ").ok_or("a line and fields")?;
-        let one = format!(in rt.alloc(); "One({fields})")?;
-        assert!(rt;
-            is_line::<Ask>(rt.alloc(), line, one.as_str())?,
-            "at {case}"
-        );
+        expect_yes(&rt, is_one(rt.alloc(), case), case);
     }
-    Ok(())
 }
 
 const BAD_ASKS: &str = "
@@ -173,66 +188,111 @@ deletenow 0
 towait 1
 ";
 
+/// Whether the line of this case of an ask is no control.
+fn is_no_control(alloc: Global, case: &str) -> Result<bool, Memory> {
+    match case.split_once(" = ") {
+        Some((line, _)) => is_refused::<Control>(alloc, line),
+        None => Ok(false),
+    }
+}
+
 #[test]
-fn refuses_bad_controls_and_asks(rt: HostRuntime) -> Result<(), Fail> {
-    each_is_refused::<Ask>(&rt, rt.alloc(), BAD_ASKS)?;
-    each_is_refused::<Control>(&rt, rt.alloc(), BAD_ASKS)?;
+fn refuses_bad_controls_and_asks(rt: HostRuntime) {
+    each_is_refused::<Ask>(&rt, rt.alloc(), BAD_ASKS);
+    each_is_refused::<Control>(&rt, rt.alloc(), BAD_ASKS);
     for case in ASKS.lines() {
-        let (line, _) = case.split_once(" = ").ok_or("a line and a text")?;
-        let found: Option<Control> = read_line(rt.alloc(), line.as_bytes())?;
-        assert!(rt; found.is_none(), "at {case}");
+        expect_yes(&rt, is_no_control(rt.alloc(), case), case);
     }
-    Ok(())
+}
+
+const NAMES: &str = "\
+0 = Id(0)
+4294967295 = Id(4294967295)
+";
+
+const BAD_NAMES: &str = "\
+4294967296
+-1
+";
+
+#[test]
+fn names_as_words(rt: HostRuntime) {
+    each_is_read::<Id>(&rt, rt.alloc(), NAMES);
+    each_is_refused::<Id>(&rt, rt.alloc(), BAD_NAMES);
+}
+
+/// Takes the value at the front of these words, and holds it to be this one.
+fn expect_next<T: Spelled + PartialEq + fmt::Debug>(
+    rt: &impl Abort,
+    alloc: Global,
+    words: &mut Words,
+    want: Option<T>,
+) {
+    let found = T::take(alloc, words).expect(rt, "a word");
+    assert_eq!(rt; found, want);
 }
 
 #[test]
-fn names_as_words(rt: HostRuntime) -> Result<(), Fail> {
-    let alloc = rt.alloc();
-    let line = line_of(alloc, &Id(4_294_967_295))?;
-    assert_eq!(rt; line.as_slice(), b"4294967295".as_slice());
-    let table: [(&[u8], Option<Id>); 4] = [
-        (b"0", Some(Id(0))),
-        (b"4294967295", Some(Id(4_294_967_295))),
-        (b"4294967296", None),
-        (b"-1", None),
-    ];
-    for (word, id) in table {
-        let found: Option<Id> = read_line(alloc, word)?;
-        assert_eq!(rt; found, id);
-    }
-    Ok(())
-}
-
-#[test]
-fn a_name_a_level_and_a_control(rt: HostRuntime) -> Result<(), Fail> {
+fn a_name_a_level_and_a_control(rt: HostRuntime) {
     let alloc = rt.alloc();
     let mut words = Words::new(b"7 normal stop");
-    assert_eq!(rt; Id::take(alloc, &mut words)?, Some(Id(7)));
-    assert_eq!(rt; Id::take(alloc, &mut words)?, None);
-    assert_eq!(rt; Level::take(alloc, &mut words)?, Some(Level::Normal));
-    assert_eq!(rt; Control::take(alloc, &mut words)?, Some(Control::Stop));
+    expect_next(&rt, alloc, &mut words, Some(Id(7)));
+    expect_next::<Id>(&rt, alloc, &mut words, None);
+    expect_next(&rt, alloc, &mut words, Some(Level::Normal));
+    expect_next(&rt, alloc, &mut words, Some(Control::Stop));
     assert!(rt; words.is_done());
-    Ok(())
+}
+
+/// Appends the second control that an ask sends, where there is one.
+fn put_second(second: Option<Control>, out: &mut Text) -> Result<(), Memory> {
+    match second {
+        Some(second) => {
+            out.append(b", ")?;
+            second.put(out)
+        }
+        None => Ok(()),
+    }
 }
 
 /// Appends the controls that an ask sends, then their level.
 pub fn put_sends(ask: &Ask, out: &mut Text) -> Result<(), Memory> {
     let sends = ask.controls();
     sends.first.put(out)?;
-    if let Some(second) = sends.second {
-        out.append(b", ")?;
-        second.put(out)?;
-    }
+    put_second(sends.second, out)?;
     out.append(b"; ")?;
     sends.level.put(out)
 }
 
-/// Whether the ask that this line spells sends what this text says: its controls, then their level.
-fn is_sent(alloc: Global, line: &str, text: &str) -> Result<bool, Fail> {
-    let ask: Ask = read_line(alloc, line.as_bytes())?.ok_or("an ask")?;
+/// What this ask sends: its controls, then their level.
+fn sends_of(alloc: Global, ask: &Ask) -> Result<Text, Memory> {
     let mut sent = Text::new(alloc);
-    put_sends(&ask, &mut sent)?;
-    Ok(sent.as_slice() == text.as_bytes())
+    put_sends(ask, &mut sent)?;
+    Ok(sent)
+}
+
+/// Whether the ask that this line spells sends what this text says.
+fn is_sent(alloc: Global, line: &str, text: &str) -> Result<bool, Memory> {
+    match read_line::<Ask>(alloc, line.as_bytes())? {
+        Some(ask) => Ok(sends_of(alloc, &ask)?.as_slice() == text.as_bytes()),
+        None => Ok(false),
+    }
+}
+
+/// Whether the ask of this case sends the controls behind ` = `.
+fn is_sent_so(alloc: Global, case: &str) -> Result<bool, Memory> {
+    match case.split_once(" = ") {
+        Some((line, text)) => is_sent(alloc, line, text),
+        None => Ok(false),
+    }
+}
+
+/// Whether the control of this case, as an ask, sends itself alone.
+fn is_sent_alone(alloc: Global, case: &str) -> Result<bool, Memory> {
+    let Some((line, _)) = case.split_once(" = ") else {
+        return Ok(false);
+    };
+    let alone = format!(in alloc; "{line}; normal")?;
+    is_sent(alloc, line, alone.as_str())
 }
 
 const SENDS: &str = "\
@@ -244,118 +304,180 @@ towait = nextending; high
 ";
 
 #[test]
-fn asks_and_their_controls(rt: HostRuntime) -> Result<(), Fail> {
+fn asks_and_their_controls(rt: HostRuntime) {
     for case in SENDS.lines() {
-        let (line, text) = case.split_once(" = ").ok_or("an ask and its controls")?;
-        assert!(rt; is_sent(rt.alloc(), line, text)?, "at {case}");
+        expect_yes(&rt, is_sent_so(rt.alloc(), case), case);
     }
     for case in CONTROLS.lines() {
-        let (line, _) = case.split_once(" = ").ok_or("a line and fields")?;
-        let alone = format!(in rt.alloc(); "{line}; normal")?;
-        assert!(rt; is_sent(rt.alloc(), line, alone.as_str())?, "at {case}");
+        expect_yes(&rt, is_sent_alone(rt.alloc(), case), case);
     }
-    Ok(())
 }
 
-#[test]
-fn levels_and_names_in_order(rt: HostRuntime) -> Result<(), Fail> {
+/// Whether these levels compare as their places do, and the rank of the first is its place.
+fn are_in_order(x: Level, i: usize, y: Level, j: usize) -> bool {
+    compare_levels(x, y) == i.cmp(&j)
+        && are_equal_levels(x, y) == (i == j)
+        && x.rank() as usize == i
+}
+
+/// Each two levels are in the order of their ranks.
+fn expect_levels_in_order(rt: &impl Abort) {
     let levels = [Level::Normal, Level::High, Level::Urgent];
     for i in 0..3 {
         for j in 0..3 {
-            let order = i.cmp(&j);
-            assert_eq!(rt; compare_levels(levels[i], levels[j]), order);
-            assert_eq!(rt; are_equal_levels(levels[i], levels[j]), i == j);
-            assert_eq!(rt; levels[i].rank() as usize, i);
+            let so = are_in_order(levels[i], i, levels[j], j);
+            expect_so(rt, so, "two levels");
         }
     }
-    assert_eq!(rt; compare_ids(Id(2), Id(10)), Ordering::Less);
-    assert!(rt; are_equal_ids(Id(2), Id(2)));
-    assert!(rt; !are_equal_ids(Id(2), Id(3)));
-    Ok(())
 }
 
-/// Lists in which these wait, each a control with its ticket and level.
-fn waiting(alloc: Global) -> Result<ThreeLists, Memory> {
-    let mut lists = ThreeLists::new(alloc);
-    lists.put(0, Flag::new(alloc, false)?, Control::Start, Level::Normal)?;
-    lists.put(1, Flag::new(alloc, false)?, Control::Stop, Level::Urgent)?;
-    lists.put(2, Flag::new(alloc, false)?, Control::Start, Level::High)?;
-    lists.put(3, Flag::new(alloc, false)?, Control::Stop, Level::Normal)?;
-    lists.put(4, Flag::new(alloc, false)?, Control::Start, Level::Urgent)?;
-    lists.put(5, Flag::new(alloc, false)?, Control::Stop, Level::High)?;
-    lists.put(6, Flag::new(alloc, false)?, Control::Start, Level::Normal)?;
-    Ok(lists)
+#[test]
+fn levels_and_names_in_order(rt: HostRuntime) {
+    expect_levels_in_order(&rt);
+    let order = compare_ids(Id(2), Id(10));
+    assert!(rt; order == Ordering::Less);
+    assert!(rt; are_equal_ids(Id(2), Id(2)) && !are_equal_ids(Id(2), Id(3)));
+}
+
+/// A flag that isn't raised.
+pub fn new_flag(rt: &impl Abort, alloc: Global) -> Flag {
+    Flag::new(alloc, false).expect(rt, "a flag")
+}
+
+/// Another handle on the same flag.
+pub fn copy_of(rt: &impl Abort, alloc: Global, flag: &Flag) -> Flag {
+    flag.copy(alloc).expect(rt, "a copy of a flag")
+}
+
+/// A control waits in these lists, with this ticket and flag.
+fn put(
+    rt: &impl Abort,
+    lists: &mut ThreeLists,
+    ticket: u64,
+    flag: Flag,
+    control: Control,
+    level: Level,
+) {
+    let answer = lists.put(ticket, flag, control, level);
+    answer.expect(rt, "room in the lists");
+}
+
+/// A control waits in these lists, with this ticket and a flag of its own.
+fn put_new(
+    rt: &impl Abort,
+    alloc: Global,
+    lists: &mut ThreeLists,
+    ticket: u64,
+    control: Control,
+    level: Level,
+) {
+    put(rt, lists, ticket, new_flag(rt, alloc), control, level);
+}
+
+/// Controls wait in these lists, each with its ticket and level.
+fn put_seven(rt: &impl Abort, alloc: Global, lists: &mut ThreeLists) {
+    put_new(rt, alloc, lists, 0, Control::Start, Level::Normal);
+    put_new(rt, alloc, lists, 1, Control::Stop, Level::Urgent);
+    put_new(rt, alloc, lists, 2, Control::Start, Level::High);
+    put_new(rt, alloc, lists, 3, Control::Stop, Level::Normal);
+    put_new(rt, alloc, lists, 4, Control::Start, Level::Urgent);
+    put_new(rt, alloc, lists, 5, Control::Stop, Level::High);
+    put_new(rt, alloc, lists, 6, Control::Start, Level::Normal);
+}
+
+/// Appends a control with its ticket.
+fn put_control(ticket: u64, control: Control, line: &mut Text) -> Result<(), Memory> {
+    ticket.put(line)?;
+    line.append(b" ")?;
+    control.put(line)
 }
 
 /// Appends what comes first, its ticket and control.
 fn put_first(first: Option<(u64, Control)>, line: &mut Text) -> Result<(), Memory> {
     if let Some((ticket, control)) = first {
-        ticket.put(line)?;
-        line.append(b" ")?;
-        control.put(line)?;
+        put_control(ticket, control, line)?;
     }
     line.append(b": ")
 }
 
 /// Appends what was picked, its ticket, control and level.
-fn put_pick(picked: Option<Picked>, line: &mut Text) -> Result<(), Memory> {
+fn put_picked(picked: &Option<Picked>, line: &mut Text) -> Result<(), Memory> {
     if let Some(picked) = picked {
-        picked.ticket.put(line)?;
-        line.append(b" ")?;
-        picked.control.put(line)?;
+        put_control(picked.ticket, picked.control, line)?;
         line.append(b" ")?;
         picked.level.put(line)?;
     }
     line.append(b"; ")
 }
 
-/// What comes first and is picked, one after another, where a grace runs or not.
-fn picks_of(alloc: Global, lists: &mut ThreeLists, graces: &[bool]) -> Result<Text, Memory> {
+/// Picks one control where a grace runs or not, and appends what came first and what was picked.
+fn pick(rt: &impl Abort, lists: &mut ThreeLists, grace: bool, line: &mut Text) {
+    let first = put_first(lists.first(grace), line);
+    first.expect(rt, "room in the line");
+    let picked = lists.pick(grace);
+    let written = put_picked(&picked, line);
+    written.expect(rt, "room in the line");
+    drop(picked);
+}
+
+/// What came first and was picked, one after another, where a grace ran or not.
+fn picks_of(rt: &impl Abort, alloc: Global, lists: &mut ThreeLists, graces: &[bool]) -> Text {
     let mut line = Text::new(alloc);
     for grace in graces {
-        put_first(lists.first(*grace), &mut line)?;
-        put_pick(lists.pick(*grace), &mut line)?;
+        pick(rt, lists, *grace, &mut line);
     }
-    Ok(line)
+    line
+}
+
+const GRACES: [bool; 10] = [
+    false, true, true, false, true, false, false, true, false, false,
+];
+
+// For each of these graces what came first and what was picked.
+const PICKS: &str = "\
+    1 stop: 1 stop urgent; 4 start: 4 start urgent; \
+    2 start: 2 start high; 5 stop: 5 stop high; : ; \
+    0 start: 0 start normal; 3 stop: 3 stop normal; : ; 6 start: 6 start normal; : ; ";
+
+#[test]
+fn the_most_pressing_is_picked_first(rt: HostRuntime) {
+    let mut lists = ThreeLists::new(rt.alloc());
+    put_seven(&rt, rt.alloc(), &mut lists);
+    expect_so(&rt, lists.count() == Some(7), "seven wait");
+    let line = picks_of(&rt, rt.alloc(), &mut lists, &GRACES);
+    expect_so(&rt, line.as_slice() == PICKS.as_bytes(), "the picks");
+    drop(lists);
+}
+
+/// Two controls wait, for which room was taken before.
+fn put_two(rt: &impl Abort, alloc: Global, lists: &mut ThreeLists) {
+    let answer = lists.reserve(2);
+    answer.expect(rt, "room in the lists");
+    lists.put_reserved(7, new_flag(rt, alloc), Control::Start, Level::Normal);
+    lists.put_reserved(8, new_flag(rt, alloc), Control::Stop, Level::Normal);
+}
+
+/// Picks one control, and holds its ticket to be this one.
+fn expect_pick(rt: &impl Abort, lists: &mut ThreeLists, want: Option<u64>) {
+    let ticket = lists.pick(false).map(|x| x.ticket);
+    assert!(rt; ticket == want);
 }
 
 #[test]
-fn the_most_pressing_is_picked_first(rt: HostRuntime) -> Result<(), Fail> {
-    let mut lists = waiting(rt.alloc())?;
-    assert_eq!(rt; lists.count(), Some(7));
-    let graces = [
-        false, true, true, false, true, false, false, true, false, false,
-    ];
-    let line = picks_of(rt.alloc(), &mut lists, &graces)?;
-    let urgent = b"1 stop: 1 stop urgent; 4 start: 4 start urgent; ";
-    let high = b"2 start: 2 start high; 5 stop: 5 stop high; : ; ";
-    let normal =
-        b"0 start: 0 start normal; 3 stop: 3 stop normal; : ; 6 start: 6 start normal; : ; ";
-    let mut expected = Text::new(rt.alloc());
-    expected.append(urgent)?;
-    expected.append(high)?;
-    expected.append(normal)?;
-    assert_eq!(rt; line.as_slice(), expected.as_slice());
-    Ok(())
-}
-
-#[test]
-fn what_is_put_behind_a_pick_waits_behind(rt: HostRuntime) -> Result<(), Fail> {
-    let alloc = rt.alloc();
-    let mut lists = ThreeLists::new(alloc);
-    lists.reserve(2)?;
-    lists.put_reserved(7, Flag::new(alloc, false)?, Control::Start, Level::Normal);
-    lists.put_reserved(8, Flag::new(alloc, false)?, Control::Stop, Level::Normal);
-    assert_eq!(rt; lists.pick(false).map(|x| x.ticket), Some(7));
-    lists.put(9, Flag::new(alloc, false)?, Control::Start, Level::Normal)?;
-    assert_eq!(rt; lists.pick(false).map(|x| x.ticket), Some(8));
-    assert_eq!(rt; lists.first(false), Some((9, Control::Start)));
-    assert_eq!(rt; lists.count(), Some(1));
+fn what_is_put_behind_a_pick_waits_behind(rt: HostRuntime) {
+    let mut lists = ThreeLists::new(rt.alloc());
+    put_two(&rt, rt.alloc(), &mut lists);
+    expect_pick(&rt, &mut lists, Some(7));
+    let flag = new_flag(&rt, rt.alloc());
+    put(&rt, &mut lists, 9, flag, Control::Start, Level::Normal);
+    expect_pick(&rt, &mut lists, Some(8));
+    let next = lists.first(false) == Some((9, Control::Start));
+    expect_so(&rt, next && lists.count() == Some(1), "the third waits");
     lists.clear();
-    assert_eq!(rt; lists.count(), Some(0));
-    assert_eq!(rt; lists.first(false), None);
-    assert!(rt; lists.pick(false).is_none());
-    Ok(())
+    let none = lists.first(false).is_none() && lists.count() == Some(0);
+    expect_so(&rt, none, "none waits");
+    expect_pick(&rt, &mut lists, None);
+    drop(lists);
 }
 
 /// Picks one control, and raises its flag.
@@ -366,16 +488,18 @@ fn finish_one(lists: &mut ThreeLists) {
 }
 
 #[test]
-fn each_pick_has_the_flag_that_was_put_with_it(rt: HostRuntime) -> Result<(), Fail> {
+fn each_pick_has_the_flag_that_was_put_with_it(rt: HostRuntime) {
     let alloc = rt.alloc();
-    let later = Flag::new(alloc, false)?;
-    let sooner = Flag::new(alloc, false)?;
+    let later = new_flag(&rt, alloc);
+    let sooner = new_flag(&rt, alloc);
     let mut lists = ThreeLists::new(alloc);
-    lists.put(0, later.copy(alloc)?, Control::Stop, Level::Normal)?;
-    lists.put(1, sooner.copy(alloc)?, Control::Stop, Level::Urgent)?;
+    let flag = copy_of(&rt, alloc, &later);
+    put(&rt, &mut lists, 0, flag, Control::Stop, Level::Normal);
+    let flag = copy_of(&rt, alloc, &sooner);
+    put(&rt, &mut lists, 1, flag, Control::Stop, Level::Urgent);
     finish_one(&mut lists);
-    assert!(rt; sooner.raised() && !later.raised());
+    expect_so(&rt, sooner.raised() && !later.raised(), "one is raised");
     finish_one(&mut lists);
-    assert!(rt; later.raised());
-    Ok(())
+    expect_so(&rt, later.raised(), "both are raised");
+    drop(lists);
 }

@@ -13,7 +13,7 @@ use wx_action::{ActionHandler, ErrorHook, Hooks, JobHooks};
 use wx_command::Spawnable;
 use wx_config::{Filterer, RuntimeError};
 use wx_control::Id;
-use wx_events::{Copies, Event, Memory, Priority};
+use wx_events::{Copies, Event, List, Memory, Priority};
 use wx_job::JobTaskContext;
 use wx_journal::{Entry, HostFault};
 
@@ -38,29 +38,29 @@ impl BoxedHooks {
     /// Hooks that hold these boxes, before the first call. It takes no memory.
     pub fn new(
         alloc: Global,
-        filters: Vec<Box<dyn Filterer + Drop>>,
-        actions: Vec<Box<dyn OnAction + Drop>>,
-        errors: Vec<Box<dyn OnError + Drop>>,
-        functions: Vec<Box<dyn OnJob + Drop>>,
-        hooks: Vec<Box<dyn OnSpawn + Drop>>,
-        faults: Vec<Box<dyn OnFault + Drop>>,
+        filters: List<Box<dyn Filterer + Drop>>,
+        actions: List<Box<dyn OnAction + Drop>>,
+        errors: List<Box<dyn OnError + Drop>>,
+        functions: List<Box<dyn OnJob + Drop>>,
+        hooks: List<Box<dyn OnSpawn + Drop>>,
+        faults: List<Box<dyn OnFault + Drop>>,
     ) -> BoxedHooks
-        ensures filters { result.filters ≡ filters }
-        ensures actions { result.actions ≡ actions }
-        ensures errors { result.errors ≡ errors }
-        ensures functions { result.functions ≡ functions }
-        ensures hooks { result.hooks ≡ hooks }
-        ensures faults { result.faults ≡ faults }
+        ensures filters { result.filters.items ≡ filters }
+        ensures actions { result.actions.items ≡ actions }
+        ensures errors { result.errors.items ≡ errors }
+        ensures functions { result.functions.items ≡ functions }
+        ensures hooks { result.hooks.items ≡ hooks }
+        ensures faults { result.faults.items ≡ faults }
         ensures told { result.told.past ≡ [] }
     {
         BoxedHooks {
             alloc,
-            filters,
-            actions,
-            errors,
-            functions,
-            hooks,
-            faults,
+            filters: filters.into_vec(),
+            actions: actions.into_vec(),
+            errors: errors.into_vec(),
+            functions: functions.into_vec(),
+            hooks: hooks.into_vec(),
+            faults: faults.into_vec(),
             told: Told::new(alloc),
         }
     }
@@ -285,9 +285,7 @@ fn show_error(errors: &mut [Box<dyn OnError + Drop>], n: u32, hook: &mut ErrorHo
 fn act(actions: &mut [Box<dyn OnAction + Drop>], n: u32, handler: &mut ActionHandler<'_>)
     requires open { handler.old.handed ≡ false }
     requires fresh { handler.old.acts ≡ [] }
-    ensures past { handler.new.past ≡ handler.old.past }
-    ensures names { handler.new.names ≡ handler.old.names }
-    ensures open { handler.new.handed ≡ false }
+    ensures same { handler.new ≡ record handler.old { acts = handler.new.acts } }
     ensures usual { length actions.old ≤ n → handler.new.acts ≡ [] }
 {
     if let Some(action) = actions.get_mut(n as usize) {

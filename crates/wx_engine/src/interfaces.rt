@@ -17,9 +17,7 @@ pub trait OnAction {
     fn act(&mut self, handler: &mut ActionHandler<'_>)
         requires open { handler.old.handed ≡ false }
         requires fresh { handler.old.acts ≡ [] }
-        ensures past { handler.new.past ≡ handler.old.past }
-        ensures names { handler.new.names ≡ handler.old.names }
-        ensures open { handler.new.handed ≡ false };
+        ensures same { handler.new ≡ record handler.old { acts = handler.new.acts } };
 }
 
 /// An error handler of the engine.

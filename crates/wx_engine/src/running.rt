@@ -117,9 +117,7 @@ fn serve<W: World, H: Hooks>(
 ) -> Result<Worked, CriticalError>
     ghost start: { Start }
     requires turn { AtTurn start state.old at kind journal.old.past }
-    requires room { HasRoom state.old journal.old.spare (W.seen world.old).spare }
-    ensures continues { Continues H.seen H.rule H.stands start journal.old.past (W.seen world.old) hooks.old state.new journal.new.past (W.seen world.new) hooks.new }
-    ensures room { HasRoom state.new journal.new.spare (W.seen world.new).spare }
+    ensures continues { Continues H.seen H.rule H.stands start state.old journal.old (W.seen world.old) hooks.old state.new journal.new (W.seen world.new) hooks.new }
     ensures works { IfOk result (λ worked. Works start worked journal.new.past) }
     ensures last { IfOk result (λ worked. worked ≡ Worked.On → is_last kind ≡ false) }
     ensures breaks { IfErr result (λ error. BreaksOff start journal.new.past error) }

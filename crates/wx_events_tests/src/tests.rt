@@ -4,7 +4,6 @@
 use std::alloc::Global;
 use std::fmt;
 use std::process::Abort;
-use std::test::Fail;
 use wx_events::{
     Event, FileEventKind, FileType, Keyboard, Modifiers, Priority, ProcessEnd, Signal, Source, Tag,
 };
@@ -25,23 +24,25 @@ fn is_written<T: Spelled>(alloc: Global, value: &T, line: &str) -> Result<bool, 
 }
 
 /// Whether this value is shown by this line.
-fn is_shown<T: fmt::Display>(alloc: Global, value: &T, line: &str) -> Result<bool, Fail> {
+fn is_shown<T: fmt::Display>(alloc: Global, value: &T, line: &str) -> Result<bool, Memory> {
     let shown = format!(in alloc; "{value}")?;
     Ok(shown.as_str() == line)
 }
 
 /// Whether the fields of this value are shown by this text.
-fn has_fields<T: fmt::Debug>(alloc: Global, value: &T, fields: &str) -> Result<bool, Fail> {
+fn has_fields<T: fmt::Debug>(alloc: Global, value: &T, fields: &str) -> Result<bool, Memory> {
     let shown = format!(in alloc; "{value:?}")?;
     Ok(shown.as_str() == fields)
 }
 
-/// Whether this line is read as the value with these fields, which is written and shown by the line.
-fn is_line<T: Spelled + fmt::Display + fmt::Debug>(
+/// Whether the value at the front of this case has the fields behind ` = `, and is written and shown by its line.
+fn is_case<T: Spelled + fmt::Display + fmt::Debug>(
     alloc: Global,
-    line: &str,
-    fields: &str,
-) -> Result<bool, Fail> {
+    case: &str,
+) -> Result<bool, Memory> {
+    let Some((line, fields)) = case.split_once(" = ") else {
+        return Ok(false);
+    };
     match read_line::<T>(alloc, line.as_bytes())? {
         Some(value) => Ok(
             has_fields(alloc, &value, fields)?
@@ -52,40 +53,51 @@ fn is_line<T: Spelled + fmt::Display + fmt::Debug>(
     }
 }
 
+/// Ends the test where the answer isn't yes, and says at which case.
+fn expect_yes(rt: &impl Abort, answer: Result<bool, Memory>, case: &str) {
+    assert!(rt; answer == Ok(true), "at {case}");
+}
+
 /// Each line of the table is read as its value, which is written and shown by the line.
 fn each_is_read<T: Spelled + fmt::Display + fmt::Debug>(
     rt: &impl Abort,
     alloc: Global,
     table: &str,
-) -> Result<(), Fail> {
+) {
     for case in table.lines() {
-        let (line, fields) = case.split_once(" = ").ok_or("a line and fields")?;
-        assert!(rt; is_line::<T>(alloc, line, fields)?, "at {case}");
+        expect_yes(rt, is_case::<T>(alloc, case), case);
     }
-    Ok(())
+}
+
+/// Whether the value at the front of this case equals its copy.
+fn is_copied<T: Spelled + Copies + PartialEq>(alloc: Global, case: &str) -> Result<bool, Memory> {
+    let Some((line, _)) = case.split_once(" = ") else {
+        return Ok(false);
+    };
+    match read_line::<T>(alloc, line.as_bytes())? {
+        Some(value) => Ok(value.copy(alloc)? == value),
+        None => Ok(false),
+    }
 }
 
 /// The value at each line of the table equals its copy.
-fn each_is_copied<T: Spelled + Copies + PartialEq>(
-    rt: &impl Abort,
-    alloc: Global,
-    table: &str,
-) -> Result<(), Fail> {
+fn each_is_copied<T: Spelled + Copies + PartialEq>(rt: &impl Abort, alloc: Global, table: &str) {
     for case in table.lines() {
-        let (line, _) = case.split_once(" = ").ok_or("a line and fields")?;
-        let value: T = read_line(alloc, line.as_bytes())?.ok_or("a value")?;
-        assert!(rt; value.copy(alloc)? == value, "at {case}");
+        expect_yes(rt, is_copied::<T>(alloc, case), case);
     }
-    Ok(())
+}
+
+/// Whether this line is no value of this type.
+fn is_refused<T: Spelled>(alloc: Global, line: &str) -> Result<bool, Memory> {
+    let found: Option<T> = read_line(alloc, line.as_bytes())?;
+    Ok(found.is_none())
 }
 
 /// No line of the table is a value of this type.
-fn each_is_refused<T: Spelled>(rt: &impl Abort, alloc: Global, table: &str) -> Result<(), Fail> {
+fn each_is_refused<T: Spelled>(rt: &impl Abort, alloc: Global, table: &str) {
     for line in table.lines() {
-        let found: Option<T> = read_line(alloc, line.as_bytes())?;
-        assert!(rt; found.is_none(), "at {line}");
+        expect_yes(rt, is_refused::<T>(alloc, line), line);
     }
-    Ok(())
 }
 
 const PRIORITIES: &str = "\
@@ -96,8 +108,8 @@ urgent = Urgent
 ";
 
 #[test]
-fn priorities(rt: HostRuntime) -> Result<(), Fail> {
-    each_is_read::<Priority>(&rt, rt.alloc(), PRIORITIES)
+fn priorities(rt: HostRuntime) {
+    each_is_read::<Priority>(&rt, rt.alloc(), PRIORITIES);
 }
 
 const TAGS: &str = "\
@@ -113,37 +125,53 @@ unknown = Unknown
 ";
 
 #[test]
-fn tags(rt: HostRuntime) -> Result<(), Fail> {
-    each_is_read::<Tag>(&rt, rt.alloc(), TAGS)
+fn tags(rt: HostRuntime) {
+    each_is_read::<Tag>(&rt, rt.alloc(), TAGS);
 }
 
 const EVERY_TAG: &str =
     "8 path /a%20b file kind modify.data.content source filesystem key ctrl.char.a process 7 signal custom.-3 end error.-1 unknown";
 
-#[test]
-fn an_event_of_every_tag(rt: HostRuntime) -> Result<(), Fail> {
-    let alloc = rt.alloc();
-    let event: Event = read_line(alloc, EVERY_TAG.as_bytes())?.ok_or("an event")?;
-    assert_eq!(rt; event.tags.len(), 8);
-    assert!(rt; !event.is_empty());
-    assert!(rt; is_written(alloc, &event, EVERY_TAG)?);
-    assert!(rt; is_shown(alloc, &event, EVERY_TAG)?);
-    assert!(rt; event.copy(alloc)? == event);
-    Ok(())
+/// The event whose words are this whole line.
+fn event_of(rt: &impl Abort, alloc: Global, line: &str) -> Event {
+    let found = read_line(alloc, line.as_bytes()).expect(rt, "a line");
+    found.expect(rt, "an event")
+}
+
+/// Whether a copy of this event equals it.
+fn equals_its_copy(alloc: Global, event: &Event) -> Result<bool, Memory> {
+    let copy = event.copy(alloc)?;
+    let so = copy == *event;
+    drop(copy);
+    Ok(so)
+}
+
+/// An event is written and shown by this line, and equals its copy.
+fn expect_event(rt: &impl Abort, alloc: Global, event: &Event, line: &str) {
+    expect_yes(rt, is_written(alloc, event, line), line);
+    expect_yes(rt, is_shown(alloc, event, line), line);
+    expect_yes(rt, equals_its_copy(alloc, event), line);
 }
 
 #[test]
-fn an_event_without_tags(rt: HostRuntime) -> Result<(), Fail> {
+fn an_event_of_every_tag(rt: HostRuntime) {
+    let event = event_of(&rt, rt.alloc(), EVERY_TAG);
+    assert!(rt; event.tags.len() == 8 && !event.is_empty());
+    expect_event(&rt, rt.alloc(), &event, EVERY_TAG);
+    drop(event);
+}
+
+#[test]
+fn an_event_without_tags(rt: HostRuntime) {
     let alloc = rt.alloc();
     let none = Event {
         tags: List::new(alloc),
     };
-    assert!(rt; none.is_empty());
-    assert!(rt; is_written(alloc, &none, "0")?);
-    assert!(rt; is_shown(alloc, &none, "0")?);
-    let read: Option<Event> = read_line(alloc, b"0")?;
-    assert!(rt; read == Some(none));
-    Ok(())
+    expect_event(&rt, alloc, &none, "0");
+    let read = event_of(&rt, alloc, "0");
+    assert!(rt; none.is_empty() && read == none);
+    drop(read);
+    drop(none);
 }
 
 const FILE_TYPES: &str = "\
@@ -163,9 +191,9 @@ internal = Internal
 ";
 
 #[test]
-fn file_types_and_sources(rt: HostRuntime) -> Result<(), Fail> {
-    each_is_read::<FileType>(&rt, rt.alloc(), FILE_TYPES)?;
-    each_is_read::<Source>(&rt, rt.alloc(), SOURCES)
+fn file_types_and_sources(rt: HostRuntime) {
+    each_is_read::<FileType>(&rt, rt.alloc(), FILE_TYPES);
+    each_is_read::<Source>(&rt, rt.alloc(), SOURCES);
 }
 
 const KINDS: &str = "\
@@ -195,8 +223,8 @@ remove.other = Remove(Other)
 ";
 
 #[test]
-fn accesses_creations_and_removals(rt: HostRuntime) -> Result<(), Fail> {
-    each_is_read::<FileEventKind>(&rt, rt.alloc(), KINDS)
+fn accesses_creations_and_removals(rt: HostRuntime) {
+    each_is_read::<FileEventKind>(&rt, rt.alloc(), KINDS);
 }
 
 const MODIFICATIONS: &str = "\
@@ -221,8 +249,8 @@ modify.name.other = Modify(Name(Other))
 ";
 
 #[test]
-fn modifications(rt: HostRuntime) -> Result<(), Fail> {
-    each_is_read::<FileEventKind>(&rt, rt.alloc(), MODIFICATIONS)
+fn modifications(rt: HostRuntime) {
+    each_is_read::<FileEventKind>(&rt, rt.alloc(), MODIFICATIONS);
 }
 
 const KEYS: &str = "\
@@ -241,24 +269,29 @@ char.%F4%8F%BF%BF = Key { key: Char('\\u{10ffff}'), modifiers: Modifiers { ctrl:
 ";
 
 #[test]
-fn keys(rt: HostRuntime) -> Result<(), Fail> {
-    assert_eq!(rt; Modifiers::default(), Modifiers { ctrl: false });
-    each_is_read::<Keyboard>(&rt, rt.alloc(), KEYS)
+fn keys(rt: HostRuntime) {
+    assert!(rt; Modifiers::default() == Modifiers { ctrl: false });
+    each_is_read::<Keyboard>(&rt, rt.alloc(), KEYS);
 }
 
 /// Whether this word is read as the key with these fields, which is written otherwise.
-fn is_key(alloc: Global, word: &[u8], fields: &str) -> Result<bool, Fail> {
-    let key: Keyboard = read_line(alloc, word)?.ok_or("a key")?;
-    has_fields(alloc, &key, fields)
+fn is_key(alloc: Global, word: &[u8], fields: &str) -> Result<bool, Memory> {
+    match read_line::<Keyboard>(alloc, word)? {
+        Some(key) => has_fields(alloc, &key, fields),
+        None => Ok(false),
+    }
 }
 
 #[test]
-fn escapes_that_are_not_written(rt: HostRuntime) -> Result<(), Fail> {
+fn escapes_that_are_not_written(rt: HostRuntime) {
     let lower = "Key { key: Char('\u{e9}'), modifiers: Modifiers { ctrl: false } }";
-    assert!(rt; is_key(rt.alloc(), b"char.%c3%a9", lower)?);
+    expect_yes(&rt, is_key(rt.alloc(), b"char.%c3%a9", lower), lower);
     let needless = "Key { key: Char('.'), modifiers: Modifiers { ctrl: true } }";
-    assert!(rt; is_key(rt.alloc(), b"ctrl.char.%2E", needless)?);
-    Ok(())
+    expect_yes(
+        &rt,
+        is_key(rt.alloc(), b"ctrl.char.%2E", needless),
+        needless,
+    );
 }
 
 // The first line is empty, here and in the other tables that begin so.
@@ -295,10 +328,10 @@ const BAD_EVENTS: &str = "
 ";
 
 #[test]
-fn refuses_bad_tags(rt: HostRuntime) -> Result<(), Fail> {
-    each_is_refused::<Tag>(&rt, rt.alloc(), BAD_TAGS)?;
-    each_is_refused::<Event>(&rt, rt.alloc(), BAD_EVENTS)?;
-    each_is_refused::<Priority>(&rt, rt.alloc(), "Low")
+fn refuses_bad_tags(rt: HostRuntime) {
+    each_is_refused::<Tag>(&rt, rt.alloc(), BAD_TAGS);
+    each_is_refused::<Event>(&rt, rt.alloc(), BAD_EVENTS);
+    each_is_refused::<Priority>(&rt, rt.alloc(), "Low");
 }
 
 const BAD_KINDS: &str = "\
@@ -324,8 +357,8 @@ remove.folders
 ";
 
 #[test]
-fn refuses_bad_kinds(rt: HostRuntime) -> Result<(), Fail> {
-    each_is_refused::<FileEventKind>(&rt, rt.alloc(), BAD_KINDS)
+fn refuses_bad_kinds(rt: HostRuntime) {
+    each_is_refused::<FileEventKind>(&rt, rt.alloc(), BAD_KINDS);
 }
 
 const BAD_KEYS: &str = "
@@ -349,8 +382,8 @@ char.\u{e9}
 ";
 
 #[test]
-fn refuses_bad_keys(rt: HostRuntime) -> Result<(), Fail> {
-    each_is_refused::<Keyboard>(&rt, rt.alloc(), BAD_KEYS)
+fn refuses_bad_keys(rt: HostRuntime) {
+    each_is_refused::<Keyboard>(&rt, rt.alloc(), BAD_KEYS);
 }
 
 const SIGNALS: &str = "\
@@ -371,9 +404,9 @@ custom.-2147483648 = Custom(-2147483648)
 ";
 
 #[test]
-fn signals(rt: HostRuntime) -> Result<(), Fail> {
-    each_is_read::<Signal>(&rt, rt.alloc(), SIGNALS)?;
-    each_is_copied::<Signal>(&rt, rt.alloc(), SIGNALS)
+fn signals(rt: HostRuntime) {
+    each_is_read::<Signal>(&rt, rt.alloc(), SIGNALS);
+    each_is_copied::<Signal>(&rt, rt.alloc(), SIGNALS);
 }
 
 const BAD_SIGNALS: &str = "
@@ -393,8 +426,8 @@ custom.-2147483649
 ";
 
 #[test]
-fn refuses_bad_signals(rt: HostRuntime) -> Result<(), Fail> {
-    each_is_refused::<Signal>(&rt, rt.alloc(), BAD_SIGNALS)
+fn refuses_bad_signals(rt: HostRuntime) {
+    each_is_refused::<Signal>(&rt, rt.alloc(), BAD_SIGNALS);
 }
 
 const NATIVES: &str = "\
@@ -416,17 +449,22 @@ custom.2147483647 = None
 custom.-2147483648 = None
 ";
 
-#[test]
-fn numbers_of_signals(rt: HostRuntime) -> Result<(), Fail> {
-    for case in NATIVES.lines() {
-        let (line, number) = case.split_once(" = ").ok_or("a signal and its number")?;
-        let signal: Signal = read_line(rt.alloc(), line.as_bytes())?.ok_or("a signal")?;
-        assert!(rt;
-            has_fields(rt.alloc(), &signal.native(), number)?,
-            "at {case}"
-        );
+/// Whether the signal at the front of this case has the number behind ` = `.
+fn has_number(alloc: Global, case: &str) -> Result<bool, Memory> {
+    let Some((line, number)) = case.split_once(" = ") else {
+        return Ok(false);
+    };
+    match read_line::<Signal>(alloc, line.as_bytes())? {
+        Some(signal) => has_fields(alloc, &signal.native(), number),
+        None => Ok(false),
     }
-    Ok(())
+}
+
+#[test]
+fn numbers_of_signals(rt: HostRuntime) {
+    for case in NATIVES.lines() {
+        expect_yes(&rt, has_number(rt.alloc(), case), case);
+    }
 }
 
 const ENDS: &str = "\
@@ -446,9 +484,9 @@ continued = Continued
 ";
 
 #[test]
-fn ends(rt: HostRuntime) -> Result<(), Fail> {
-    each_is_read::<ProcessEnd>(&rt, rt.alloc(), ENDS)?;
-    each_is_copied::<ProcessEnd>(&rt, rt.alloc(), ENDS)
+fn ends(rt: HostRuntime) {
+    each_is_read::<ProcessEnd>(&rt, rt.alloc(), ENDS);
+    each_is_copied::<ProcessEnd>(&rt, rt.alloc(), ENDS);
 }
 
 const BAD_ENDS: &str = "\
@@ -475,6 +513,6 @@ continued.continued
 ";
 
 #[test]
-fn refuses_bad_ends(rt: HostRuntime) -> Result<(), Fail> {
-    each_is_refused::<ProcessEnd>(&rt, rt.alloc(), BAD_ENDS)
+fn refuses_bad_ends(rt: HostRuntime) {
+    each_is_refused::<ProcessEnd>(&rt, rt.alloc(), BAD_ENDS);
 }

@@ -3,25 +3,28 @@ ghost use Rattle.std.specs.Prelude.{◌≤◌, IfOk};
 
 use std::alloc::Global;
 use std::process::Abort;
-use std::test::Fail;
 use wx_action::{IdCount, lost, print_journal};
 use wx_config::{CriticalError, RuntimeError};
 use wx_control::Id;
 use wx_events::{Event, List, Memory, Priority, Tag, Text};
 use wx_journal::{Entry, Journal};
 
+/// Takes the next id of this count, and holds it to be this one.
+fn expect_next(rt: &impl Abort, count: &mut IdCount, want: Option<Id>) {
+    assert!(rt; count.next() == want);
+}
+
 #[test]
-fn ids_are_given_once(rt: HostRuntime) -> Result<(), Fail> {
+fn ids_are_given_once(rt: HostRuntime) {
     let mut first = IdCount::new(0);
-    assert_eq!(rt; first.next(), Some(Id(0)));
-    assert_eq!(rt; first.next(), Some(Id(1)));
+    expect_next(&rt, &mut first, Some(Id(0)));
+    expect_next(&rt, &mut first, Some(Id(1)));
     let mut last = IdCount::new(4_294_967_294);
-    assert_eq!(rt; last.next(), Some(Id(4_294_967_294)));
-    assert_eq!(rt; last.next(), None);
-    assert_eq!(rt; last.next(), None);
-    assert_eq!(rt; IdCount::new(4_294_967_295).next(), None);
-    assert_eq!(rt; IdCount::new(u64::MAX).next(), None);
-    Ok(())
+    expect_next(&rt, &mut last, Some(Id(4_294_967_294)));
+    expect_next(&rt, &mut last, None);
+    expect_next(&rt, &mut last, None);
+    expect_next(&rt, &mut IdCount::new(4_294_967_295), None);
+    expect_next(&rt, &mut IdCount::new(u64::MAX), None);
 }
 
 /// The entry that lists an event of this name and priority as sent, with these tags.
@@ -43,16 +46,10 @@ fn text_with(alloc: Global, answer: &Result<(), CriticalError>) -> Result<Text, 
 }
 
 /// Holds the text of such a journal to this one. A long enum is dropped by generic code, which is quicker to prove.
-fn expect_text(
-    rt: &impl Abort,
-    alloc: Global,
-    answer: Result<(), CriticalError>,
-    want: &[u8],
-) -> Result<(), Memory> {
-    let text = text_with(alloc, &answer);
+fn expect_text(rt: &impl Abort, alloc: Global, answer: Result<(), CriticalError>, want: &[u8]) {
+    let text = text_with(alloc, &answer).expect(rt, "a text");
     drop(answer);
-    assert!(rt; text?.as_slice() == want, "at {want:?}");
-    Ok(())
+    assert!(rt; text.as_slice() == want, "at {want:?}");
 }
 
 /// The error about a turn that failed with code 5.
@@ -62,15 +59,15 @@ fn turn_error(alloc: Global) -> Result<CriticalError, Memory> {
 }
 
 #[test]
-fn prints_end_lines(rt: HostRuntime) -> Result<(), Fail> {
+fn prints_end_lines(rt: HostRuntime) {
     let alloc = rt.alloc();
     let want = b"sent 0 low 0\ntake 0\nend ok lost 1 0\n";
-    expect_text(&rt, alloc, Ok(()), want)?;
+    expect_text(&rt, alloc, Ok(()), want);
     let want = b"sent 0 low 0\ntake 0\nend error memory lost 1 0\n";
-    expect_text(&rt, alloc, Err(CriticalError::Memory), want)?;
+    expect_text(&rt, alloc, Err(CriticalError::Memory), want);
     let want = b"sent 0 low 0\ntake 0\nend error io turn 5 lost 1 0\n";
-    expect_text(&rt, alloc, Err(turn_error(alloc)?), want)?;
-    Ok(())
+    let error = turn_error(alloc).expect(&rt, "an error");
+    expect_text(&rt, alloc, Err(error), want);
 }
 
 /// A journal in which events 0 and 1 were handed, and events 0 and 2 taken before and after it.
@@ -92,11 +89,11 @@ fn journal_with_a_hand(alloc: Global) -> Result<Journal, Memory> {
 }
 
 #[test]
-fn drops_names_that_were_handed(rt: HostRuntime) -> Result<(), Fail> {
-    let journal = journal_with_a_hand(rt.alloc())?;
-    let names = lost(rt.alloc(), &journal)?;
-    assert_eq!(rt; names.as_slice(), [2].as_slice());
-    Ok(())
+fn drops_names_that_were_handed(rt: HostRuntime) {
+    let journal = journal_with_a_hand(rt.alloc()).expect(&rt, "a journal");
+    let names = lost(rt.alloc(), &journal).expect(&rt, "names");
+    drop(journal);
+    assert!(rt; names.as_slice() == [2].as_slice());
 }
 
 /// A journal in which event 0, which has a tag, was sent and taken, with room for one entry.
@@ -127,13 +124,27 @@ fn lost_behind(
     lost(alloc, &journal)
 }
 
+/// The names that are lost where the filter answers this of event 0 of such a journal.
+fn lost_of(alloc: Global, answer: Result<bool, RuntimeError>) -> Result<List<u64>, Memory> {
+    match taken(alloc) {
+        Ok(journal) => lost_behind(alloc, journal, answer),
+        Err(want) => {
+            drop(answer);
+            Err(want)
+        }
+    }
+}
+
+/// Holds the names that are lost where the filter answers this of event 0 to be these.
+fn expect_lost(rt: &impl Abort, alloc: Global, answer: Result<bool, RuntimeError>, want: &[u64]) {
+    let names = lost_of(alloc, answer).expect(rt, "names");
+    assert!(rt; names.as_slice() == want);
+}
+
 #[test]
-fn what_passes_waits(rt: HostRuntime) -> Result<(), Fail> {
-    let alloc = rt.alloc();
-    let passed = lost_behind(alloc, taken(alloc)?, Ok(true))?;
-    assert_eq!(rt; passed.as_slice(), [0].as_slice());
-    assert!(rt; lost_behind(alloc, taken(alloc)?, Ok(false))?.is_empty());
-    assert!(rt; lost_behind(alloc, taken(alloc)?, Err(RuntimeError::Exit))?.is_empty());
-    assert!(rt; lost_behind(alloc, taken(alloc)?, Err(RuntimeError::Memory))?.is_empty());
-    Ok(())
+fn what_passes_waits(rt: HostRuntime) {
+    expect_lost(&rt, rt.alloc(), Ok(true), &[0]);
+    expect_lost(&rt, rt.alloc(), Ok(false), &[]);
+    expect_lost(&rt, rt.alloc(), Err(RuntimeError::Exit), &[]);
+    expect_lost(&rt, rt.alloc(), Err(RuntimeError::Memory), &[]);
 }

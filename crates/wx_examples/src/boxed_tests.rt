@@ -104,9 +104,7 @@ fn is_interrupt(events: &List<Event>) -> bool {
 
 /// Restarts the job, which is created where there is none. Where that fails the run ends.
 fn restart(alloc: Global, slot: &mut Option<Job>, handler: &mut ActionHandler<'_>)
-    ensures past { handler.new.past ≡ handler.old.past }
-    ensures names { handler.new.names ≡ handler.old.names }
-    ensures open { handler.new.handed ≡ handler.old.handed }
+    ensures same { handler.new ≡ record handler.old { acts = handler.new.acts } }
 {
     if slot.is_none() {
         *slot = created(alloc, Id(0), b"make", handler);
@@ -116,9 +114,7 @@ fn restart(alloc: Global, slot: &mut Option<Job>, handler: &mut ActionHandler<'_
 
 /// Asks for a restart of the job. Where there is none, or that fails, the run ends.
 fn ask_restart(alloc: Global, slot: &Option<Job>, handler: &mut ActionHandler<'_>)
-    ensures past { handler.new.past ≡ handler.old.past }
-    ensures names { handler.new.names ≡ handler.old.names }
-    ensures open { handler.new.handed ≡ handler.old.handed }
+    ensures same { handler.new ≡ record handler.old { acts = handler.new.acts } }
 {
     match slot {
         Some(job) => {
@@ -170,6 +166,21 @@ fn runs_so(
     Ok(rest == Some(want))
 }
 
+/// Appends this to a list.
+fn add<T: Drop>(rt: &impl Abort, list: &mut List<T>, item: T) {
+    list.push(item).expect(rt, "room in the list");
+}
+
+/// Puts this in a box.
+fn boxed<T>(rt: &impl Abort, alloc: Global, item: T) -> Box<T> {
+    Box::new(alloc, item).expect(rt, "a box")
+}
+
+/// Another handle on the same flag.
+fn copy_of(rt: &impl Abort, alloc: Global, flag: &Flag) -> Flag {
+    flag.copy(alloc).expect(rt, "a copy of a flag")
+}
+
 const BATCHES: &[u8] =
     b"turn 0 arrive urgent 0\nturn 0 work\nturn 1 job 0\nturn 2 job 0\nturn 3 arrive urgent 1 signal hangup\nturn 3 work\nturn 4 job 0\nturn 5 job 0\nturn 6 arrive urgent 1 signal interrupt\nturn 6 work\n";
 
@@ -179,16 +190,20 @@ const RESTARTED: &[u8] =
 #[test]
 fn a_boxed_handler_restarts_a_program(rt: HostRuntime) -> Result<(), Fail> {
     let alloc = rt.alloc();
-    let mut actions: Vec<Box<dyn OnAction + Drop>> = Vec::new(alloc);
-    actions.push(Box::new(alloc, Restarts { alloc, job: None })?)?;
+    let mut actions: List<Box<dyn OnAction + Drop>> = List::new(alloc);
+    add(
+        &rt,
+        &mut actions,
+        boxed(&rt, alloc, Restarts { alloc, job: None }),
+    );
     let mut hooks = BoxedHooks::new(
         alloc,
-        Vec::new(alloc),
+        List::new(alloc),
         actions,
-        Vec::new(alloc),
-        Vec::new(alloc),
-        Vec::new(alloc),
-        Vec::new(alloc),
+        List::new(alloc),
+        List::new(alloc),
+        List::new(alloc),
+        List::new(alloc),
     );
     let is_so = runs_so(alloc, (0, 0, 0), BATCHES, &mut hooks, RESTARTED);
     drop(hooks);
@@ -202,67 +217,74 @@ const SHOWN: &[u8] = b"turn 0 arrive low 1 unknown\nturn 0 work\n";
 #[test]
 fn boxes_are_called_by_their_numbers(rt: HostRuntime) -> Result<(), Fail> {
     let alloc = rt.alloc();
-    let mut filters: Vec<Box<dyn Filterer + Drop>> = Vec::new(alloc);
-    filters.push(Box::new(alloc, Rejects)?)?;
-    filters.push(Box::new(alloc, Fails)?)?;
-    let mut actions: Vec<Box<dyn OnAction + Drop>> = Vec::new(alloc);
-    actions.push(Box::new(alloc, Idle)?)?;
-    actions.push(Box::new(alloc, Restarts { alloc, job: None })?)?;
-    let mut errors: Vec<Box<dyn OnError + Drop>> = Vec::new(alloc);
-    errors.push(Box::new(alloc, Idle)?)?;
-    errors.push(Box::new(alloc, Elevates)?)?;
+    let mut filters: List<Box<dyn Filterer + Drop>> = List::new(alloc);
+    add(&rt, &mut filters, boxed(&rt, alloc, Rejects));
+    add(&rt, &mut filters, boxed(&rt, alloc, Fails));
+    let mut actions: List<Box<dyn OnAction + Drop>> = List::new(alloc);
+    add(&rt, &mut actions, boxed(&rt, alloc, Idle));
+    add(
+        &rt,
+        &mut actions,
+        boxed(&rt, alloc, Restarts { alloc, job: None }),
+    );
+    let mut errors: List<Box<dyn OnError + Drop>> = List::new(alloc);
+    add(&rt, &mut errors, boxed(&rt, alloc, Idle));
+    add(&rt, &mut errors, boxed(&rt, alloc, Elevates));
     let mut hooks = BoxedHooks::new(
         alloc,
         filters,
         actions,
         errors,
-        Vec::new(alloc),
-        Vec::new(alloc),
-        Vec::new(alloc),
+        List::new(alloc),
+        List::new(alloc),
+        List::new(alloc),
     );
     let held = expect_ends(&rt, alloc, &mut hooks);
     drop(hooks);
     held
 }
 
-/// Holds the runs that follow `SHOWN` to what their numbers ask for. Two numbers of each kind are held.
+/// The numbers of a filter, an error handler and an action handler, and what is written behind the taking of the event. Two
+/// numbers of each kind are held.
+const NUMBERS: [((u32, u32, u32), &[u8]); 8] = [
+    (
+        (0, 0, 1),
+        b"filter 0 0 reject\nturn 0 last\nend ok lost 0\n",
+    ),
+    (
+        (1, 0, 1),
+        b"filter 1 0 fail deadonarrival\nshow 0 deadonarrival none\nturn 0 last\nend ok lost 0\n",
+    ),
+    (
+        (1, 1, 1),
+        b"filter 1 0 fail deadonarrival\nshow 1 deadonarrival elevate\nend error elevated deadonarrival none lost 0\n",
+    ),
+    (
+        (1, 2, 1),
+        b"filter 1 0 fail deadonarrival\nshow 2 deadonarrival none\nturn 0 last\nend ok lost 0\n",
+    ),
+    (
+        (2, 1, 0),
+        b"filter 2 0 pass\nhand 0 1 0\nturn 0 last\nend ok lost 0\n",
+    ),
+    (
+        (4_294_967_295, 1, 2),
+        b"filter 4294967295 0 pass\nhand 2 1 0\nturn 0 last\nend ok lost 0\n",
+    ),
+    (
+        (2, 1, 4_294_967_295),
+        b"filter 2 0 pass\nhand 4294967295 1 0\nturn 0 last\nend ok lost 0\n",
+    ),
+    (
+        (2, 1, 1),
+        b"filter 2 0 pass\nhand 1 1 0 create 0 exec ---- 1 make ask 0 restart\nmade 0\nasked 0 0 normal stop\nasked 1 0 normal start\nturn 0 last\ngone 0\nend ok lost 0\n",
+    ),
+];
+
+/// Holds the runs that follow `SHOWN` to what their numbers ask for.
 fn expect_ends(rt: &impl Abort, alloc: Global, hooks: &mut BoxedHooks) -> Result<(), Fail> {
-    let table: [((u32, u32, u32), &[u8]); 8] = [
-        (
-            (0, 0, 1),
-            b"filter 0 0 reject\nturn 0 last\nend ok lost 0\n",
-        ),
-        (
-            (1, 0, 1),
-            b"filter 1 0 fail deadonarrival\nshow 0 deadonarrival none\nturn 0 last\nend ok lost 0\n",
-        ),
-        (
-            (1, 1, 1),
-            b"filter 1 0 fail deadonarrival\nshow 1 deadonarrival elevate\nend error elevated deadonarrival none lost 0\n",
-        ),
-        (
-            (1, 2, 1),
-            b"filter 1 0 fail deadonarrival\nshow 2 deadonarrival none\nturn 0 last\nend ok lost 0\n",
-        ),
-        (
-            (2, 1, 0),
-            b"filter 2 0 pass\nhand 0 1 0\nturn 0 last\nend ok lost 0\n",
-        ),
-        (
-            (4_294_967_295, 1, 2),
-            b"filter 4294967295 0 pass\nhand 2 1 0\nturn 0 last\nend ok lost 0\n",
-        ),
-        (
-            (2, 1, 4_294_967_295),
-            b"filter 2 0 pass\nhand 4294967295 1 0\nturn 0 last\nend ok lost 0\n",
-        ),
-        (
-            (2, 1, 1),
-            b"filter 2 0 pass\nhand 1 1 0 create 0 exec ---- 1 make ask 0 restart\nmade 0\nasked 0 0 normal stop\nasked 1 0 normal start\nturn 0 last\ngone 0\nend ok lost 0\n",
-        ),
-    ];
-    for (numbers, end) in table {
-        assert!(rt; ends_so(alloc, numbers, hooks, end)?, "by {numbers:?}");
+    for (numbers, end) in &NUMBERS {
+        assert!(rt; ends_so(alloc, *numbers, hooks, end)?, "by {numbers:?}");
     }
     Ok(())
 }
@@ -381,34 +403,38 @@ const DONE: &[u8] =
 #[test]
 fn boxes_of_jobs_are_called_by_their_numbers(rt: HostRuntime) -> Result<(), Fail> {
     let alloc = rt.alloc();
-    let called = Flag::new(alloc, false)?;
-    let other = Flag::new(alloc, false)?;
-    let shown = Flag::new(alloc, false)?;
-    let mut actions: Vec<Box<dyn OnAction + Drop>> = Vec::new(alloc);
-    actions.push(Box::new(alloc, Creates { alloc })?)?;
-    let mut functions: Vec<Box<dyn OnJob + Drop>> = Vec::new(alloc);
-    functions.push(Box::new(alloc, Never)?)?;
+    let called = Flag::new(alloc, false).expect(&rt, "a flag");
+    let other = Flag::new(alloc, false).expect(&rt, "a flag");
+    let shown = Flag::new(alloc, false).expect(&rt, "a flag");
+    let mut actions: List<Box<dyn OnAction + Drop>> = List::new(alloc);
+    add(&rt, &mut actions, boxed(&rt, alloc, Creates { alloc }));
+    let mut functions: List<Box<dyn OnJob + Drop>> = List::new(alloc);
+    add(&rt, &mut functions, boxed(&rt, alloc, Never));
     let function = Function {
-        called: called.copy(alloc)?,
+        called: copy_of(&rt, alloc, &called),
         left: 0,
     };
-    functions.push(Box::new(alloc, function)?)?;
-    let mut spawn_hooks: Vec<Box<dyn OnSpawn + Drop>> = Vec::new(alloc);
-    spawn_hooks.push(Box::new(alloc, Wants)?)?;
-    spawn_hooks.push(Box::new(alloc, Adds { alloc, word: b"-v" })?)?;
-    let mut faults: Vec<Box<dyn OnFault + Drop>> = Vec::new(alloc);
+    add(&rt, &mut functions, boxed(&rt, alloc, function));
+    let mut spawn_hooks: List<Box<dyn OnSpawn + Drop>> = List::new(alloc);
+    add(&rt, &mut spawn_hooks, boxed(&rt, alloc, Wants));
+    add(
+        &rt,
+        &mut spawn_hooks,
+        boxed(&rt, alloc, Adds { alloc, word: b"-v" }),
+    );
+    let mut faults: List<Box<dyn OnFault + Drop>> = List::new(alloc);
     for flag in [&other, &shown] {
         let notes = Notes {
             code: 7,
-            shown: flag.copy(alloc)?,
+            shown: copy_of(&rt, alloc, flag),
         };
-        faults.push(Box::new(alloc, notes)?)?;
+        add(&rt, &mut faults, boxed(&rt, alloc, notes));
     }
     let mut hooks = BoxedHooks::new(
         alloc,
-        Vec::new(alloc),
+        List::new(alloc),
         actions,
-        Vec::new(alloc),
+        List::new(alloc),
         functions,
         spawn_hooks,
         faults,
@@ -430,18 +456,18 @@ const WANTED: &[u8] =
 #[test]
 fn want_of_memory_of_a_boxed_hook_is_its_answer(rt: HostRuntime) -> Result<(), Fail> {
     let alloc = rt.alloc();
-    let mut actions: Vec<Box<dyn OnAction + Drop>> = Vec::new(alloc);
-    actions.push(Box::new(alloc, Creates { alloc })?)?;
-    let mut spawn_hooks: Vec<Box<dyn OnSpawn + Drop>> = Vec::new(alloc);
-    spawn_hooks.push(Box::new(alloc, Wants)?)?;
+    let mut actions: List<Box<dyn OnAction + Drop>> = List::new(alloc);
+    add(&rt, &mut actions, boxed(&rt, alloc, Creates { alloc }));
+    let mut spawn_hooks: List<Box<dyn OnSpawn + Drop>> = List::new(alloc);
+    add(&rt, &mut spawn_hooks, boxed(&rt, alloc, Wants));
     let mut hooks = BoxedHooks::new(
         alloc,
-        Vec::new(alloc),
+        List::new(alloc),
         actions,
-        Vec::new(alloc),
-        Vec::new(alloc),
+        List::new(alloc),
+        List::new(alloc),
         spawn_hooks,
-        Vec::new(alloc),
+        List::new(alloc),
     );
     let is_so = runs_so(alloc, (0, 0, 0), WANTS, &mut hooks, WANTED);
     drop(hooks);

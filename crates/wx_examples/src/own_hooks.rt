@@ -119,8 +119,7 @@ impl Hooks for Own {
 /// Does this in a call, and answers whether what it saw was right, or nothing where a call failed.
 fn act(alloc: Global, does: Does, handler: &mut ActionHandler<'_>) -> Option<bool>
     requires open { handler.old.handed ≡ false }
-    ensures past { handler.new.past ≡ handler.old.past }
-    ensures names { handler.new.names ≡ handler.old.names }
+    ensures same { handler.new ≡ record handler.old { acts = handler.new.acts; handed = handler.new.handed } }
 {
     match does {
         Does::Restarts => restart(alloc, handler),
@@ -213,9 +212,7 @@ pub(crate) fn created(
     prog: &[u8],
     handler: &mut ActionHandler<'_>,
 ) -> Option<Job>
-    ensures past { handler.new.past ≡ handler.old.past }
-    ensures names { handler.new.names ≡ handler.old.names }
-    ensures handed { handler.new.handed ≡ handler.old.handed }
+    ensures same { handler.new ≡ record handler.old { acts = handler.new.acts } }
 {
     let command = command_of(alloc, prog).ok()?;
     let Ok((made, job)) = handler.create_job(alloc, command) else {
@@ -232,8 +229,7 @@ pub(crate) fn created(
 
 /// Starts the job, or quits where its child runs.
 fn restart(alloc: Global, handler: &mut ActionHandler<'_>) -> Option<bool>
-    ensures past { handler.new.past ≡ handler.old.past }
-    ensures names { handler.new.names ≡ handler.old.names }
+    ensures same { handler.new ≡ record handler.old { acts = handler.new.acts } }
 {
     let first = handler.list_jobs().next().map(|item| item.0);
     let job = match first {
@@ -252,8 +248,7 @@ fn restart(alloc: Global, handler: &mut ActionHandler<'_>) -> Option<bool>
 
 /// Creates a job whose spawn hook is the one of the number 3.
 fn hooked(alloc: Global, handler: &mut ActionHandler<'_>) -> Option<Job>
-    ensures past { handler.new.past ≡ handler.old.past }
-    ensures names { handler.new.names ≡ handler.old.names }
+    ensures same { handler.new ≡ record handler.old { acts = handler.new.acts } }
 {
     let job = created(alloc, Id(0), b"make", handler)?;
     if job.set_spawn_hook(alloc, handler, 3).is_ok() {
@@ -266,8 +261,7 @@ fn hooked(alloc: Global, handler: &mut ActionHandler<'_>) -> Option<Job>
 
 /// Starts the job, which is created where there is none.
 fn start_hooked(alloc: Global, handler: &mut ActionHandler<'_>) -> Option<bool>
-    ensures past { handler.new.past ≡ handler.old.past }
-    ensures names { handler.new.names ≡ handler.old.names }
+    ensures same { handler.new ≡ record handler.old { acts = handler.new.acts } }
 {
     let first = handler.list_jobs().next().map(|item| item.0);
     let job = match first {
@@ -281,8 +275,7 @@ fn start_hooked(alloc: Global, handler: &mut ActionHandler<'_>) -> Option<bool>
 
 /// Creates a job.
 fn new_job(alloc: Global, handler: &mut ActionHandler<'_>) -> Option<Job>
-    ensures past { handler.new.past ≡ handler.old.past }
-    ensures names { handler.new.names ≡ handler.old.names }
+    ensures same { handler.new ≡ record handler.old { acts = handler.new.acts } }
 {
     let command = command_of(alloc, b"a").ok()?;
     match handler.create_job(alloc, command) {
@@ -293,8 +286,7 @@ fn new_job(alloc: Global, handler: &mut ActionHandler<'_>) -> Option<Job>
 
 /// Creates a job and deletes it where none is shown, and else restarts the one that is shown. No child may run.
 fn delete(alloc: Global, handler: &mut ActionHandler<'_>) -> Option<bool>
-    ensures past { handler.new.past ≡ handler.old.past }
-    ensures names { handler.new.names ≡ handler.old.names }
+    ensures same { handler.new ≡ record handler.old { acts = handler.new.acts } }
 {
     let first = handler.list_jobs().next().map(|item| item.0);
     let job = match first {
@@ -312,9 +304,7 @@ fn delete(alloc: Global, handler: &mut ActionHandler<'_>) -> Option<bool>
 
 /// Creates two jobs, starts the first, stops the second, and quits twice.
 fn ask_two(alloc: Global, handler: &mut ActionHandler<'_>) -> Option<()>
-    ensures past { handler.new.past ≡ handler.old.past }
-    ensures names { handler.new.names ≡ handler.old.names }
-    ensures handed { handler.new.handed ≡ handler.old.handed }
+    ensures same { handler.new ≡ record handler.old { acts = handler.new.acts } }
 {
     let a = created(alloc, Id(0), b"a", handler)?;
     let b = created(alloc, Id(1), b"b", handler);
@@ -345,8 +335,7 @@ fn line_of(alloc: Global, entry: Entry) -> Result<Text, Memory> {
 /// Whether one event is shown, and `ASKED` tells what is asked for.
 fn is_handed(alloc: Global, handler: &mut ActionHandler<'_>) -> Option<bool>
     requires open { handler.old.handed ≡ false }
-    ensures past { handler.new.past ≡ handler.old.past }
-    ensures names { handler.new.names ≡ handler.old.names }
+    ensures same { handler.new ≡ record handler.old { acts = handler.new.acts; handed = handler.new.handed } }
 {
     let events = handler.events().len();
     ask_two(alloc, handler)?;
@@ -356,8 +345,7 @@ fn is_handed(alloc: Global, handler: &mut ActionHandler<'_>) -> Option<bool>
 
 /// Creates a job, and answers whether the handler does not show it.
 fn is_not_shown(alloc: Global, handler: &mut ActionHandler<'_>) -> Option<bool>
-    ensures past { handler.new.past ≡ handler.old.past }
-    ensures names { handler.new.names ≡ handler.old.names }
+    ensures same { handler.new ≡ record handler.old { acts = handler.new.acts } }
 {
     drop(created(alloc, Id(0), b"a", handler)?);
     let found = handler.get_job(alloc, Id(0)).ok()?;

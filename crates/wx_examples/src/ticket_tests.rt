@@ -13,7 +13,7 @@ use wx_action::{ActionHandler, Host, Outside, TurnFault, Turned, World};
 use wx_command::Spawnable;
 use wx_control::{Flag, Id, Job, Ticket};
 use wx_engine::{BoxedHooks, OnAction, Script, ScriptWorld, Watchexec};
-use wx_events::{Copies, Memory, ProcessEnd, Signal, Text, cut};
+use wx_events::{Copies, List, Memory, ProcessEnd, Signal, Text, cut};
 use wx_journal::{HostFault, SpawnTag};
 
 /// Awaits a ticket, and then raises a flag.
@@ -56,9 +56,7 @@ impl OnAction for StartsAndStops {
 
 /// Creates the job, asks for both, and lets the tickets be awaited, or answers nothing where a call failed.
 fn ask(boxed: &StartsAndStops, handler: &mut ActionHandler<'_>) -> Option<()>
-    ensures past { handler.new.past ≡ handler.old.past }
-    ensures names { handler.new.names ≡ handler.old.names }
-    ensures open { handler.new.handed ≡ handler.old.handed }
+    ensures same { handler.new ≡ record handler.old { acts = handler.new.acts } }
 {
     let job = created(boxed.alloc, Id(0), b"make", handler)?;
     let asked = ask_of(boxed, &job, handler);
@@ -68,9 +66,7 @@ fn ask(boxed: &StartsAndStops, handler: &mut ActionHandler<'_>) -> Option<()>
 
 /// Asks for both, and lets the tickets be awaited, or answers nothing where a call failed.
 fn ask_of(boxed: &StartsAndStops, job: &Job, handler: &mut ActionHandler<'_>) -> Option<()>
-    ensures past { handler.new.past ≡ handler.old.past }
-    ensures names { handler.new.names ≡ handler.old.names }
-    ensures open { handler.new.handed ≡ handler.old.handed }
+    ensures same { handler.new ≡ record handler.old { acts = handler.new.acts } }
 {
     let alloc = boxed.alloc;
     let start = job.start(alloc, handler).ok()?;
@@ -208,16 +204,16 @@ fn tickets_are_awaited_while_turns_go_on(rt: HostRuntime) -> Result<(), Fail> {
         started: started.copy(alloc)?,
         stopped: stopped.copy(alloc)?,
     };
-    let mut actions: Vec<Box<dyn OnAction + Drop>> = Vec::new(alloc);
+    let mut actions: List<Box<dyn OnAction + Drop>> = List::new(alloc);
     actions.push(Box::new(alloc, boxed)?)?;
     let mut hooks = BoxedHooks::new(
         alloc,
-        Vec::new(alloc),
+        List::new(alloc),
         actions,
-        Vec::new(alloc),
-        Vec::new(alloc),
-        Vec::new(alloc),
-        Vec::new(alloc),
+        List::new(alloc),
+        List::new(alloc),
+        List::new(alloc),
+        List::new(alloc),
     );
     let script = script_of(alloc, TURNS)?;
     let ran = text_between(alloc, &script, pool, (started, stopped), &mut hooks);

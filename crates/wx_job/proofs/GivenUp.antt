@@ -26,7 +26,7 @@ use Rattle.wx_job.specs.Stands.{Stands, grace_of, once, times, times_waiting, ti
 use Rattle.wx_job.proofs.Owners.{self, either}
 use Rattle.wx_job.proofs.Always.{Always, both, always_now, always_next}
 use Rattle.wx_job.proofs.Times.{is_first, takes_it, times_without}
-use Rattle.wx_job.proofs.PlacedPlans.{IsDue, due}
+use Rattle.wx_job.proofs.PlacedPlans.{MayPick, due}
 
 -- where the plan may be cut behind this entry the ticket is in hand
 abbrev HeldAtCut : Id → ℕ → List Entry → Entry → Plan → Type 0
@@ -216,7 +216,7 @@ holds_ended k by c g p s parked_is grace_is is held =
 
 -- what is picked in a step that was given up
 gave_case : {Fixed : Type 0} (k : JobTask) (command : Command) (p : List Entry) (a : Seen Fixed) (hooks : Option (List Entry)) (p' : List Entry) (b : Seen Fixed) (hooks' : Option (List Entry)) (standing : Option Grace) (choice : Choice) → Stands k p → grace k.id p ≡ standing
-    → IsDue (begun k.id p) (child k.id p) (grace k.id p) (kept k.id p) (first (waits k.id Urgent p) (waits k.id High p) (unless_grace (grace k.id p) (waits k.id Normal p))) choice
+    → MayPick k.id p choice
     → GaveUp (cond (lives k.id p) (case k.id (kit k.id command p) (child k.id p) choice) Done) p a hooks p' b hooks' → HasInHand k.id standing choice p p'
 gave_case k command p a hooks p' b hooks' standing (Polled f) s is picked gave = tt
 gave_case k command p a hooks p' b hooks' standing (Over c g) s is picked gave =

@@ -213,6 +213,10 @@ IsDue b c o end x (Next t control) = (b ≡ None) × (x ≡ Some (t, control))
 IsDue b c o end x Leave = b ≡ None
 IsDue b c o end x Nothing = Unit {0}
 
+-- the same of a job of this journal
+abbrev pub MayPick : Id → List Entry → Choice → Type 0
+MayPick id p choice = IsDue (begun id p) (child id p) (grace id p) (kept id p) (first (waits id Urgent p) (waits id High p) (unless_grace (grace id p) (waits id Normal p))) choice
+
 due_last : (closed : Bool) (c : Option ℕ) (o : Option Grace) (end : Bool) (x : Option (ℕ × Control)) → IsDue None c o end x (choose_last closed o)
 due_last false c o end x = tt
 due_last true c None end x = refl
@@ -239,7 +243,7 @@ due closed None c o at end x = due_child c o at end x (choose_control (choose_la
 due closed (Some f) c o at end x = refl
 
 placing_case : (id : Id) (command : Command) (choice : Choice) (p : List Entry) → lives id p ≡ true → IsPlaced p
-    → IsDue (begun id p) (child id p) (grace id p) (kept id p) (first (waits id Urgent p) (waits id High p) (unless_grace (grace id p) (waits id Normal p))) choice → Always Placing p (case id (kit id command p) (child id p) choice)
+    → MayPick id p choice → Always Placing p (case id (kit id command p) (child id p) choice)
 placing_case id command (Poll f) p alive h is = placing_polled id f p alive is h
 placing_case id command (Over d g) p alive h is = placing_over id (kit id command p) d g p (record { placed = h; alive = alive; free = is.0; runs = is.1; standing = is.2 }) refl
 placing_case id command (End d) p alive h is = placing_ended id command d p (record { placed = h; alive = alive; free = is.0; runs = is.1; busy = λ none. (let both_are : true ≡ false = sym is.2 ∙ none in absurd cc) })

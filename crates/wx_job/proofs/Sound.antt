@@ -12,7 +12,6 @@ use Rattle.wx_control.specs.declared.level.Level.{Level}
 use Rattle.wx_control.specs.declared.level.Level.TheVariants.{Normal, High, Urgent}
 use Rattle.wx_control.specs.declared.ask.Ask.{Ask}
 use Rattle.wx_control.specs.Asks.{sends_of}
-use Rattle.wx_control.specs.Waits.{first}
 use Rattle.wx_journal.specs.declared.child.HostFault.{HostFault}
 use Rattle.wx_journal.specs.declared.child.SpawnTag.{SpawnTag}
 use Rattle.wx_journal.specs.declared.entry.Entry.{Entry}
@@ -27,7 +26,7 @@ use Rattle.wx_job.specs.declared.function.Function.{Function}
 use Rattle.wx_job.specs.declared.grace.Grace.{Grace}
 use Rattle.wx_events.specs.declared.process.Signal.{Signal as ASignal}
 use Rattle.wx_job.specs.History.{same, lives, waits, child, kept, begun, grace, unless, asked_of, SameHistory}
-use Rattle.wx_job.specs.Table.{Words, Given, Left, Call, Adds, Spawns, Signals, Waits, Shows, Plan, Done, GivenUp, Owes, Kit, kit, kit_after, adds, asks, raises, shows, tries, reap, waiters, raise_grace, number_of, signalled, graceful, restart, spawn, fresh_by, fresh, row, fresh_over, over, ended_in, ended_by, polled, unless_grace, pick_by, case, step_by, ask_second, ask_plan, send_plan, end_plan, leave}
+use Rattle.wx_job.specs.Table.{Words, Given, Left, Call, Adds, Spawns, Signals, Waits, Shows, Plan, Done, GivenUp, Owes, Kit, kit, kit_after, adds, asks, raises, shows, tries, reap, waiters, raise_grace, number_of, signalled, graceful, restart, spawn, fresh_by, fresh, row, fresh_over, over, ended_in, ended_by, polled, pick_by, case, step_by, ask_second, ask_plan, send_plan, end_plan, leave}
 use Rattle.wx_job.specs.Case.{Answer, entry, Admits, is_fault, next, IsCut, Leads, Here, Then}
 use Rattle.wx_job.specs.Faults.{fault_count, Counted}
 use Rattle.wx_job.specs.Laws.{unreaped, AreReaped, AfterFaults, NamesChildren, NamesTickets}
@@ -36,7 +35,7 @@ use Rattle.wx_job.proofs.Tickets.{tickets_named, asked_below, AreOf, picked_of, 
 use Rattle.wx_job.proofs.Frame.{same_history, history_then, frame_pick, frame_asked, frame_spawn_ok, frame_spawn_err, frame_hook, frame_begun, frame_ready, frame_gone, frame_over, frame_raise, frame_silent, frame_signal_ok, frame_signal_err, frame_wait_ok, frame_wait_err, frame_drop}
 use Rattle.wx_job.proofs.Graces.{over_without}
 use Rattle.wx_job.proofs.Times.{is_first}
-use Rattle.wx_job.proofs.PlacedPlans.{IsDue, due}
+use Rattle.wx_job.proofs.PlacedPlans.{MayPick, due}
 use Rattle.wx_job.proofs.Always.{Always, both, always_now, always_next, always_if}
 
 -- What a plan of a job brings: it names this job, its running child, its tickets and what has the next name, spawns and calls a spawn hook
@@ -286,7 +285,7 @@ sound_polled id f p alive asked = λ a.
 
 -- what is picked names the running child, or a ticket that was asked
 sound_case : (id : Id) (by : Kit) (choice : Choice) (p : List Entry) → lives id p ≡ true → KitAsked id by p
-    → IsDue (begun id p) (child id p) (grace id p) (kept id p) (first (waits id Urgent p) (waits id High p) (unless_grace (grace id p) (waits id Normal p))) choice → Sound id p (case id by (child id p) choice)
+    → MayPick id p choice → Sound id p (case id by (child id p) choice)
 sound_case id by (Polled f) p alive held is = sound_polled id f p alive (λ own. begun_asked id p f own is)
 sound_case id by (Over d g) p alive held is = sound_over id by d g p is.1 alive (λ own. grace_asked id p g own is.2) held
 sound_case id by (End d) p alive held is = sound_wait id by.handler d (ended_by id by by.grace) Done p is.1 alive (λ q alive still. tt) (sound_ended_by id by by.grace p held.grace held)

@@ -9,6 +9,7 @@ use Rattle.wx_command.specs.declared.spawnable.Spawnable.{Spawnable}
 use Rattle.wx_control.specs.declared.id.Id.{Id}
 use Rattle.wx_control.specs.declared.control.Control.{Control}
 use Rattle.wx_control.specs.declared.control.Control.TheVariants.{AsyncFunc}
+use Rattle.wx_control.specs.declared.control.Control.TheVariants as asked
 use Rattle.wx_control.specs.declared.level.Level.{Level}
 use Rattle.wx_control.specs.declared.level.Level.TheVariants.{Normal, High, Urgent}
 use Rattle.wx_control.specs.declared.three_lists.Picked.{Picked}
@@ -28,7 +29,8 @@ use Rattle.wx_job.specs.declared.function.Begun.{Begun}
 use Rattle.wx_job.specs.declared.function.Function.{Function}
 use Rattle.wx_job.specs.declared.grace.Standing.{Standing}
 use Rattle.wx_job.specs.Parkings.{Tickets}
-use Rattle.wx_job.specs.Table.{leave, end_plan, is_parking, row, kit_after}
+use Rattle.wx_job.specs.Table.{Kit, leave, end_plan, is_parking, row, kit_after, spawns}
+use Rattle.wx_job.specs.Prepared.{twice, prepared, fresh_in}
 use Rattle.wx_job.specs.Stands.{Stands, child_of, id_of, kit_of, grace_of, begun_of, once, times, times_waits, times_grace, times_begun, holds}
 use Rattle.wx_job.proofs.Owners.{self, either}
 use Rattle.wx_job.proofs.Frame.{is_silent, frame_silent}
@@ -577,4 +579,36 @@ stands-closed k p s = record {
 pub end-is : (k : JobTask) (p : List Entry) (c : Option ℕ) → Stands k p → k.gone ≡ false → c ≡ child_of k.state → end_plan k.id p ≡ leave k.id c
 end-is k p c s here is = let alive : lives k.id p ≡ true = sym s.lives_kept ∙ rw here refl in let runs : child k.id p ≡ child_of k.state = sym s.child_kept ∙ rw here refl in rw (alive, runs, is) refl
 
-pub ruleset stands = (stands-asked, stands-picked, stands-parked, picked-unheld, stands-raise, stands-raised, stands-signal, stands-grace, stands-over, stands-function, stands-ready, stands-later, ready-unheld, stands-closed, stands-silent, stands-wait-ok, stands-wait-err, stands-spawn-ok, stands-spawn-err, stands-hook)
+-- what a control spawns, where it spawns
+is_some_twice : (command : Command) (spawning : Bool) → is_some (twice command spawning) ≡ spawning
+is_some_twice command true = refl
+is_some_twice command false = refl
+
+pub ready-spawns : (what : Option (Spawnable × Spawnable)) (command : Command) (control : Control) (running : Option ℕ) → what ≡ prepared command control running → is_some what ≡ spawns control running
+ready-spawns what command control running is = rw is (is_some_twice command (spawns control running))
+
+-- the case of a control that spawns: a child that runs is reaped, and a fresh one is spawned
+pub spawning-row : (id : Id) (by : Kit) (ticket : ℕ) (control : Control) (running : Option ℕ) → spawns control running ≡ true → row id by ticket control running ≡ fresh_in id by ticket true running
+spawning-row id by ticket asked.Start None is = refl
+spawning-row id by ticket asked.Start (Some c) is = absurd cc
+spawning-row id by ticket asked.Stop running is = absurd cc
+spawning-row id by ticket (asked.GracefulStop signal grace) running is = absurd cc
+spawning-row id by ticket asked.TryRestart None is = absurd cc
+spawning-row id by ticket asked.TryRestart (Some c) is = refl
+spawning-row id by ticket (asked.TryGracefulRestart signal grace) running is = absurd cc
+spawning-row id by ticket asked.ContinueTryGracefulRestart None is = refl
+spawning-row id by ticket asked.ContinueTryGracefulRestart (Some c) is = refl
+spawning-row id by ticket (asked.Signal signal) running is = absurd cc
+spawning-row id by ticket asked.Delete running is = absurd cc
+spawning-row id by ticket asked.NextEnding running is = absurd cc
+spawning-row id by ticket (asked.SyncFunc n) running is = absurd cc
+spawning-row id by ticket (asked.AsyncFunc n) running is = absurd cc
+spawning-row id by ticket (asked.SetSyncSpawnHook n) running is = absurd cc
+spawning-row id by ticket asked.UnsetSpawnHook running is = absurd cc
+spawning-row id by ticket (asked.SetSyncErrorHandler n) running is = absurd cc
+spawning-row id by ticket asked.UnsetErrorHandler running is = absurd cc
+spawning-row id by ticket (asked.SetSpawnFn n) running is = absurd cc
+spawning-row id by ticket (asked.SetSpawnChildFn n) running is = absurd cc
+spawning-row id by ticket asked.ClearSpawnFn running is = absurd cc
+
+pub ruleset stands = (ready-spawns, stands-asked, stands-picked, stands-parked, picked-unheld, stands-raise, stands-raised, stands-signal, stands-grace, stands-over, stands-function, stands-ready, stands-later, ready-unheld, stands-closed, stands-silent, stands-wait-ok, stands-wait-err, stands-spawn-ok, stands-spawn-err, stands-hook)

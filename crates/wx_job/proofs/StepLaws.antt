@@ -112,6 +112,6 @@ pub end_left : {Fixed : Type 0} (id : Id) (p : List Entry) (a : Seen Fixed) (k :
 end_left id p a k p' b is led = left_done id k p _ _ _ p' _ _ _ (rw is at (end_of id p)) (led k p a None None (ran-none k p a None)).led
 
 -- whatever is answered
-pub send_left : {A E : Type 0} (r : Result A E) (id : Id) (ask : Ask) (p p' : List Entry) → OnOk r (FollowsAlone (send_plan id (sends_of ask) p) p Done p') → OnErr r (p' ≡ p) → Left id p p'
-send_left (Ok a) id ask p p' ok err = left_done id (send_plan id (sends_of ask) p) p None None 0 p' None None 0 (send_of id ask p) (ok _ p None None 0 None None 0 Here)
-send_left (Err a) id ask p p' ok err = rw err (left_same id p)
+pub send_left : {A E : Type 0} (Same : Type 0) (r : Result A E) (id : Id) (ask : Ask) (p p' : List Entry) → OnOk r (FollowsAlone (send_plan id (sends_of ask) p) p Done p') → OnErr r (Same × p' ≡ p) → Left id p p'
+send_left Same (Ok a) id ask p p' ok err = left_done id (send_plan id (sends_of ask) p) p None None 0 p' None None 0 (send_of id ask p) (ok _ p None None 0 None None 0 Here)
+send_left Same (Err a) id ask p p' ok err = rw err.1 (left_same id p)

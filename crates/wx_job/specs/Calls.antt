@@ -1,18 +1,21 @@
 -- What the calls of a case ask for and leave.
-use Rattle.std.specs.Prelude.{◌≡◌, ◌≤◌, ◌+◌, ℕ, Bool, true, false, Option, None, IfSome, option_map, Result, IfOk, OnOk, OnErr, List}
+use Rattle.std.specs.Prelude.{◌≡◌, ◌<◌, ◌≤◌, ◌+◌, ◌||◌, ℕ, Bool, true, false, Option, None, IfSome, is_some, option_map, Result, IfOk, OnOk, OnErr, List}
 use Rattle.wx_words.specs.declared.list.Memory.{Memory}
 use Rattle.wx_journal.specs.declared.entry.Entry.{Entry}
-use Rattle.wx_journal.specs.Names.{moment}
+use Rattle.wx_control.specs.Waits.{waiting_count}
+use Rattle.wx_journal.specs.Names.{moment, ticket_count}
 use Rattle.wx_journal.specs.Written.{Written}
+use Rattle.wx_job.specs.declared.choice.Stepped.{Stepped}
 use Rattle.wx_job.specs.declared.grace.Standing.{Standing}
 use Rattle.wx_job.specs.declared.state.CommandState.TheVariants.{Pending}
 use Rattle.wx_job.specs.declared.task.JobTask.{JobTask}
-use Rattle.wx_job.specs.Table.{Plan, Done}
+use Rattle.wx_job.specs.History.{child, grace, begun}
+use Rattle.wx_job.specs.Table.{Plan, Done, pick_by, is_deletion, is_spawning, answer_of}
 use Rattle.wx_job.specs.Case.{Follows, GivesUp}
 use Rattle.wx_job.specs.Seen.{Seen, Hooked}
 use Rattle.wx_job.specs.Kept.{KeepsOn}
 use Rattle.wx_job.specs.Steady.{HaveRoom, UseRoom}
-use Rattle.wx_job.specs.Stands.{Stands, child_of, grace_of, holds}
+use Rattle.wx_job.specs.Stands.{Stands, id_of, gone_of, closed_of, child_of, grace_of, holds}
 
 -- The task, whose job is there, stands for the journal, and there is so much room in journal and host, and so much in the hooks.
 pub record IsReady {Fixed Fixed' : Type 0} (k : JobTask) (n m : ℕ) (j : Written) (a : Seen Fixed) (x : Hooked Fixed') : Type 0 where
@@ -24,6 +27,17 @@ pub record IsReady {Fixed Fixed' : Type 0} (k : JobTask) (n m : ℕ) (j : Writte
 pub record IsReadyAt {Fixed Fixed' : Type 0} (at : ℕ) (k : JobTask) (n m : ℕ) (j : Written) (a : Seen Fixed) (x : Hooked Fixed') : Type 0 where
   pub ready : IsReady k n m j a x
   pub now : moment j.past ≡ at
+
+-- This ticket has its name, and the task doesn't hold it.
+pub record IsInHand (ticket : ℕ) (k : JobTask) (p : List Entry) : Type 0 where
+  pub unheld : holds ticket k ≡ 0
+  pub named : ticket < ticket_count p
+
+-- So many controls more may wait, and all that wait then may be parked.
+pub record MayWait (n : ℕ) (k : JobTask) (j : Written) : Type 0 where
+  pub in_waiting : n ≤ k.waiting.spare
+  pub in_parked : waiting_count k.waiting + n ≤ k.parked.spare
+  pub in_journal : n ≤ j.spare
 
 -- so much room is there in the journal, and so much in the hooks
 pub record AreRoomy {Fixed' : Type 0} (n m : ℕ) (j : Written) (x : Hooked Fixed') : Type 0 where
@@ -61,3 +75,9 @@ pub record HasWaited {E : Type 0} (r : Result (Option Standing) E) (k k' : JobTa
   pub unheld : IfOk r (λ standing. IfSome standing (λ s. holds s.grace.ticket k' ≡ 0))
   pub none : OnOk r ((child_of k'.state ≡ None) × (grace_of k' ≡ None))
   pub held : (t : ℕ) → holds t k' ≤ holds t k
+
+-- A step answered so, by what it picked: how far it got, whether its job is gone, and want of memory only where the case spawns.
+pub record HasStepped (r : Result Stepped Memory) (k : JobTask) (p : List Entry) (k' : JobTask) (p' : List Entry) : Type 0 where
+  pub answer : IfOk r (λ stepped. stepped ≡ answer_of (gone_of k) (pick_by (closed_of k) (id_of k) p) (is_some (begun (id_of k) p')))
+  pub gone : gone_of k' ≡ (gone_of k || is_deletion (pick_by (closed_of k) (id_of k) p))
+  pub memory : OnErr r (is_spawning (pick_by (closed_of k) (id_of k) p) (child (id_of k) p) (grace (id_of k) p) ≡ true)

@@ -1,20 +1,18 @@
 // The calls that the cases of a job are made of, each with its entry.
-ghost use Rattle.std.specs.Prelude.{◌≡◌, ℕ, ◌+◌, ◌<◌, ◌≤◌, ◌∷◌, [], OnOk, OnErr, IfOk, IfSome, IfNone, List, Option, Some, None, false, length, option_map};
-ghost use Rattle.wx_command.specs.declared.spawnable.Spawnable.{Spawnable as the-Spawnable};
+ghost use Rattle.std.specs.Prelude.{◌≡◌, ℕ, ◌≤◌, ◌∷◌, [], OnOk, OnErr, IfOk, IfSome, IfNone, Some, None, false, length};
 ghost use Rattle.wx_command.specs.Spawnables.{spawnable_of};
 ghost use Rattle.wx_journal.specs.declared.entry.Entry.{Entry};
-ghost use Rattle.wx_journal.specs.Names.{moment, ticket_count};
+ghost use Rattle.wx_journal.specs.Names.{moment};
 ghost use Rattle.wx_journal.specs.Told.{tell};
 ghost use Rattle.wx_job.specs.declared.state.CommandState.TheVariants.{Pending};
 ghost use Rattle.wx_job.specs.History.{finish, before_spawn, just_picked, begins_by};
 ghost use Rattle.wx_job.specs.Table.{Plan, Done, Words, Signals, Kills, Waits, adds, shows, tries, reap, waiters, spawn, fresh};
 ghost use Rattle.wx_job.specs.Case.{FollowsHost, FollowsHooks, Follows, GivesUp, HookedOnly, words_of, newest_code};
-ghost use Rattle.wx_job.specs.Kept.{Quiet, KeepsOn};
-ghost use Rattle.wx_job.specs.Calls.{IsReady, IsReadyAt, AreRoomy, HasCalled, HasWaited, HasServed};
-ghost use Rattle.wx_job.specs.Steady.{AreSpare, Spends, HaveRoom, UseRoom};
+ghost use Rattle.wx_job.specs.Kept.{Quiet};
+ghost use Rattle.wx_job.specs.Calls.{IsReady, IsReadyAt, IsInHand, AreRoomy, HasCalled, HasWaited, HasServed};
+ghost use Rattle.wx_job.specs.Steady.{AreSpare, Spends};
 ghost use Rattle.wx_job.specs.Stands.{Stands, kit_of, child_of, grace_of, holds};
 
-use crate::context::JobTaskContext;
 use crate::grace::Standing;
 use crate::outside::{Host, JobHooks};
 use crate::state::CommandState;
@@ -126,8 +124,7 @@ impl JobTask {
     ) -> Option<Standing>
         requires runs { child_of self.old.state ≡ Some child }
         requires begins { begins_by (just_picked self.old.id journal.old.past) (moment journal.old.past) (grace_of self.old) ≡ Some standing.grace }
-        requires unheld { holds standing.grace.ticket self.old ≡ 0 }
-        requires named { standing.grace.ticket < ticket_count journal.old.past }
+        requires in_hand { IsInHand standing.grace.ticket self.old journal.old.past }
         requires ready { IsReady self.old 2 1 journal.old (H.seen host.old) (K.seen hooks.old) }
         ensures begun { IfNone result ((k : Plan) (f : Plan) → Follows (tries self.old.id self.old.handler (Signals child number) k f) journal.old.past (H.seen host.old) (K.seen hooks.old).told k journal.new.past (H.seen host.new) (K.seen hooks.new).told) }
         ensures failed { IfSome result (λ back. (k : Plan) (f : Plan) → Follows (tries self.old.id self.old.handler (Signals child number) k f) journal.old.past (H.seen host.old) (K.seen hooks.old).told f journal.new.past (H.seen host.new) (K.seen hooks.new).told) }
@@ -296,20 +293,14 @@ impl JobTask {
         requires what { what ≡ spawnable_of self.old.command }
         requires room { AreRoomy 1 1 journal.old (K.seen hooks.old) }
         ensures same { IfOk result (λ two. two.1 ≡ two.0) }
-        ensures past { IfOk result (λ two. journal.new.past ≡ Entry.Hook self.old.id n (Ok two.0) ∷ journal.old.past) }
-        ensures told { IfOk result (λ two. (K.seen hooks.new).told ≡ tell (Entry.Hook self.old.id n (Ok two.0)) (K.seen hooks.old).told) }
+        ensures adds { IfOk result (λ two. (journal.new.past ≡ Entry.Hook self.old.id n (Ok two.0) ∷ journal.old.past) × ((K.seen hooks.new).told ≡ tell (Entry.Hook self.old.id n (Ok two.0)) (K.seen hooks.old).told)) }
         ensures err { OnErr result (HookedOnly self.old.id n journal.old.past (K.seen hooks.old).told journal.new.past (K.seen hooks.new).told) }
         ensures fields { self.new ≡ record self.old { state = Pending; previous = Some self.old.state } }
         ensures called { HasCalled K.seen K.rule K.stands 1 1 journal.old hooks.old self.new journal.new hooks.new }
     {
         self.previous = Some(self.state);
         self.state = CommandState::Pending;
-        let cx = JobTaskContext {
-            command: self.command.get(),
-            current: &self.state,
-            previous: self.previous.as_ref(),
-        };
-        let answer = hooks.spawn_hook(self.id, n, &mut what, &cx);
+        let answer = hooks.spawn_hook(self.id, n, &mut what, &self.context());
         let job = self.id;
         match answer {
             Ok(()) => {
@@ -339,8 +330,7 @@ impl JobTask {
         journal: &mut Journal,
     ) -> Result<(), Memory>
         requires runs { child_of self.old.state ≡ None }
-        requires what { what ≡ spawnable_of self.old.command }
-        requires listed { listed ≡ what }
+        requires what { (what ≡ spawnable_of self.old.command) × (listed ≡ what) }
         requires before { before_spawn self.old.id journal.old.past ≡ self.old.state }
         requires ready { IsReadyAt at self.old 3 2 journal.old (H.seen host.old) (K.seen hooks.old) }
         ensures ok { OnOk result ((k : Plan) → Follows (fresh self.old.id (kit_of self.old) k) journal.old.past (H.seen host.old) (K.seen hooks.old).told k journal.new.past (H.seen host.new) (K.seen hooks.new).told) }

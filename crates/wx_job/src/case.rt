@@ -1,18 +1,17 @@
 // The cases of a job: what it does with what it picked.
-ghost use Rattle.std.specs.Prelude.{◌≡◌, ℕ, ◌+◌, ◌<◌, ◌≤◌, ◌∷◌, OnOk, OnErr, IfOk, IfSome, IfNone, Option, Some, None, is_some, true, false, length};
+ghost use Rattle.std.specs.Prelude.{◌≡◌, ◌+◌, ◌≤◌, ◌∷◌, OnOk, OnErr, IfOk, IfSome, IfNone, Option, Some, None, is_some, true, false, length};
 ghost use Rattle.wx_control.specs.declared.control.Control.TheVariants.{Stop, Delete, AsyncFunc};
 ghost use Rattle.wx_control.specs.Waits.{picked, first_of};
 ghost use Rattle.wx_journal.specs.declared.entry.Entry.{Entry};
-ghost use Rattle.wx_journal.specs.Names.{moment, ticket_count};
+ghost use Rattle.wx_journal.specs.Names.{moment};
 ghost use Rattle.wx_job.specs.declared.grace.Grace.{Grace as the-Grace};
 ghost use Rattle.wx_job.specs.declared.state.CommandState.TheVariants.{Pending};
 ghost use Rattle.wx_job.specs.History.{before_spawn, just_picked, begins_by, set_hook, set_handler, set_tag};
-ghost use Rattle.wx_job.specs.Table.{Plan, Done, adds, raises, reap, waiters, row, graceful, signalled, over, ended, polled, number_of, spawns, deletes, is_restart, is_spawning, is_deletion, is_parking, case};
+ghost use Rattle.wx_job.specs.Table.{Done, adds, raises, reap, waiters, row, graceful, signalled, over, ended, polled, number_of, spawns, deletes, is_restart, is_spawning, is_deletion, is_parking, case};
 ghost use Rattle.wx_job.specs.Prepared.{twice, prepared, prepared_for, fresh_or, fresh_in};
 ghost use Rattle.wx_job.specs.Case.{FollowsHost, FollowsHooks, Follows, GivesUp};
-ghost use Rattle.wx_job.specs.Kept.{KeepsOn};
-ghost use Rattle.wx_job.specs.Calls.{IsReady, IsReadyAt, AreRoomy, HasCalled, HasWaited, HasServed, HasDone};
-ghost use Rattle.wx_job.specs.Steady.{AreSpare, Spends, HaveRoom, UseRoom};
+ghost use Rattle.wx_job.specs.Calls.{IsReady, IsReadyAt, IsInHand, AreRoomy, HasCalled, HasServed, HasDone};
+ghost use Rattle.wx_job.specs.Steady.{AreSpare, Spends};
 ghost use Rattle.wx_job.specs.Stands.{Stands, Stops, SameJob, kit_of, child_of, grace_of, begun_of, holds, choice_of};
 
 use crate::choice::Choice;
@@ -46,10 +45,10 @@ impl JobTask {
         requires what { what ≡ twice self.old.command (is_some what) }
         requires runs { IfSome what (λ two. child_of self.old.state ≡ None) }
         requires before { before_spawn self.old.id journal.old.past ≡ self.old.state }
-        requires ready { IsReadyAt at self.old (4) 2 journal.old (H.seen host.old) (K.seen hooks.old) }
+        requires ready { IsReadyAt at self.old 4 2 journal.old (H.seen host.old) (K.seen hooks.old) }
         ensures done { HasDone result self.new (is_some what) (fresh_or (is_some what) self.old.id (kit_of self.old) ticket) journal.old.past (H.seen host.old) (K.seen hooks.old).told journal.new.past (H.seen host.new) (K.seen hooks.new).told }
         ensures fields { self.new ≡ record self.old { state = self.new.state; previous = self.new.previous; kept = self.new.kept } }
-        ensures served { HasServed K.seen K.rule K.stands (4) 2 journal.old (H.seen host.old) hooks.old self.new journal.new (H.seen host.new) hooks.new }
+        ensures served { HasServed K.seen K.rule K.stands 4 2 journal.old (H.seen host.old) hooks.old self.new journal.new (H.seen host.new) hooks.new }
     {
         if let Some((what, listed)) = what {
             self.fresh(alloc, what, listed, at, host, hooks, journal)?;
@@ -97,13 +96,12 @@ impl JobTask {
         hooks: &mut K,
         journal: &mut Journal,
     )
-        requires unheld { holds picked.ticket self.old ≡ 0 }
-        requires named { picked.ticket < ticket_count journal.old.past }
+        requires in_hand { IsInHand picked.ticket self.old journal.old.past }
         requires begins { begins_by (just_picked self.old.id journal.old.past) (moment journal.old.past) (grace_of self.old) ≡ Some (record { ends = ends; ticket = picked.ticket; restarts = restarts }) }
-        requires ready { IsReady self.old (3) 1 journal.old (H.seen host.old) (K.seen hooks.old) }
+        requires ready { IsReady self.old 3 1 journal.old (H.seen host.old) (K.seen hooks.old) }
         ensures follows { Follows (graceful self.old.id self.old.handler signal picked.ticket (child_of self.old.state)) journal.old.past (H.seen host.old) (K.seen hooks.old).told Done journal.new.past (H.seen host.new) (K.seen hooks.new).told }
         ensures fields { self.new ≡ record self.old { grace = self.new.grace } }
-        ensures served { HasServed K.seen K.rule K.stands (3) 1 journal.old (H.seen host.old) hooks.old self.new journal.new (H.seen host.new) hooks.new }
+        ensures served { HasServed K.seen K.rule K.stands 3 1 journal.old (H.seen host.old) hooks.old self.new journal.new (H.seen host.new) hooks.new }
     {
         let Some(child) = child_of(self.state) else {
             self.raise(picked.ticket, &picked.done, host, journal);
@@ -193,10 +191,10 @@ impl JobTask {
     )
         requires unheld { holds picked.now.ticket self.old ≡ 0 }
         requires begins { begins_by (just_picked self.old.id journal.old.past) (moment journal.old.past) (grace_of self.old) ≡ grace_of self.old }
-        requires ready { IsReady self.old (3) 1 journal.old (H.seen host.old) (K.seen hooks.old) }
+        requires ready { IsReady self.old 3 1 journal.old (H.seen host.old) (K.seen hooks.old) }
         ensures follows { Follows (signalled self.old.id self.old.handler signal picked.now.ticket (child_of self.old.state)) journal.old.past (H.seen host.old) (K.seen hooks.old).told Done journal.new.past (H.seen host.new) (K.seen hooks.new).told }
         ensures fields { self.new ≡ self.old }
-        ensures served { HasServed K.seen K.rule K.stands (3) 1 journal.old (H.seen host.old) hooks.old self.new journal.new (H.seen host.new) hooks.new }
+        ensures served { HasServed K.seen K.rule K.stands 3 1 journal.old (H.seen host.old) hooks.old self.new journal.new (H.seen host.new) hooks.new }
     {
         if let Some(child) = child_of(self.state) {
             self.signal(child, number_of(signal), host, hooks, journal);
@@ -209,11 +207,11 @@ impl JobTask {
         requires stands { Stands self.old journal.old.past }
         requires here { self.old.gone ≡ false }
         requires unheld { holds picked.now.ticket self.old ≡ 0 }
-        requires room { AreSpare (3) journal.old (H.seen host.old) }
+        requires room { AreSpare 3 journal.old (H.seen host.old) }
         ensures stands { Stands self.new journal.new.past }
         ensures follows { FollowsHost (row self.old.id (kit_of self.old) picked.now.ticket Delete (child_of self.old.state)) journal.old.past (H.seen host.old) Done journal.new.past (H.seen host.new) }
         ensures fields { self.new ≡ record self.old { waiting = self.new.waiting; kept = false; gone = true; grace = None; begun = None; parked = self.new.parked } }
-        ensures spends { Spends (3) journal.old (H.seen host.old) journal.new (H.seen host.new) }
+        ensures spends { Spends 3 journal.old (H.seen host.old) journal.new (H.seen host.new) }
     {
         self.raise(picked.ticket, &picked.done, host, journal);
         self.let_go(child_of(self.state), host, journal);
@@ -325,8 +323,7 @@ impl JobTask {
         requires stands { Stands self.old journal.old.past }
         requires here { self.old.gone ≡ false }
         requires just { just_picked self.old.id journal.old.past ≡ Some (picked.ticket, AsyncFunc n) }
-        requires unheld { holds picked.ticket self.old ≡ 0 }
-        requires named { picked.ticket < ticket_count journal.old.past }
+        requires in_hand { IsInHand picked.ticket self.old journal.old.past }
         requires none { begun_of self.old ≡ None }
         requires room { AreRoomy 1 1 journal.old (K.seen hooks.old) }
         ensures follows { FollowsHooks (adds (Entry.Begun self.old.id n) Done) journal.old.past (K.seen hooks.old).told Done journal.new.past (K.seen hooks.new).told }
@@ -481,11 +478,10 @@ impl JobTask {
         hooks: &mut K,
         journal: &mut Journal,
     ) -> Result<(), Memory>
-        requires unheld { holds picked.ticket self.old ≡ 0 }
+        requires in_hand { IsInHand picked.ticket self.old journal.old.past }
         requires just { just_picked self.old.id journal.old.past ≡ Some (picked.ticket, control) }
-        requires named { picked.ticket < ticket_count journal.old.past }
         requires none { begun_of self.old ≡ None }
-        requires in_hand { is_parking control self.old.state ≡ false }
+        requires here { is_parking control self.old.state ≡ false }
         requires what { what ≡ prepared self.old.command control (child_of self.old.state) }
         requires before { before_spawn self.old.id journal.old.past ≡ self.old.state }
         requires ready { IsReadyAt at self.old (9 + length self.old.parked.tickets) 4 journal.old (H.seen host.old) (K.seen hooks.old) }
@@ -494,69 +490,60 @@ impl JobTask {
         ensures job { SameJob self.old self.new }
         ensures served { HasServed K.seen K.rule K.stands (9 + length self.old.parked.tickets) 4 journal.old (H.seen host.old) hooks.old self.new journal.new (H.seen host.new) hooks.new }
     {
+        if what.is_some() {
+            return self.start_afresh(alloc, &picked, what, at, host, hooks, journal);
+        }
+        self.control_alone(control, picked, at, host, hooks, journal);
+        Ok(())
+    }
+
+    /// The case of a control that was picked, and that spawns no child.
+    fn control_alone<H: Host, K: JobHooks>(
+        &mut self,
+        control: Control,
+        picked: Picked,
+        at: u64,
+        host: &mut H,
+        hooks: &mut K,
+        journal: &mut Journal,
+    )
+        requires in_hand { IsInHand picked.ticket self.old journal.old.past }
+        requires just { just_picked self.old.id journal.old.past ≡ Some (picked.ticket, control) }
+        requires none { begun_of self.old ≡ None }
+        requires here { is_parking control self.old.state ≡ false }
+        requires alone { spawns control (child_of self.old.state) ≡ false }
+        requires ready { IsReadyAt at self.old (9 + length self.old.parked.tickets) 4 journal.old (H.seen host.old) (K.seen hooks.old) }
+        ensures follows { Follows (row self.old.id (kit_of self.old) picked.ticket control (child_of self.old.state)) journal.old.past (H.seen host.old) (K.seen hooks.old).told Done journal.new.past (H.seen host.new) (K.seen hooks.new).told }
+        ensures gone { self.new.gone ≡ deletes control }
+        ensures job { SameJob self.old self.new }
+        ensures served { HasServed K.seen K.rule K.stands (9 + length self.old.parked.tickets) 4 journal.old (H.seen host.old) hooks.old self.new journal.new (H.seen host.new) hooks.new }
+    {
+        let (ticket, done) = (picked.ticket, &picked.done);
         match control {
-            Control::Start => {
-                let (ticket, done) = (picked.ticket, &picked.done);
-                self.start(alloc, ticket, done, what, at, host, hooks, journal)
-            }
-            Control::Stop => {
-                self.stop(picked.ticket, &picked.done, at, host, hooks, journal);
-                Ok(())
-            }
+            Control::Stop => self.stop(ticket, done, at, host, hooks, journal),
             Control::GracefulStop { signal, grace } => {
-                self.graceful(
-                    picked,
-                    signal,
-                    over_at(at, grace),
-                    false,
-                    host,
-                    hooks,
-                    journal,
-                );
-                Ok(())
+                let over = over_at(at, grace);
+                self.graceful(picked, signal, over, false, host, hooks, journal);
             }
             Control::TryGracefulRestart { signal, grace } => {
-                self.graceful(
-                    picked,
-                    signal,
-                    over_at(at, grace),
-                    true,
-                    host,
-                    hooks,
-                    journal,
-                );
-                Ok(())
+                let over = over_at(at, grace);
+                self.graceful(picked, signal, over, true, host, hooks, journal);
             }
-            Control::TryRestart | Control::ContinueTryGracefulRestart => {
-                self.start_afresh(alloc, &picked, what, at, host, hooks, journal)
-            }
-            Control::Signal(signal) => {
-                self.send_signal(&picked, signal, host, hooks, journal);
-                Ok(())
-            }
-            Control::Delete => {
-                self.delete(&picked, host, journal);
-                Ok(())
-            }
-            Control::SyncFunc(n) => {
-                self.run(&picked, n, host, hooks, journal);
-                Ok(())
-            }
-            Control::AsyncFunc(n) => {
-                self.begin_function(picked, n, hooks, journal);
-                Ok(())
-            }
-            Control::NextEnding
+            Control::Signal(signal) => self.send_signal(&picked, signal, host, hooks, journal),
+            Control::Delete => self.delete(&picked, host, journal),
+            Control::SyncFunc(n) => self.run(&picked, n, host, hooks, journal),
+            Control::AsyncFunc(n) => self.begin_function(picked, n, hooks, journal),
+            Control::Start
+            | Control::TryRestart
+            | Control::ContinueTryGracefulRestart
+            | Control::NextEnding
             | Control::SetSyncErrorHandler(_)
             | Control::UnsetErrorHandler
             | Control::SetSyncSpawnHook(_)
             | Control::UnsetSpawnHook
             | Control::SetSpawnFn(_)
             | Control::SetSpawnChildFn(_)
-            | Control::ClearSpawnFn => {
-                self.raise(picked.ticket, &picked.done, host, journal);
-                Ok(())
-            }
+            | Control::ClearSpawnFn => self.raise(ticket, done, host, journal),
         }
     }
 

@@ -1,13 +1,12 @@
 // What is kept of a job.
-ghost use Rattle.std.specs.Prelude.{◌≡◌, ℕ, ◌+◌, ◌≤◌, ◌∷◌, ◌||◌, length, is_some, OnOk, OnErr, IfOk, List, Option, Some, None, option_map, true, false};
+ghost use Rattle.std.specs.Prelude.{◌≡◌, ℕ, ◌+◌, ◌≤◌, ◌∷◌, length, OnOk, OnErr, IfOk, List, Option, Some, None, option_map, true, false};
 ghost use Rattle.wx_control.specs.Asks.{sends_of};
-ghost use Rattle.wx_control.specs.Waits.{waiting_count};
 ghost use Rattle.wx_journal.specs.declared.entry.Entry.{Entry};
-ghost use Rattle.wx_journal.specs.declared.entry.Entry.TheVariants.{Turn as Turned, Made};
-ghost use Rattle.wx_journal.specs.declared.entry.TurnKind.TheVariants.{Ended};
+ghost use Rattle.wx_journal.specs.declared.entry.Entry.TheVariants.{Made};
 ghost use Rattle.wx_journal.specs.Names.{moment, NamesItsOwn};
-ghost use Rattle.wx_job.specs.History.{child as running, state, previous, grace, begun, parked, RunsOnly};
-ghost use Rattle.wx_job.specs.Table.{Plan, Done, adds, asks, send_plan, pick_by, is_spawning, answer_of, deletes, is_deletion, step_by, leave, end_plan};
+ghost use Rattle.wx_job.specs.History.{state, previous, grace, parked, RunsOnly};
+ghost use Rattle.wx_job.specs.Table.{Plan, Done, asks, send_plan, pick_by, answer_of, deletes, step_by, leave, end_plan};
+ghost use Rattle.wx_job.specs.Calls.{MayWait, HasStepped};
 ghost use Rattle.wx_job.specs.Case.{Ran, FollowsHost, FollowsAlone, Follows, GaveUp, GivesUp};
 ghost use Rattle.wx_job.specs.Faults.{Counted};
 ghost use Rattle.wx_job.specs.Steady.{AreSpare, Spends, HaveRoom, UseRoom};
@@ -114,8 +113,7 @@ impl JobTask {
         ensures gone { gone_of self.new ≡ gone_of self.old }
         ensures ticket { IfOk result (λ ticket. IsTicketOf self.old last ticket) }
         ensures leads { OnOk result (FollowsAlone (send_plan (id_of self.old) (sends_of ask) journal.old.past) journal.old.past Done journal.new.past) }
-        ensures task { OnErr result (SameTask self.old self.new) }
-        ensures past { OnErr result (journal.new.past ≡ journal.old.past) }
+        ensures refused { OnErr result (SameTask self.old self.new × journal.new.past ≡ journal.old.past) }
         ensures leaves { LeavesLaws (id_of self.old) journal.old.past journal.new.past }
         ensures journal_room { journal.old.spare ≤ journal.new.spare + 2 }
     {
@@ -141,9 +139,7 @@ impl JobTask {
         ensures stands { Stands self.new journal.new.past }
         ensures job { SameJob self.old self.new }
         ensures leads { OnOk result (Ran (step_by (closed_of self.old) (id_of self.old) (command_of self.old) journal.old.past) journal.old.past (H.seen host.old) (K.seen hooks.old).told Done journal.new.past (H.seen host.new) (K.seen hooks.new).told) }
-        ensures answer { IfOk result (λ stepped. stepped ≡ answer_of (gone_of self.old) (pick_by (closed_of self.old) (id_of self.old) journal.old.past) (is_some (begun (id_of self.old) journal.new.past))) }
-        ensures gone { gone_of self.new ≡ (gone_of self.old || is_deletion (pick_by (closed_of self.old) (id_of self.old) journal.old.past)) }
-        ensures memory { OnErr result (is_spawning (pick_by (closed_of self.old) (id_of self.old) journal.old.past) (running (id_of self.old) journal.old.past) (grace (id_of self.old) journal.old.past) ≡ true) }
+        ensures steps { HasStepped result self.old journal.old.past self.new journal.new.past }
         ensures err { OnErr result (Stops self.old journal.old host.old hooks.old self.new journal.new host.new hooks.new (GaveUp (step_by (closed_of self.old) (id_of self.old) (command_of self.old) journal.old.past) journal.old.past (H.seen host.old) (K.seen hooks.old).told journal.new.past (H.seen host.new) (K.seen hooks.new).told × HasInHand (id_of self.old) (grace (id_of self.old) journal.old.past) (pick_by (closed_of self.old) (id_of self.old) journal.old.past) journal.old.past journal.new.past)) }
         ensures leaves { LeavesLaws (id_of self.old) journal.old.past journal.new.past }
         ensures keeps { KeepsOn K.seen K.rule K.stands hooks.old journal.old.past hooks.new journal.new.past }
@@ -184,9 +180,7 @@ impl JobTask {
         ensures stands { Stands self.new journal.new.past }
         ensures job { SameJob self.old self.new }
         ensures leads { OnOk result (Ran (step_by (closed_of self.old) (id_of self.old) (command_of self.old) journal.old.past) journal.old.past (H.seen host.old) (K.seen hooks.old).told Done journal.new.past (H.seen host.new) (K.seen hooks.new).told) }
-        ensures answer { IfOk result (λ stepped. stepped ≡ answer_of (gone_of self.old) (pick_by (closed_of self.old) (id_of self.old) journal.old.past) (is_some (begun (id_of self.old) journal.new.past))) }
-        ensures gone { gone_of self.new ≡ (gone_of self.old || is_deletion (pick_by (closed_of self.old) (id_of self.old) journal.old.past)) }
-        ensures memory { OnErr result (is_spawning (pick_by (closed_of self.old) (id_of self.old) journal.old.past) (running (id_of self.old) journal.old.past) (grace (id_of self.old) journal.old.past) ≡ true) }
+        ensures steps { HasStepped result self.old journal.old.past self.new journal.new.past }
         ensures err { OnErr result (Stops (with_end self.old) journal.old host.old hooks.old self.new journal.new host.new hooks.new (GaveUp (step_by (closed_of self.old) (id_of self.old) (command_of self.old) journal.old.past) journal.old.past (H.seen host.old) (K.seen hooks.old).told journal.new.past (H.seen host.new) (K.seen hooks.new).told × HasInHand (id_of self.old) (grace (id_of self.old) journal.old.past) (pick_by (closed_of self.old) (id_of self.old) journal.old.past) journal.old.past journal.new.past)) }
         ensures leaves { LeavesLaws (id_of self.old) journal.old.past journal.new.past }
         ensures keeps { KeepsOn K.seen K.rule K.stands hooks.old journal.old.past hooks.new journal.new.past }
@@ -288,8 +282,7 @@ impl JobTask {
         ensures gone { gone_of self.new ≡ gone_of self.old }
         ensures ticket { IfOk result (λ ticket. IsTicketOf self.old last ticket) }
         ensures leads { OnOk result (FollowsAlone (send_plan (id_of self.old) (sends_of ask) journal.old.past) journal.old.past Done journal.new.past) }
-        ensures task { OnErr result (SameTask self.old self.new) }
-        ensures past { OnErr result (journal.new.past ≡ journal.old.past) }
+        ensures refused { OnErr result (SameTask self.old self.new × journal.new.past ≡ journal.old.past) }
         ensures journal_room { journal.old.spare ≤ journal.new.spare + 2 }
     {
         if self.gone {
@@ -320,9 +313,7 @@ impl JobTask {
         ensures stands { Stands self.new journal.new.past }
         ensures task { SameTask self.old self.new }
         ensures past { journal.new.past ≡ journal.old.past }
-        ensures waiting { OnOk result (2 ≤ self.new.waiting.spare) }
-        ensures parked { OnOk result (waiting_count self.new.waiting + 2 ≤ self.new.parked.spare) }
-        ensures listed { OnOk result (2 ≤ journal.new.spare) }
+        ensures room { OnOk result (MayWait 2 self.new journal.new) }
         ensures journal_room { journal.old.spare ≤ journal.new.spare }
     {
         let waiting = self.waiting.count().ok_or(Memory)?;
@@ -346,14 +337,11 @@ impl JobTask {
     fn ask(&mut self, control: Control, level: Level, done: Flag, journal: &mut Journal)
         requires stands { Stands self.old journal.old.past }
         requires here { self.old.gone ≡ false }
-        requires room { 1 ≤ self.old.waiting.spare }
-        requires parked { waiting_count self.old.waiting + 1 ≤ self.old.parked.spare }
-        requires journal_room { 1 ≤ journal.old.spare }
+        requires room { MayWait 1 self.old journal.old }
         ensures stands { Stands self.new journal.new.past }
         ensures follows { (k : Plan) → FollowsAlone (asks self.old.id level control k) journal.old.past k journal.new.past }
         ensures fields { self.new ≡ record self.old { waiting = self.new.waiting } }
-        ensures room { self.old.waiting.spare ≤ self.new.waiting.spare + 1 }
-        ensures count { waiting_count self.new.waiting ≡ waiting_count self.old.waiting + 1 }
+        ensures room { (n : ℕ) → MayWait (n + 1) self.old journal.old → MayWait n self.new journal.new }
         ensures journal_room { journal.old.spare ≤ journal.new.spare + 1 }
     {
         let ticket = journal.tickets();
@@ -412,9 +400,7 @@ impl JobTask {
         ensures stands { Stands self.new journal.new.past }
         ensures job { SameJob self.old self.new }
         ensures leads { OnOk result (Follows (step_by (closed_of self.old) (id_of self.old) (command_of self.old) journal.old.past) journal.old.past (H.seen host.old) (K.seen hooks.old).told Done journal.new.past (H.seen host.new) (K.seen hooks.new).told) }
-        ensures answer { IfOk result (λ stepped. stepped ≡ answer_of (gone_of self.old) (pick_by (closed_of self.old) (id_of self.old) journal.old.past) (is_some (begun (id_of self.old) journal.new.past))) }
-        ensures gone { gone_of self.new ≡ (gone_of self.old || is_deletion (pick_by (closed_of self.old) (id_of self.old) journal.old.past)) }
-        ensures memory { OnErr result (is_spawning (pick_by (closed_of self.old) (id_of self.old) journal.old.past) (running (id_of self.old) journal.old.past) (grace (id_of self.old) journal.old.past) ≡ true) }
+        ensures steps { HasStepped result self.old journal.old.past self.new journal.new.past }
         ensures err { OnErr result (Stops self.old journal.old host.old hooks.old self.new journal.new host.new hooks.new (GivesUp (step_by (closed_of self.old) (id_of self.old) (command_of self.old) journal.old.past) journal.old.past (H.seen host.old) (K.seen hooks.old).told journal.new.past (H.seen host.new) (K.seen hooks.new).told)) }
         ensures keeps { KeepsOn K.seen K.rule K.stands hooks.old journal.old.past hooks.new journal.new.past }
         ensures uses { UseRoom (10 + parked_count self.old) 4 journal.old (H.seen host.old) (K.seen hooks.old) journal.new (H.seen host.new) (K.seen hooks.new) }

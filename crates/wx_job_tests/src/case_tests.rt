@@ -1,10 +1,9 @@
 // Each case of a job: what a step lists and what the job is then, worked out by hand from the table of cases.
 //
 // A block begins with the moves that come before each of its cases. A case is a line, as `expect_line` reads it.
-use crate::player::{expect_line, host, one_job};
+use crate::player::{expect_line, job_with};
 use std::alloc::Global;
 use std::process::Abort;
-use std::test::Fail;
 
 /// No child runs: none was spawned, one has ended, and the last spawn failed.
 const WITHOUT_A_CHILD: &str = "\
@@ -90,8 +89,8 @@ run 5,step 2 = pick 0 1, run 0 5, raise 1 | did pending parks 1
 runasync 5,step 2 = pick 0 1, begun 0 5 | did pending parks 1";
 
 #[test]
-fn cases_without_a_child(rt: HostRuntime) -> Result<(), Fail> {
-    each_case(&rt, rt.alloc(), WITHOUT_A_CHILD)
+fn cases_without_a_child(rt: HostRuntime) {
+    each_case(&rt, rt.alloc(), WITHOUT_A_CHILD);
 }
 
 /// Child 0 runs, and no grace stands: no ticket is parked, and those of the numbers 1 and 2.
@@ -173,8 +172,8 @@ runasync 5,step 2 = pick 0 3, begun 0 5 | did runs 0 from 1 parks 2
 end = drop 0, gone 0 | left 0 from 1";
 
 #[test]
-fn cases_with_a_child(rt: HostRuntime) -> Result<(), Fail> {
-    each_case(&rt, rt.alloc(), WITH_A_CHILD)
+fn cases_with_a_child(rt: HostRuntime) {
+    each_case(&rt, rt.alloc(), WITH_A_CHILD);
 }
 
 /// Child 0 runs in a grace of a stop, whose ticket is 1: no ticket is parked, and those of the numbers 2 and 3.
@@ -226,8 +225,8 @@ deletenow,step 4 ! 0 = pick 0 4, kill 0 fault 7, raise 4 | did runs 0 from 1 unt
 deletenow,step 4,step 5 ! 1 = pick 0 5, raise 5, drop 0, gone 0 | gone left 0 from 1";
 
 #[test]
-fn cases_in_a_grace_of_a_stop(rt: HostRuntime) -> Result<(), Fail> {
-    each_case(&rt, rt.alloc(), IN_A_GRACE_OF_A_STOP)
+fn cases_in_a_grace_of_a_stop(rt: HostRuntime) {
+    each_case(&rt, rt.alloc(), IN_A_GRACE_OF_A_STOP);
 }
 
 /// Child 0 runs in a grace of a restart, whose ticket is 1: no ticket is parked, and those of the numbers 2 and 3.
@@ -280,8 +279,8 @@ ended 4 ! 1 = wait 0 success, raise 2, raise 3, spawn 1 0 default ---- 1 a fault
 deletenow,step 4 = pick 0 4, kill 0 ok, wait 0 success, raise 2, raise 3, raise 1, raise 4 | did success from 1 to 4";
 
 #[test]
-fn cases_in_a_grace_of_a_restart(rt: HostRuntime) -> Result<(), Fail> {
-    each_case(&rt, rt.alloc(), IN_A_GRACE_OF_A_RESTART)
+fn cases_in_a_grace_of_a_restart(rt: HostRuntime) {
+    each_case(&rt, rt.alloc(), IN_A_GRACE_OF_A_RESTART);
 }
 
 /// Child 0 runs, and a spawn hook is set. That of the number 9 has no memory, and then the case is given up.
@@ -303,8 +302,8 @@ trygracefulrestart user2 9,step 3,step 12 = grace 0, kill 0 ok, wait 0 success, 
 stop,step 3 = pick 0 3, kill 0 ok, wait 0 success, raise 2, raise 3 | did success from 1 to 3";
 
 #[test]
-fn cases_with_a_hook(rt: HostRuntime) -> Result<(), Fail> {
-    each_case(&rt, rt.alloc(), WITH_A_HOOK)
+fn cases_with_a_hook(rt: HostRuntime) {
+    each_case(&rt, rt.alloc(), WITH_A_HOOK);
 }
 
 /// A function was begun, whose ticket is 0 where no child was spawned, and else 1 or 2. While it isn't ready nothing else is
@@ -403,8 +402,8 @@ nextending,step 4,step 5 = pick 0 2, raise 2 | did success from 1 to 2
 end = gone 0 | success from 1 to 2";
 
 #[test]
-fn cases_with_a_function(rt: HostRuntime) -> Result<(), Fail> {
-    each_case(&rt, rt.alloc(), WITH_A_FUNCTION)
+fn cases_with_a_function(rt: HostRuntime) {
+    each_case(&rt, rt.alloc(), WITH_A_FUNCTION);
 }
 
 /// The error handler 6 is set, or was, and each call on the child fails in turn.
@@ -497,8 +496,8 @@ trygracefulrestart quit 9,step 4,ended 5 ! 2 = wait 0 success, spawn 1 0 default
 signal quit,step 4 ! 0 = pick 0 3, signal 0 3 fault 7, raise 3 | did runs 0 from 3";
 
 #[test]
-fn cases_with_an_error_handler(rt: HostRuntime) -> Result<(), Fail> {
-    each_case(&rt, rt.alloc(), WITH_AN_ERROR_HANDLER)
+fn cases_with_an_error_handler(rt: HostRuntime) {
+    each_case(&rt, rt.alloc(), WITH_AN_ERROR_HANDLER);
 }
 
 /// There are no more handles: a step does what can be picked, is idle while a grace stands, and else ends the job.
@@ -613,28 +612,24 @@ start,step 2,step 3 = pick 0 1, spawn 0 0 default ---- 1 a ok, raise 1 | did run
 end = gone 0 | pending";
 
 #[test]
-fn cases_after_a_close(rt: HostRuntime) -> Result<(), Fail> {
-    each_case(&rt, rt.alloc(), CLOSED)
+fn cases_after_a_close(rt: HostRuntime) {
+    each_case(&rt, rt.alloc(), CLOSED);
 }
 
 /// Plays each case of the table with a job of its own.
-fn each_case(rt: &impl Abort, alloc: Global, table: &str) -> Result<(), Fail> {
+fn each_case(rt: &impl Abort, alloc: Global, table: &str) {
     for block in table.split("\n\n") {
-        let (before, cases) = block.split_once(":\n").ok_or("moves and cases")?;
+        let (before, cases) = block.split_once(":\n").expect(rt, "moves and cases");
         for case in cases.lines() {
-            expect_case(rt, alloc, before, case)?;
+            expect_case(rt, alloc, before, case);
         }
     }
-    Ok(())
 }
 
 /// Plays a case behind these moves, with a job of its own.
-fn expect_case(rt: &impl Abort, alloc: Global, before: &str, case: &str) -> Result<(), Fail> {
-    let mut job = one_job(alloc, host(alloc, None)?)?;
-    let held = match job.play_line(alloc, before) {
-        Ok(_) => expect_line(rt, alloc, &mut job, case),
-        Err(fail) => Err(fail),
-    };
+fn expect_case(rt: &impl Abort, alloc: Global, before: &str, case: &str) {
+    let mut job = job_with(rt, alloc, None);
+    job.play_line(rt, alloc, before);
+    expect_line(rt, alloc, &mut job, case);
     drop(job);
-    held
 }

@@ -1,10 +1,9 @@
 // Tests of graces, restarts, waiting and deletion, move by move: what comes of each is worked out by hand.
 //
 // A block is the story of one job. Each of its lines goes on from the one before, and is as `expect_line` reads it.
-use crate::player::{One, expect_line, host, one_job};
+use crate::player::{One, expect_line, job_with};
 use std::alloc::Global;
 use std::process::Abort;
-use std::test::Fail;
 
 /// A child that ends within its grace. One that has to be killed. A grace of 0, which is over before the end that is kept
 /// at the same moment. A grace whose kill fails, and a later stop. One whose wait fails. A kept end that outlives a failed
@@ -51,8 +50,8 @@ step 2 = pick 0 1, spawn 0 0 default ---- 1 a ok, raise 1 | did runs 0 from 2
 step 11 = word idle | idle runs 0 from 2";
 
 #[test]
-fn graceful_stops(rt: HostRuntime) -> Result<(), Fail> {
-    each_story(&rt, rt.alloc(), GRACEFUL_STOPS)
+fn graceful_stops(rt: HostRuntime) {
+    each_story(&rt, rt.alloc(), GRACEFUL_STOPS);
 }
 
 /// A graceful restart that has to be forced: its child's end spawns nothing. One within the grace, and none after it. One
@@ -97,8 +96,8 @@ ended 4 = wait 0 success, raise 1 | did success from 1 to 4
 step 5 = pick 0 2, spawn 1 0 default ---- 1 a ok, raise 2 | did runs 1 from 5";
 
 #[test]
-fn restarts(rt: HostRuntime) -> Result<(), Fail> {
-    each_story(&rt, rt.alloc(), RESTARTS)
+fn restarts(rt: HostRuntime) {
+    each_story(&rt, rt.alloc(), RESTARTS);
 }
 
 /// A wait before the child is spawned, and one once it has ended. Waits in the order of their picks, asked at two levels.
@@ -122,8 +121,8 @@ ended 4 ! 0 = wait 1 fault 7 | did runs 1 from 3 parks 1
 ended 5 = wait 1 success, raise 0 | did success from 3 to 5";
 
 #[test]
-fn waits_for_ends(rt: HostRuntime) -> Result<(), Fail> {
-    each_story(&rt, rt.alloc(), WAITS)
+fn waits_for_ends(rt: HostRuntime) {
+    each_story(&rt, rt.alloc(), WAITS);
 }
 
 /// An urgent deletion in a grace. Levels before the order of asks. A deletion behind a stop, and one behind a stop that
@@ -156,8 +155,8 @@ step 5 = pick 0 4, raise 4, drop 0, gone 0 | gone left 0 from 1
 step 7 =  | gone left 0 from 1";
 
 #[test]
-fn deletions(rt: HostRuntime) -> Result<(), Fail> {
-    each_story(&rt, rt.alloc(), DELETIONS)
+fn deletions(rt: HostRuntime) {
+    each_story(&rt, rt.alloc(), DELETIONS);
 }
 
 /// A case is given up behind a hook without memory, and its ticket is never raised. Later steps go on.
@@ -175,8 +174,8 @@ step 4 = pick 0 3, hook 0 9 memory | memory pending
 delete,step 5 = pick 0 4, raise 4, gone 0 | gone pending";
 
 #[test]
-fn cases_that_are_given_up(rt: HostRuntime) -> Result<(), Fail> {
-    each_story(&rt, rt.alloc(), GIVEN_UP)
+fn cases_that_are_given_up(rt: HostRuntime) {
+    each_story(&rt, rt.alloc(), GIVEN_UP);
 }
 
 /// Each signal by its number on the system, one without such a number as 15, also at the front of a grace. Graces whose
@@ -212,25 +211,22 @@ start,step 1,trygracefulrestart quit 18446744073709551615,step 18446744073709551
 step 18446744073709551615 = word idle | idle runs 0 from 1 until 36893488147419103230";
 
 #[test]
-fn numbers_and_moments(rt: HostRuntime) -> Result<(), Fail> {
-    each_story(&rt, rt.alloc(), NUMBERS)
+fn numbers_and_moments(rt: HostRuntime) {
+    each_story(&rt, rt.alloc(), NUMBERS);
 }
 
 /// Plays each story with a job of its own.
-fn each_story(rt: &impl Abort, alloc: Global, stories: &str) -> Result<(), Fail> {
+fn each_story(rt: &impl Abort, alloc: Global, stories: &str) {
     for story in stories.split("\n\n") {
-        let mut job = one_job(alloc, host(alloc, None)?)?;
-        let held = expect_story(rt, alloc, &mut job, story);
+        let mut job = job_with(rt, alloc, None);
+        expect_story(rt, alloc, &mut job, story);
         drop(job);
-        held?;
     }
-    Ok(())
 }
 
 /// Plays a story, line by line.
-fn expect_story(rt: &impl Abort, alloc: Global, job: &mut One, story: &str) -> Result<(), Fail> {
+fn expect_story(rt: &impl Abort, alloc: Global, job: &mut One, story: &str) {
     for line in story.lines() {
-        expect_line(rt, alloc, job, line)?;
+        expect_line(rt, alloc, job, line);
     }
-    Ok(())
 }

@@ -7,7 +7,6 @@ use crate::test_world::{
 };
 use std::alloc::Global;
 use std::process::Abort;
-use std::test::Fail;
 use wx_control::{Ask, Flag, Id, Job, Ticket};
 use wx_events::{Copies, Memory, Spelled, Text, Words};
 use wx_job::{CommandState, JobTask, Stepped};
@@ -62,6 +61,18 @@ fn read_move(alloc: Global, words: &[u8]) -> Result<Option<Move>, Memory> {
         return Ok(read::<u64>(alloc, at)?.map(|at| Move::Ended(at)));
     }
     Ok(read::<Ask>(alloc, words)?.map(|wish| Move::Ask(wish)))
+}
+
+/// The move of these words, where the test has one there.
+fn move_of(rt: &impl Abort, alloc: Global, words: &[u8]) -> Move {
+    let found = read_move(alloc, words).expect(rt, "words");
+    found.expect(rt, "a move")
+}
+
+/// The number of these words, where the test has one there.
+fn number_of(rt: &impl Abort, alloc: Global, words: &str) -> u64 {
+    let found = read::<u64>(alloc, words.as_bytes()).expect(rt, "words");
+    found.expect(rt, "a number")
 }
 
 /// What came of the moves of a line.
@@ -188,31 +199,34 @@ impl One {
         self.handle.is_dead() == gone && self.handle.is_running() == runs
     }
 
-    /// Makes the moves of a line. Where a number stands behind ` ! ` in it, the call on the host of this number in this line,
-    /// from 0, fails.
-    pub(crate) fn play_line(&mut self, alloc: Global, line: &str) -> Result<Played, Fail> {
-        let moves = match line.split_once(" ! ") {
+    /// The moves of a line. Where a number stands behind ` ! ` in it, the call on the host of this number, from 0, fails.
+    fn moves_in<'a>(&mut self, rt: &impl Abort, alloc: Global, line: &'a str) -> &'a str {
+        match line.split_once(" ! ") {
             Some((moves, number)) => {
-                let number = read::<u64>(alloc, number.as_bytes())?.ok_or("a number")?;
-                self.world.host.fail_at(number);
+                self.world.host.fail_at(number_of(rt, alloc, number));
                 moves
             }
             None => line,
-        };
+        }
+    }
+
+    /// Makes the moves of a line.
+    pub(crate) fn play_line(&mut self, rt: &impl Abort, alloc: Global, line: &str) -> Played {
+        let moves = self.moves_in(rt, alloc, line);
         let mut played = Played {
             listed: 0,
             failed: 0,
             answer: Ok(None),
         };
         for words in moves.as_bytes().split(|byte| *byte == b',') {
-            let with = read_move(alloc, words)?.ok_or("a move")?;
+            let with = move_of(rt, alloc, words);
             played.listed = self.world.journal.as_slice().len();
             played.answer = self.play(alloc, with);
             if played.answer.is_err() {
                 played.failed = played.failed.saturating_add(1);
             }
         }
-        Ok(played)
+        played
     }
 }
 
@@ -229,6 +243,12 @@ fn is_raised(name: u64, journal: &Journal) -> bool {
 /// A host that fails at the call `bad`, and whose children end with success.
 pub(crate) fn host(alloc: Global, bad: Option<u64>) -> Result<TestHost, Memory> {
     TestHost::new(alloc, bad, Vec::new(alloc))
+}
+
+/// Job 0 as it was made, with a host that fails at the call `bad`.
+pub(crate) fn job_with(rt: &impl Abort, alloc: Global, bad: Option<u64>) -> One {
+    let host = host(alloc, bad).expect(rt, "a host");
+    one_job(alloc, host).expect(rt, "a job")
 }
 
 /// Whether the journal has just these lines behind the first one.
@@ -263,10 +283,10 @@ fn put_entries(journal: &Journal, listed: usize, text: &mut Text) -> Result<(), 
     Ok(())
 }
 
-/// Appends the state. A child that was let go has `left`, and one that runs `runs`.
-fn put_state(alloc: Global, task: &JobTask, text: &mut Text) -> Result<(), Fail> {
+/// The state, with a space before it. A child that was let go has `left`, and one that runs `runs`.
+fn state_of(alloc: Global, task: &JobTask) -> Result<String, Memory> {
     let runs = task.running_child().is_some();
-    let state = match task.state() {
+    Ok(match task.state() {
         CommandState::Pending => format!(in alloc; " pending")?,
         CommandState::Running { child, started } if runs => {
             format!(in alloc; " runs {child} from {started}")?
@@ -279,17 +299,28 @@ fn put_state(alloc: Global, task: &JobTask, text: &mut Text) -> Result<(), Fail>
             started,
             finished,
         } => format!(in alloc; " {status} from {started} to {finished}")?,
-    };
-    text.append(state.as_bytes())?;
-    Ok(())
+    })
 }
 
-/// Appends the end of the grace that stands and how many tickets are parked, where there are any.
-fn put_held(alloc: Global, task: &JobTask, text: &mut Text) -> Result<(), Fail> {
-    if let Some(ends) = task.grace_end() {
-        let until = format!(in alloc; " until {ends}")?;
-        text.append(until.as_bytes())?;
+/// Appends the state.
+fn put_state(alloc: Global, task: &JobTask, text: &mut Text) -> Result<(), Memory> {
+    let state = state_of(alloc, task)?;
+    text.append(state.as_bytes())
+}
+
+/// Appends the end of the grace that stands, where one does.
+fn put_grace(alloc: Global, task: &JobTask, text: &mut Text) -> Result<(), Memory> {
+    match task.grace_end() {
+        Some(ends) => {
+            let until = format!(in alloc; " until {ends}")?;
+            text.append(until.as_bytes())
+        }
+        None => Ok(()),
     }
+}
+
+/// Appends how many tickets are parked, where there are any.
+fn put_parked(task: &JobTask, text: &mut Text) -> Result<(), Memory> {
     if task.parked() > 0 {
         text.append(b" parks ")?;
         text.append_number(task.parked())?;
@@ -297,30 +328,35 @@ fn put_held(alloc: Global, task: &JobTask, text: &mut Text) -> Result<(), Fail> 
     Ok(())
 }
 
+/// Appends what the job is.
+fn put_job(alloc: Global, task: &JobTask, text: &mut Text) -> Result<(), Memory> {
+    put_state(alloc, task, text)?;
+    put_grace(alloc, task, text)?;
+    put_parked(task, text)
+}
+
 /// What the last move of a line listed and answered, and what the job is then.
-fn seen_of(alloc: Global, job: &mut One, line: &str) -> Result<Text, Fail> {
-    let played = job.play_line(alloc, line)?;
+fn seen_of(alloc: Global, job: &One, played: Played) -> Result<Text, Memory> {
     let mut text = Text::new(alloc);
     put_entries(&job.world.journal, played.listed, &mut text)?;
     text.append(b" |")?;
     text.append(answer_word(played.answer).as_bytes())?;
-    put_state(alloc, &job.task, &mut text)?;
-    put_held(alloc, &job.task, &mut text)?;
+    put_job(alloc, &job.task, &mut text)?;
     Ok(text)
+}
+
+/// Ends the test where this isn't so at this line.
+pub(crate) fn expect_at(rt: &impl Abort, so: bool, what: &str, line: &str) {
+    assert!(rt; so, "{what} at {line}");
 }
 
 /// Plays a line, `MOVES = SEEN` or `MOVES ! NUMBER = SEEN`, and holds what comes of its last move to what stands there: the
 /// entries but the turn; `did`, `idle`, `later`, `gone` or `memory`; the state; `until` and the end of the grace that stands;
 /// `parks` and how many tickets are parked. The tickets and the handle have to tell what the journal and the task do.
-pub(crate) fn expect_line(
-    rt: &impl Abort,
-    alloc: Global,
-    job: &mut One,
-    line: &str,
-) -> Result<(), Fail> {
-    let (moves, want) = line.split_once(" = ").ok_or("moves and what is seen")?;
-    let seen = seen_of(alloc, job, moves)?;
-    assert!(rt; seen.as_slice() == want.as_bytes(), "at {line}");
-    assert!(rt; job.is_told(), "flags at {line}");
-    Ok(())
+pub(crate) fn expect_line(rt: &impl Abort, alloc: Global, job: &mut One, line: &str) {
+    let (moves, want) = line.split_once(" = ").expect(rt, "moves and what is seen");
+    let played = job.play_line(rt, alloc, moves);
+    let seen = seen_of(alloc, job, played).expect(rt, "what is seen");
+    expect_at(rt, seen.as_slice() == want.as_bytes(), "what is seen", line);
+    expect_at(rt, job.is_told(), "flags", line);
 }

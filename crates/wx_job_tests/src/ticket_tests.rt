@@ -2,7 +2,7 @@
 //
 // A block is the story of one job. Each of its lines goes on from the one before: it is a line as `expect_line` reads it,
 // and behind ` => ` what one poll of each ticket finds, in the order of the asks, and what the handle tells then.
-use crate::player::{Move, One, expect_line, host, made_job, one_job};
+use crate::player::{Move, One, expect_at, expect_line, host, job_with, made_job};
 use crate::test_world::lines_of;
 use futures::Future;
 use futures::executor::block_on;
@@ -10,7 +10,6 @@ use futures::task::{Context, Poll};
 use futures::test::MockTask;
 use std::alloc::Global;
 use std::process::Abort;
-use std::test::Fail;
 use wx_control::{Ask, Control, Flag, Ticket};
 use wx_events::{Copies, Memory, Text};
 use wx_job::Stepped;
@@ -38,56 +37,49 @@ fn poll_word(task: &MockTask, alloc: Global, ticket: &mut Ticket) -> Result<&'st
     })
 }
 
-/// What one poll of each ticket finds, and then whether the job is dead and whether its child runs, as the handle tells.
-fn told_of(task: &MockTask, alloc: Global, job: &mut One) -> Result<Text, Memory> {
-    let mut text = Text::new(alloc);
+/// Appends what one poll of each ticket finds.
+fn put_polls(task: &MockTask, alloc: Global, job: &mut One, text: &mut Text) -> Result<(), Memory> {
     for given in job.tickets.iter_mut() {
         let word = poll_word(task, alloc, &mut given.ticket)?;
         text.append(word.as_bytes())?;
         text.append(b" ")?;
     }
-    let life: &[u8] = if job.handle.is_dead() {
-        b"dead"
-    } else {
-        b"alive"
-    };
-    text.append(life)?;
-    let child: &[u8] = if job.handle.is_running() {
-        b" runs"
-    } else {
-        b" rests"
-    };
-    text.append(child)?;
+    Ok(())
+}
+
+/// The words of whether the job is dead and whether its child runs, as the handle tells.
+fn life_of(job: &mut One) -> &'static str {
+    match (job.handle.is_dead(), job.handle.is_running()) {
+        (true, true) => "dead runs",
+        (true, false) => "dead rests",
+        (false, true) => "alive runs",
+        (false, false) => "alive rests",
+    }
+}
+
+/// What one poll of each ticket finds, and then what the handle tells.
+fn told_of(task: &MockTask, alloc: Global, job: &mut One) -> Result<Text, Memory> {
+    let mut text = Text::new(alloc);
+    put_polls(task, alloc, job, &mut text)?;
+    text.append(life_of(job).as_bytes())?;
     Ok(text)
 }
 
 /// Plays a line, and holds what comes of it and what is told then to what stands there.
-fn expect_told(
-    rt: &impl Abort,
-    task: &MockTask,
-    alloc: Global,
-    job: &mut One,
-    line: &str,
-) -> Result<(), Fail> {
-    let (played, want) = line.split_once(" => ").ok_or("a line and what is told")?;
-    expect_line(rt, alloc, job, played)?;
-    let told = told_of(task, alloc, job)?;
-    assert!(rt; told.as_slice() == want.as_bytes(), "told at {line}");
-    Ok(())
+fn expect_told(rt: &impl Abort, task: &MockTask, alloc: Global, job: &mut One, line: &str) {
+    let (played, want) = line
+        .split_once(" => ")
+        .expect(rt, "a line and what is told");
+    expect_line(rt, alloc, job, played);
+    let told = told_of(task, alloc, job).expect(rt, "what is told");
+    expect_at(rt, told.as_slice() == want.as_bytes(), "what is told", line);
 }
 
 /// Plays a story, line by line.
-fn expect_story(
-    rt: &impl Abort,
-    task: &MockTask,
-    alloc: Global,
-    job: &mut One,
-    story: &str,
-) -> Result<(), Fail> {
+fn expect_story(rt: &impl Abort, task: &MockTask, alloc: Global, job: &mut One, story: &str) {
     for line in story.lines() {
-        expect_told(rt, task, alloc, job, line)?;
+        expect_told(rt, task, alloc, job, line);
     }
-    Ok(())
 }
 
 /// A job without handles: the grace of its graceful stop runs to its end, and the step behind it ends the job.
@@ -108,16 +100,22 @@ const CLOSED_LINES: &str =
     turn 12 job 0\ngrace 0\nkill 0 ok\nwait 0 success\nraise 1\n\
     turn 13 job 0\ngone 0\n";
 
+/// Holds the lines of the journal to be these.
+fn expect_lines(rt: &impl Abort, alloc: Global, job: &One, want: &str) {
+    let lines = lines_of(alloc, &job.world).expect(rt, "lines");
+    assert!(rt; lines.as_slice() == want.as_bytes());
+}
+
 #[test]
-fn a_closed_job_ends_behind_its_grace(rt: HostRuntime) -> Result<(), Fail> {
-    let task = MockTask::new(&rt)?;
-    let mut job = made_job(rt.alloc(), host(rt.alloc(), None)?)?;
-    let held = expect_story(&rt, &task, rt.alloc(), &mut job, CLOSED);
-    let lines = lines_of(rt.alloc(), &job.world);
+fn a_closed_job_ends_behind_its_grace(rt: HostRuntime) {
+    let alloc = rt.alloc();
+    let task = MockTask::new(&rt).expect(&rt, "a task");
+    let host = host(alloc, None).expect(&rt, "a host");
+    let mut job = made_job(alloc, host).expect(&rt, "a job");
+    expect_story(&rt, &task, alloc, &mut job, CLOSED);
+    expect_lines(&rt, alloc, &job, CLOSED_LINES);
     drop(job);
-    held?;
-    assert_eq!(rt; lines?.as_slice(), CLOSED_LINES.as_bytes());
-    Ok(())
+    drop(task);
 }
 
 /// Of two asks one is done, and the end of the job tells of both; what is asked then is over at once. A spawn that fails, a
@@ -158,56 +156,83 @@ ended 4 ! 0 = wait 0 fault 7, joberror 0 5 7 | did runs 0 from 2 until 12 => don
 ended 5 = wait 0 success, spawn 1 0 default ---- 1 a ok, raise 2 | did runs 1 from 5 => done done done alive runs
 tryrestart,step 6 ! 2 = pick 0 3, kill 1 ok, wait 1 success, spawn 2 0 default ---- 1 a fault 7, joberror 0 5 7, raise 3 | did pending => done done done done alive rests";
 
-#[test]
-fn tickets_and_handles_tell_of_a_run(rt: HostRuntime) -> Result<(), Fail> {
-    let task = MockTask::new(&rt)?;
-    for story in TOLD.split("\n\n") {
-        let mut job = one_job(rt.alloc(), host(rt.alloc(), None)?)?;
-        let held = expect_story(&rt, &task, rt.alloc(), &mut job, story);
+/// Plays each story with a job of its own.
+fn each_story(rt: &impl Abort, task: &MockTask, alloc: Global, stories: &str) {
+    for story in stories.split("\n\n") {
+        let mut job = job_with(rt, alloc, None);
+        expect_story(rt, task, alloc, &mut job, story);
         drop(job);
-        held?;
     }
-    Ok(())
+}
+
+#[test]
+fn tickets_and_handles_tell_of_a_run(rt: HostRuntime) {
+    let task = MockTask::new(&rt).expect(&rt, "a task");
+    each_story(&rt, &task, rt.alloc(), TOLD);
+    drop(task);
 }
 
 const START: Ask = Ask::One(Control::Start);
 
-/// A flag of the caller is raised by the last control of its ask. One that the caller raises ends the wait for its ticket
-/// alone. That of an ask of a job that is gone is left alone.
-fn expect_flags(
+/// A flag that isn't raised.
+fn new_flag(rt: &impl Abort, alloc: Global) -> Flag {
+    Flag::new(alloc, false).expect(rt, "a flag")
+}
+
+/// Asks this over a flag of the caller.
+fn ask_over(rt: &impl Abort, alloc: Global, job: &mut One, wish: Ask, last: &Flag) -> Ticket {
+    job.ask_over(alloc, wish, last).expect(rt, "a ticket")
+}
+
+/// Makes one move.
+fn play(rt: &impl Abort, alloc: Global, job: &mut One, with: Move) {
+    let answer = job.play(alloc, with);
+    answer.expect(rt, "a move");
+}
+
+/// Polls a ticket, and holds whether it is ready and the flag of the caller is raised to be so.
+fn expect_poll(
     rt: &impl Abort,
     task: &MockTask,
-    alloc: Global,
-    job: &mut One,
-) -> Result<(), Fail> {
-    let (first, second, third) = (
-        Flag::new(alloc, false)?,
-        Flag::new(alloc, false)?,
-        Flag::new(alloc, false)?,
-    );
-    let mut restart = job.ask_over(alloc, Ask::Restart, &first)?;
-    let mut start = job.ask_over(alloc, START, &second)?;
-    job.play(alloc, Move::Step(1))?;
-    assert!(rt; !first.raised() && !is_ready(task, &mut restart));
-    job.play(alloc, Move::Step(2))?;
-    assert!(rt; first.raised() && is_ready(task, &mut restart));
-    assert!(rt; !second.raised() && !is_ready(task, &mut start));
+    ticket: &mut Ticket,
+    ready: bool,
+    flag: &Flag,
+    raised: bool,
+) {
+    assert!(rt; flag.raised() == raised && is_ready(task, ticket) == ready);
+}
+
+/// A flag of the caller is raised by the last control of its ask. One that the caller raises ends the wait for its ticket
+/// alone. That of an ask of a job that is gone is left alone.
+fn expect_flags(rt: &impl Abort, task: &MockTask, alloc: Global, job: &mut One) {
+    let first = new_flag(rt, alloc);
+    let second = new_flag(rt, alloc);
+    let third = new_flag(rt, alloc);
+    let mut restart = ask_over(rt, alloc, job, Ask::Restart, &first);
+    let mut start = ask_over(rt, alloc, job, START, &second);
+    play(rt, alloc, job, Move::Step(1));
+    expect_poll(rt, task, &mut restart, false, &first, false);
+    play(rt, alloc, job, Move::Step(2));
+    expect_poll(rt, task, &mut restart, true, &first, true);
+    expect_poll(rt, task, &mut start, false, &second, false);
     second.raise();
-    assert!(rt; is_ready(task, &mut start));
+    expect_poll(rt, task, &mut start, true, &second, true);
     assert!(rt; !restart.gone.raised() && !start.gone.raised());
-    job.play(alloc, Move::End)?;
-    let mut late = job.ask_over(alloc, START, &third)?;
-    assert!(rt; is_ready(task, &mut late) && !third.raised());
-    Ok(())
+    drop(start);
+    drop(restart);
+    play(rt, alloc, job, Move::End);
+    let mut late = ask_over(rt, alloc, job, START, &third);
+    expect_poll(rt, task, &mut late, true, &third, false);
+    drop(late);
 }
 
 #[test]
-fn flags_of_the_caller(rt: HostRuntime) -> Result<(), Fail> {
-    let task = MockTask::new(&rt)?;
-    let mut job = one_job(rt.alloc(), host(rt.alloc(), None)?)?;
-    let held = expect_flags(&rt, &task, rt.alloc(), &mut job);
+fn flags_of_the_caller(rt: HostRuntime) {
+    let task = MockTask::new(&rt).expect(&rt, "a task");
+    let mut job = job_with(&rt, rt.alloc(), None);
+    expect_flags(&rt, &task, rt.alloc(), &mut job);
     drop(job);
-    held
+    drop(task);
 }
 
 /// Does one turn of its job at each poll, at the moments from 1 on, and then polls the ticket of this place. It is ready once
@@ -241,22 +266,21 @@ impl Future for Turns {
 }
 
 #[test]
-fn an_executor_awaits_tickets(rt: HostRuntime) -> Result<(), Fail> {
+fn an_executor_awaits_tickets(rt: HostRuntime) {
     let alloc = rt.alloc();
-    let mut job = one_job(alloc, host(alloc, None)?)?;
-    let asked = job.play_line(alloc, "start,gracefulstop terminate 10,close");
+    let mut job = job_with(&rt, alloc, None);
+    let asked = job.play_line(&rt, alloc, "start,gracefulstop terminate 10,close");
+    assert!(rt; asked.failed == 0);
     let mut turns = Turns {
         alloc,
         job,
         at: 0,
         awaited: 0,
     };
-    let started = block_on(&rt, &mut turns);
+    let started = block_on(&rt, &mut turns).expect(&rt, "an executor");
     turns.awaited = 1;
-    let stopped = block_on(&rt, &mut turns);
+    let stopped = block_on(&rt, &mut turns).expect(&rt, "an executor");
     let alive = !turns.job.handle.is_dead();
     drop(turns);
-    asked?;
-    assert_eq!(rt; (started??, stopped??, alive), (1, 12, true));
-    Ok(())
+    assert!(rt; started == Ok(1) && stopped == Ok(12) && alive);
 }

@@ -1,7 +1,10 @@
 -- What a call on a child answers, and what a filter and a spawn hook do, as words.
 use Rattle.std.proofs.Common.{ℕ, Result, refl}
 use Rattle.std.specs.Prelude.{Bool, true, false, Ok, Err, List, [], ◌∷◌, codes}
+use Rattle.wx_words.specs.Clean.{AllClean}
+use Rattle.wx_words.specs.Forms.{IsForm}
 use Rattle.wx_words.specs.Spellings.{Spelling}
+use Rattle.wx_words.specs.Texts.{text_in}
 use Rattle.wx_words.specs.Choices.{Row, row, Behind, fields}
 use Rattle.wx_words.specs.ChoiceLaws.{MadeAgain, SpeltSo, choice}
 use Rattle.wx_words.specs.Parts.{line, HasWords, nothing, keyword, named, renamed, both, u32}
@@ -16,6 +19,11 @@ use Rattle.wx_command.specs.declared.spawnable.Spawnable.{Spawnable}
 use Rattle.wx_config.specs.Runtime.{runtime}
 use Rattle.wx_config.specs.declared.runtime.RuntimeError.{RuntimeError}
 use Rattle.wx_journal.specs.declared.child.HostFault.{HostFault}
+
+-- the values of a spelling are read again from their words, what is read was spelled so, and no word has a byte of 32 or less
+pub record AreReadAgain {X : Type 0} (s : Spelling line X) : Type 0 where
+  pub form : IsForm text_in s.fits s.words s.read
+  pub clean : (x : X) → s.fits x → AllClean (s.words x)
 
 abbrev pub make_fault : ℕ → HostFault
 make_fault code = record { 0 = code }

@@ -1,15 +1,7 @@
 // What a call on a child answers, and what a filter and a spawn hook do, as words.
-ghost use Rattle.std.specs.Prelude.{Result as AResult, Bool, IfOk};
+ghost use Rattle.std.specs.Prelude.{IfOk};
 ghost use Rattle.wx_words.specs.Line.{Reads};
-ghost use Rattle.wx_words.specs.Texts.{text_in};
-ghost use Rattle.wx_words.specs.Forms.{IsForm};
-ghost use Rattle.wx_words.specs.Clean.{AllClean};
-ghost use Rattle.wx_events.specs.declared.process.ProcessEnd.{ProcessEnd as AnEnd};
-ghost use Rattle.wx_journal.specs.declared.child.HostFault.{HostFault as AFault};
-ghost use Rattle.wx_config.specs.declared.runtime.RuntimeError.{RuntimeError as AnError};
-ghost use Rattle.wx_words.specs.declared.list.Memory.{Memory as NoMemory};
-ghost use Rattle.wx_command.specs.declared.spawnable.Spawnable.{Spawnable as ASpawnable};
-ghost use Rattle.wx_journal.specs.Answers.{done, waited, verdict, readied, hooked};
+ghost use Rattle.wx_journal.specs.Answers.{AreReadAgain, done, waited, verdict, readied, hooked};
 
 use crate::child::HostFault;
 use std::alloc::Global;
@@ -119,14 +111,9 @@ impl<'a> Fields for HookedRef<'a> {
 
 /// Answers are read again from their words, what is read was spelled so, and no word has a space.
 pub fn answers_are_read_again()
-    ensures done { IsForm text_in done.fits done.words done.read }
-    ensures waited { IsForm text_in waited.fits waited.words waited.read }
-    ensures verdict { IsForm text_in verdict.fits verdict.words verdict.read }
-    ensures readied { IsForm text_in readied.fits readied.words readied.read }
-    ensures hooked { IsForm text_in hooked.fits hooked.words hooked.read }
-    ensures done_clean { (x : AResult (Unit {0}) AFault) → done.fits x → AllClean (done.words x) }
-    ensures waited_clean { (x : AResult AnEnd AFault) → waited.fits x → AllClean (waited.words x) }
-    ensures verdict_clean { (x : AResult Bool AnError) → verdict.fits x → AllClean (verdict.words x) }
-    ensures readied_clean { (x : Bool) → readied.fits x → AllClean (readied.words x) }
-    ensures hooked_clean { (x : AResult ASpawnable NoMemory) → hooked.fits x → AllClean (hooked.words x) }
+    ensures done { AreReadAgain done }
+    ensures waited { AreReadAgain waited }
+    ensures verdict { AreReadAgain verdict }
+    ensures readied { AreReadAgain readied }
+    ensures hooked { AreReadAgain hooked }
 {}

@@ -3,7 +3,8 @@
 
 mod feeding;
 mod lines;
-mod memory;
+mod mem_sink;
+mod mem_source;
 mod replaying;
 mod script;
 mod sink;
@@ -11,7 +12,8 @@ mod source;
 mod status;
 
 pub use feeding::{LIMIT, Unread, read_all, write_all};
-pub use memory::{CODE, MemSink, MemSource};
+pub use mem_sink::MemSink;
+pub use mem_source::{CODE, MemSource};
 pub use replaying::replay;
 pub use script::{BadLine, read_script};
 pub use sink::{Sink, WriteFault};

@@ -1,6 +1,5 @@
 // Worked runs of jobs with functions and error handlers: their journals are worked out by hand.
 use crate::grace_tests::each_is_replayed;
-use std::test::Fail;
 
 // A function that isn't ready at once, before what is asked behind it. One that is called, and one that is begun: its polls come
 // before an urgent stop and before the end of the child, which are kept. One that a quit comes before: its ticket is not raised.
@@ -173,8 +172,8 @@ gone 1
 end ok lost 0";
 
 #[test]
-fn runs_with_functions(rt: HostRuntime) -> Result<(), Fail> {
-    each_is_replayed(&rt, rt.alloc(), FUNCTIONS)
+fn runs_with_functions(rt: HostRuntime) {
+    each_is_replayed(&rt, rt.alloc(), FUNCTIONS);
 }
 
 // Two spawns that fail, the one with an error handler and the other without. A kill that fails at the end of a grace. A signal,
@@ -371,6 +370,6 @@ gone 0
 end ok lost 0";
 
 #[test]
-fn runs_with_error_handlers(rt: HostRuntime) -> Result<(), Fail> {
-    each_is_replayed(&rt, rt.alloc(), HANDLERS)
+fn runs_with_error_handlers(rt: HostRuntime) {
+    each_is_replayed(&rt, rt.alloc(), HANDLERS);
 }

@@ -4,23 +4,33 @@
 use crate::tests::run;
 use std::alloc::Global;
 use std::process::Abort;
-use std::test::Fail;
 use wx_events::cut;
 use wx_replay::Status;
 
+/// Ends the test where this isn't so of this case.
+fn expect_so(rt: &impl Abort, so: bool, case: &str) {
+    assert!(rt; so, "of {case}");
+}
+
+/// The script of this case has its journal, and its run ends well.
+fn expect_replayed(rt: &impl Abort, alloc: Global, case: &str) {
+    let (script, journal) = case.split_once("=>\n").expect(rt, "a script and a journal");
+    let (sink, status) = run(alloc, b"replay", script.as_bytes()).expect(rt, "memory for a run");
+    let (_, rest) = cut(sink.text().as_slice(), 10).expect(rt, "a first line");
+    expect_so(
+        rt,
+        rest.strip_suffix(b"\n") == Some(journal.as_bytes()),
+        case,
+    );
+    expect_so(rt, status == Status::Done, case);
+    drop(sink);
+}
+
 /// Each script of the table has its journal, and its run ends well.
-pub(crate) fn each_is_replayed(rt: &impl Abort, alloc: Global, table: &str) -> Result<(), Fail> {
+pub(crate) fn each_is_replayed(rt: &impl Abort, alloc: Global, table: &str) {
     for case in table.split("\n\n") {
-        let (script, journal) = case.split_once("=>\n").ok_or("a script and a journal")?;
-        let (sink, status) = run(alloc, b"replay", script.as_bytes())?;
-        let (_, rest) = cut(sink.text().as_slice(), 10).ok_or("a first line")?;
-        assert!(rt;
-            rest.strip_suffix(b"\n") == Some(journal.as_bytes()),
-            "of {case}"
-        );
-        assert!(rt; status == Status::Done, "of {case}");
+        expect_replayed(rt, alloc, case);
     }
-    Ok(())
 }
 
 // A stop whose child ends within its grace. One with no grace: it is over when the end of the child is told, and this end is
@@ -119,8 +129,8 @@ gone 0
 end ok lost 0";
 
 #[test]
-fn runs_with_graceful_stops(rt: HostRuntime) -> Result<(), Fail> {
-    each_is_replayed(&rt, rt.alloc(), STOPS)
+fn runs_with_graceful_stops(rt: HostRuntime) {
+    each_is_replayed(&rt, rt.alloc(), STOPS);
 }
 
 // A restart whose child is killed past its grace: it spawns once. Restarts of a child that doesn't run, and of one that does.
@@ -252,8 +262,8 @@ gone 0
 end ok lost 0";
 
 #[test]
-fn runs_with_restarts(rt: HostRuntime) -> Result<(), Fail> {
-    each_is_replayed(&rt, rt.alloc(), RESTARTS)
+fn runs_with_restarts(rt: HostRuntime) {
+    each_is_replayed(&rt, rt.alloc(), RESTARTS);
 }
 
 // A wait that goes before what was asked first. Others of a child that has ended, and of one that a stop ends.
@@ -331,8 +341,8 @@ gone 0
 end ok lost 0";
 
 #[test]
-fn runs_with_waits(rt: HostRuntime) -> Result<(), Fail> {
-    each_is_replayed(&rt, rt.alloc(), WAITS)
+fn runs_with_waits(rt: HostRuntime) {
+    each_is_replayed(&rt, rt.alloc(), WAITS);
 }
 
 // A deletion at once, within the grace of a restart: this spawns nothing. What comes of turns about a job that is deleted, and of
@@ -439,6 +449,6 @@ gone 1
 end ok lost 0";
 
 #[test]
-fn runs_with_deletions(rt: HostRuntime) -> Result<(), Fail> {
-    each_is_replayed(&rt, rt.alloc(), DELETIONS)
+fn runs_with_deletions(rt: HostRuntime) {
+    each_is_replayed(&rt, rt.alloc(), DELETIONS);
 }

@@ -2,19 +2,9 @@
 #![tactic(auto)]
 
 #[cfg(test)]
-mod feeding_tests;
-#[cfg(test)]
 mod function_tests;
 #[cfg(test)]
 mod grace_tests;
-#[cfg(test)]
-mod random;
-#[cfg(test)]
-mod random_counts;
-#[cfg(test)]
-mod random_jobs;
-#[cfg(test)]
-mod script_tests;
 mod standard;
 #[cfg(test)]
 mod tests;

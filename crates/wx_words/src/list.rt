@@ -154,6 +154,13 @@ impl<T> List<T> {
     {
         List { items }
     }
+
+    /// The items of this list.
+    pub fn into_vec(self) -> Vec<T>
+        ensures { result.items ≡ self }
+    {
+        self.items
+    }
 }
 
 impl<T: Copies + Drop> Copies for List<T> {

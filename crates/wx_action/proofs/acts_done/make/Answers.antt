@@ -19,5 +19,5 @@ returns-clause-performs g c =
     let count : length c.add.new.self ≡ length c.args.worker.now.jobs + 1 = ap length c.in_ok-add.ensures.added ∙ length-append _ _ in
     record { ready = record { stands = d.stands; room = record { in_journal = omega (arith, ap (λ n. 2 * n) count, c.in_ok-reserve.ensures.room, c.push.ensures.room); in_host = omega (arith, ap (λ n. 2 * n) count, c.in_ok-reserve_host.ensures.room) } }; adds = adds _ _ _ d.follows d.quiet d.turns; rest = c.reserve_host.ensures.rest }
 
-pub returns-clause-owes : goal.returns-clause-owes
-returns-clause-owes g c = λ rest more owes. (done g c rest more owes).owes
+pub returns-clause-does : goal.returns-clause-does
+returns-clause-does g c = record { done = λ rest more owes. (done g c rest more owes).owes; err = tt }

@@ -25,7 +25,7 @@ loop-one-preserved g c =
     let i = c.loop-one.invariant in
     let e = c.perform_one.ensures in
     record {
-      owes = λ more o. c.in_ok-perform_one.ensures.owes c.next.new.self.rest.items more (rw c.in-Some.ensures.steps.0 at (i.owes more o));
+      owes = λ more o. c.in_ok-perform_one.ensures.does.done c.next.new.self.rest.items more (rw c.in-Some.ensures.steps.0 at (i.owes more o));
       stands = e.performs.ready.stands;
       adds = adds_then _ _ _ _ i.adds e.performs.adds;
       rest = only_then i.rest e.performs.rest;
@@ -38,7 +38,7 @@ returns-in_err-perform_one g c =
     let e = c.perform_one.ensures in
     record {
       performs = record { ready = record { stands = e.performs.ready.stands; room = e.performs.ready.room }; adds = adds_then _ _ _ _ i.adds e.performs.adds; rest = only_then i.rest e.performs.rest };
-      owes = λ more o. (c.loop-one.one-iterator.rest.items, rw c.in_err-perform_one.ensures.err (i.owes more (rw c.into_iter-one-iterator.ensures.into_iter_gives.0 o)));
+      owes = λ more o. (c.loop-one.one-iterator.rest.items, rw c.in_err-perform_one.ensures.does.err (i.owes more (rw c.into_iter-one-iterator.ensures.into_iter_gives.0 o)));
       done = search rules;
     }
 

@@ -16,7 +16,7 @@ pub ignored-requires : goal.ignored-requires
 ignored-requires g c =
     let at = at_turn g.start c.args.worker.now c.requires.0 (Ask c.args.id c.args.ask) c.args.journal.now.past tt c.requires.1 in
     let gone : lives c.args.id c.args.journal.now.past ≡ false = sym (alive_is g.start c.args.worker.now c.args.journal.now.past c.args.id at.stands) ∙ sym c.lives.ensures ∙ c.if-not-lives.true in
-    (at.due ∙ rw gone refl, at.stands)
+    record { stands = at.stands; due = at.due ∙ rw gone refl }
 
 pub send-requires : goal.send-requires
 send-requires g c =
@@ -26,17 +26,15 @@ send-requires g c =
 
 pub returns-in_err-reserve-clause-grows : goal.returns-in_err-reserve-clause-grows
 returns-in_err-reserve-clause-grows g c =
-    grows_none _ _ _ _ _ (rw c.in_err-reserve.ensures.same (at_turn g.start c.args.worker.now c.requires.0 (Ask c.args.id c.args.ask) c.args.journal.now.past tt c.requires.1).stands) c.in_err-reserve.ensures.same refl
+    grows_none _ _ _ _ _ (rw c.in_err-reserve.ensures.same (at_turn g.start c.args.worker.now c.requires.0 (Ask c.args.id c.args.ask) c.args.journal.now.past tt c.requires.1).stands) c.in_err-reserve.ensures.same refl (λ room. omega (arith, room, c.in_err-reserve.ensures.kept))
 
 pub returns-in_err-send-clause-grows : goal.returns-in_err-send-clause-grows
 returns-in_err-send-clause-grows g c =
     let at = at_turn g.start c.args.worker.now c.requires.0 (Ask c.args.id c.args.ask) c.args.journal.now.past tt c.requires.1 in
     let l = lent g.start c.args.worker.now c.args.journal.now.past c.args.id c.task_mut-task.result.now at.stands c.task_mut-task.ensures.task in
-    let same = c.in_err-send.ensures.past ∙ c.in_ok-reserve.ensures.same in
+    let same = c.in_err-send.ensures.refused.1 ∙ c.in_ok-reserve.ensures.same in
     grows_none _ _ _ _ _ (same_lent g.start c.args.worker.now _ c.args.id c.task_mut-task.result.now c.send.new.self c.args.journal.now.past c.send.new.journal.past at.stands same l refl refl c.send.ensures.job c.send.ensures.stands) same (ap (λ n. 2 * n) (length_with _ _ _))
-
-pub returns-in_err-send-clause-room : goal.returns-in_err-send-clause-room
-returns-in_err-send-clause-room g c = λ room. omega (arith, ap (λ n. 2 * n) (length_with c.args.id c.args.worker.now.jobs c.send.new.self), c.in_ok-reserve.ensures.room, c.send.ensures.journal_room)
+    (λ room. omega (arith, ap (λ n. 2 * n) (length_with c.args.id c.args.worker.now.jobs c.send.new.self), c.in_ok-reserve.ensures.room, c.send.ensures.journal_room))
 
 done : (g : _) (c : goal.After-drop-branch-2 g) → AskDone g.start (record c.args.worker.now { jobs = with_task c.args.id c.args.worker.now.jobs c.send.new.self }) c.args.journal.now.past c.send.new.journal.past
 done g c =
@@ -48,10 +46,12 @@ done g c =
     (rw c.in_ok-reserve.ensures.same at c.in_ok-send.ensures.leads)
 
 pub returns-clause-grows : goal.returns-clause-grows
-returns-clause-grows g c = let d = done g c in record { stands = d.stands; adds = adds _ _ _ d.follows d.quiet d.turns; end_kept = ap (λ n. 2 * n) (length_with _ _ _) }
+returns-clause-grows g c = let d = done g c in record {
+  stands = d.stands;
+  adds = adds _ _ _ d.follows d.quiet d.turns;
+  end_kept = ap (λ n. 2 * n) (length_with _ _ _);
+  room = λ room. omega (arith, ap (λ n. 2 * n) (length_with c.args.id c.args.worker.now.jobs c.send.new.self), c.in_ok-reserve.ensures.room, c.send.ensures.journal_room);
+}
 
 pub returns-clause-settles : goal.returns-clause-settles
 returns-clause-settles g c = record { done = (done g c).done; err = tt }
-
-pub returns-clause-room : goal.returns-clause-room
-returns-clause-room g c = λ room. omega (arith, ap (λ n. 2 * n) (length_with c.args.id c.args.worker.now.jobs c.send.new.self), c.in_ok-reserve.ensures.room, c.send.ensures.journal_room)

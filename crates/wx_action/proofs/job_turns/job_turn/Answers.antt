@@ -11,10 +11,7 @@ pub ignored-requires : goal.ignored-requires
 ignored-requires g c =
     let at = at_turn g.start c.args.worker.now c.args.at (Job c.args.id) c.args.journal.now.past tt c.requires.1.1 in
     let gone : lives c.args.id c.args.journal.now.past ≡ false = sym (alive_is g.start c.args.worker.now c.args.journal.now.past c.args.id at.stands) ∙ sym c.lives.ensures ∙ c.if-not-lives.true in
-    (at.due ∙ rw gone refl, at.stands)
-
-pub returns-then-not-lives-clause-room : goal.returns-then-not-lives-clause-room
-returns-then-not-lives-clause-room g c = λ room. record { in_journal = c.ignored.ensures.room room.in_journal; in_host = room.in_host }
+    record { stands = at.stands; due = at.due ∙ rw gone refl }
 
 pub take_step-requires : goal.take_step-requires
 take_step-requires g c = λ κs lent.

@@ -4,11 +4,13 @@ use Rattle.wx_job.specs.Table.{step_plan}
 use Rattle.wx_job.specs.Stands.{Stands as TaskStands, id_of, command_of}
 use Rattle.wx_action.specs.Due.{Open}
 use Rattle.wx_action.specs.HeldJobs.{with_task}
+use Rattle.wx_action.specs.Stands.{HasRoom}
 use Rattle.wx_action.proofs.FaultLaws.{counts_on}
 use Rattle.wx_action.proofs.PlanLemmas.{JobDone}
 use Rattle.wx_action.proofs.JobListLemmas.{length_with}
 use Rattle.wx_action.proofs.HandLemmas.{on_err}
 use Rattle.wx_action.proofs.JobLemmas.{lent, parked_lent, alive_held, step_done, StepStopped, step_stopped}
+use Rattle.wx_action.proofs.job_turns.step_of.Goals.{After-step}
 use Rattle.wx_action.proofs.job_turns.step_of.Goals as goal
 
 pub task_mut-task-requires : goal.task_mut-task-requires
@@ -21,9 +23,19 @@ step-requires-clause-stands g c =
 
 pub step-requires-clause-room : goal.step-requires-clause-room
 step-requires-clause-room g c = let parked = parked_lent c.args.worker.now.jobs c.args.id c.task_mut-task.result.now c.task_mut-task.ensures.task in record {
-  in_journal = omega (arith, parked, c.requires.1.1.1.1.0);
-  in_host = omega (arith, parked, c.requires.1.1.1.1.1.0);
+  in_journal = omega (arith, parked, c.requires.1.1.1.1.in_journal);
+  in_host = omega (arith, parked, c.requires.1.1.1.1.in_host);
 }
+
+-- the room for the end of all jobs is left
+room : (g : _) (c : After-step g) → HasRoom (record c.args.worker.now { jobs = with_task c.args.id c.args.worker.now.jobs c.step.new.self }) c.step.new.journal.spare (g.W.Outside.seen c.step.new.host).spare
+room g c =
+    let same = length_with c.args.id c.args.worker.now.jobs c.step.new.self in
+    let parked = parked_lent c.args.worker.now.jobs c.args.id c.task_mut-task.result.now c.task_mut-task.ensures.task in
+    record {
+      in_journal = omega (arith, ap (λ n. 2 * n) same, parked, c.requires.1.1.1.1.in_journal, c.step.ensures.spends.in_journal);
+      in_host = omega (arith, ap (λ n. 2 * n) same, parked, c.requires.1.1.1.1.in_host, c.step.ensures.spends.in_host);
+    }
 
 stopped : (g : _) (c : goal.After-from_residual g) → StepStopped g.start (record c.args.worker.now { jobs = with_task c.args.id c.args.worker.now.jobs c.step.new.self }) c.args.journal.now.past c.step.new.journal.past
     (g.W.Outside.seen c.args.host.now).shown.told (g.W.Outside.seen c.step.new.host).shown.told (g.H.JobHooks.seen c.args.hooks.now).told (g.H.JobHooks.seen c.step.new.hooks).told
@@ -37,16 +49,11 @@ returns-in_err-step-clause-continues g c = let d = stopped g c in record {
   stands = d.stands;
   serves = record { follows = d.follows; turns = d.turns; counts = counts_on _ _ _ _ c.step.ensures.faults; steady = c.step.ensures.spends.steady };
   keeps = c.step.ensures.keeps;
+  room = λ before. room g (goal.at.returns-in_err-step-clause-continues g c).After-step;
 }
 
 pub returns-in_err-step-clause-steps : goal.returns-in_err-step-clause-steps
 returns-in_err-step-clause-steps g c = record { done = search rules; err = on_err c.from_residual.result (stopped g c).leaves }
-
-pub returns-in_err-step-clause-room : goal.returns-in_err-step-clause-room
-returns-in_err-step-clause-room g c = let same = length_with c.args.id c.args.worker.now.jobs c.step.new.self in let parked = parked_lent c.args.worker.now.jobs c.args.id c.task_mut-task.result.now c.task_mut-task.ensures.task in record {
-  in_journal = omega (arith, ap (λ n. 2 * n) same, parked, c.requires.1.1.1.1.0, c.step.ensures.spends.in_journal);
-  in_host = omega (arith, ap (λ n. 2 * n) same, parked, c.requires.1.1.1.1.1.0, c.step.ensures.spends.in_host);
-}
 
 done : (g : _) (c : goal.In_ok-step g) → JobDone g.start (record c.args.worker.now { jobs = with_task c.args.id c.args.worker.now.jobs c.step.new.self }) (step_plan (id_of c.task_mut-task.result.now) (command_of c.task_mut-task.result.now) c.args.journal.now.past) Open c.args.journal.now.past c.step.new.journal.past
     (g.W.Outside.seen c.args.host.now).shown.told (g.W.Outside.seen c.step.new.host).shown.told (g.H.JobHooks.seen c.args.hooks.now).told (g.H.JobHooks.seen c.step.new.hooks).told
@@ -60,13 +67,8 @@ returns-clause-continues g c = let d = done g c in record {
   stands = d.stands;
   serves = record { follows = d.follows; turns = d.turns; counts = counts_on _ _ _ _ c.step.ensures.faults; steady = c.step.ensures.spends.steady };
   keeps = c.step.ensures.keeps;
+  room = λ before. room g (goal.at.returns-clause-continues g c).After-step;
 }
 
 pub returns-clause-steps : goal.returns-clause-steps
 returns-clause-steps g c = record { done = (done g c).done; err = tt }
-
-pub returns-clause-room : goal.returns-clause-room
-returns-clause-room g c = let same = length_with c.args.id c.args.worker.now.jobs c.step.new.self in let parked = parked_lent c.args.worker.now.jobs c.args.id c.task_mut-task.result.now c.task_mut-task.ensures.task in record {
-  in_journal = omega (arith, ap (λ n. 2 * n) same, parked, c.requires.1.1.1.1.0, c.step.ensures.spends.in_journal);
-  in_host = omega (arith, ap (λ n. 2 * n) same, parked, c.requires.1.1.1.1.1.0, c.step.ensures.spends.in_host);
-}

@@ -12,7 +12,7 @@ perform-requires g c = λ κs lives. (
   lives,
   (
     (after_acts c.hand_batch-ends.result.0, c.hand_batch-ends.ensures.owes),
-    record { stands = c.hand_batch-ends.ensures.grows.stands; room = record { in_journal = c.hand_batch-ends.ensures.room; in_host = (let fewer = c.hand_batch-ends.ensures.end_room in let room = c.requires.1.1.1.1.1.0 in omega arith) } },
+    record { stands = c.hand_batch-ends.ensures.grows.stands; room = record { in_journal = c.hand_batch-ends.ensures.room; in_host = (let fewer = c.hand_batch-ends.ensures.end_room in let room = c.requires.1.1.1.1 in omega arith) } },
   ),
 )
 
@@ -37,11 +37,12 @@ pub returns-clause-works : goal.returns-clause-works
 returns-clause-works g c =
     rw c.done_or_on.ensures (works_by g.start c.perform.new.journal.past c.hand_batch-ends.result.0 (c.in_ok-perform.ensures.done (after_acts c.hand_batch-ends.result.0) c.hand_batch-ends.ensures.owes))
 
-continues : (g : _) (c : After-perform g) → Continues (λ h. g.H.JobHooks.seen h) (λ plan. g.H.JobHooks.rule plan) (λ h. g.H.JobHooks.stands h) g.start c.args.journal.now.past (g.W.Outside.seen c.args.host.now) c.args.hooks.now c.perform.new.worker c.perform.new.journal.past (g.W.Outside.seen c.perform.new.host) c.hand_batch-ends.new.hooks
+continues : (g : _) (c : After-perform g) → Continues (λ h. g.H.JobHooks.seen h) (λ plan. g.H.JobHooks.rule plan) (λ h. g.H.JobHooks.stands h) g.start c.args.worker.now c.args.journal.now (g.W.Outside.seen c.args.host.now) c.args.hooks.now c.perform.new.worker c.perform.new.journal (g.W.Outside.seen c.perform.new.host) c.hand_batch-ends.new.hooks
 continues g c = record {
   stands = c.perform.ensures.performs.ready.stands;
   serves = serves_both _ _ _ _ _ _ _ _ c.hand_batch-ends.ensures.grows.adds c.perform.ensures.performs.adds c.perform.ensures.performs.rest;
   keeps = λ x₀ p₀ k. keeps_adds _ _ _ _ _ _ _ c.perform.ensures.performs.adds x₀ p₀ (c.hand_batch-ends.ensures.grows.keeps x₀ p₀ k);
+  room = λ before. c.perform.ensures.performs.ready.room;
 }
 
 pub returns-in_err-perform-clause-continues : goal.returns-in_err-perform-clause-continues

@@ -1,22 +1,35 @@
-use Rattle.std.proofs.Common.{arith}
+use Rattle.std.proofs.Common.{arith, ◌∙◌}
 use Rattle.wx_action.proofs.BreakLemmas.{collects_shown}
 use Rattle.wx_action.proofs.Serving.{hand_then}
 use Rattle.wx_action.proofs.TurnLaws.{at_turn}
+use Rattle.wx_action.specs.Serves.{GrowsWithin}
+use Rattle.wx_action.proofs.work_turn.throttle_collect.Goals.{After-show}
 use Rattle.wx_action.proofs.work_turn.throttle_collect.Goals as goal
 
 pub collect-requires : goal.collect-requires
-collect-requires g c = λ κs lives. let h = at_turn g.start c.args.worker.now c.args.at _ c.args.journal.now.past tt c.requires.1 in (lives, (h.due, (h.now, h.stands)))
+collect-requires g c = λ κs lives. let h = at_turn g.start c.args.worker.now c.args.at _ c.args.journal.now.past tt c.requires.1 in (lives, record { stands = h.stands; due = h.due; now = h.now })
 
 -- ---- the error of a filter was shown
 
-pub returns-in_err-show-in-Failed-clause-grows : goal.returns-in_err-show-in-Failed-clause-grows
-returns-in_err-show-in-Failed-clause-grows g c = hand_then _ _ _ _ _ _ _ _ _ _ _ _ c.collect.ensures.grows c.show.ensures.grows
+within : (g : _) (c : After-show g) → GrowsWithin (λ h. g.H.JobHooks.seen h) (λ plan. g.H.JobHooks.rule plan) (λ h. g.H.JobHooks.stands h) g.start 3 2 c.args.worker.now c.args.journal.now c.args.hooks.now c.show.new.self c.show.new.journal c.show.new.hooks
+within g c = record {
+  grows = hand_then _ _ _ _ _ _ _ _ _ _ _ _ c.collect.ensures.within.grows c.show.ensures.within.grows;
+  end_kept = c.show.ensures.within.end_kept ∙ c.collect.ensures.within.end_kept;
+  in_journal = omega (arith, c.collect.ensures.within.in_journal, c.show.ensures.within.in_journal);
+  in_hooks = omega (arith, c.collect.ensures.within.in_hooks, c.show.ensures.within.in_hooks);
+}
+
+pub returns-in_err-show-in-Failed-clause-within : goal.returns-in_err-show-in-Failed-clause-within
+returns-in_err-show-in-Failed-clause-within g c = within g (goal.at.returns-in_err-show-in-Failed-clause-within g c).After-show
+
+pub returns-in_ok-show-in-Failed-clause-within : goal.returns-in_ok-show-in-Failed-clause-within
+returns-in_ok-show-in-Failed-clause-within g c = within g (goal.at.returns-in_ok-show-in-Failed-clause-within g c).After-show
 
 pub returns-in_err-show-in-Failed-clause-kept_room : goal.returns-in_err-show-in-Failed-clause-kept_room
-returns-in_err-show-in-Failed-clause-kept_room g c = λ h. omega (arith, (rw c.in-Failed.is at c.in_ok-collect.ensures.left).0, c.show.ensures.room, c.show.ensures.end_kept)
+returns-in_err-show-in-Failed-clause-kept_room g c = λ h. omega (arith, (rw c.in-Failed.is at c.in_ok-collect.ensures.left).0, c.show.ensures.within.in_journal, c.show.ensures.within.end_kept)
 
 pub returns-in_ok-show-in-Failed-clause-kept_room : goal.returns-in_ok-show-in-Failed-clause-kept_room
-returns-in_ok-show-in-Failed-clause-kept_room g c = λ h. omega (arith, (rw c.in-Failed.is at c.in_ok-collect.ensures.left).0, c.show.ensures.room, c.show.ensures.end_kept)
+returns-in_ok-show-in-Failed-clause-kept_room g c = λ h. omega (arith, (rw c.in-Failed.is at c.in_ok-collect.ensures.left).0, c.show.ensures.within.in_journal, c.show.ensures.within.end_kept)
 
 pub returns-in_ok-show-in-Failed-clause-collected : goal.returns-in_ok-show-in-Failed-clause-collected
 returns-in_ok-show-in-Failed-clause-collected g c =

@@ -34,7 +34,7 @@ send-requires g c =
     let rest_is : List (Event × Priority) = drop (c.loop-item.item-index + 1) c.as_slice-item-items.result.now in
     let lt : length (bag c.loop-item.journal.past) < g.start.config.event_channel_size =
     omega (arith, c.loop-item.invariant.count, ap (λ (xs : List (Event × Priority)). length xs) c.loop-item.invariant.all, c.loop-item.invariant.is_start.events, c.loop-item-test.true) in
-    ((rest_is, n ∙ ap (λ (e : Event). Sends e c.item-item.result.1 rest_is) (sym c.in_ok-event.ensures)), (c.loop-item.invariant.stands, (lt, c.loop-item.invariant.takes)))
+    ((rest_is, record { stands = c.loop-item.invariant.stands; due = n ∙ ap (λ (e : Event). Sends e c.item-item.result.1 rest_is) (sym c.in_ok-event.ensures) }), (lt, c.loop-item.invariant.takes))
 
 pub returns-in_err-send-clause-calm : goal.returns-in_err-send-clause-calm
 returns-in_err-send-clause-calm g c = rw c.in_err-send.ensures.err (calm_begun g.start c.args.journal.now.past _ _ c.requires.1 c.loop-item.invariant.adds c.loop-item.invariant.due)

@@ -8,6 +8,7 @@ use Rattle.wx_action.specs.Laws.{NoneUrgentWaits, MomentsRise}
 use Rattle.wx_action.specs.Journal.{early_count}
 use Rattle.wx_job.specs.Kept.{KeepsOn, Past}
 use Rattle.wx_action.specs.Leads.{Follows}
+use Rattle.wx_action.specs.Stands.{HasRoom}
 use Rattle.wx_action.specs.Told.{is_last}
 use Rattle.wx_engine.specs.Run.{Rests, ServesTurns}
 use Rattle.wx_engine.proofs.TurnLemmas.{Drawn, turn_drawn, fault_drawn, drawn_follows, drawn_quiet, drawn_counts, turn_calm, fault_calm, early_drawn, served, turn_stands, fault_stands, turns_then}
@@ -44,6 +45,9 @@ listed_rise : (g : _) (c : After-push-in-turns g) → MomentsRise c.push-in-turn
 listed_rise g c =
     rw (rw c.in_ok-make_room.ensures.same at c.push-in-turns.ensures.past) (omega (arith, c.turns.invariant.now, c.in-Ok.ensures.later, ap (λ k. k.moment) c.in_ok-make_room.ensures.rest.steady.progress_kept), c.turns.invariant.rise)
 
+listed_room : (g : _) (c : After-push-in-turns g) → HasRoom c.turns.state c.push-in-turns.new.self.spare (g.W.Outside.seen c.turn.new.self).spare
+listed_room g c = record { in_journal = omega (arith, c.in_ok-make_room.ensures.journal_room, c.push-in-turns.ensures.room); in_host = omega (arith, c.in_ok-make_room.ensures.world_room, c.in-Ok.ensures.gives.room) }
+
 listed : (g : _) (c : After-push-in-turns g) → ServesTurns g.start c.args.journal.now.past (g.W.Outside.seen c.args.world.now) (g.H.JobHooks.seen c.args.hooks.now).told c.push-in-turns.new.self.past (g.W.Outside.seen c.turn.new.self) (g.H.JobHooks.seen c.turns.hooks).told
 listed g c =
     let only = c.in_ok-make_room.ensures.rest in
@@ -60,10 +64,10 @@ listed g c =
 
 -- ---- and served
 
-rests : (g : _) (c : After-serve g) → MomentsRise c.push-in-turns.new.self.past → NoneUrgentWaits c.push-in-turns.new.self.past → Rests g.start c.serve.new.state c.serve.new.journal (g.W.Outside.seen c.serve.new.world)
-rests g c rise calm = record {
+rests : (g : _) (c : After-serve g) → HasRoom c.turns.state c.push-in-turns.new.self.spare (g.W.Outside.seen c.turn.new.self).spare → MomentsRise c.push-in-turns.new.self.past → NoneUrgentWaits c.push-in-turns.new.self.past → Rests g.start c.serve.new.state c.serve.new.journal (g.W.Outside.seen c.serve.new.world)
+rests g c room rise calm = record {
   stands = c.serve.ensures.continues.stands;
-  room = c.serve.ensures.room;
+  room = c.serve.ensures.continues.room room;
   calm = c.serve.ensures.calm calm;
   rise = (c.serve.ensures.continues.serves.turns c.push-in-turns.new.self.past (same_turns c.push-in-turns.new.self.past)).rise rise;
 }
@@ -124,7 +128,7 @@ returns-in_err-kind-clause-rests g c =
     let at = (goal.at.returns-in_err-kind-clause-rests g c).After-push-in-turns in
     record {
       stands = turn_stands g.start c.turns.state c.in-Ok.given.turn c.turns.journal.past c.push-in-turns.new.self.past c.turns.invariant.stands (rw c.in_ok-make_room.ensures.same at c.push-in-turns.ensures.past) (rw c.in_err-kind.was at c.kind_again-kind.ensures.no_end);
-      room = record { in_journal = omega (arith, c.in_ok-make_room.ensures.journal_room, c.push-in-turns.ensures.room); in_host = omega (arith, c.in_ok-make_room.ensures.world_room, c.in-Ok.ensures.gives.room) };
+      room = listed_room g at;
       calm = listed_calm g at;
       rise = listed_rise g at;
     }
@@ -136,7 +140,7 @@ pub returns-in_err-kind-clause-keeps : goal.returns-in_err-kind-clause-keeps
 returns-in_err-kind-clause-keeps g c = keeps g (goal.at.returns-in_err-kind-clause-keeps g c).After-push-in-turns
 
 pub returns-in_err-serve-clause-rests : goal.returns-in_err-serve-clause-rests
-returns-in_err-serve-clause-rests g c = let at = goal.at.returns-in_err-serve-clause-rests g c in rests g at.After-serve (listed_rise g at.After-push-in-turns) (listed_calm g at.After-push-in-turns)
+returns-in_err-serve-clause-rests g c = let at = goal.at.returns-in_err-serve-clause-rests g c in rests g at.After-serve (listed_room g at.After-push-in-turns) (listed_rise g at.After-push-in-turns) (listed_calm g at.After-push-in-turns)
 
 pub returns-in_err-serve-clause-serves : goal.returns-in_err-serve-clause-serves
 returns-in_err-serve-clause-serves g c = turns_then g.start _ _ _ _ _ _ _ _ _ (listed g (goal.at.returns-in_err-serve-clause-serves g c).After-push-in-turns) c.serve.ensures.continues.serves
@@ -145,7 +149,7 @@ pub returns-in_err-serve-clause-keeps : goal.returns-in_err-serve-clause-keeps
 returns-in_err-serve-clause-keeps g c = λ x₀ p₀ k. c.serve.ensures.continues.keeps x₀ p₀ (keeps g (goal.at.returns-in_err-serve-clause-keeps g c).After-push-in-turns x₀ p₀ k)
 
 pub returns-in-End-clause-rests : goal.returns-in-End-clause-rests
-returns-in-End-clause-rests g c = let at = goal.at.returns-in-End-clause-rests g c in rests g at.After-serve (listed_rise g at.After-push-in-turns) (listed_calm g at.After-push-in-turns)
+returns-in-End-clause-rests g c = let at = goal.at.returns-in-End-clause-rests g c in rests g at.After-serve (listed_room g at.After-push-in-turns) (listed_rise g at.After-push-in-turns) (listed_calm g at.After-push-in-turns)
 
 pub returns-in-End-clause-serves : goal.returns-in-End-clause-serves
 returns-in-End-clause-serves g c = turns_then g.start _ _ _ _ _ _ _ _ _ (listed g (goal.at.returns-in-End-clause-serves g c).After-push-in-turns) c.serve.ensures.continues.serves
@@ -173,7 +177,7 @@ turns-preserved g c =
       about = c.turns.invariant.about;
       stands = c.serve.ensures.continues.stands;
       calm = c.serve.ensures.calm (listed_calm g at.After-push-in-turns);
-      room = c.serve.ensures.room;
+      room = c.serve.ensures.continues.room (listed_room g at.After-push-in-turns);
       open_is = rw c.in-On.is at c.in_ok-serve.ensures.works;
       fault = v.fault ∙ c.turns.invariant.fault;
       now = omega (arith, v.now, moment_is, c.in-Ok.ensures.gives.moment);

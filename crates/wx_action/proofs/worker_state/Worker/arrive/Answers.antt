@@ -5,15 +5,15 @@ use Rattle.wx_action.proofs.worker_state.Worker.arrive.Goals as goal
 
 pub overflow_add-self : goal.overflow_add-self
 overflow_add-self g c =
-    omega (arith, event_count-small c.args.journal.now.past, c.requires.1.named_kept, ap (λ p. length p) c.in_ok-reserve.ensures.same, c.in_ok-reserve.ensures.room, c.in_ok-reserve.ensures.fits)
+    omega (arith, event_count-small c.args.journal.now.past, c.requires.stands.named_kept, ap (λ p. length p) c.in_ok-reserve.ensures.same, c.in_ok-reserve.ensures.room, c.in_ok-reserve.ensures.fits)
 
 done : (g : _) (c : goal.After-push g) → Steps g.start (record c.args.self.now { queue = c.offer_to-result.new.queue; named = c.args.self.now.named + 1 }) c.args.journal.now.past c.push.new.self.past
 done g c =
-    offer_done g.start c.args.self.now c.args.journal.now.past c.push.new.self.past c.args.event c.args.priority _ c.offer_to-result.new.queue c.offer_to-result.result c.requires.1 c.requires.0
+    offer_done g.start c.args.self.now c.args.journal.now.past c.push.new.self.past c.args.event c.args.priority _ c.offer_to-result.new.queue c.offer_to-result.result c.requires.stands c.requires.due
     (rw c.in_ok-twice.ensures at c.offer_to-result.ensures.offered) c.offer_to-result.ensures.size c.offer_to-result.ensures.closed (rw c.in_ok-reserve.ensures.same at c.push.ensures.past)
 
 pub returns-clause-grows : goal.returns-clause-grows
-returns-clause-grows g c = grows _ _ _ _ _ (done g c) refl
+returns-clause-grows g c = grows _ _ _ _ _ (done g c) refl (omega (arith, c.in_ok-reserve.ensures.room, c.push.ensures.room))
 
 pub returns-clause-settles : goal.returns-clause-settles
-returns-clause-settles g c = record { done = offered_then g.start c.args.journal.now.past c.push.new.self.past c.args.self.now.named c.args.event c.args.priority c.offer_to-result.result c.requires.1.orderly c.requires.0 (rw c.in_ok-reserve.ensures.same at c.push.ensures.past); err = tt }
+returns-clause-settles g c = record { done = offered_then g.start c.args.journal.now.past c.push.new.self.past c.args.self.now.named c.args.event c.args.priority c.offer_to-result.result c.requires.stands.orderly c.requires.due (rw c.in_ok-reserve.ensures.same at c.push.ensures.past); err = tt }

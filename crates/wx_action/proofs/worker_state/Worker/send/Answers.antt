@@ -5,16 +5,16 @@ use Rattle.wx_action.proofs.worker_state.Worker.send.Goals as goal
 
 pub overflow_add-self : goal.overflow_add-self
 overflow_add-self g c =
-    omega (arith, event_count-small c.args.journal.now.past, c.requires.1.0.named_kept, ap (λ p. length p) c.in_ok-reserve.ensures.same, c.in_ok-reserve.ensures.room, c.in_ok-reserve.ensures.fits)
+    omega (arith, event_count-small c.args.journal.now.past, c.requires.0.1.stands.named_kept, ap (λ p. length p) c.in_ok-reserve.ensures.same, c.in_ok-reserve.ensures.room, c.in_ok-reserve.ensures.fits)
 
 done : (g : _) (c : goal.After-push g) → Steps g.start (record c.args.self.now { queue = c.offer_to.new.queue; named = c.args.self.now.named + 1 }) c.args.journal.now.past c.push.new.self.past
 done g c =
-    send_done g.start c.args.self.now c.args.journal.now.past c.push.new.self.past c.args.event c.args.priority _ c.offer_to.new.queue c.offer_to.result c.requires.1.0 c.requires.0.1 c.requires.1.1.0 c.requires.1.1.1
+    send_done g.start c.args.self.now c.args.journal.now.past c.push.new.self.past c.args.event c.args.priority _ c.offer_to.new.queue c.offer_to.result c.requires.0.1.stands c.requires.0.1.due c.requires.1.0 c.requires.1.1
     (rw c.in_ok-twice.ensures at c.offer_to.ensures.offered) c.offer_to.ensures.size c.offer_to.ensures.closed (rw c.in_ok-reserve.ensures.same at c.push.ensures.past)
 
 pub returns-clause-grows : goal.returns-clause-grows
-returns-clause-grows g c = grows _ _ _ _ _ (done g c) refl
+returns-clause-grows g c = grows _ _ _ _ _ (done g c) refl (omega (arith, c.in_ok-reserve.ensures.room, c.push.ensures.room))
 
 pub returns-clause-done : goal.returns-clause-done
 returns-clause-done g c =
-    sent_then g.start c.args.journal.now.past c.push.new.self.past c.args.self.now.named c.args.event c.args.priority c.args.event c.args.priority c.requires.0.0 c.requires.1.0.orderly c.requires.0.1 (rw c.in_ok-reserve.ensures.same at c.push.ensures.past)
+    sent_then g.start c.args.journal.now.past c.push.new.self.past c.args.self.now.named c.args.event c.args.priority c.args.event c.args.priority c.requires.0.0 c.requires.0.1.stands.orderly c.requires.0.1.due (rw c.in_ok-reserve.ensures.same at c.push.ensures.past)

@@ -1,8 +1,12 @@
-use Rattle.std.proofs.Common.{rules}
-use Rattle.wx_job.specs.Kept.{Past}
-use Rattle.wx_job.proofs.KeptLemmas.{quiet-followed}
-use Rattle.wx_job.proofs.Sets.{steps}
+use Rattle.std.proofs.Common.{◌≡◌, true, sym, ◌∙◌}
+use Rattle.std.specs.Prelude.{is_some}
+use Rattle.wx_job.specs.Stands.{child_of}
+use Rattle.wx_job.specs.Table.{spawns}
+use Rattle.wx_job.proofs.StandsLemmas.{ready-spawns, spawning-row}
 use Rattle.wx_job.proofs.task.JobTask.control.Goals as goal
 
-pub returns-in-Delete-clause-served : goal.returns-in-Delete-clause-served
-returns-in-Delete-clause-served g c = record { stood = search (rules, steps); keeps = λ x₀ p₀ k. Past _ _ _ k (quiet-followed _ _ _ _ _ _ c.delete.ensures.follows); uses = search (rules, steps) }
+pub returns-then-is_some-clause-done : goal.returns-then-is_some-clause-done
+returns-then-is_some-clause-done g c =
+    let some : is_some c.args.what ≡ true = sym c.is_some.ensures ∙ c.if-is_some.true in
+    let is : spawns c.args.control (child_of c.args.self.now.state) ≡ true = sym (ready-spawns c.args.what _ c.args.control _ c.requires.what) ∙ some in
+    rw (is, spawning-row c.args.self.now.id _ c.args.picked.ticket c.args.control (child_of c.args.self.now.state) is) (rw some at c.start_afresh.ensures.done)

@@ -2,4 +2,4 @@ use Rattle.wx_job.proofs.CaseLemmas.{fresh_hooked}
 use Rattle.wx_job.proofs.task.JobTask.fresh.Goals as goal
 
 pub returns-clause-ok : goal.returns-clause-ok
-returns-clause-ok g c = λ k. fresh_hooked c.args.self.now.id c.args.self.now.command c.args.self.now.handler c.args.self.now.tag c.args.self.now.hook c.in-Some.n c.in_ok-what.what _ _ _ _ _ _ _ _ k c.in-Some.is c.in_ok-what.ensures.past c.in_ok-what.ensures.told (rw c.in_ok-what.ensures.fields at c.spawn-2.ensures.follows)
+returns-clause-ok g c = λ k. fresh_hooked c.args.self.now.id c.args.self.now.command c.args.self.now.handler c.args.self.now.tag c.args.self.now.hook c.in-Some.n c.in_ok-what.what _ _ _ _ _ _ _ _ k c.in-Some.is c.in_ok-what.ensures.adds.0 c.in_ok-what.ensures.adds.1 (rw c.in_ok-what.ensures.fields at c.spawn-2.ensures.follows)

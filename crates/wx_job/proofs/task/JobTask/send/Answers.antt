@@ -2,4 +2,4 @@ use Rattle.wx_job.proofs.StepLaws.{send_left}
 use Rattle.wx_job.proofs.task.JobTask.send.Goals as goal
 
 pub returns-clause-leaves : goal.returns-clause-leaves
-returns-clause-leaves c = (send_left c.put.result c.args.self.now.id c.args.ask c.args.journal.now.past c.put.new.journal.past c.put.ensures.leads c.put.ensures.past).leaves
+returns-clause-leaves c = (send_left _ c.put.result c.args.self.now.id c.args.ask c.args.journal.now.past c.put.new.journal.past c.put.ensures.leads c.put.ensures.refused).leaves

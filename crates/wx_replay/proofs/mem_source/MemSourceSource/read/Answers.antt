@@ -1,7 +1,7 @@
 use Rattle.std.proofs.Common.{◌≡◌, ◌<◌, ◌≤◌, ◌+◌, ◌-◌, ◌++◌, min, arith, length, length-append, length-take, length-drop, ℕ, List, drop, take, subst}
 use Rattle.std.proofs.lemmas.List.{drop_all}
 use Rattle.wx_replay.proofs.Parts.{read_part}
-use Rattle.wx_replay.proofs.memory.MemSourceSource.read.Goals as goal
+use Rattle.wx_replay.proofs.mem_source.MemSourceSource.read.Goals as goal
 
 pub returns-clause-bytes : goal.returns-clause-bytes
 returns-clause-bytes c =

@@ -2,7 +2,7 @@
 ghost use Rattle.std.specs.Prelude.{◌<◌};
 
 use std::alloc::Global;
-use std::test::Fail;
+use std::process::Abort;
 use wx_events::Memory;
 use wx_replay::{CODE, LIMIT, MemSink, MemSource, Unread, WriteFault, read_all, write_all};
 
@@ -19,12 +19,17 @@ fn reads_whole(alloc: Global, piece: usize) -> Result<bool, Memory>
     }
 }
 
+/// Ends the test where this isn't so at this call, or in pieces of this size.
+fn expect_at(rt: &impl Abort, so: bool, at: u64) {
+    assert!(rt; so, "at {at}");
+}
+
 #[test]
-fn reads_in_pieces(rt: HostRuntime) -> Result<(), Fail> {
+fn reads_in_pieces(rt: HostRuntime) {
     for piece in [1, 3, 9, 10, 4096] {
-        assert!(rt; reads_whole(rt.alloc(), piece)?, "at {piece}");
+        let whole = reads_whole(rt.alloc(), piece) == Ok(true);
+        expect_at(&rt, whole, piece as u64);
     }
-    Ok(())
 }
 
 /// Why `BYTES` are not read in pieces of 3 where this call fails, and how many faults there are then.
@@ -35,15 +40,18 @@ fn read_failing(alloc: Global, call: u64) -> Result<(Option<Unread>, u64), Memor
     Ok((unread, source.faults()))
 }
 
+/// Holds a read of which this call fails to answer so, with so many faults.
+fn expect_read(rt: &impl Abort, alloc: Global, call: u64, want: Option<Unread>, faults: u64) {
+    expect_at(rt, read_failing(alloc, call) == Ok((want, faults)), call);
+}
+
 #[test]
-fn reads_up_to_a_fault(rt: HostRuntime) -> Result<(), Fail> {
+fn reads_up_to_a_fault(rt: HostRuntime) {
     // in pieces of 3 these are five reads, of which the last answers 0
     for call in [1, 2, 3, 4, 5] {
-        let found = read_failing(rt.alloc(), call)?;
-        assert_eq!(rt; found, (Some(Unread::Fault), 1), "at {call}");
+        expect_read(&rt, rt.alloc(), call, Some(Unread::Fault), 1);
     }
-    assert_eq!(rt; read_failing(rt.alloc(), 6)?, (None, 0));
-    Ok(())
+    expect_read(&rt, rt.alloc(), 6, None, 0);
 }
 
 /// How many of as many bytes are read, or why none are.
@@ -54,10 +62,9 @@ fn read_many(alloc: Global, count: usize) -> Result<Result<usize, Unread>, Memor
 }
 
 #[test]
-fn keeps_to_the_limit(rt: HostRuntime) -> Result<(), Fail> {
-    assert_eq!(rt; read_many(rt.alloc(), LIMIT)?, Ok(LIMIT));
-    assert_eq!(rt; read_many(rt.alloc(), LIMIT + 1)?, Err(Unread::TooLong));
-    Ok(())
+fn keeps_to_the_limit(rt: HostRuntime) {
+    assert!(rt; read_many(rt.alloc(), LIMIT) == Ok(Ok(LIMIT)));
+    assert!(rt; read_many(rt.alloc(), LIMIT + 1) == Ok(Err(Unread::TooLong)));
 }
 
 /// Whether the sink has these bytes after `BYTES` were written in pieces of 4 and this call failed. Also what the write
@@ -73,18 +80,25 @@ fn write_failing(
     Ok((sink.text().as_slice() == held, result, sink.faults()))
 }
 
+/// Holds a write of which this call fails to answer so, with so many faults, where the sink has these bytes then.
+fn expect_write(
+    rt: &impl Abort,
+    alloc: Global,
+    call: u64,
+    held: &[u8],
+    want: Result<(), WriteFault>,
+    faults: u64,
+) {
+    let found = write_failing(alloc, call, held);
+    expect_at(rt, found == Ok((true, want, faults)), call);
+}
+
 #[test]
-fn writes_up_to_a_fault(rt: HostRuntime) -> Result<(), Fail> {
+fn writes_up_to_a_fault(rt: HostRuntime) {
     // in pieces of 4 these are three writes
-    let table = [
-        (1, b"".as_slice()),
-        (2, b"0123".as_slice()),
-        (3, b"01234567".as_slice()),
-    ];
-    for (call, held) in table {
-        let found = write_failing(rt.alloc(), call, held)?;
-        assert!(rt; found == (true, Err(WriteFault(CODE)), 1), "at {call}");
-    }
-    assert!(rt; write_failing(rt.alloc(), 4, BYTES)? == (true, Ok(()), 0));
-    Ok(())
+    let fault = Err(WriteFault(CODE));
+    expect_write(&rt, rt.alloc(), 1, b"", fault, 1);
+    expect_write(&rt, rt.alloc(), 2, b"0123", fault, 1);
+    expect_write(&rt, rt.alloc(), 3, b"01234567", fault, 1);
+    expect_write(&rt, rt.alloc(), 4, BYTES, Ok(()), 0);
 }

@@ -1,15 +1,13 @@
 // Random scripts. How many lines of each sort their journals have is known by counting alone.
 ghost use Rattle.std.specs.Prelude.{◌<◌};
 
-use crate::random_counts::{Counts, raises_twice, up};
+use crate::random_counts::{Counts, up};
 use crate::random_jobs::{Asked, Control, Said, Task};
-use crate::top::wx_main;
 use rand_pcg::Pcg32;
 use rand_pcg::rand_core::Rng;
 use std::alloc::Global;
-use std::test::Fail;
 use wx_events::{Memory, Text};
-use wx_replay::{MemSink, MemSource, Status};
+use wx_replay::Status;
 
 /// An action line, and what it asks for: so many new jobs, and then this of jobs.
 #[derive(Drop)]
@@ -74,7 +72,7 @@ enum Outcome {
 /// What is due where each event that passes is handed at once, and each spawn, kill and wait goes well. Of the events that wait
 /// some are urgent. Either each other event has a tag, or none has.
 #[derive(Drop)]
-struct Rules {
+pub(crate) struct Rules {
     size: u32,
     waiting: u32,
     urgent: u32,
@@ -87,7 +85,7 @@ struct Rules {
     said: Said,
     outcome: Outcome,
     is_over: bool,
-    counts: Counts,
+    pub(crate) counts: Counts,
 }
 
 impl Rules {
@@ -266,7 +264,7 @@ impl Rules {
     }
 
     /// The end line, behind the line feed before it.
-    fn end_line(&self, alloc: Global) -> Result<Text, Memory> {
+    pub(crate) fn end_line(&self, alloc: Global) -> Result<Text, Memory> {
         let mut line = Text::from_slice(alloc, b"\nend ")?;
         match self.outcome {
             Outcome::Well => line.append(b"ok")?,
@@ -282,7 +280,7 @@ impl Rules {
     }
 
     /// How the program ends.
-    fn status(&self) -> Status {
+    pub(crate) fn status(&self) -> Status {
         match self.outcome {
             Outcome::Well => Status::Done,
             _ => Status::Critical,
@@ -305,9 +303,9 @@ fn ask_shown(
 
 /// A script that is being drawn.
 #[derive(Drop)]
-struct Draft {
+pub(crate) struct Draft {
     rng: Pcg32,
-    text: Text,
+    pub(crate) text: Text,
     moment: u64,
     is_urgent: bool,
     written: usize,
@@ -318,13 +316,13 @@ struct Draft {
     polled: usize,
     // the jobs that the action lines so far create
     created: u32,
-    rules: Rules,
+    pub(crate) rules: Rules,
 }
 
 impl Draft {
-    /// The script of this seed.
-    fn new(alloc: Global, seed: u64) -> Result<Draft, Memory> {
-        let mut draft = Draft {
+    /// The script of this seed, of which nothing is drawn yet.
+    pub(crate) fn new(alloc: Global, seed: u64) -> Draft {
+        Draft {
             rng: Pcg32::new(seed, 54),
             text: Text::new(alloc),
             moment: 0,
@@ -355,19 +353,23 @@ impl Draft {
                 is_over: false,
                 counts: Counts::default(),
             },
-        };
-        draft.rules.is_tagged = draft.draw(3) > 0;
-        draft.put_head()?;
-        draft.draw_answers(alloc)?;
-        draft.put_work(alloc)?;
-        for _ in 0..30 + draft.draw(60) {
-            draft.put_line(alloc)?;
         }
-        draft.put_tail(alloc)?;
-        Ok(draft)
     }
 
-    /// Draws what is answered in the run: by the filter, the error handler, the action handler, hooks, the host and functions.
+    /// Draws the script.
+    pub(crate) fn draw_all(&mut self, alloc: Global) -> Result<(), Memory> {
+        self.rules.is_tagged = self.draw(3) > 0;
+        self.put_head()?;
+        self.draw_answers(alloc)?;
+        self.draw_said()?;
+        self.put_work(alloc)?;
+        for _ in 0..30 + self.draw(60) {
+            self.put_line(alloc)?;
+        }
+        self.put_tail(alloc)
+    }
+
+    /// Draws what the filter, the error handler and the action handler answer in the run.
     fn draw_answers(&mut self, alloc: Global) -> Result<(), Memory> {
         for _ in 0..self.draw(6) {
             let verdict = self.draw_verdict();
@@ -381,6 +383,11 @@ impl Draft {
             let action = self.draw_action(alloc)?;
             self.rules.actions.push(action)?;
         }
+        Ok(())
+    }
+
+    /// Draws what hooks, the host and functions answer in the run.
+    fn draw_said(&mut self) -> Result<(), Memory> {
         for _ in 0..self.draw(4) {
             let words = self.draw(3);
             self.rules.said.hooks.push(words)?;
@@ -710,8 +717,8 @@ impl Draft {
         Ok(())
     }
 
-    /// The actions, answers, wishes and words of hooks that are left, and at times a fault with lines behind it.
-    fn put_tail(&mut self, alloc: Global) -> Result<(), Memory> {
+    /// At times a fault with lines behind it.
+    fn put_fault(&mut self, alloc: Global) -> Result<(), Memory> {
         if self.draw(4) == 0 {
             let code = self.rng.next_u32();
             self.rules.fail(code);
@@ -720,6 +727,11 @@ impl Draft {
                 self.put_line(alloc)?;
             }
         }
+        Ok(())
+    }
+
+    /// The actions, answers of the filter and wishes that are left.
+    fn put_answers_left(&mut self) -> Result<(), Memory> {
         for _ in 0..self.rules.actions.len() {
             self.put_action()?;
         }
@@ -729,6 +741,11 @@ impl Draft {
         for _ in 0..self.rules.wishes.len() {
             self.put_wish()?;
         }
+        Ok(())
+    }
+
+    /// The words of hooks and the answers of signals and polls that are left.
+    fn put_said_left(&mut self) -> Result<(), Memory> {
         for _ in 0..self.rules.said.hooks.len() {
             self.put_hook()?;
         }
@@ -738,38 +755,15 @@ impl Draft {
         for _ in 0..self.rules.said.polls.len() {
             self.put_poll()?;
         }
+        Ok(())
+    }
+
+    /// At times a fault, and what is left.
+    fn put_tail(&mut self, alloc: Global) -> Result<(), Memory> {
+        self.put_fault(alloc)?;
+        self.put_answers_left()?;
+        self.put_said_left()?;
         self.rules.end();
         Ok(())
     }
-}
-
-#[test]
-fn random_scripts_have_the_lines_that_are_due(rt: HostRuntime) -> Result<(), Fail> {
-    let mut words = Vec::new(rt.alloc());
-    words.push(Text::from_slice(rt.alloc(), b"replay")?)?;
-    let mut graces = 0u32;
-    let mut faults = 0u32;
-    let mut shown = 0u32;
-    let mut polls = 0u32;
-    let mut later = 0u32;
-    for seed in 0..300 {
-        let draft = Draft::new(rt.alloc(), seed)?;
-        let mut source = MemSource::new(rt.alloc(), draft.text.as_slice())?;
-        let mut sink = MemSink::new(rt.alloc());
-        let status = wx_main(rt.alloc(), words.as_slice(), &mut source, &mut sink);
-        assert!(rt; status == draft.rules.status(), "seed {seed}");
-        let text = sink.text().as_slice();
-        assert_eq!(rt; Counts::of(text), draft.rules.counts, "seed {seed}");
-        let end = draft.rules.end_line(rt.alloc())?;
-        assert!(rt; text.ends_with(end.as_slice()), "seed {seed}");
-        assert!(rt; !raises_twice(text), "seed {seed}");
-        graces = graces.saturating_add(draft.rules.counts.graces);
-        faults = faults.saturating_add(draft.rules.counts.failed_signals);
-        shown = shown.saturating_add(draft.rules.counts.job_errors);
-        later = later.saturating_add(draft.rules.counts.later_polls);
-        polls = polls.saturating_add(draft.rules.counts.polls);
-    }
-    assert!(rt; graces > 0 && faults > 0 && shown > 0);
-    assert!(rt; later > 0 && polls > later);
-    Ok(())
 }

@@ -1,0 +1,15 @@
+//! Tests of `wx_replay`, whose proofs are done without them: a crate with tests is proved once more with them.
+#![tactic(auto)]
+
+#[cfg(test)]
+mod feeding_tests;
+#[cfg(test)]
+mod random;
+#[cfg(test)]
+mod random_counts;
+#[cfg(test)]
+mod random_jobs;
+#[cfg(test)]
+mod random_tests;
+#[cfg(test)]
+mod script_tests;
