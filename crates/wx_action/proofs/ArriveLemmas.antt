@@ -15,17 +15,17 @@ use Rattle.wx_journal.specs.declared.entry.Offered.TheVariants.{Queued, Full, Cl
 use Rattle.wx_journal.specs.Names.{event_count}
 use Rattle.wx_journal.specs.Written.{Written}
 use Rattle.wx_action.specs.declared.worker_state.Worker.{Worker}
-use Rattle.wx_action.specs.Start.{Start}
-use Rattle.wx_action.specs.Journal.{closed, bag}
-use Rattle.wx_action.specs.Due.{Agenda, agenda, Due, Open, Offers, Says, Sends, rest, settle}
-use Rattle.wx_action.specs.Orderly.{IsGoing, IsOrderly}
-use Rattle.wx_action.proofs.SettleLaws.{settle_calm}
-use Rattle.wx_job.specs.Kept.{StaysQuiet, More}
-use Rattle.wx_action.specs.Leads.{FollowsAlone, Then}
-use Rattle.wx_action.specs.Turns.{StaysInTurn}
+use Rattle.wx_machine.specs.Start.{Start}
+use Rattle.wx_machine.specs.Journal.{closed, bag}
+use Rattle.wx_machine.specs.Due.{Agenda, agenda, Due, Open, Offers, Says, Sends, rest, settle}
+use Rattle.wx_machine.proofs.Orderly.{IsGoing, IsOrderly}
+use Rattle.wx_machine.proofs.SettleLaws.{settle_calm}
+use Rattle.wx_machine.specs.Kept.{StaysQuiet, More}
+use Rattle.wx_machine.specs.Leads.{FollowsAlone, Then}
+use Rattle.wx_machine.specs.Turns.{StaysInTurn}
 use Rattle.wx_action.specs.Serves.{Adds, Grows}
 use Rattle.wx_action.proofs.ServesLaws.{adds, adds_none}
-use Rattle.wx_action.proofs.JobLaws.{turns_over}
+use Rattle.wx_machine.proofs.JobsLaws.{turns_over}
 use Rattle.wx_action.specs.Stands.{Stands, IsOffered, end_room}
 use Rattle.wx_action.proofs.StandsLemmas.{stands_behind, offered_is, stands_offered, stands_sent}
 

@@ -10,13 +10,13 @@ use Rattle.wx_journal.specs.declared.entry.TurnKind.{TurnKind}
 use Rattle.wx_journal.specs.declared.entry.TurnKind.TheVariants.{Work}
 use Rattle.wx_journal.specs.declared.wish.Wish.{Wish}
 use Rattle.wx_action.specs.declared.worker_state.Worker.{Worker}
-use Rattle.wx_action.specs.Start.{Start}
+use Rattle.wx_machine.specs.Start.{Start}
 use Rattle.wx_journal.specs.Names.{moment}
-use Rattle.wx_action.specs.Journal.{is_urgent_named, passes_unseen, ending, named, bag, window, is_over}
-use Rattle.wx_action.specs.Due.{agenda, Open, Filters, Shows, Hands, Ends, settle, is_quitting, after_pass, after_show}
-use Rattle.wx_action.specs.Answer.{NoneIsToGo, MemoryCuts, BreaksOff, Fails}
-use Rattle.wx_action.specs.Laws.{NoneUrgentWaits}
-use Rattle.wx_action.specs.Leads.{Follows, FollowsHooks}
+use Rattle.wx_machine.specs.Journal.{is_urgent_named, passes_unseen, ending, named, bag, window, is_over}
+use Rattle.wx_machine.specs.Due.{agenda, Open, Filters, Shows, Hands, Ends, settle, is_quitting, after_pass, after_show}
+use Rattle.wx_machine.specs.Answer.{NoneIsToGo, MemoryCuts, BreaksOff, Fails}
+use Rattle.wx_machine.specs.RunLaws.{NoneUrgentWaits}
+use Rattle.wx_machine.specs.Leads.{Follows, FollowsHooks}
 use Rattle.wx_action.specs.Serves.{LeavesOff}
 use Rattle.wx_action.specs.Stands.{AtTurn, AtWork, AddsTake, MayShow, HasDropped, Collects}
 use Rattle.wx_action.specs.declared.work_turn.Collected.TheVariants as collected

@@ -5,19 +5,19 @@ use Rattle.wx_control.specs.declared.id.Id.{Id}
 use Rattle.wx_journal.specs.declared.entry.Entry.{Entry}
 use Rattle.wx_journal.specs.Names.{NamesItsOwn}
 use Rattle.wx_journal.specs.Told.{is_world}
-use Rattle.wx_job.specs.History.{lives}
-use Rattle.wx_job.specs.Table.{Plan, Done, end_plan}
-use Rattle.wx_job.specs.Case.{Admits as Lets, Leads as LeadsOn, Here as Stays, Then as Goes_on}
-use Rattle.wx_job.specs.Leaves.{LeavesOthers}
+use Rattle.wx_machine.specs.History.{lives}
+use Rattle.wx_machine.specs.Table.{Plan, Done, end_plan}
+use Rattle.wx_machine.specs.Case.{Admits as Lets, Leads as LeadsOn, Here as Stays, Then as Goes_on}
+use Rattle.wx_machine.specs.Leaves.{LeavesOthers}
 use Rattle.wx_action.specs.declared.worker_state.Held.{Held}
-use Rattle.wx_action.specs.Start.{Start}
-use Rattle.wx_action.specs.Jobs.{set, jobs}
-use Rattle.wx_action.specs.Due.{agenda, Ends}
-use Rattle.wx_action.specs.Leads.{Follows}
-use Rattle.wx_action.specs.Answer.{Dying, Alive}
-use Rattle.wx_action.proofs.JobLaws.{none_by_end}
-use Rattle.wx_action.proofs.EndLaws.{AreGone, end_leads, next_to_end, none_left, still_gone, dying_then, dying_ends}
-use Rattle.wx_action.specs.Told.{TellsOn}
+use Rattle.wx_machine.specs.Start.{Start}
+use Rattle.wx_machine.specs.Jobs.{set, jobs}
+use Rattle.wx_machine.specs.Due.{agenda, Ends}
+use Rattle.wx_machine.specs.Leads.{Follows}
+use Rattle.wx_machine.specs.Answer.{Dying, Alive}
+use Rattle.wx_machine.proofs.JobsLaws.{none_by_end}
+use Rattle.wx_machine.proofs.EndLaws.{AreGone, end_leads, next_to_end, none_left, still_gone, dying_then, dying_ends}
+use Rattle.wx_machine.specs.Told.{TellsOn}
 use Rattle.wx_action.specs.Stands.{JobsStand, held_id}
 use Rattle.wx_action.proofs.PlanLemmas.{Changes, jobs_change, still_led}
 

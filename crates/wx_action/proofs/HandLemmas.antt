@@ -10,27 +10,27 @@ use Rattle.wx_journal.specs.Acts.{JournalAct as Act}
 use Rattle.wx_journal.specs.declared.entry.Act.TheVariants.{Create, Ask, Quit}
 use Rattle.wx_journal.specs.Names.{next_job}
 use Rattle.wx_journal.specs.Told.{tell}
-use Rattle.wx_job.specs.History.{lives, creation, or_else, command}
-use Rattle.wx_job.specs.Table.{Plan, Done}
+use Rattle.wx_machine.specs.History.{lives, creation, or_else, command}
+use Rattle.wx_machine.specs.Table.{Plan, Done}
 use Rattle.wx_action.specs.declared.handler.Todo.{Todo}
 use Rattle.wx_action.specs.declared.worker_state.Held.{Held}
 use Rattle.wx_action.specs.declared.worker_state.Worker.{Worker}
 use Rattle.wx_action.specs.declared.work_turn.Worked.TheVariants.{On, End}
-use Rattle.wx_action.specs.Start.{Start}
-use Rattle.wx_action.specs.Journal.{settings, window}
-use Rattle.wx_action.specs.Jobs.{set, act_plan, AreLawful}
-use Rattle.wx_action.specs.Answer.{NoneIsToGo}
-use Rattle.wx_action.specs.Due.{Agenda, agenda, Due, Hands, Open, Ends, plans, has_quit, after_acts, is_quitting, settle}
-use Rattle.wx_action.specs.Laws.{NoneUrgent, urgent_in, NoneUrgentWaits}
-use Rattle.wx_action.specs.Leads.{FollowsHooks, FollowsAlone, Then}
+use Rattle.wx_machine.specs.Start.{Start}
+use Rattle.wx_machine.specs.Journal.{settings, window}
+use Rattle.wx_machine.specs.Jobs.{set, act_plan, AreLawful}
+use Rattle.wx_machine.specs.Answer.{NoneIsToGo}
+use Rattle.wx_machine.specs.Due.{Agenda, agenda, Due, Hands, Open, Ends, plans, has_quit, after_acts, is_quitting, settle}
+use Rattle.wx_machine.specs.RunLaws.{NoneUrgent, urgent_in, NoneUrgentWaits}
+use Rattle.wx_machine.specs.Leads.{FollowsHooks, FollowsAlone, Then}
 use Rattle.wx_action.specs.Perform.{AreCommanded, OwesActs}
 use Rattle.wx_action.specs.Stands.{Stands, HeldStands, held_id, Works}
 use Rattle.wx_action.specs.HeldJobs.{is_here}
 use Rattle.wx_action.specs.Todo.{AreTodo}
-use Rattle.wx_action.specs.Turns.{StaysInTurn}
-use Rattle.wx_action.specs.Orderly.{IsOrderly}
-use Rattle.wx_action.proofs.RunLaws.{orderly_more, calm_led, hand_is, window_handed}
-use Rattle.wx_action.proofs.JobLaws.{IsIn, command_kept, creation_is, turns_over}
+use Rattle.wx_machine.specs.Turns.{StaysInTurn}
+use Rattle.wx_machine.proofs.Orderly.{IsOrderly}
+use Rattle.wx_machine.proofs.RunLaws.{orderly_more, calm_led, hand_is, window_handed}
+use Rattle.wx_machine.proofs.JobsLaws.{IsIn, command_kept, creation_is, turns_over}
 use Rattle.wx_action.proofs.StandsLemmas.{same_held, over_hand}
 
 -- the entry of a batch that was due

@@ -14,10 +14,10 @@ use Rattle.wx_action.specs.declared.handler.Second.{Second}
 use Rattle.wx_action.specs.declared.handler.Todo.{Todo}
 use Rattle.wx_action.specs.declared.handler.Todo.TheVariants as todo
 use Rattle.wx_action.specs.declared.worker_state.Held.{Held}
-use Rattle.wx_action.specs.Due.{is_quit}
+use Rattle.wx_machine.specs.Due.{is_quit}
 use Rattle.wx_action.specs.Handled.{with_quit, asks_of}
-use Rattle.wx_action.specs.Jobs.{AreLawful, next_created}
-use Rattle.wx_action.specs.Last.{last_added, without_last}
+use Rattle.wx_machine.specs.Jobs.{AreLawful, next_created}
+use Rattle.wx_machine.specs.Last.{last_added, without_last}
 use Rattle.wx_action.specs.KeptHandler.{HasSecondRoom, HasQuitRoom, AreTwice, StaysTwice, AddsTwice, QuitsTwice, IsKept, quit_room}
 use Rattle.wx_action.proofs.QuitLemmas.{room_for_quit}
 use Rattle.wx_action.specs.Todo.{IsNew, AreTodo}

@@ -6,16 +6,16 @@ use Rattle.std.proofs.lemmas.Bool.{or_right}
 use Rattle.wx_control.specs.declared.id.Id.{Id}
 use Rattle.wx_control.specs.declared.job.Job.{Job}
 use Rattle.wx_journal.specs.declared.entry.Entry.{Entry}
-use Rattle.wx_job.specs.History.{same, lives, child}
-use Rattle.wx_job.proofs.Owners.{self, same-is}
+use Rattle.wx_machine.specs.History.{same, lives, child}
+use Rattle.wx_machine.proofs.Owners.{self, same-is}
 use Rattle.wx_action.specs.declared.worker_state.Held.{Held}
 use Rattle.wx_action.specs.declared.worker_state.Worker.{Worker}
-use Rattle.wx_action.specs.HeldJobs.{IsHandle, AreBelow, AreShown, is_of, is_alive, handles, runs}
-use Rattle.wx_action.specs.Jobs.{set, is_seen}
-use Rattle.wx_action.specs.Start.{Start}
+use Rattle.wx_action.specs.HeldJobs.{IsHandle, AreShown, is_of, is_alive, handles, runs}
+use Rattle.wx_machine.specs.Jobs.{AreBelow, set, is_seen}
+use Rattle.wx_machine.specs.Start.{Start}
 use Rattle.wx_action.specs.Stands.{HeldStands, Stands, held_id}
-use Rattle.wx_action.proofs.JobLaws.{IsIn, in_set, set_rising}
-use Rattle.wx_action.specs.Orderly.{GoneRunNone}
+use Rattle.wx_machine.proofs.JobsLaws.{IsIn, in_set, set_rising}
+use Rattle.wx_machine.proofs.Orderly.{GoneRunNone}
 
 -- ---- the handle on a job
 

@@ -13,26 +13,26 @@ use Rattle.wx_journal.specs.declared.entry.TurnKind.TheVariants.{Ended}
 use Rattle.wx_journal.specs.declared.entry.Word.TheVariants.{Ignored}
 use Rattle.wx_journal.specs.Names.{NamesItsOwn, moment}
 use Rattle.wx_job.specs.declared.task.JobTask.{JobTask}
-use Rattle.wx_job.specs.History.{lives, child, same, is_child, command}
-use Rattle.wx_job.specs.Table.{Plan, Done, send_plan, step_by, step_plan, ask_plan}
-use Rattle.wx_job.specs.Case.{IsCut, GaveUp, FollowsAlone as FollowsPlan, Leads as LeadsOn, Here as Stays}
-use Rattle.wx_job.specs.Leaves.{LeavesOthers}
+use Rattle.wx_machine.specs.History.{lives, child, same, is_child, command}
+use Rattle.wx_machine.specs.Table.{Plan, Done, send_plan, step_by, step_plan, ask_plan}
+use Rattle.wx_machine.specs.Case.{IsCut, GaveUp, FollowsAlone as FollowsPlan, Leads as LeadsOn, Here as Stays}
+use Rattle.wx_machine.specs.Leaves.{LeavesOthers}
 use Rattle.wx_journal.specs.Written.{Written}
-use Rattle.wx_job.specs.Seen.{Seen}
+use Rattle.wx_machine.specs.Seen.{Seen}
 use Rattle.wx_job.specs.Stands.{Stops, Before as AllAsBefore, Behind as BehindHook, Stands as TaskStands, SameJob, IsEnding, id_of, command_of, closed_of, gone_of, running_of, parked_count}
-use Rattle.wx_job.proofs.Owners.{self, same-is}
+use Rattle.wx_machine.proofs.Owners.{self, same-is}
 use Rattle.wx_action.specs.declared.worker_state.Held.{Held}
 use Rattle.wx_action.specs.declared.worker_state.Worker.{Worker}
-use Rattle.wx_action.specs.Start.{Start}
-use Rattle.wx_action.specs.Jobs.{set, living, parent}
-use Rattle.wx_action.specs.Due.{agenda, Open, Says, Plans, plans, ask_turn, job_turn, ended_turn, is_quitting}
-use Rattle.wx_action.proofs.SettleLaws.{settle_calm}
-use Rattle.wx_job.specs.Kept.{StaysQuiet}
-use Rattle.wx_action.specs.Leads.{FollowsAlone, Follows}
+use Rattle.wx_machine.specs.Start.{Start}
+use Rattle.wx_machine.specs.Jobs.{set, living, parent}
+use Rattle.wx_machine.specs.Due.{agenda, Open, Says, Plans, plans, ask_turn, job_turn, ended_turn, is_quitting}
+use Rattle.wx_machine.proofs.SettleLaws.{settle_calm}
+use Rattle.wx_machine.specs.Kept.{StaysQuiet}
+use Rattle.wx_machine.specs.Leads.{FollowsAlone, Follows}
 use Rattle.wx_action.specs.Serves.{LeavesOff, Steps, Settles}
-use Rattle.wx_action.specs.Turns.{StaysInTurn}
-use Rattle.wx_action.proofs.RunLaws.{orderly_turn}
-use Rattle.wx_action.proofs.JobLaws.{calls_none_ask, IsIn, is_child_some, none_by_ask, none_by_step, parent_is, parent_is_none}
+use Rattle.wx_machine.specs.Turns.{StaysInTurn}
+use Rattle.wx_machine.proofs.RunLaws.{orderly_turn}
+use Rattle.wx_machine.proofs.JobsLaws.{calls_none_ask, IsIn, is_child_some, none_by_ask, none_by_step, parent_is, parent_is_none}
 use Rattle.wx_action.proofs.TurnLaws.{at_end_of_none, other_over_end}
 use Rattle.wx_action.specs.HeldJobs.{is_of, runs_child, handle_id, task_of, with_task, parked_in, parked_at}
 use Rattle.wx_action.specs.Stands.{Stands, AtTurn, IsStepOf, HeldStands, held_id}

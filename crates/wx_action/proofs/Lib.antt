@@ -13,14 +13,6 @@ pub mod QuitLemmas
 pub mod StandsLemmas
 pub mod WorkLemmas
 pub mod Serving
-pub mod BagLaws
-pub mod EndLaws
-pub mod FaultLaws
-pub mod JobLaws
 pub mod OneSpelling
-pub mod PlanLaws
-pub mod ReapLaws
-pub mod RunLaws
 pub mod ServesLaws
-pub mod SettleLaws
 pub mod TurnLaws

@@ -10,7 +10,7 @@ use Rattle.wx_journal.specs.declared.entry.Entry.TheVariants.{Take, Filter, Hand
 use Rattle.wx_journal.specs.Entries.{EntryFits}
 use Rattle.wx_journal.specs.Lines.{Answer, NamesFit, JournalFits, AnswerFits, end_words}
 use Rattle.wx_journal.proofs.LineLaws.{decoded, printed_back, same_answer, take_fits, filter_fits}
-use Rattle.wx_action.specs.Journal.{passes_unseen, lets_pass, one_if, and_one, is_among, window}
+use Rattle.wx_machine.specs.Journal.{passes_unseen, lets_pass, one_if, and_one, is_among, window}
 use Rattle.wx_action.specs.Printed.{printed}
 
 -- ---- what is lost is part of the journal

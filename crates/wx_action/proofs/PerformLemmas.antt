@@ -16,29 +16,29 @@ use Rattle.wx_journal.specs.declared.entry.Entry.{Entry}
 use Rattle.wx_journal.specs.declared.entry.Entry.TheVariants.{Word as Said, Made, Asked}
 use Rattle.wx_journal.specs.declared.entry.Word.TheVariants.{Ignored}
 use Rattle.wx_journal.specs.Names.{ticket_count}
-use Rattle.wx_job.specs.History.{same, lives, command, RunsOnly, SameHistory}
-use Rattle.wx_job.specs.Table.{Plan, Done, adds, asks, ask_second, ask_plan, send_plan}
-use Rattle.wx_job.specs.Case.{Admits as Lets, next, Leads as LeadsOn, Here as Stays, Then as Goes_on, FollowsAlone as FollowsPlan}
-use Rattle.wx_job.specs.Leaves.{LeavesOthers}
+use Rattle.wx_machine.specs.History.{same, lives, command, RunsOnly, SameHistory}
+use Rattle.wx_machine.specs.Table.{Plan, Done, adds, asks, ask_second, ask_plan, send_plan}
+use Rattle.wx_machine.specs.Case.{Admits as Lets, next, Leads as LeadsOn, Here as Stays, Then as Goes_on, FollowsAlone as FollowsPlan}
+use Rattle.wx_machine.specs.Leaves.{LeavesOthers}
 use Rattle.wx_job.specs.declared.task.JobTask.{JobTask}
 use Rattle.wx_job.specs.Stands.{Stands as TaskStands, SameJob, id_of}
-use Rattle.wx_job.proofs.Owners.{other-is}
+use Rattle.wx_machine.proofs.Owners.{other-is}
 use Rattle.wx_action.specs.declared.handler.Todo.{Todo}
 use Rattle.wx_action.specs.declared.handler.Todo.TheVariants as todo
 use Rattle.wx_action.specs.declared.worker_state.Held.{Held}
 use Rattle.wx_action.specs.declared.worker_state.Worker.{Worker}
-use Rattle.wx_action.specs.Start.{Start}
-use Rattle.wx_action.specs.Jobs.{set, act_plan}
-use Rattle.wx_action.specs.Due.{Agenda, Open, settle, agenda, plans, rest, after_acts, is_quitting, Admits, Due}
+use Rattle.wx_machine.specs.Start.{Start}
+use Rattle.wx_machine.specs.Jobs.{set, act_plan, AreBelow}
+use Rattle.wx_machine.specs.Due.{Agenda, Open, settle, agenda, plans, rest, after_acts, is_quitting, Admits, Due}
 use Rattle.wx_action.specs.Todo.{IsNew, AreTodo}
 use Rattle.wx_action.specs.Perform.{AreCommanded, OwesActs}
-use Rattle.wx_job.specs.Kept.{StaysQuiet, More}
-use Rattle.wx_action.specs.Leads.{FollowsAlone, Then}
-use Rattle.wx_action.specs.Turns.{StaysInTurn}
-use Rattle.wx_action.specs.HeldJobs.{AreBelow, with_task}
-use Rattle.wx_action.specs.Orderly.{IsOrderly}
-use Rattle.wx_action.proofs.RunLaws.{orderly_more}
-use Rattle.wx_action.proofs.JobLaws.{made_above, insert_last, none_by_ask, turns_over}
+use Rattle.wx_machine.specs.Kept.{StaysQuiet, More}
+use Rattle.wx_machine.specs.Leads.{FollowsAlone, Then}
+use Rattle.wx_machine.specs.Turns.{StaysInTurn}
+use Rattle.wx_action.specs.HeldJobs.{with_task}
+use Rattle.wx_machine.proofs.Orderly.{IsOrderly}
+use Rattle.wx_machine.proofs.RunLaws.{orderly_more}
+use Rattle.wx_machine.proofs.JobsLaws.{made_above, insert_last, none_by_ask, turns_over}
 use Rattle.wx_action.specs.Stands.{Stands, HeldStands, held_id}
 use Rattle.wx_action.proofs.StandsLemmas.{stands_quiet, stands_behind, same_held}
 use Rattle.wx_action.proofs.PlanLemmas.{jobs_stand, jobs_change, still_led}

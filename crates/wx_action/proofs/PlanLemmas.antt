@@ -6,24 +6,23 @@ use Rattle.wx_words.specs.EachLaws.{each_weaker}
 use Rattle.wx_control.specs.declared.id.Id.{Id}
 use Rattle.wx_journal.specs.declared.entry.Entry.{Entry}
 use Rattle.wx_journal.specs.declared.entry.Entry.TheVariants.{Begin, Sent, Turn as Turned, TurnFault, Offer, Take, Filter, Show, Hand, Made}
-use Rattle.wx_job.specs.Table.{Plan}
-use Rattle.wx_job.specs.Case.{Leads as LeadsOn, Here as Stays, Then as Goes_on}
-use Rattle.wx_job.specs.Leaves.{LeavesOthers}
+use Rattle.wx_machine.specs.Table.{Plan}
+use Rattle.wx_machine.specs.Case.{Leads as LeadsOn, Here as Stays, Then as Goes_on}
+use Rattle.wx_machine.specs.Leaves.{LeavesOthers}
 use Rattle.wx_job.specs.Stands.{Stands as TaskStands, SameJob}
-use Rattle.wx_job.proofs.Frame.{same_history}
-use Rattle.wx_job.proofs.Always.{always_now, always_next}
+use Rattle.wx_machine.proofs.Frame.{same_history}
+use Rattle.wx_machine.proofs.Always.{always_now, always_next}
 use Rattle.wx_action.specs.declared.worker_state.Held.{Held}
 use Rattle.wx_action.specs.declared.worker_state.Worker.{Worker}
-use Rattle.wx_action.specs.Start.{Start}
-use Rattle.wx_action.specs.Jobs.{set}
-use Rattle.wx_action.specs.Due.{Agenda, agenda, plans, is_quitting}
-use Rattle.wx_action.proofs.SettleLaws.{settle_calm}
-use Rattle.wx_action.specs.Orderly.{IsOrderly}
-use Rattle.wx_job.specs.Kept.{StaysQuiet}
-use Rattle.wx_action.specs.Leads.{Follows}
-use Rattle.wx_action.specs.Turns.{StaysInTurn}
-use Rattle.wx_action.specs.HeldJobs.{AreRising}
-use Rattle.wx_action.proofs.JobLaws.{set_rising, IsOfJob, MakesNone, CallsNone, plans_lead}
+use Rattle.wx_machine.specs.Start.{Start}
+use Rattle.wx_machine.specs.Jobs.{set, AreRising}
+use Rattle.wx_machine.specs.Due.{Agenda, agenda, plans, is_quitting}
+use Rattle.wx_machine.proofs.SettleLaws.{settle_calm}
+use Rattle.wx_machine.proofs.Orderly.{IsOrderly}
+use Rattle.wx_machine.specs.Kept.{StaysQuiet}
+use Rattle.wx_machine.specs.Leads.{Follows}
+use Rattle.wx_machine.specs.Turns.{StaysInTurn}
+use Rattle.wx_machine.proofs.JobsLaws.{set_rising, IsOfJob, MakesNone, CallsNone, plans_lead}
 use Rattle.wx_action.specs.Stands.{Stands, HeldStands, JobsStand, AreApart, held_id}
 use Rattle.wx_action.proofs.StandsLemmas.{Quiet, quiet, quiet_then, stands_quiet, same_held, ids_put, tasks_put, held_at}
 

@@ -4,7 +4,7 @@ use Rattle.std.proofs.lemmas.List.{take_more}
 use Rattle.std.proofs.lemmas.Grind.{reverse_onto}
 use Rattle.std.specs.Prelude.{Option}
 use Rattle.wx_journal.specs.declared.entry.Entry.{Entry}
-use Rattle.wx_action.specs.Journal.{passes_unseen}
+use Rattle.wx_machine.specs.Journal.{passes_unseen}
 use Rattle.wx_action.specs.Printed.{or_before}
 
 reverse_snoc : {X : Type 0} (xs : List X) (x : X) → reverse (xs ++ x ∷ []) ≡ x ∷ reverse xs

@@ -3,10 +3,10 @@ use Rattle.std.proofs.Common.{◌≡◌, ℕ, suc, ◌+◌, ◌-◌, Bool, true,
 use Rattle.std.specs.Prelude.{Option, None, Some, MatchOption}
 use Rattle.std.specs.Option.{option_to_list}
 use Rattle.wx_journal.specs.Acts.{JournalAct as Act}
-use Rattle.wx_action.specs.Due.{is_quit}
+use Rattle.wx_machine.specs.Due.{is_quit}
 use Rattle.wx_action.specs.Handled.{ends_with_quit}
 use Rattle.wx_action.specs.KeptHandler.{quit_room}
-use Rattle.wx_action.specs.Last.{without_last}
+use Rattle.wx_machine.specs.Last.{without_last}
 
 is_quit_at : Option Act → Bool
 is_quit_at None = false

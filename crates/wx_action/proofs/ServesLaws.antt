@@ -1,11 +1,11 @@
 -- What leads on serves.
 use Rattle.std.proofs.Common.{Option, None, List, arith}
 use Rattle.wx_journal.specs.declared.entry.Entry.{Entry}
-use Rattle.wx_job.specs.Kept.{StaysQuiet}
-use Rattle.wx_action.specs.Start.{Start}
-use Rattle.wx_action.specs.Leads.{FollowsHooks, FollowsAlone}
-use Rattle.wx_action.specs.Turns.{StaysInTurn}
-use Rattle.wx_action.proofs.FaultLaws.{counts_hooks}
+use Rattle.wx_machine.specs.Kept.{StaysQuiet}
+use Rattle.wx_machine.specs.Start.{Start}
+use Rattle.wx_machine.specs.Leads.{FollowsHooks, FollowsAlone}
+use Rattle.wx_machine.specs.Turns.{StaysInTurn}
+use Rattle.wx_machine.proofs.FaultLaws.{counts_hooks}
 use Rattle.wx_action.specs.Serves.{Adds, AddsHand}
 
 pub adds_none : (s : Start) (p : List Entry) → Adds s p p

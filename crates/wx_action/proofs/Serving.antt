@@ -2,11 +2,11 @@
 use Rattle.std.proofs.Common.{◌≡◌, ◌≤◌, ℕ, Option, List, arith, refl}
 use Rattle.wx_journal.specs.declared.entry.Entry.{Entry}
 use Rattle.wx_journal.specs.Written.{Written}
-use Rattle.wx_job.specs.Seen.{Seen, Hooked}
-use Rattle.wx_job.specs.Kept.{OnlyHooksRoom, Same, KeepsOn, Past, Roomy}
-use Rattle.wx_job.specs.Steady.{OnlyRoom}
-use Rattle.wx_job.proofs.SteadyLemmas.{steady_none, steady_then}
-use Rattle.wx_action.specs.Start.{Start}
+use Rattle.wx_machine.specs.Seen.{Seen, Hooked}
+use Rattle.wx_machine.specs.Kept.{OnlyHooksRoom, Same, KeepsOn, Past, Roomy}
+use Rattle.wx_machine.specs.Steady.{OnlyRoom}
+use Rattle.wx_machine.proofs.SteadyLemmas.{steady_none, steady_then}
+use Rattle.wx_machine.specs.Start.{Start}
 use Rattle.wx_action.specs.declared.worker_state.Worker.{Worker}
 use Rattle.wx_action.specs.Serves.{Adds, AddsHand, Serves, Grows, GrowsHand, GrowsWithin, Continues}
 use Rattle.wx_action.specs.Stands.{Stands, end_room}

@@ -15,18 +15,18 @@ use Rattle.wx_journal.specs.declared.entry.Offered.{Offered}
 use Rattle.wx_journal.specs.declared.entry.Offered.TheVariants.{Queued, Full, Closed}
 use Rattle.wx_journal.specs.Acts.{JournalAct as Act}
 use Rattle.wx_journal.specs.Names.{event_count}
-use Rattle.wx_job.specs.History.{child, command, SameHistory}
+use Rattle.wx_machine.specs.History.{child, command, SameHistory}
 use Rattle.wx_job.proofs.StandsLemmas.{stands_history}
 use Rattle.wx_action.specs.declared.worker_state.Held.{Held}
 use Rattle.wx_action.specs.declared.worker_state.Worker.{Worker}
-use Rattle.wx_action.specs.Start.{Start}
-use Rattle.wx_action.specs.Journal.{settings, closed, bag, offered, window, first}
-use Rattle.wx_action.specs.Jobs.{set}
-use Rattle.wx_action.specs.Due.{Due}
+use Rattle.wx_machine.specs.Start.{Start}
+use Rattle.wx_machine.specs.Journal.{settings, closed, bag, offered, window, first}
+use Rattle.wx_machine.specs.Jobs.{set}
+use Rattle.wx_machine.specs.Due.{Due}
 use Rattle.wx_action.specs.Handled.{AreEvents, lookup}
 use Rattle.wx_action.specs.Stands.{Stands, HeldStands, AreApart, IsOffered, held_id}
-use Rattle.wx_action.specs.Orderly.{IsOrderly}
-use Rattle.wx_action.proofs.RunLaws.{window_below, orderly_more}
+use Rattle.wx_machine.proofs.Orderly.{IsOrderly}
+use Rattle.wx_machine.proofs.RunLaws.{window_below, orderly_more}
 
 -- ---- what is held of a job
 

@@ -10,20 +10,20 @@ use Rattle.wx_journal.specs.declared.entry.TurnKind.{TurnKind}
 use Rattle.wx_journal.specs.declared.entry.TurnKind.TheVariants.{Ended}
 use Rattle.wx_journal.specs.Names.{moment, NamesItsOwn}
 use Rattle.wx_job.specs.declared.task.JobTask.{JobTask}
-use Rattle.wx_job.specs.History.{child, is_child, names_end}
+use Rattle.wx_machine.specs.History.{child, is_child, names_end}
 use Rattle.wx_job.specs.Stands.{Stands as TaskStands}
-use Rattle.wx_action.specs.Told.{TellsNoEnd}
+use Rattle.wx_machine.specs.Told.{TellsNoEnd}
 use Rattle.wx_action.specs.declared.worker_state.Held.{Held}
 use Rattle.wx_action.specs.declared.worker_state.Worker.{Worker}
-use Rattle.wx_action.specs.Start.{Start}
-use Rattle.wx_action.specs.Due.{Hands, is_quitting, agenda, turn_agenda}
-use Rattle.wx_action.proofs.SettleLaws.{settle_calm}
-use Rattle.wx_action.specs.Laws.{NoneUrgentWaits}
-use Rattle.wx_action.specs.Leads.{Follows}
-use Rattle.wx_action.specs.Jobs.{set, parent_among, parent}
+use Rattle.wx_machine.specs.Start.{Start}
+use Rattle.wx_machine.specs.Due.{Hands, is_quitting, agenda, turn_agenda}
+use Rattle.wx_machine.proofs.SettleLaws.{settle_calm}
+use Rattle.wx_machine.specs.RunLaws.{NoneUrgentWaits}
+use Rattle.wx_machine.specs.Leads.{Follows}
+use Rattle.wx_machine.specs.Jobs.{set, parent_among, parent}
 use Rattle.wx_action.specs.Stands.{HeldStands, held_id, Stands, AtTurn}
-use Rattle.wx_action.proofs.RunLaws.{orderly_turn, calm_turn}
-use Rattle.wx_action.proofs.JobLaws.{IsIn, parent_none, one_parent}
+use Rattle.wx_machine.proofs.RunLaws.{orderly_turn, calm_turn}
+use Rattle.wx_machine.proofs.JobsLaws.{IsIn, parent_none, one_parent}
 
 -- what is known of every turn that was drawn: it owes what its kind says
 pub record IsTurned (s : Start) (at : ℕ) (kind : TurnKind) (p : List Entry) : Type 0 where

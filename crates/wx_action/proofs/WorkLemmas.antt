@@ -24,23 +24,23 @@ use Rattle.wx_action.specs.declared.work_turn.Found.TheVariants.{Hand, Kept}
 use Rattle.wx_action.specs.declared.work_turn.Found.TheVariants as outcome
 use Rattle.wx_journal.specs.declared.entry.Word.TheVariants.{Idle}
 use Rattle.wx_action.specs.Batch.{Waiting}
-use Rattle.wx_action.specs.Start.{Start}
-use Rattle.wx_action.specs.Journal.{settings, listed, is_urgent_in, is_urgent_named, is_unseen, is_unseen_in, passes_unseen, lets_pass, is_exit, is_close, closed, ending, wished, one_if, and_one, begun, without, bag, window, first, is_over, is_over_of}
-use Rattle.wx_action.specs.Due.{agenda, Due, Open, Says, Takes as TakesNext, Filters, Shows as ShowsNext, Hands, Breaks, work, after_pass, after_drop, after_show, after_filter}
-use Rattle.wx_action.specs.Answer.{NoneIsToGo, BreaksOff, BreaksHere}
+use Rattle.wx_machine.specs.Start.{Start}
+use Rattle.wx_machine.specs.Journal.{settings, listed, is_urgent_in, is_urgent_named, is_unseen, is_unseen_in, passes_unseen, lets_pass, is_exit, is_close, closed, ending, wished, one_if, and_one, begun, without, bag, window, first, is_over, is_over_of}
+use Rattle.wx_machine.specs.Due.{agenda, Due, Open, Says, Takes as TakesNext, Filters, Shows as ShowsNext, Hands, Breaks, work, after_pass, after_drop, after_show, after_filter}
+use Rattle.wx_machine.specs.Answer.{NoneIsToGo, BreaksOff, BreaksHere}
 use Rattle.wx_action.specs.Handled.{lookup}
-use Rattle.wx_job.specs.Kept.{More, Keeps, Called}
-use Rattle.wx_job.specs.Seen.{Hooked}
+use Rattle.wx_machine.specs.Kept.{More, Keeps, Called}
+use Rattle.wx_machine.specs.Seen.{Hooked}
 use Rattle.wx_action.specs.Serves.{GrowsHand}
 use Rattle.wx_action.proofs.ServesLaws.{adds_hand}
-use Rattle.wx_action.specs.Leads.{FollowsHooks, Then}
+use Rattle.wx_machine.specs.Leads.{FollowsHooks, Then}
 use Rattle.wx_action.specs.Stands.{Stands, AddsTake, HasTaken, HasPassed, IsDropped, LeavesRoom, Finds, Judges, IsJudged}
-use Rattle.wx_action.proofs.BagLaws.{IsTaken, is_taken}
-use Rattle.wx_action.proofs.RunLaws.{joined_if, orderly_more}
-use Rattle.wx_action.proofs.JobLaws.{turns_over}
+use Rattle.wx_machine.proofs.BagLaws.{IsTaken, is_taken}
+use Rattle.wx_machine.proofs.RunLaws.{joined_if, orderly_more}
+use Rattle.wx_machine.proofs.JobsLaws.{turns_over}
 use Rattle.wx_action.proofs.ArriveLemmas.{Steps, said_done, said_then}
-use Rattle.wx_action.specs.Orderly.{IsGoing, IsOrderly}
-use Rattle.wx_action.proofs.SettleLaws.{settle_calm}
+use Rattle.wx_machine.proofs.Orderly.{IsGoing, IsOrderly}
+use Rattle.wx_machine.proofs.SettleLaws.{settle_calm}
 use Rattle.wx_action.proofs.StandsLemmas.{events-append, tasks_same, over_none}
 
 -- a queue that is empty, where the bag isn't

@@ -8,9 +8,9 @@ use Rattle.wx_journal.specs.declared.entry.Act.TheVariants.{Create, Ask as Asks,
 use Rattle.wx_control.specs.declared.id.Id.{Id}
 use Rattle.wx_control.specs.declared.ask.Ask.{Ask}
 use Rattle.wx_control.specs.Sent.{Sink}
-use Rattle.wx_action.specs.Journal.{listed}
-use Rattle.wx_action.specs.Due.{is_quit}
-use Rattle.wx_action.specs.Last.{last_is, without_last}
+use Rattle.wx_machine.specs.Journal.{listed}
+use Rattle.wx_machine.specs.Due.{is_quit}
+use Rattle.wx_machine.specs.Last.{last_is, without_last}
 
 -- the journal so far, the names and the events of the batch, the acts so far, and whether they were handed
 pub record Handled : Type 0 where

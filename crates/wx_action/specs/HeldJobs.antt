@@ -1,28 +1,20 @@
 -- The jobs that an action sees.
-use Rattle.std.specs.Prelude.{◌≡◌, ℕ, ◌<◌, Bool, false, not, if◌then◌else◌, is_some, Option, None, Some, List, [], ◌∷◌, map}
+use Rattle.std.specs.Prelude.{◌≡◌, ℕ, Bool, false, not, if◌then◌else◌, is_some, Option, None, Some, List, [], ◌∷◌, map}
 use Rattle.std.specs.List.{find, AllByRecursion}
 use Rattle.wx_control.specs.declared.id.Id.{Id}
 use Rattle.wx_control.specs.declared.job.Job.{Job}
 use Rattle.wx_journal.specs.declared.entry.Entry.{Entry}
 use Rattle.wx_journal.specs.Names.{next_job}
 use Rattle.wx_job.specs.declared.task.JobTask.{JobTask}
-use Rattle.wx_job.specs.History.{same, child, is_child, command}
+use Rattle.wx_machine.specs.History.{same, child, is_child, command}
 use Rattle.wx_job.specs.Stands.{gone_of, running_of, parked_count}
 use Rattle.wx_action.specs.declared.worker_state.Held.{Held}
-use Rattle.wx_action.specs.Jobs.{set}
+use Rattle.wx_machine.specs.Jobs.{set, AreRising, AreBelow}
 
 -- a handle on the job of this id, with what the job runs
 pub record IsHandle (p : List Entry) (id : Id) (job : Job) : Type 0 where
   pub names : job.id ≡ id
   pub runs : command id p ≡ Some job.command
-
--- ids that rise, and ids below a number
-abbrev pub AreRising : List Id → Type 0
-AreRising [] = Unit {0}
-AreRising (id ∷ ids) = AllByRecursion (λ job. id.0 < job.0) ids × AreRising ids
-
-abbrev pub AreBelow : ℕ → List Id → Type 0
-AreBelow n ids = AllByRecursion (λ id. id.0 < n) ids
 
 -- these are all jobs that a handler sees, by rising id, each with a handle
 pub record AreSeen (p : List Entry) (jobs : List (Id × Job)) : Type 0 where

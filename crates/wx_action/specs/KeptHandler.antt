@@ -9,7 +9,7 @@ use Rattle.wx_action.specs.declared.handler.Todo.{Todo}
 use Rattle.wx_action.specs.Handled.{ends_with_quit, with_this_quit, AreEvents, lookup}
 use Rattle.wx_action.specs.declared.worker_state.Held.{Held}
 use Rattle.wx_action.specs.HeldJobs.{AreShown}
-use Rattle.wx_action.specs.Jobs.{AreLawful, next_created}
+use Rattle.wx_machine.specs.Jobs.{AreLawful, next_created}
 use Rattle.wx_action.specs.Todo.{AreTodo}
 
 -- the room that a quit behind these acts needs

@@ -3,7 +3,7 @@ use Rattle.std.specs.Prelude.{ℕ, Bool, Option, None, Some, List, ◌++◌, rev
 use Rattle.std.specs.List.{flat_map}
 use Rattle.wx_journal.specs.declared.entry.Entry.{Entry}
 use Rattle.wx_journal.specs.Lines.{Answer, line_of, entry_line, end_words}
-use Rattle.wx_action.specs.Journal.{window}
+use Rattle.wx_machine.specs.Journal.{window}
 
 -- what an entry says, or else what those before it say
 abbrev pub or_before : Option Bool → Bool → Bool

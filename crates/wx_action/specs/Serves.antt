@@ -2,22 +2,22 @@
 use Rattle.std.specs.Prelude.{◌≡◌, ◌≤◌, ◌+◌, ◌⊎◌, ℕ, Option, Result, OnOk, OnErr, List, []}
 use Rattle.wx_journal.specs.declared.entry.Entry.{Entry}
 use Rattle.wx_journal.specs.Written.{Written}
-use Rattle.wx_job.specs.Seen.{Seen, Hooked}
-use Rattle.wx_job.specs.Kept.{StaysQuiet, KeepsOn}
-use Rattle.wx_job.specs.Faults.{CountsOn}
-use Rattle.wx_job.specs.Steady.{IsSteady, OnlyRoom}
+use Rattle.wx_machine.specs.Seen.{Seen, Hooked}
+use Rattle.wx_machine.specs.Kept.{StaysQuiet, KeepsOn}
+use Rattle.wx_machine.specs.Faults.{CountsOn}
+use Rattle.wx_machine.specs.Steady.{IsSteady, OnlyRoom}
 use Rattle.wx_action.specs.declared.worker_state.Worker.{Worker}
-use Rattle.wx_action.specs.Start.{Start}
+use Rattle.wx_machine.specs.Start.{Start}
 use Rattle.wx_action.specs.Stands.{Stands, Ready, HasRoom, end_room}
-use Rattle.wx_job.specs.Table.{Plan}
-use Rattle.wx_job.specs.Case.{IsCut}
-use Rattle.wx_action.specs.Due.{agenda, Open, Ends, Plans}
-use Rattle.wx_action.specs.Leads.{Follows, FollowsHooks, FollowsAlone}
-use Rattle.wx_action.specs.Answer.{Dying}
-use Rattle.wx_action.specs.Jobs.{jobs}
-use Rattle.wx_action.specs.Told.{TellsOn}
+use Rattle.wx_machine.specs.Table.{Plan}
+use Rattle.wx_machine.specs.Case.{IsCut}
+use Rattle.wx_machine.specs.Due.{agenda, Open, Ends, Plans}
+use Rattle.wx_machine.specs.Leads.{Follows, FollowsHooks, FollowsAlone}
+use Rattle.wx_machine.specs.Answer.{Dying}
+use Rattle.wx_machine.specs.Jobs.{jobs}
+use Rattle.wx_machine.specs.Told.{TellsOn}
 use Rattle.wx_journal.specs.Told.{is_world}
-use Rattle.wx_action.specs.Turns.{StaysInTurn}
+use Rattle.wx_machine.specs.Turns.{StaysInTurn}
 
 -- what calls add that are none on the world, nor on the hooks: entries that were due, none of them a turn, and no fault
 pub record Adds (s : Start) (p p' : List Entry) : Type 0 where

@@ -20,11 +20,11 @@ use Rattle.wx_words.specs.declared.list.Memory.{Memory as NoMemory}
 use Rattle.wx_journal.specs.declared.wish.Wish.{Wish}
 use Rattle.wx_control.specs.declared.id.Id.{Id}
 use Rattle.wx_command.specs.declared.command.Command.{Command}
-use Rattle.wx_job.specs.History.{lives, command}
-use Rattle.wx_job.specs.Seen.{Seen}
-use Rattle.wx_job.specs.Table.{step_plan}
+use Rattle.wx_machine.specs.History.{lives, command}
+use Rattle.wx_machine.specs.Seen.{Seen}
+use Rattle.wx_machine.specs.Table.{step_plan}
 use Rattle.wx_job.specs.Stands.{Stands as TaskStands, id_of, command_of, closed_of}
-use Rattle.wx_action.specs.Jobs.{set}
+use Rattle.wx_machine.specs.Jobs.{set}
 use Rattle.wx_action.specs.declared.worker_state.Held.{Held}
 use Rattle.wx_action.specs.declared.worker_state.Worker.{Worker}
 use Rattle.wx_action.specs.declared.work_turn.Collected.{Collected}
@@ -33,11 +33,11 @@ use Rattle.wx_action.specs.declared.work_turn.Found.{Found}
 use Rattle.wx_action.specs.declared.work_turn.Found.TheVariants as found
 use Rattle.wx_action.specs.declared.work_turn.Worked.{Worked}
 use Rattle.wx_action.specs.declared.work_turn.Worked.TheVariants as worked
-use Rattle.wx_action.specs.Start.{Start}
-use Rattle.wx_action.specs.Journal.{settings, passes_unseen, closed, named, bag, window, first, is_over}
-use Rattle.wx_action.specs.Due.{Agenda, is_quitting, agenda, plans, Open, Shows, Hands, Ends}
+use Rattle.wx_machine.specs.Start.{Start}
+use Rattle.wx_machine.specs.Journal.{settings, passes_unseen, closed, named, bag, window, first, is_over}
+use Rattle.wx_machine.specs.Due.{Agenda, is_quitting, agenda, plans, Open, Shows, Hands, Ends}
 use Rattle.wx_action.specs.Handled.{AreEvents, lookup}
-use Rattle.wx_action.specs.Orderly.{IsOrderly}
+use Rattle.wx_machine.proofs.Orderly.{IsOrderly}
 
 -- what is held of a job: its task stands for it, runs what its creation says, and isn't closed, and the handle names both
 pub record HeldStands (p : List Entry) (h : Held) : Type 0 where

@@ -2,7 +2,7 @@
 use Rattle.std.specs.Prelude.{◌≡◌, false, List, [], ◌∷◌}
 use Rattle.wx_command.specs.declared.command.Command.{Command}
 use Rattle.wx_control.specs.declared.id.Id.{Id}
-use Rattle.wx_job.specs.History.{RunsOnly}
+use Rattle.wx_machine.specs.History.{RunsOnly}
 use Rattle.wx_job.specs.Stands.{Stands as TaskStands, id_of, command_of, closed_of, gone_of}
 use Rattle.wx_journal.specs.Acts.{JournalAct as Act}
 use Rattle.wx_journal.specs.declared.entry.Act.TheVariants.{Create, Ask, Quit}

@@ -3,8 +3,8 @@ ghost use Rattle.std.specs.Prelude.{◌≡◌, List, OnOk};
 ghost use Rattle.wx_action.specs.declared.handler.Todo.{Todo as ATodo};
 ghost use Rattle.wx_action.specs.declared.handler.Todo.TheVariants as todo;
 ghost use Rattle.wx_action.specs.Serves.{Grows, Performs};
-ghost use Rattle.wx_action.specs.Start.{Start};
-ghost use Rattle.wx_action.specs.Due.{Agenda, agenda};
+ghost use Rattle.wx_machine.specs.Start.{Start};
+ghost use Rattle.wx_machine.specs.Due.{Agenda, agenda};
 ghost use Rattle.wx_action.specs.Perform.{OwesActs, IsFirst, Does};
 ghost use Rattle.wx_action.specs.Stands.{Stands, Ready};
 

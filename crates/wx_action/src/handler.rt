@@ -3,15 +3,15 @@ ghost use Rattle.std.specs.Prelude.{◌≡◌, ◌∷◌, ◌++◌, [], ◌<◌,
 ghost use Rattle.wx_control.specs.Sent.{sent as after_send};
 ghost use Rattle.wx_control.specs.declared.sink.Refused.TheVariants.{Memory as WantOfMemory};
 ghost use Rattle.wx_journal.specs.Names.{next_job};
-ghost use Rattle.wx_job.specs.History.{child};
+ghost use Rattle.wx_machine.specs.History.{child};
 ghost use Rattle.wx_journal.specs.declared.entry.Act.TheVariants.{Create, Ask as Asks};
 ghost use Rattle.wx_journal.specs.declared.entry.Entry.TheVariants.{Hand};
 ghost use Rattle.wx_action.specs.declared.handler.CreateRefused.TheVariants.{IdsSpent};
-ghost use Rattle.wx_action.specs.Due.{is_quit};
+ghost use Rattle.wx_machine.specs.Due.{is_quit};
 ghost use Rattle.wx_action.specs.Handled.{ends_with_quit, with_this_quit, with_quit, sink_of, AreEvents, lookup, Handled};
 ghost use Rattle.wx_action.specs.HeldJobs.{IsHandle, AreSeen, AreShown};
-ghost use Rattle.wx_action.specs.Jobs.{is_seen, AreLawful, next_created};
-ghost use Rattle.wx_action.specs.Last.{without_last};
+ghost use Rattle.wx_machine.specs.Jobs.{is_seen, AreLawful, next_created};
+ghost use Rattle.wx_machine.specs.Last.{without_last};
 ghost use Rattle.wx_action.specs.KeptHandler.{HasSecondRoom, HasQuitRoom, StaysTwice, AddsTwice, QuitsTwice, quit_room};
 ghost use Rattle.wx_action.specs.Todo.{AreTodo, IsNew};
 

@@ -8,7 +8,7 @@ ghost use Rattle.wx_action.specs.HeldJobs.{is_of, is_here, is_alive, runs_child,
 ghost use Rattle.wx_action.specs.LentTask.{LendsTask};
 ghost use Rattle.wx_action.specs.Serves.{EndsJobs};
 ghost use Rattle.wx_action.specs.Stands.{JobsStand};
-ghost use Rattle.wx_action.specs.Start.{Start};
+ghost use Rattle.wx_machine.specs.Start.{Start};
 
 use crate::worker_state::Held;
 use std::alloc::Global;

@@ -2,11 +2,11 @@
 ghost use Rattle.std.specs.Prelude.{◌≡◌, ℕ, ◌+◌, IfSome, IfNone, IfOk};
 ghost use Rattle.wx_journal.specs.declared.entry.TurnKind.TheVariants.{Ask as AsksTurn, Job as JobTurn, Ended as EndedTurn};
 ghost use Rattle.wx_journal.specs.declared.entry.Word.TheVariants.{Ignored};
-ghost use Rattle.wx_job.specs.Steady.{HaveRoom};
+ghost use Rattle.wx_machine.specs.Steady.{HaveRoom};
 ghost use Rattle.wx_action.specs.Serves.{Grows, Continues, EndsJobs, Steps, Settles};
-ghost use Rattle.wx_action.specs.Start.{Start};
+ghost use Rattle.wx_machine.specs.Start.{Start};
 ghost use Rattle.wx_action.specs.HeldJobs.{parked_at};
-ghost use Rattle.wx_action.specs.Due.{agenda, Says, Open};
+ghost use Rattle.wx_machine.specs.Due.{agenda, Says, Open};
 ghost use Rattle.wx_action.specs.Stands.{Stands, Ready, AtTurn, IsStepOf, end_room};
 
 use crate::outside::Hooks;
@@ -72,7 +72,7 @@ fn step_room(worker: &Worker, id: Id) -> Result<u64, Memory>
 
 /// The step of the job of this id, which is owed, once room is taken for it. It fails only for want of memory: then no
 /// entry was added, or the case was given up behind the call of the job's spawn hook.
-#[tactic(auto, using(wx_job::proofs::KeptLemmas::kept))]
+#[tactic(auto, using(wx_machine::proofs::KeptLemmas::kept))]
 fn take_step<W: Host, H: Hooks>(
     alloc: Global,
     worker: &mut Worker,

@@ -23,5 +23,6 @@ pub use outside::{Hooks, TurnFault, Turned, World};
 pub use printing::{lost, one_spelling, print_journal};
 pub use work_turn::{Collected, Worked, throttle_collect, worker};
 pub use worker_state::{Held, Worker};
-pub use wx_job::{CommandState, Host, JobHooks, JobTaskContext, Outside};
+pub use wx_job::{Host, JobHooks, JobTaskContext, Outside};
 pub use wx_journal::{Turn, TurnKind};
+pub use wx_machine::CommandState;

@@ -3,9 +3,9 @@ ghost use Rattle.std.specs.Prelude.{◌≡◌, ◌∷◌, [], ◌≤◌, ◌<◌
 ghost use Rattle.wx_journal.specs.declared.entry.Entry.{Entry, Entry as AnEntry};
 ghost use Rattle.wx_journal.specs.declared.wish.Wish.TheVariants.{Nothing};
 ghost use Rattle.wx_journal.specs.Told.{tell};
-ghost use Rattle.wx_job.specs.Kept.{Keeps};
-ghost use Rattle.wx_action.specs.Journal.{listed};
-ghost use Rattle.wx_action.specs.Told.{gives_last, GivesTurn};
+ghost use Rattle.wx_machine.specs.Kept.{Keeps};
+ghost use Rattle.wx_machine.specs.Journal.{listed};
+ghost use Rattle.wx_action.specs.Given.{gives_last, GivesTurn};
 
 use crate::error_hook::ErrorHook;
 use crate::handler::ActionHandler;

@@ -1,6 +1,6 @@
 // A journal as text.
 ghost use Rattle.std.specs.Prelude.{◌≡◌, ◌∷◌, ◌++◌, not, reverse, List as Listed, OnOk, IfOk};
-ghost use Rattle.wx_action.specs.Journal.{passes_unseen, is_among, unhanded, window};
+ghost use Rattle.wx_machine.specs.Journal.{passes_unseen, is_among, unhanded, window};
 ghost use Rattle.wx_action.specs.Printed.{or_before, printed};
 ghost use Rattle.wx_journal.specs.Lines.{Answer, JournalFits, AnswerFits};
 ghost use Rattle.wx_journal.specs.declared.entry.Entry.{Entry as AnEntry};

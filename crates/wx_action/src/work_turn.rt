@@ -7,12 +7,12 @@ ghost use Rattle.wx_events.specs.Priority.{is_urgent};
 ghost use Rattle.wx_config.specs.declared.error.CriticalError.TheVariants.{Memory as WantOfMemory};
 ghost use Rattle.wx_job.specs.Calls.{AreRoomy};
 ghost use Rattle.wx_action.specs.Serves.{GrowsHand, GrowsWithin, Continues};
-ghost use Rattle.wx_action.specs.Start.{Start};
-ghost use Rattle.wx_action.specs.Journal.{listed, is_unseen, lets_pass, is_exit, is_close, ending, bag, is_over, is_over_of};
-ghost use Rattle.wx_action.specs.Due.{agenda, work, has_quit, Open, Takes, Filters, Shows, Hands, after_acts};
-ghost use Rattle.wx_action.specs.Answer.{NoneIsToGo, BreaksOff, BreaksHere, Fails};
+ghost use Rattle.wx_machine.specs.Start.{Start};
+ghost use Rattle.wx_machine.specs.Journal.{listed, is_unseen, lets_pass, is_exit, is_close, ending, bag, is_over, is_over_of};
+ghost use Rattle.wx_machine.specs.Due.{agenda, work, has_quit, Open, Takes, Filters, Shows, Hands, after_acts};
+ghost use Rattle.wx_machine.specs.Answer.{NoneIsToGo, BreaksOff, BreaksHere, Fails};
 ghost use Rattle.wx_action.specs.Perform.{OwesActs};
-ghost use Rattle.wx_action.specs.Laws.{NoneUrgentWaits};
+ghost use Rattle.wx_machine.specs.RunLaws.{NoneUrgentWaits};
 ghost use Rattle.wx_action.specs.Stands.{Owes, OwesAt, AtWork, MayShow, Finds, Collects, IsDropped, IsJudged, LeavesRoom, Works, end_room};
 
 use crate::acts_done::perform;
@@ -428,7 +428,7 @@ fn hand<W: Host, H: Hooks>(
 /// answer says whether the run goes on. It fails where the error handler wished that the run ends with an error, and for want
 /// of memory, but not while an event is to be shown or a window to be handed behind an entry of its own. Where no urgent event
 /// waited, none waits afterwards. Where there was room for the end of all jobs, there is.
-#[tactic(auto, using(wx_job::proofs::KeptLemmas::kept))]
+#[tactic(auto, using(wx_machine::proofs::KeptLemmas::kept))]
 pub fn worker<W: Host, H: Hooks>(
     alloc: Global,
     worker: &mut Worker,

@@ -6,11 +6,11 @@ ghost use Rattle.prio_channel.specs.SameBag.{SameBag};
 ghost use Rattle.wx_journal.specs.declared.entry.Entry.{Entry};
 ghost use Rattle.wx_journal.specs.declared.entry.Word.TheVariants.{Ignored};
 ghost use Rattle.wx_journal.specs.Names.{event_count};
-ghost use Rattle.wx_job.specs.Steady.{OnlyRoom};
+ghost use Rattle.wx_machine.specs.Steady.{OnlyRoom};
 ghost use Rattle.wx_action.specs.Serves.{Grows, Settles};
-ghost use Rattle.wx_action.specs.Start.{Start, IsSize};
-ghost use Rattle.wx_action.specs.Journal.{closed, bag};
-ghost use Rattle.wx_action.specs.Due.{agenda, Open, Sends, rest, Offers, Says, begin_of};
+ghost use Rattle.wx_machine.specs.Start.{Start, IsSize};
+ghost use Rattle.wx_machine.specs.Journal.{closed, bag};
+ghost use Rattle.wx_machine.specs.Due.{agenda, Open, Sends, rest, Offers, Says, begin_of};
 ghost use Rattle.wx_action.specs.Stands.{Stands, Owes, IsOffered, end_room};
 ghost use Rattle.wx_action.specs.HeldJobs.{is_here, runs_child};
 

@@ -1,11 +1,5 @@
 // Errors that a run may go on after.
-ghost use Rattle.std.specs.Prelude.{◌≡◌, IfOk};
-ghost use Rattle.wx_words.specs.Combine.{read_as};
-ghost use Rattle.wx_words.specs.Line.{Reads};
-ghost use Rattle.wx_words.specs.Parts.{both};
-ghost use Rattle.wx_config.specs.Runtime.{make_fs_watcher};
-ghost use Rattle.wx_config.specs.SourceErrors.{fs_error};
-ghost use Rattle.wx_config.specs.Watched.{watcher};
+ghost use Rattle.std.specs.Prelude.{◌≡◌};
 
 use crate::source_errors::{FsWatcherError, KeyboardWatcherError};
 use crate::watched::Watcher;
@@ -201,20 +195,6 @@ impl Spelled for TrySendFault {
     }
 }
 
-/// Takes the watcher at the front and its error, or loses the place.
-#[tactic(auto, unfolding(wx_words::specs::Parts::both))]
-fn read_fs_watcher(alloc: Global, line: &mut Words) -> Result<Option<RuntimeError>, Memory>
-    ensures { IfOk result (λ x. Reads line.new x (read_as make_fs_watcher (both watcher fs_error).read line.old)) }
-{
-    let Some(kind) = Watcher::read(alloc, line)? else {
-        return Ok(None);
-    };
-    match FsWatcherError::read(alloc, line)? {
-        Some(err) => Ok(Some(RuntimeError::FsWatcher { kind, err })),
-        None => Ok(None),
-    }
-}
-
 #[tactic(auto, using(wx_words::specs::LineLaws::behinds), unfolding(crate::specs::Runtime::runtime, wx_words::specs::Parts::both))]
 impl Spelled for RuntimeError {
     ghost use Rattle.wx_config.specs.Runtime.{runtime};
@@ -258,7 +238,7 @@ impl Spelled for RuntimeError {
             b"exit" => RuntimeError::Exit,
             b"external" (text) => RuntimeError::External(text),
             b"io" (about, err) => RuntimeError::IoError { about, err },
-            b"fswatcher" (error = read_fs_watcher) => error,
+            b"fswatcher" (kind, err) => RuntimeError::FsWatcher { kind, err },
             b"keyboard" (err) => RuntimeError::KeyboardWatcher { err },
             b"internal" (text) => RuntimeError::InternalSupervisor(text),
             b"send" (ctx, (priority, event)) => RuntimeError::EventChannelSend { ctx, event, priority },

@@ -5,22 +5,22 @@ use Rattle.std.specs.List.{filter}
 use Rattle.wx_events.specs.declared.event.Event.{Event}
 use Rattle.wx_events.specs.declared.priority.Priority.{Priority}
 use Rattle.wx_journal.specs.declared.entry.Entry.{Entry}
-use Rattle.wx_job.specs.History.{lives}
+use Rattle.wx_machine.specs.History.{lives}
 use Rattle.wx_action.specs.declared.worker_state.Held.{Held}
 use Rattle.wx_action.specs.declared.worker_state.Worker.{Worker}
-use Rattle.wx_action.specs.Start.{Start}
-use Rattle.wx_action.specs.Journal.{closed, bag}
-use Rattle.wx_action.proofs.SettleLaws.{settle_calm}
-use Rattle.wx_action.specs.Due.{Sends, Hands, agenda, sends, begin_of, IsRun}
-use Rattle.wx_action.specs.Laws.{NoneUrgentWaits}
-use Rattle.wx_job.specs.Kept.{StaysQuiet, More}
-use Rattle.wx_action.specs.Leads.{FollowsAlone, Then}
+use Rattle.wx_machine.specs.Start.{Start}
+use Rattle.wx_machine.specs.Journal.{closed, bag}
+use Rattle.wx_machine.proofs.SettleLaws.{settle_calm}
+use Rattle.wx_machine.specs.Due.{Sends, Hands, agenda, sends, begin_of, IsRun}
+use Rattle.wx_machine.specs.RunLaws.{NoneUrgentWaits}
+use Rattle.wx_machine.specs.Kept.{StaysQuiet, More}
+use Rattle.wx_machine.specs.Leads.{FollowsAlone, Then}
 use Rattle.wx_action.specs.Serves.{Adds}
-use Rattle.wx_action.specs.Turns.{StaysInTurn}
-use Rattle.wx_action.specs.Jobs.{set, jobs}
+use Rattle.wx_machine.specs.Turns.{StaysInTurn}
+use Rattle.wx_machine.specs.Jobs.{set, jobs}
 use Rattle.wx_action.specs.Stands.{Stands, held_id, end_room}
-use Rattle.wx_action.proofs.RunLaws.{none_waits, run_led}
-use Rattle.wx_action.proofs.JobLaws.{turns_over}
+use Rattle.wx_machine.proofs.RunLaws.{none_waits, run_led}
+use Rattle.wx_machine.proofs.JobsLaws.{turns_over}
 
 -- what is known once the beginning is listed
 pub record Begun (s : Start) (w : Worker) (p p' : List Entry) : Type 0 where

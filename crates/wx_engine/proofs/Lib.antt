@@ -1,6 +1,4 @@
-mod ActedLaws
 mod BeginLemmas
-mod GivenLaws
 mod OfferLaws
 mod RunLemmas
 mod TurnLemmas

@@ -4,20 +4,20 @@ use Rattle.std.specs.Prelude.{IfErr}
 use Rattle.wx_journal.specs.declared.entry.Entry.{Entry}
 use Rattle.wx_journal.specs.declared.entry.Entry.TheVariants.{Show, Dropped, Gone}
 use Rattle.wx_journal.specs.Told.{Rose, tell_if, tells, anywhere, is_world, is_hooks}
-use Rattle.wx_job.specs.TicketLaws.{Throughout, GracesNeedChildren, IsPlaced}
-use Rattle.wx_job.proofs.Graces.{graces_need_children}
-use Rattle.wx_action.specs.Start.{Start}
+use Rattle.wx_machine.specs.TicketLaws.{Throughout, GracesNeedChildren, IsPlaced}
+use Rattle.wx_machine.proofs.Graces.{graces_need_children}
+use Rattle.wx_machine.specs.Start.{Start}
 use Rattle.wx_config.specs.declared.error.CriticalError.{CriticalError}
 use Rattle.wx_config.specs.declared.error.CriticalError.TheVariants.{IoError, Memory}
-use Rattle.wx_action.specs.Answer.{Dying, Alive, Dies, IsBroken, AtAnyPlace, Wishes, MemoryCuts, Answers}
+use Rattle.wx_machine.specs.Answer.{Dying, Alive, Dies, IsBroken, AtAnyPlace, Wishes, MemoryCuts, Answers}
 use Rattle.wx_journal.specs.Lines.{Answer}
-use Rattle.wx_action.specs.Laws.{IsBatched, AreBatches, NoneUnseenIsShown, NoneIsShownClosed, AreMadeOnce, AreServed}
-use Rattle.wx_action.specs.Leads.{Leads, Here, Then}
-use Rattle.wx_action.proofs.JobLaws.{run_makes_once}
-use Rattle.wx_action.proofs.RunLaws.{orderly, run_is_batched, run_has_batches, run_shows, run_shows_open, run_is_served}
-use Rattle.wx_action.proofs.PlanLaws.{of_end}
-use Rattle.wx_action.specs.Lawful.{IsOfEnd}
-use Rattle.wx_action.proofs.EndLaws.{dying_keeps}
+use Rattle.wx_machine.specs.RunLaws.{IsBatched, AreBatches, NoneUnseenIsShown, NoneIsShownClosed, AreMadeOnce, AreServed}
+use Rattle.wx_machine.specs.Leads.{Leads, Here, Then}
+use Rattle.wx_machine.proofs.JobsLaws.{run_makes_once}
+use Rattle.wx_machine.proofs.RunLaws.{orderly, run_is_batched, run_has_batches, run_shows, run_shows_open, run_is_served}
+use Rattle.wx_machine.proofs.PlanLaws.{of_end}
+use Rattle.wx_machine.proofs.Lawful.{IsOfEnd}
+use Rattle.wx_machine.proofs.EndLaws.{dying_keeps}
 use Rattle.wx_engine.specs.Run.{Ran, HasCause}
 use Rattle.wx_engine.specs.Completes.{IsOkOrMemory, NoneEnds}
 

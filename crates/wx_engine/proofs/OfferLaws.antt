@@ -5,14 +5,14 @@ use Rattle.wx_events.specs.declared.priority.Priority.{Priority}
 use Rattle.wx_journal.specs.declared.entry.Entry.{Entry}
 use Rattle.wx_journal.specs.declared.entry.Entry.TheVariants.{Offer, Dropped, Gone}
 use Rattle.wx_journal.specs.declared.entry.Offered.{Offered}
-use Rattle.wx_action.specs.Start.{Start}
-use Rattle.wx_action.specs.Journal.{offered}
-use Rattle.wx_action.specs.Due.{Agenda, Begins, Sends, Open, Offers, Says, Takes, Filters, Shows, Hands, Plans, Ends, Breaks, agenda, Admits, IsRun}
-use Rattle.wx_action.specs.Orderly.{IsFit}
-use Rattle.wx_action.specs.Answer.{Dying, Alive, Dies}
-use Rattle.wx_action.specs.Lawful.{IsOfEnd}
-use Rattle.wx_action.proofs.PlanLaws.{lawful_now, of_end}
-use Rattle.wx_action.proofs.RunLaws.{orderly}
+use Rattle.wx_machine.specs.Start.{Start}
+use Rattle.wx_machine.specs.Journal.{offered}
+use Rattle.wx_machine.specs.Due.{Agenda, Begins, Sends, Open, Offers, Says, Takes, Filters, Shows, Hands, Plans, Ends, Breaks, agenda, Admits, IsRun}
+use Rattle.wx_machine.proofs.Orderly.{IsFit}
+use Rattle.wx_machine.specs.Answer.{Dying, Alive, Dies}
+use Rattle.wx_machine.proofs.Lawful.{IsOfEnd}
+use Rattle.wx_machine.proofs.PlanLaws.{lawful_now, of_end}
+use Rattle.wx_machine.proofs.RunLaws.{orderly}
 use Rattle.wx_engine.specs.Offers.{AreOffered}
 use Rattle.wx_engine.specs.Run.{Ran}
 

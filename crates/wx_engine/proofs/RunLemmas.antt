@@ -10,13 +10,13 @@ use Rattle.wx_journal.specs.declared.wish.Wish.TheVariants.{Nothing, Elevate, Cr
 use Rattle.wx_config.specs.declared.runtime.RuntimeError.{RuntimeError}
 use Rattle.wx_config.specs.declared.error.CriticalError.{CriticalError}
 use Rattle.wx_config.specs.declared.error.CriticalError.TheVariants.{Exit, IoError, Memory}
-use Rattle.wx_action.specs.Journal.{ending}
-use Rattle.wx_action.specs.Start.{Start}
-use Rattle.wx_action.specs.Jobs.{jobs}
-use Rattle.wx_action.specs.Due.{agenda, Open, Ends, sends, IsRun}
-use Rattle.wx_action.specs.Answer.{Dying, Alive, IsComplete, IsBroken, NoneIsToGo, MemoryCuts, Wishes, Answers}
+use Rattle.wx_machine.specs.Journal.{ending}
+use Rattle.wx_machine.specs.Start.{Start}
+use Rattle.wx_machine.specs.Jobs.{jobs}
+use Rattle.wx_machine.specs.Due.{agenda, Open, Ends, sends, IsRun}
+use Rattle.wx_machine.specs.Answer.{Dying, Alive, IsComplete, IsBroken, NoneIsToGo, MemoryCuts, Wishes, Answers}
 use Rattle.wx_journal.specs.Lines.{Answer}
-use Rattle.wx_action.proofs.EndLaws.{dying_turns, dying_run, dying_ends}
+use Rattle.wx_machine.proofs.EndLaws.{dying_turns, dying_run, dying_ends}
 use Rattle.wx_engine.specs.Run.{Stops, HasCause, HasTurnCause}
 
 -- an exit is no error that a wish ends the run with

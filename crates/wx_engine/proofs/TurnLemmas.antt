@@ -6,23 +6,23 @@ use Rattle.wx_journal.specs.declared.entry.Entry.TheVariants.{Turn as Turned, Tu
 use Rattle.wx_journal.specs.declared.entry.Turn.{Turn}
 use Rattle.wx_journal.specs.Names.{moment}
 use Rattle.wx_journal.specs.Told.{tell, tell_if, tells, is_world, is_hooks, is_turn, anywhere}
-use Rattle.wx_job.specs.Case.{is_fault}
+use Rattle.wx_machine.specs.Case.{is_fault}
 use Rattle.wx_action.specs.declared.worker_state.Worker.{Worker}
-use Rattle.wx_action.specs.Start.{Start}
-use Rattle.wx_action.specs.Journal.{turn_count, early_count, turn_fault}
-use Rattle.wx_action.specs.Due.{agenda, Open, Due}
-use Rattle.wx_action.specs.Laws.{NoneUrgentWaits, MomentsRise}
-use Rattle.wx_job.specs.Faults.{CountsOn}
-use Rattle.wx_action.proofs.FaultLaws.{counts_entry}
-use Rattle.wx_job.specs.Kept.{Quiet, Same, More}
-use Rattle.wx_action.specs.Leads.{Leads, Follows, Then}
+use Rattle.wx_machine.specs.Start.{Start}
+use Rattle.wx_machine.specs.Journal.{turn_count, early_count, turn_fault}
+use Rattle.wx_machine.specs.Due.{agenda, Open, Due}
+use Rattle.wx_machine.specs.RunLaws.{NoneUrgentWaits, MomentsRise}
+use Rattle.wx_machine.specs.Faults.{CountsOn}
+use Rattle.wx_machine.proofs.FaultLaws.{counts_entry}
+use Rattle.wx_machine.specs.Kept.{Quiet, Same, More}
+use Rattle.wx_machine.specs.Leads.{Leads, Follows, Then}
 use Rattle.wx_action.specs.Stands.{Stands}
-use Rattle.wx_action.specs.Turns.{SameTurns}
-use Rattle.wx_job.specs.Seen.{Seen}
+use Rattle.wx_machine.specs.Turns.{SameTurns}
+use Rattle.wx_machine.specs.Seen.{Seen}
 use Rattle.wx_action.specs.Serves.{Serves}
-use Rattle.wx_action.proofs.JobLaws.{same_turns}
+use Rattle.wx_machine.proofs.JobsLaws.{same_turns}
 use Rattle.wx_engine.specs.Run.{ServesTurns}
-use Rattle.wx_action.specs.Told.{is_last, TellsNoEnd}
+use Rattle.wx_machine.specs.Told.{is_last, TellsNoEnd}
 use Rattle.wx_action.proofs.TurnLaws.{at_turn, next_turn}
 use Rattle.wx_action.proofs.StandsLemmas.{stands_behind}
 

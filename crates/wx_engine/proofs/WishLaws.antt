@@ -5,12 +5,12 @@ use Rattle.wx_config.specs.declared.error.CriticalError.TheVariants.{IoError, Me
 use Rattle.wx_journal.specs.declared.entry.Entry.{Entry}
 use Rattle.wx_journal.specs.declared.entry.Entry.TheVariants.{Show, Dropped, Gone}
 use Rattle.wx_journal.specs.Lines.{Answer}
-use Rattle.wx_action.specs.Start.{Start}
-use Rattle.wx_action.specs.Journal.{ending}
-use Rattle.wx_action.specs.Due.{Ends, after_show, settle, Admits, IsRun}
-use Rattle.wx_action.specs.Answer.{Dying, Alive, Dies, IsComplete, IsBroken, Wishes, Answers}
-use Rattle.wx_action.specs.Lawful.{IsOfEnd}
-use Rattle.wx_action.proofs.PlanLaws.{of_end}
+use Rattle.wx_machine.specs.Start.{Start}
+use Rattle.wx_machine.specs.Journal.{ending}
+use Rattle.wx_machine.specs.Due.{Ends, after_show, settle, Admits, IsRun}
+use Rattle.wx_machine.specs.Answer.{Dying, Alive, Dies, IsComplete, IsBroken, Wishes, Answers}
+use Rattle.wx_machine.proofs.Lawful.{IsOfEnd}
+use Rattle.wx_machine.proofs.PlanLaws.{of_end}
 use Rattle.wx_engine.specs.Completes.{NoneEnds, IsErrorOrMemory, AreGranted}
 
 -- nothing comes behind a wish that ends the run, nor is the end due there

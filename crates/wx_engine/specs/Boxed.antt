@@ -9,9 +9,8 @@ use Rattle.wx_events.specs.declared.priority.Priority.{Priority}
 use Rattle.wx_journal.specs.declared.entry.Entry.{Entry}
 use Rattle.wx_journal.specs.declared.entry.Entry.TheVariants.{Filter, Show, Hand, Poll, Hook}
 use Rattle.wx_journal.specs.declared.wish.Wish.TheVariants.{Nothing}
-use Rattle.wx_job.specs.History.{command}
-use Rattle.wx_action.specs.Journal.{listed}
-use Rattle.wx_engine.specs.Acted.{Verdict}
+use Rattle.wx_machine.specs.History.{command}
+use Rattle.wx_machine.specs.Journal.{listed, Verdict}
 
 -- how many they hold of each kind
 pub record Held : Type 0 where

@@ -5,7 +5,7 @@ use Rattle.wx_events.specs.declared.priority.Priority.{Priority}
 use Rattle.wx_journal.specs.declared.entry.Entry.{Entry}
 use Rattle.wx_journal.specs.declared.entry.Entry.TheVariants.{Filter}
 use Rattle.wx_journal.specs.Told.{is_hooks}
-use Rattle.wx_engine.specs.Acted.{Verdict}
+use Rattle.wx_machine.specs.Journal.{Verdict}
 use Rattle.wx_engine.specs.Boxed.{AreJudged}
 
 -- an entry that is no call on hooks is none of a filter

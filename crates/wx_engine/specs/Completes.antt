@@ -5,7 +5,7 @@ use Rattle.wx_journal.specs.declared.entry.Entry.TheVariants.{Show}
 use Rattle.wx_config.specs.declared.error.CriticalError.{CriticalError}
 use Rattle.wx_config.specs.declared.error.CriticalError.TheVariants.{Memory}
 use Rattle.wx_journal.specs.Lines.{Answer}
-use Rattle.wx_action.specs.Journal.{ending}
+use Rattle.wx_machine.specs.Journal.{ending}
 
 -- Ok, or want of memory
 abbrev pub IsOkOrMemory : Answer → Type 0

@@ -1,12 +1,5 @@
-pub mod Wishes
-pub mod Turns
-pub mod Acted
 pub mod Boxed
 pub mod BoxedLaws
-pub mod Answered
-pub mod HostCalls
-pub mod Follows
-pub mod FollowLaws
 pub mod Sent
 pub mod Run
 pub mod Completes

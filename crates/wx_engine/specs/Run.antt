@@ -4,18 +4,18 @@ use Rattle.wx_journal.specs.declared.entry.Entry.{Entry}
 use Rattle.wx_journal.specs.Names.{moment}
 use Rattle.wx_journal.specs.Told.{tells, anywhere, is_turn, is_world, is_hooks, Rose}
 use Rattle.wx_journal.specs.Written.{Written}
-use Rattle.wx_job.specs.Seen.{Seen}
-use Rattle.wx_job.specs.Faults.{Counted, CountsOn}
+use Rattle.wx_machine.specs.Seen.{Seen}
+use Rattle.wx_machine.specs.Faults.{Counted, CountsOn}
 use Rattle.wx_config.specs.declared.error.CriticalError.{CriticalError}
 use Rattle.wx_config.specs.declared.error.CriticalError.TheVariants.{Exit, IoError}
-use Rattle.wx_action.specs.Start.{Start}
+use Rattle.wx_machine.specs.Start.{Start}
 use Rattle.wx_action.specs.declared.worker_state.Worker.{Worker}
-use Rattle.wx_action.specs.Journal.{turn_count, early_count, turn_fault}
-use Rattle.wx_action.specs.Due.{agenda, Open, Ends}
-use Rattle.wx_action.specs.Laws.{IsBatched, AreBatches, NoneUrgentWaits, MomentsRise}
-use Rattle.wx_action.specs.Leads.{Follows}
+use Rattle.wx_machine.specs.Journal.{turn_count, early_count, turn_fault}
+use Rattle.wx_machine.specs.Due.{agenda, Open, Ends}
+use Rattle.wx_machine.specs.RunLaws.{IsBatched, AreBatches, NoneUrgentWaits, MomentsRise}
+use Rattle.wx_machine.specs.Leads.{Follows}
 use Rattle.wx_action.specs.Stands.{Stands, HasRoom}
-use Rattle.wx_action.specs.Answer.{IsComplete, IsBroken, AtAnyPlace, Wishes, BreaksOff}
+use Rattle.wx_machine.specs.Answer.{IsComplete, IsBroken, AtAnyPlace, Wishes, BreaksOff}
 use Rattle.wx_journal.specs.Lines.{Answer}
 
 -- where the world told the turns of the one journal it then tells those of the other

@@ -2,7 +2,7 @@
 use Rattle.std.specs.Prelude.{◌≡◌, length}
 use Rattle.wx_events.specs.declared.event.Event.{Event}
 use Rattle.wx_events.specs.declared.priority.Priority.{Priority}
-use Rattle.wx_action.specs.Start.{Start}
+use Rattle.wx_machine.specs.Start.{Start}
 use Rattle.wx_engine.specs.declared.watchexec.SendRefused.{SendRefused}
 use Rattle.wx_engine.specs.declared.watchexec.SendRefused.TheVariants.{Full, Memory}
 

@@ -4,15 +4,15 @@ ghost use Rattle.wx_events.specs.declared.event.Event.{Event as AnEvent};
 ghost use Rattle.wx_events.specs.declared.priority.Priority.{Priority as APriority};
 ghost use Rattle.wx_control.specs.declared.id.Id.{Id as AnId};
 ghost use Rattle.wx_journal.specs.Told.{is_world, is_hooks, is_turn, anywhere, tells, Obeys, Rose};
-ghost use Rattle.wx_job.specs.History.{child};
-ghost use Rattle.wx_job.specs.Laws.{IsReaping, AfterFaults};
-ghost use Rattle.wx_job.specs.TicketLaws.{Throughout, AreInOnePlace, AreRaisedLast, WaitForGraces, WaitForFunctions, GracesNeedChildren};
+ghost use Rattle.wx_machine.specs.History.{child};
+ghost use Rattle.wx_machine.specs.JobLaws.{IsReaping, AfterFaults};
+ghost use Rattle.wx_machine.specs.TicketLaws.{Throughout, AreInOnePlace, AreRaisedLast, WaitForGraces, WaitForFunctions, GracesNeedChildren};
 ghost use Rattle.wx_config.specs.Defaults.{default_config};
-ghost use Rattle.wx_action.specs.Start.{Start, IsSize, IsStart, is_absolute};
-ghost use Rattle.wx_action.specs.Journal.{turn_count, early_count};
-ghost use Rattle.wx_action.specs.Laws.{IsBatched, AreBatches, NoneUrgentWaits, NoneUnseenIsShown, NoneIsShownClosed, MomentsRise, AreMadeOnce, AreServed};
-ghost use Rattle.wx_action.specs.Answer.{Answers};
-ghost use Rattle.wx_job.specs.Faults.{Counted};
+ghost use Rattle.wx_machine.specs.Start.{Start, IsSize, IsStart, is_absolute};
+ghost use Rattle.wx_machine.specs.Journal.{turn_count, early_count};
+ghost use Rattle.wx_machine.specs.RunLaws.{IsBatched, AreBatches, NoneUrgentWaits, NoneUnseenIsShown, NoneIsShownClosed, MomentsRise, AreMadeOnce, AreServed};
+ghost use Rattle.wx_machine.specs.Answer.{Answers};
+ghost use Rattle.wx_machine.specs.Faults.{Counted};
 ghost use Rattle.wx_engine.specs.Sent.{Refuses};
 ghost use Rattle.wx_engine.specs.Run.{HasCause, Ran};
 ghost use Rattle.wx_engine.specs.Completes.{IsOkOrMemory, NoneEnds, AreGranted};
@@ -45,7 +45,7 @@ pub struct Watchexec {
 }
 
 impl Model for Watchexec {
-    ghost use Rattle.wx_action.specs.Start.{Start, IsStart};
+    ghost use Rattle.wx_machine.specs.Start.{Start, IsStart};
 
     ghost Value = { Start };
 

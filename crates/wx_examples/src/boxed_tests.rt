@@ -1,6 +1,6 @@
 // Hooks that hold boxes, as a user makes them, and runs with them: their texts are worked out by hand.
 ghost use Rattle.std.specs.Prelude.{◌≡◌, false, Ok as Well, OnErr};
-ghost use Rattle.wx_engine.specs.Follows.{IsScript};
+ghost use Rattle.wx_script.specs.Follows.{IsScript};
 
 use crate::engine_tests::{root, run_text, script_of};
 use crate::own_hooks::created;
@@ -11,10 +11,11 @@ use wx_action::{ActionHandler, ErrorHook};
 use wx_command::Spawnable;
 use wx_config::{Config, Filterer, RuntimeError};
 use wx_control::{Flag, Id, Job};
-use wx_engine::{BoxedHooks, OnAction, OnError, OnFault, OnJob, OnSpawn, Script, Watchexec};
+use wx_engine::{BoxedHooks, OnAction, OnError, OnFault, OnJob, OnSpawn, Watchexec};
 use wx_events::{Copies, Event, List, Memory, Priority, Signal, Tag, Text, cut};
 use wx_job::{CommandState, JobTaskContext};
 use wx_journal::HostFault;
+use wx_script::Script;
 
 /// Rejects each event.
 #[derive(Drop)]

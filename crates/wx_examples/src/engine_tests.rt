@@ -3,8 +3,8 @@
 // What is long, as a script, a world or an engine, is lent to a helper and dropped by generic code, which is quicker to
 // prove than to drop it where calls may fail.
 ghost use Rattle.std.specs.Prelude.{◌≡◌, ◌∷◌, [], ◌≤◌, IfOk};
-ghost use Rattle.wx_action.specs.Start.{IsSize};
-ghost use Rattle.wx_engine.specs.Follows.{IsScript};
+ghost use Rattle.wx_machine.specs.Start.{IsSize};
+ghost use Rattle.wx_script.specs.Follows.{IsScript};
 
 use std::alloc::Global;
 use std::process::Abort;
@@ -13,10 +13,11 @@ use wx_action::{Hooks, Host, JobHooks, World, print_journal};
 use wx_command::{SpawnOptions, Spawnable};
 use wx_config::{Config, RuntimeError};
 use wx_control::{Flag, Id};
-use wx_engine::{Script, ScriptHooks, ScriptWorld, SendRefused, Watchexec};
+use wx_engine::{SendRefused, Watchexec};
 use wx_events::{Event, List, Memory, Priority, ProcessEnd, Tag, Text, TextPath, cut};
 use wx_journal::{Journal, SpawnTag, TurnKind};
 use wx_replay::read_script;
+use wx_script::{Script, ScriptHooks, ScriptWorld};
 
 /// The script of these lines.
 pub(crate) fn script_of(alloc: Global, lines: &[u8]) -> Result<Script, Fail>

@@ -1,6 +1,6 @@
 // Hooks as a user writes them, and runs with them: their texts are worked out by hand.
 ghost use Rattle.std.specs.Prelude.{◌≡◌, ◌^◌, [], false, None, OnErr};
-ghost use Rattle.wx_engine.specs.Follows.{IsScript};
+ghost use Rattle.wx_script.specs.Follows.{IsScript};
 
 use crate::engine_tests::{engine_with, run_text, script_of};
 use std::alloc::Global;
@@ -9,10 +9,10 @@ use wx_action::{ActionHandler, ErrorHook, Hooks, JobHooks};
 use wx_command::{Command, Program, SpawnOptions, Spawnable};
 use wx_config::{CriticalError, RuntimeError};
 use wx_control::{Id, Job};
-use wx_engine::Script;
 use wx_events::{Copies, Event, List, Memory, Priority, Text, cut};
 use wx_job::{CommandState, JobTaskContext};
 use wx_journal::{Entry, HostFault, put_entry};
+use wx_script::Script;
 
 /// What hooks do in a call.
 #[derive(Clone, Copy)]

@@ -1,6 +1,6 @@
 // An executor that awaits the tickets of a handler while turns go on.
 ghost use Rattle.std.specs.Prelude.{◌≡◌, false};
-ghost use Rattle.wx_engine.specs.Follows.{IsScript};
+ghost use Rattle.wx_script.specs.Follows.{IsScript};
 
 use crate::engine_tests::{root, script_of, text_in};
 use crate::own_hooks::created;
@@ -12,9 +12,10 @@ use std::test::Fail;
 use wx_action::{ActionHandler, Host, Outside, TurnFault, Turned, World};
 use wx_command::Spawnable;
 use wx_control::{Flag, Id, Job, Ticket};
-use wx_engine::{BoxedHooks, OnAction, Script, ScriptWorld, Watchexec};
+use wx_engine::{BoxedHooks, OnAction, Watchexec};
 use wx_events::{Copies, List, Memory, ProcessEnd, Signal, Text, cut};
 use wx_journal::{HostFault, SpawnTag};
+use wx_script::{Script, ScriptWorld};
 
 /// Awaits a ticket, and then raises a flag.
 #[derive(Drop)]

@@ -1,7 +1,7 @@
 -- The lemmas that every call of a case uses.
-use Rattle.wx_job.proofs.CaseLemmas.{leads}
+use Rattle.wx_machine.proofs.CaseLemmas.{leads}
 use Rattle.wx_job.proofs.StandsLemmas.{stands}
-use Rattle.wx_job.proofs.KeptLemmas.{calls}
+use Rattle.wx_machine.proofs.KeptLemmas.{calls}
 use Rattle.wx_job.specs.Stands.{Before, Behind}
 
 pub ruleset steps = (leads, stands, calls, Before, Behind)

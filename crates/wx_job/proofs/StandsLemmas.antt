@@ -21,20 +21,22 @@ use Rattle.wx_journal.specs.declared.child.HostFault.{HostFault}
 use Rattle.wx_journal.specs.declared.entry.Entry.{Entry}
 use Rattle.wx_journal.specs.declared.entry.Entry.TheVariants.{Made, Asked, Pick, GraceOver, Spawn, Signal, Wait, Raise, Begun as WasBegun, Poll, Hook}
 use Rattle.wx_journal.specs.Names.{moment, ticket_count}
-use Rattle.wx_job.specs.declared.state.CommandState.{CommandState}
-use Rattle.wx_job.specs.declared.state.CommandState.TheVariants.{Pending, Running, Finished}
+use Rattle.wx_machine.specs.declared.state.CommandState.{CommandState}
+use Rattle.wx_machine.specs.declared.state.CommandState.TheVariants.{Pending, Running, Finished}
 use Rattle.wx_job.specs.declared.task.JobTask.{JobTask}
-use Rattle.wx_job.specs.History.{lives, waits, child, kept, state, previous, hook, handler, begun, tag, command, parked, is_child, grace, without_ticket, parks, just_picked, begins_by, finish, RunsOnly, before_spawn, picked_control, set_hook, set_handler, set_tag, SameHistory}
+use Rattle.wx_machine.specs.History.{lives, waits, child, kept, state, previous, hook, handler, begun, tag, command, parked, is_child, grace, without_ticket, parks, just_picked, begins_by, finish, RunsOnly, before_spawn, picked_control, set_hook, set_handler, set_tag, SameHistory}
 use Rattle.wx_job.specs.declared.function.Begun.{Begun}
-use Rattle.wx_job.specs.declared.function.Function.{Function}
+use Rattle.wx_machine.specs.declared.function.Function.{Function}
 use Rattle.wx_job.specs.declared.grace.Standing.{Standing}
 use Rattle.wx_job.specs.Parkings.{Tickets}
-use Rattle.wx_job.specs.Table.{Kit, leave, end_plan, is_parking, row, kit_after, spawns}
+use Rattle.wx_machine.specs.Table.{Kit, leave, end_plan, is_parking, row, kit_after, spawns}
 use Rattle.wx_job.specs.Prepared.{twice, prepared, fresh_in}
-use Rattle.wx_job.specs.Stands.{Stands, child_of, id_of, kit_of, grace_of, begun_of, once, times, times_waits, times_grace, times_begun, holds}
-use Rattle.wx_job.proofs.Owners.{self, either}
-use Rattle.wx_job.proofs.Frame.{is_silent, frame_silent}
-use Rattle.wx_job.proofs.Times.{joined_times, times_append, unheld_without, parks-not, parks-one}
+use Rattle.wx_job.specs.Stands.{Stands, id_of, kit_of, grace_of, begun_of, holds}
+use Rattle.wx_machine.specs.Held.{once, times, times_waits, times_grace, times_begun}
+use Rattle.wx_machine.specs.States.{child_of}
+use Rattle.wx_machine.proofs.Owners.{self, either}
+use Rattle.wx_machine.proofs.Frame.{is_silent, frame_silent}
+use Rattle.wx_machine.proofs.Times.{joined_times, times_append, unheld_without, parks-not, parks-one}
 
 -- what leaves the history of its job leaves a task
 pub stands_history : (k : JobTask) (p p' : List Entry) → SameHistory (id_of k) p p' → Stands k p → Stands k p'

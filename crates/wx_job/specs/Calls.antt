@@ -5,17 +5,18 @@ use Rattle.wx_journal.specs.declared.entry.Entry.{Entry}
 use Rattle.wx_control.specs.Waits.{waiting_count}
 use Rattle.wx_journal.specs.Names.{moment, ticket_count}
 use Rattle.wx_journal.specs.Written.{Written}
-use Rattle.wx_job.specs.declared.choice.Stepped.{Stepped}
+use Rattle.wx_machine.specs.declared.choice.Stepped.{Stepped}
 use Rattle.wx_job.specs.declared.grace.Standing.{Standing}
-use Rattle.wx_job.specs.declared.state.CommandState.TheVariants.{Pending}
+use Rattle.wx_machine.specs.declared.state.CommandState.TheVariants.{Pending}
 use Rattle.wx_job.specs.declared.task.JobTask.{JobTask}
-use Rattle.wx_job.specs.History.{child, grace, begun}
-use Rattle.wx_job.specs.Table.{Plan, Done, pick_by, is_deletion, is_spawning, answer_of}
-use Rattle.wx_job.specs.Case.{Follows, GivesUp}
-use Rattle.wx_job.specs.Seen.{Seen, Hooked}
-use Rattle.wx_job.specs.Kept.{KeepsOn}
-use Rattle.wx_job.specs.Steady.{HaveRoom, UseRoom}
-use Rattle.wx_job.specs.Stands.{Stands, id_of, gone_of, closed_of, child_of, grace_of, holds}
+use Rattle.wx_machine.specs.History.{child, grace, begun}
+use Rattle.wx_machine.specs.Table.{Plan, Done, pick_by, is_deletion, is_spawning, answer_of}
+use Rattle.wx_machine.specs.Case.{Follows, GivesUp}
+use Rattle.wx_machine.specs.Seen.{Seen, Hooked}
+use Rattle.wx_machine.specs.Kept.{KeepsOn}
+use Rattle.wx_machine.specs.Steady.{HaveRoom, UseRoom}
+use Rattle.wx_job.specs.Stands.{Stands, id_of, gone_of, closed_of, grace_of, holds}
+use Rattle.wx_machine.specs.States.{child_of}
 
 -- The task, whose job is there, stands for the journal, and there is so much room in journal and host, and so much in the hooks.
 pub record IsReady {Fixed Fixed' : Type 0} (k : JobTask) (n m : ℕ) (j : Written) (a : Seen Fixed) (x : Hooked Fixed') : Type 0 where

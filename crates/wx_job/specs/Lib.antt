@@ -1,16 +1,4 @@
-pub mod States
-pub mod Progress
-pub mod Seen
-pub mod Kept
 pub mod Parkings
-pub mod History
-pub mod Table
-pub mod Case
 pub mod Prepared
-pub mod Faults
 pub mod Stands
 pub mod Calls
-pub mod Laws
-pub mod TicketLaws
-pub mod Leaves
-pub mod Steady

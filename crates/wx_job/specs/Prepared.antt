@@ -4,10 +4,10 @@ use Rattle.wx_command.specs.declared.command.Command.{Command}
 use Rattle.wx_command.specs.declared.spawnable.Spawnable.{Spawnable}
 use Rattle.wx_command.specs.Spawnables.{spawnable_of}
 use Rattle.wx_control.specs.declared.control.Control.{Control}
-use Rattle.wx_job.specs.declared.choice.Choice.{Choice}
-use Rattle.wx_job.specs.declared.grace.Grace.{Grace}
+use Rattle.wx_machine.specs.declared.choice.Choice.{Choice}
+use Rattle.wx_machine.specs.declared.grace.Grace.{Grace}
 use Rattle.wx_control.specs.declared.id.Id.{Id}
-use Rattle.wx_job.specs.Table.{Plan, Kit, spawns, is_spawning, reap, waiters, fresh, raises}
+use Rattle.wx_machine.specs.Table.{Plan, Kit, spawns, is_spawning, reap, waiters, fresh, raises}
 
 -- what a case spawns, twice, for the call and for its entry, where it spawns
 abbrev pub twice : Command → Bool → Option (Spawnable × Spawnable)

@@ -1,35 +1,27 @@
 -- What is kept of a job stands for it in a journal.
-use Rattle.std.specs.Prelude.{◌≡◌, ℕ, ◌+◌, ◌≤◌, ◌==◌, Bool, true, false, not, if◌then◌else◌, Option, None, Some, is_some, option_map, List, [], ◌∷◌, length}
+use Rattle.std.specs.Prelude.{◌≡◌, ℕ, ◌+◌, ◌≤◌, Bool, true, false, not, if◌then◌else◌, Option, None, Some, is_some, option_map, List, ◌∷◌, length}
 use Rattle.wx_command.specs.declared.command.Command.{Command}
 use Rattle.wx_control.specs.declared.id.Id.{Id}
 use Rattle.wx_control.specs.declared.level.Level.TheVariants.{Normal, High, Urgent}
-use Rattle.wx_control.specs.declared.control.Control.{Control}
 use Rattle.wx_control.specs.declared.ticket.Ticket.{Ticket}
 use Rattle.wx_control.specs.Flags.{Flag}
-use Rattle.wx_control.specs.Waits.{Waits, first_of, waiting_count}
+use Rattle.wx_control.specs.Waits.{first_of, waiting_count}
 use Rattle.wx_journal.specs.declared.entry.Entry.{Entry}
 use Rattle.wx_journal.specs.declared.entry.Entry.TheVariants.{Turn as Turned}
 use Rattle.wx_journal.specs.declared.entry.TurnKind.TheVariants.{Ended}
 use Rattle.wx_journal.specs.Names.{ticket_count}
 use Rattle.wx_journal.specs.Written.{Written}
-use Rattle.wx_job.specs.States.{is_finished}
-use Rattle.wx_job.specs.declared.function.Function.{Function}
+use Rattle.wx_machine.specs.States.{is_finished, child_of}
+use Rattle.wx_machine.specs.declared.function.Function.{Function}
 use Rattle.wx_job.specs.declared.function.Begun.{Begun}
-use Rattle.wx_job.specs.declared.grace.Grace.{Grace}
+use Rattle.wx_machine.specs.declared.grace.Grace.{Grace}
 use Rattle.wx_job.specs.declared.grace.Standing.{Standing}
-use Rattle.wx_job.specs.declared.state.CommandState.{CommandState}
-use Rattle.wx_job.specs.declared.state.CommandState.TheVariants.{Pending, Running, Finished}
+use Rattle.wx_machine.specs.declared.state.CommandState.TheVariants.{Pending}
 use Rattle.wx_job.specs.declared.task.JobTask.{JobTask}
-use Rattle.wx_job.specs.declared.choice.Choice.{Choice}
-use Rattle.wx_job.specs.declared.choice.Choice.TheVariants.{Poll, Over, End, Next, Leave, Nothing}
-use Rattle.wx_job.specs.Table.{Kit, choose}
-use Rattle.wx_job.specs.History.{lives, waits, child, kept, state, previous, hook, handler, tag, grace, begun, parked, in_hand, RunsOnly}
-
--- the child of a state
-abbrev pub child_of : CommandState → Option ℕ
-child_of Pending = None
-child_of (Running c started) = Some c
-child_of (Finished status started finished) = None
+use Rattle.wx_machine.specs.Held.{times, times_waits, times_grace, times_begun}
+use Rattle.wx_machine.specs.declared.choice.Choice.{Choice}
+use Rattle.wx_machine.specs.Table.{Kit, choose}
+use Rattle.wx_machine.specs.History.{lives, waits, child, kept, state, previous, hook, handler, tag, grace, begun, parked, RunsOnly}
 
 -- what a task is of: the name of its job, and what that runs
 abbrev pub id_of : JobTask → Id
@@ -66,30 +58,7 @@ parked_of k = k.parked.tickets
 abbrev pub parked_count : JobTask → ℕ
 parked_count k = length (parked_of k)
 
--- ---- how often a task holds a ticket
-
-abbrev pub once : Bool → ℕ
-once is = if is then 1 else 0
-
-abbrev pub times : ℕ → List ℕ → ℕ
-times ticket [] = 0
-times ticket (t ∷ ts) = once (t == ticket) + times ticket ts
-
-abbrev pub times_waiting : ℕ → List (ℕ × Control) → ℕ
-times_waiting ticket [] = 0
-times_waiting ticket (x ∷ xs) = once (x.0 == ticket) + times_waiting ticket xs
-
-abbrev pub times_waits : ℕ → Waits → ℕ
-times_waits ticket w = times_waiting ticket w.urgent + times_waiting ticket w.high + times_waiting ticket w.normal
-
-abbrev pub times_grace : ℕ → Option Grace → ℕ
-times_grace ticket None = 0
-times_grace ticket (Some g) = once (g.ticket == ticket)
-
-abbrev pub times_begun : ℕ → Option Function → ℕ
-times_begun ticket None = 0
-times_begun ticket (Some f) = once (f.ticket == ticket)
-
+-- how often a task holds a ticket
 abbrev pub holds : ℕ → JobTask → ℕ
 holds ticket k = times_waits ticket k.waiting + times ticket (parked_of k) + times_grace ticket (grace_of k) + times_begun ticket (begun_of k)
 
@@ -143,25 +112,6 @@ pub record Undone {Host : Type 0} (k : JobTask) (j : Written) (h : Host) (k' : J
 pub data Stops {Host Hooks : Type 0} (k : JobTask) (j : Written) (h : Host) (x : Hooks) (k' : JobTask) (j' : Written) (h' : Host) (x' : Hooks) (GaveUp : Type 0) : Type 0 where
   Before : Undone k j h k' j' h' → x' ≡ x → Stops k j h x k' j' h' x' GaveUp
   Behind : k'.state ≡ Pending → GaveUp → Stops k j h x k' j' h' x' GaveUp
-
--- this ticket is in hand
-abbrev pub IsInHand : Id → ℕ → List Entry → Type 0
-IsInHand id ticket p = 1 ≤ times ticket (in_hand id p)
-
--- the ticket of this grace is in hand still, where it was
-abbrev pub StaysInHand : Id → Option Grace → List Entry → List Entry → Type 0
-StaysInHand id None p p' = Unit {0}
-StaysInHand id (Some g) p p' = IsInHand id g.ticket p → IsInHand id g.ticket p'
-
--- Behind a case that was given up, of what was picked where this grace stood: the ticket that was picked is in hand, and so is
--- that of the grace, where the case is one of its end or of the child's.
-abbrev pub HasInHand : Id → Option Grace → Choice → List Entry → List Entry → Type 0
-HasInHand id standing (Poll f) p p' = Unit {0}
-HasInHand id standing (Over c g) p p' = StaysInHand id (Some g) p p'
-HasInHand id standing (End c) p p' = StaysInHand id standing p p'
-HasInHand id standing (Next ticket control) p p' = IsInHand id ticket p'
-HasInHand id standing Leave p p' = Unit {0}
-HasInHand id standing Nothing p p' = Unit {0}
 
 -- all that a task keeps is the same, but for the room for controls and for parked tickets
 pub record SameTask (k k' : JobTask) : Type 0 where

@@ -4,24 +4,25 @@ ghost use Rattle.wx_command.specs.Spawnables.{spawnable_of};
 ghost use Rattle.wx_journal.specs.declared.entry.Entry.{Entry};
 ghost use Rattle.wx_journal.specs.Names.{moment};
 ghost use Rattle.wx_journal.specs.Told.{tell};
-ghost use Rattle.wx_job.specs.declared.state.CommandState.TheVariants.{Pending};
-ghost use Rattle.wx_job.specs.History.{finish, before_spawn, just_picked, begins_by};
-ghost use Rattle.wx_job.specs.Table.{Plan, Done, Words, Signals, Kills, Waits, adds, shows, tries, reap, waiters, spawn, fresh};
-ghost use Rattle.wx_job.specs.Case.{FollowsHost, FollowsHooks, Follows, GivesUp, HookedOnly, words_of, newest_code};
-ghost use Rattle.wx_job.specs.Kept.{Quiet};
+ghost use Rattle.wx_machine.specs.declared.state.CommandState.TheVariants.{Pending};
+ghost use Rattle.wx_machine.specs.History.{finish, before_spawn, just_picked, begins_by};
+ghost use Rattle.wx_machine.specs.Table.{Plan, Done, Words, Signals, Kills, Waits, adds, shows, tries, reap, waiters, spawn, fresh};
+ghost use Rattle.wx_machine.specs.Case.{FollowsHost, FollowsHooks, Follows, GivesUp, HookedOnly, words_of, newest_code};
+ghost use Rattle.wx_machine.specs.Kept.{Quiet};
 ghost use Rattle.wx_job.specs.Calls.{IsReady, IsReadyAt, IsInHand, AreRoomy, HasCalled, HasWaited, HasServed};
-ghost use Rattle.wx_job.specs.Steady.{AreSpare, Spends};
-ghost use Rattle.wx_job.specs.Stands.{Stands, kit_of, child_of, grace_of, holds};
+ghost use Rattle.wx_machine.specs.Steady.{AreSpare, Spends};
+ghost use Rattle.wx_job.specs.Stands.{Stands, kit_of, grace_of, holds};
+ghost use Rattle.wx_machine.specs.States.{child_of};
 
 use crate::grace::Standing;
 use crate::outside::{Host, JobHooks};
-use crate::state::CommandState;
 use crate::task::JobTask;
 use std::alloc::Global;
 use wx_command::Spawnable;
 use wx_control::Flag;
 use wx_events::{Copies, Memory, ProcessEnd};
 use wx_journal::{Entry, HostFault, Journal};
+use wx_machine::CommandState;
 
 #[tactic(auto, using(crate::proofs::Sets::steps))]
 impl JobTask {

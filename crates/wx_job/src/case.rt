@@ -4,28 +4,28 @@ ghost use Rattle.wx_control.specs.declared.control.Control.TheVariants.{Stop, De
 ghost use Rattle.wx_control.specs.Waits.{picked, first_of};
 ghost use Rattle.wx_journal.specs.declared.entry.Entry.{Entry};
 ghost use Rattle.wx_journal.specs.Names.{moment};
-ghost use Rattle.wx_job.specs.declared.grace.Grace.{Grace as the-Grace};
-ghost use Rattle.wx_job.specs.declared.state.CommandState.TheVariants.{Pending};
-ghost use Rattle.wx_job.specs.History.{before_spawn, just_picked, begins_by, set_hook, set_handler, set_tag};
-ghost use Rattle.wx_job.specs.Table.{Done, adds, raises, reap, waiters, row, graceful, signalled, over, ended, polled, number_of, spawns, deletes, is_restart, is_spawning, is_deletion, is_parking, case};
+ghost use Rattle.wx_machine.specs.declared.grace.Grace.{Grace as the-Grace};
+ghost use Rattle.wx_machine.specs.declared.state.CommandState.TheVariants.{Pending};
+ghost use Rattle.wx_machine.specs.History.{before_spawn, just_picked, begins_by, set_hook, set_handler, set_tag};
+ghost use Rattle.wx_machine.specs.Table.{Done, adds, raises, reap, waiters, row, graceful, signalled, over, ended, polled, number_of, spawns, deletes, is_restart, is_spawning, is_deletion, is_parking, case};
 ghost use Rattle.wx_job.specs.Prepared.{twice, prepared, prepared_for, fresh_or, fresh_in};
-ghost use Rattle.wx_job.specs.Case.{FollowsHost, FollowsHooks, Follows, GivesUp};
+ghost use Rattle.wx_machine.specs.Case.{FollowsHost, FollowsHooks, Follows, GivesUp};
 ghost use Rattle.wx_job.specs.Calls.{IsReady, IsReadyAt, IsInHand, AreRoomy, HasCalled, HasServed, HasDone};
-ghost use Rattle.wx_job.specs.Steady.{AreSpare, Spends};
-ghost use Rattle.wx_job.specs.Stands.{Stands, Stops, SameJob, kit_of, child_of, grace_of, begun_of, holds, choice_of};
+ghost use Rattle.wx_machine.specs.Steady.{AreSpare, Spends};
+ghost use Rattle.wx_job.specs.Stands.{Stands, Stops, SameJob, kit_of, grace_of, begun_of, holds, choice_of};
+ghost use Rattle.wx_machine.specs.States.{child_of};
 
-use crate::choice::Choice;
 use crate::context::JobTaskContext;
-use crate::function::{Begun, Function};
-use crate::grace::{Grace, Standing};
+use crate::function::Begun;
+use crate::grace::Standing;
 use crate::outside::{Host, JobHooks};
-use crate::state::CommandState;
 use crate::task::JobTask;
 use std::alloc::Global;
 use wx_command::Spawnable;
 use wx_control::{Control, Flag, Picked};
 use wx_events::{Memory, Signal};
 use wx_journal::{Entry, Journal, SpawnTag, Word};
+use wx_machine::{Choice, CommandState, Function, Grace};
 
 #[tactic(auto, using(crate::proofs::Sets::steps))]
 impl JobTask {
@@ -152,8 +152,8 @@ impl JobTask {
         self.start(alloc, ticket, done, what, at, host, hooks, journal)
     }
 
-    /// The cases of TryRestart and ContinueTryGracefulRestart: a child that runs is reaped, and a fresh one is spawned
-    /// where it is given.
+    /// The case of a control that may spawn a child: one that runs is reaped, and a fresh one is spawned where it is
+    /// given.
     fn start_afresh<H: Host, K: JobHooks>(
         &mut self,
         alloc: Global,

@@ -1,7 +1,7 @@
 // What is shown of a job to what it calls.
 
-use crate::state::CommandState;
 use wx_command::Command;
+use wx_machine::CommandState;
 
 /// A job as it is shown to what it calls: its command, how far this is, and how far it was before the last spawn.
 #[derive(Drop, Debug)]

@@ -1,16 +1,6 @@
 // The grace of a child that was sent a signal.
 use wx_control::Flag;
-
-/// The grace that a child was given once it was sent a signal.
-#[derive(Clone, Copy, Debug, PartialEq, Eq)]
-pub(crate) struct Grace {
-    /// The moment at which it is over, in nanoseconds.
-    pub ends: u128,
-    /// The ticket of the control that began it.
-    pub ticket: u64,
-    /// Whether a fresh child is spawned then.
-    pub restarts: bool,
-}
+use wx_machine::Grace;
 
 /// A grace that stands, and the flag of its ticket.
 #[derive(Drop, Debug)]

@@ -4,10 +4,10 @@ ghost use Rattle.wx_command.specs.Spawnables.{spawnable_of};
 ghost use Rattle.wx_journal.specs.declared.entry.Entry.{Entry, Entry as AnEntry};
 ghost use Rattle.wx_journal.specs.Names.{NamesItsOwn};
 ghost use Rattle.wx_journal.specs.Told.{tell, is_hooks};
-ghost use Rattle.wx_job.specs.History.{RunsOnly};
-ghost use Rattle.wx_job.specs.Seen.{Seen, Hooked};
-ghost use Rattle.wx_job.specs.Kept.{Keeps, OnlyHooksRoom, left_by};
-ghost use Rattle.wx_job.specs.Steady.{OnlyRoom, Tells};
+ghost use Rattle.wx_machine.specs.History.{RunsOnly};
+ghost use Rattle.wx_machine.specs.Seen.{Seen, Hooked};
+ghost use Rattle.wx_machine.specs.Kept.{Keeps, OnlyHooksRoom, left_by};
+ghost use Rattle.wx_machine.specs.Steady.{OnlyRoom, Tells};
 
 use crate::context::JobTaskContext;
 use wx_command::Spawnable;

@@ -4,28 +4,29 @@ ghost use Rattle.wx_control.specs.Asks.{sends_of};
 ghost use Rattle.wx_journal.specs.declared.entry.Entry.{Entry};
 ghost use Rattle.wx_journal.specs.declared.entry.Entry.TheVariants.{Made};
 ghost use Rattle.wx_journal.specs.Names.{moment, NamesItsOwn};
-ghost use Rattle.wx_job.specs.History.{state, previous, grace, parked, RunsOnly};
-ghost use Rattle.wx_job.specs.Table.{Plan, Done, asks, send_plan, pick_by, answer_of, deletes, step_by, leave, end_plan};
+ghost use Rattle.wx_machine.specs.History.{state, previous, grace, parked, RunsOnly};
+ghost use Rattle.wx_machine.specs.Table.{Plan, Done, asks, send_plan, pick_by, answer_of, deletes, step_by, leave, end_plan};
 ghost use Rattle.wx_job.specs.Calls.{MayWait, HasStepped};
-ghost use Rattle.wx_job.specs.Case.{Ran, FollowsHost, FollowsAlone, Follows, GaveUp, GivesUp};
-ghost use Rattle.wx_job.specs.Faults.{Counted};
-ghost use Rattle.wx_job.specs.Steady.{AreSpare, Spends, HaveRoom, UseRoom};
-ghost use Rattle.wx_job.specs.Kept.{KeepsOn, Promised};
-ghost use Rattle.wx_job.specs.Leaves.{LeavesLaws};
-ghost use Rattle.wx_job.specs.Stands.{Stands, Stops, HasInHand, SameJob, SameTask, IsEnding, IsTicketOf, child_of, id_of, command_of, flag_of, closed_of, gone_of, running_of, begun_of, parked_count, with_end, with_close};
+ghost use Rattle.wx_machine.specs.Case.{Ran, FollowsHost, FollowsAlone, Follows, GaveUp, GivesUp};
+ghost use Rattle.wx_machine.specs.Faults.{Counted};
+ghost use Rattle.wx_machine.specs.Steady.{AreSpare, Spends, HaveRoom, UseRoom};
+ghost use Rattle.wx_machine.specs.Kept.{KeepsOn, Promised};
+ghost use Rattle.wx_machine.specs.Leaves.{LeavesLaws};
+ghost use Rattle.wx_job.specs.Stands.{Stands, Stops, SameJob, SameTask, IsEnding, IsTicketOf, id_of, command_of, flag_of, closed_of, gone_of, running_of, begun_of, parked_count, with_end, with_close};
+ghost use Rattle.wx_machine.specs.Held.{HasInHand};
+ghost use Rattle.wx_machine.specs.States.{child_of};
 
 use crate::case::child_of;
-use crate::choice::{Choice, Stepped};
 use crate::function::Begun;
 use crate::grace::Standing;
 use crate::outside::{Host, JobHooks};
 use crate::parking::Parking;
-use crate::state::CommandState;
 use std::alloc::Global;
 use wx_command::{Command, SharedCommand};
 use wx_control::{Ask, Control, Flag, Id, Job, Level, Mirror, ThreeLists, Ticket};
 use wx_events::{Copies, Memory};
 use wx_journal::{Entry, Journal, SpawnTag};
+use wx_machine::{Choice, CommandState, Stepped};
 
 /// A job, with the child that it drives. It stands for its job in a journal where it keeps what the journal says of it.
 #[derive(Drop, Debug)]

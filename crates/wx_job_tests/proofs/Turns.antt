@@ -9,11 +9,11 @@ use Rattle.wx_journal.specs.declared.entry.Act.TheVariants.{Create}
 use Rattle.wx_journal.specs.Names.{NamesItsOwn}
 use Rattle.wx_journal.specs.declared.entry.TurnKind.TheVariants as turn
 use Rattle.wx_job.specs.declared.task.JobTask.{JobTask}
-use Rattle.wx_job.specs.History.{command, RunsOnly}
-use Rattle.wx_job.specs.Leaves.{LeavesOthers}
+use Rattle.wx_machine.specs.History.{command, RunsOnly}
+use Rattle.wx_machine.specs.Leaves.{LeavesOthers}
 use Rattle.wx_job.specs.Stands.{Stands, IsEnding, id_of}
-use Rattle.wx_job.proofs.Owners.{self, other-is}
-use Rattle.wx_job.proofs.Frame.{frame_turn}
+use Rattle.wx_machine.proofs.Owners.{self, other-is}
+use Rattle.wx_machine.proofs.Frame.{frame_turn}
 use Rattle.wx_job.proofs.StandsLemmas.{stands_history}
 
 -- the turn of a job says nothing of any

@@ -1,6 +1,6 @@
 pub mod KnownLaws
 pub mod Parts
-pub mod ScanLemmas
 pub mod ReplayLaws
 pub mod ReadingLaws
+pub mod ScanLemmas
 pub mod ScriptLaws

@@ -2,7 +2,7 @@
 use Rattle.std.proofs.Common.{◌≡◌, ℕ, ◌+◌, ◌<◌, None, Some, List, [], ◌∷◌, ◌++◌, length, refl, ap, sym, subst, ◌∙◌, arith, inl, inr, ◌⊎◌}
 use Rattle.wx_words.specs.Line.{◌>>=◌}
 use Rattle.wx_words.specs.OptionLaws.{bind_some}
-use Rattle.wx_engine.specs.declared.script.Script.{Script}
+use Rattle.wx_script.specs.declared.script.Script.{Script}
 use Rattle.wx_replay.specs.Scripts.{start, step, begun_by, IsScriptOf, IsFirstBad}
 
 -- reading goes no further than this line

@@ -3,7 +3,7 @@ use Rattle.std.proofs.Common.{◌≡◌, ℕ, ◌+◌, ◌<◌, Option, None, So
 use Rattle.wx_words.specs.Line.{parts, ◌>>=◌}
 use Rattle.wx_words.specs.LineLaws.{some_part}
 use Rattle.wx_words.specs.OptionLaws.{bind_some}
-use Rattle.wx_engine.specs.declared.script.Script.{Script}
+use Rattle.wx_script.specs.declared.script.Script.{Script}
 use Rattle.wx_replay.specs.Scripts.{start, step, begun_by, IsScriptOf, IsFirstBad}
 
 -- the lines before the rest made this script

@@ -8,11 +8,11 @@ use Rattle.wx_words.specs.OptionLaws.{bind_some}
 use Rattle.wx_words.specs.Combine.{whole}
 use Rattle.wx_journal.specs.declared.entry.TurnKind.{TurnKind}
 use Rattle.wx_journal.specs.declared.entry.TurnKind.TheVariants.{Last}
-use Rattle.wx_action.specs.Told.{is_last}
-use Rattle.wx_engine.specs.declared.script.Script.{Script}
-use Rattle.wx_engine.specs.declared.script.ScriptTurn.TheVariants.{Turn, Fault}
-use Rattle.wx_engine.specs.Follows.{IsScript}
-use Rattle.wx_engine.specs.FollowLaws.{rises_turn, rises_fault, come_more}
+use Rattle.wx_machine.specs.Told.{is_last}
+use Rattle.wx_script.specs.declared.script.Script.{Script}
+use Rattle.wx_script.specs.declared.script.ScriptTurn.TheVariants.{Turn, Fault}
+use Rattle.wx_script.specs.Follows.{IsScript}
+use Rattle.wx_script.specs.FollowLaws.{rises_turn, rises_fault, come_more}
 use Rattle.wx_replay.specs.declared.lines.Line.{Line}
 use Rattle.wx_replay.specs.declared.lines.Line.TheVariants.{Nothing, Throttle, Size, ErrorSize, Send, Turn as Turned, Fault as Failed, Acts, Filter, Wishes, Poll, Hook, Spawn, Signal, Kill, Wait}
 use Rattle.wx_replay.specs.Lines.{can_bring, is_scripted, if_scripted, read_form, line_in}

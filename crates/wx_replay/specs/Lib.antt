@@ -1,4 +1,4 @@
 pub mod Causes
-pub mod Lines
 pub mod Replays
+pub mod Lines
 pub mod Scripts

@@ -9,7 +9,7 @@ use Rattle.wx_journal.specs.Wishes.{wish}
 use Rattle.wx_journal.specs.Kinds.{ranked, turn}
 use Rattle.wx_journal.specs.declared.entry.TurnKind.{TurnKind}
 use Rattle.wx_journal.specs.declared.entry.TurnKind.TheVariants.{Last}
-use Rattle.wx_engine.specs.Wishes.{script_act}
+use Rattle.wx_script.specs.Wishes.{script_act}
 use Rattle.wx_replay.specs.declared.lines.Line.{Line}
 use Rattle.wx_replay.specs.declared.lines.Line.TheVariants.{Nothing, Throttle, Size, ErrorSize, Send, Turn as Turned, Fault, Acts, Filter, Wishes, Poll, Hook, Spawn, Signal, Kill, Wait}
 

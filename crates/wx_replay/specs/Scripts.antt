@@ -2,9 +2,9 @@
 use Rattle.std.specs.Prelude.{ℕ, ◌≡◌, ◌⊎◌, ◌+◌, ◌<◌, ◌==◌, ◌&&◌, nat_lt, nat_le, if◌then◌else◌, Option, None, Some, List, [], ◌∷◌, ◌++◌, length}
 use Rattle.wx_words.specs.Line.{parts, ◌>>=◌}
 use Rattle.wx_config.specs.Defaults.{default_config}
-use Rattle.wx_engine.specs.declared.script.Script.{Script}
-use Rattle.wx_engine.specs.declared.script.ScriptTurn.TheVariants.{Turn, Fault}
-use Rattle.wx_engine.specs.HostCalls.{no_answers}
+use Rattle.wx_script.specs.declared.script.Script.{Script}
+use Rattle.wx_script.specs.declared.script.ScriptTurn.TheVariants.{Turn, Fault}
+use Rattle.wx_script.specs.HostCalls.{no_answers}
 use Rattle.wx_replay.specs.Lines.{line_in}
 use Rattle.wx_replay.specs.declared.lines.Line.{Line}
 use Rattle.wx_replay.specs.declared.lines.Line.TheVariants.{Nothing, Throttle, Size, ErrorSize, Send, Turn as Turned, Fault as Failed, Acts, Filter, Wishes, Poll, Hook, Spawn, Signal, Kill, Wait}

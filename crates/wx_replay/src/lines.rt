@@ -4,15 +4,14 @@ ghost use Rattle.wx_words.specs.Line.{Reads};
 ghost use Rattle.wx_words.specs.Combine.{read_as};
 ghost use Rattle.wx_words.specs.Parts.{list_of, text};
 ghost use Rattle.wx_journal.specs.Answers.{readied};
-ghost use Rattle.wx_journal.specs.Wishes.{wish};
-ghost use Rattle.wx_replay.specs.declared.lines.Line.TheVariants.{Wishes, Hook};
+ghost use Rattle.wx_replay.specs.declared.lines.Line.TheVariants.{Hook};
 ghost use Rattle.wx_replay.specs.Lines.{can_bring, is_scripted, read_set, read_form, line_in};
 
 use std::alloc::Global;
 use wx_config::RuntimeError;
-use wx_engine::Wanted;
 use wx_events::{Event, List, Memory, Priority, ProcessEnd, Spelled, Text, Words};
 use wx_journal::{Act, HostFault, Turn, TurnKind, Wish, read_verdict};
+use wx_script::Wanted;
 use wx_words::{read_result, read_rows, read_to_end};
 
 /// What a line of a script says.
@@ -84,16 +83,6 @@ fn take_set(alloc: Global, line: &mut Words) -> Result<Option<Line>, Memory>
     )
 }
 
-/// Takes what the error handler wishes, or loses the place.
-fn take_wish(alloc: Global, line: &mut Words) -> Result<Option<Line>, Memory>
-    ensures { IfOk result (λ said. Reads line.new said (read_as Wishes wish.read line.old)) }
-{
-    match Wish::read(alloc, line)? {
-        Some(wish) => Ok(Some(Line::Wishes(wish))),
-        None => Ok(None),
-    }
-}
-
 /// Takes whether a begun function is ready, or loses the place.
 #[tactic(auto, unfolding(wx_journal::specs::Answers::readied))]
 fn take_ready(alloc: Global, line: &mut Words) -> Result<Option<bool>, Memory>
@@ -127,7 +116,7 @@ fn take_form(alloc: Global, line: &mut Words) -> Result<Option<Line>, Memory>
         b"turn" (turn) => Line::Turn(turn),
         b"turnfault" (code) => Line::Fault(code),
         b"filter" (answer = read_verdict) => Line::Filter(answer),
-        b"error" (said = take_wish) => said,
+        b"error" (wish) => Line::Wishes(wish),
         b"poll" (ready = take_ready) => Line::Poll(ready),
         b"hook" (said = take_words) => said,
         b"spawn" (answer = read_result) => Line::Spawn(answer),

@@ -1,8 +1,8 @@
 // Tests of reading scripts: what each has is counted by hand.
 use std::alloc::Global;
 use std::process::Abort;
-use wx_engine::Script;
 use wx_replay::read_script;
+use wx_script::Script;
 
 /// What the script of these bytes is, if it is one.
 fn script_in(alloc: Global, bytes: &[u8]) -> Option<Script> {

@@ -1,12 +1,13 @@
 // Values that are told apart by their first word.
-ghost use Rattle.std.specs.Prelude.{◌≡◌, ℕ, List, [], ◌∷◌, ◌++◌, Some, None, OnOk, MatchBool};
-ghost use Rattle.wx_words.specs.Combine.{read_literal};
+ghost use Rattle.std.specs.Prelude.{◌≡◌, ℕ, List, [], ◌∷◌, ◌++◌, Some, None, IfOk, OnOk, MatchBool};
+ghost use Rattle.wx_words.specs.Combine.{read_literal, IsMade};
 ghost use Rattle.wx_words.specs.Line.{behind, joined};
 
 use crate::cursor::Words;
 use crate::list::Memory;
 use crate::spelled::Spelled;
 use crate::text::Text;
+use std::alloc::Global;
 
 /// What stands behind a first word, lent to be written: a value, or one behind the other.
 pub trait Fields {
@@ -119,6 +120,18 @@ pub fn take_literal(word: &[u8], line: &mut Words) -> bool
     }
 }
 
+/// Takes the value at the front, and makes another of it, or loses the place.
+pub fn read_made<T: Spelled, V, F: FnOnce(T) -> V>(
+    alloc: Global,
+    line: &mut Words,
+    make: F,
+) -> Result<Option<V>, Memory>
+    requires { F.IsAlwaysCallable make }
+    ensures { IfOk result (λ x. IsMade (F.post make) line.new x (T.spelling.read line.old)) }
+{
+    Ok(T::read(alloc, line)?.map(make))
+}
+
 /// Takes the first word, and then the fields that stand behind this word, or loses the place. A row may name what reads
 /// its fields, where that is not their type.
 #[macro_export]
@@ -129,22 +142,22 @@ macro_rules! read_rows {
             return Ok(None);
         };
         $(if first == $word.as_slice() {
-            $(let Some(($($field),+)) = $crate::read_fields!(_alloc, $line $(, $reader)?)? else {
-                return Ok(None);
-            };)?
-            return Ok(Some($value));
+            return $crate::read_row!(_alloc, $line; $(($($field),+ $(= $reader)?))? => $value);
         })+
         Ok(None)
     }};
 }
 
-/// Takes the fields of a row.
+/// Takes the fields of a row, and makes its value of them.
 #[macro_export]
-macro_rules! read_fields {
-    ($alloc:expr, $line:expr) => {
-        Spelled::read($alloc, $line)
+macro_rules! read_row {
+    ($alloc:expr, $line:expr; => $value:expr) => {
+        Ok(Some($value))
     };
-    ($alloc:expr, $line:expr, $reader:path) => {
-        $reader($alloc, $line)
+    ($alloc:expr, $line:expr; ($($field:pat),+) => $value:expr) => {
+        $crate::read_made($alloc, $line, |($($field),+)| $value)
+    };
+    ($alloc:expr, $line:expr; ($($field:pat),+ = $reader:path) => $value:expr) => {
+        Ok($reader($alloc, $line)?.map(|($($field),+)| $value))
     };
 }

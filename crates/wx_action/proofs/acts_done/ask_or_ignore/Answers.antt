@@ -1,10 +1,10 @@
 use Rattle.std.proofs.Common.{◌≡◌, ◌*◌, true, false, List, ◌∷◌, arith, refl, ap, sym, subst, ◌∙◌}
 use Rattle.wx_job.specs.declared.task.JobTask.{JobTask}
-use Rattle.wx_job.specs.History.{lives}
+use Rattle.wx_machine.specs.History.{lives}
 use Rattle.wx_job.specs.Stands.{Stands as TaskStands}
 use Rattle.wx_action.specs.declared.handler.Todo.{Todo}
 use Rattle.wx_action.specs.declared.handler.Todo.TheVariants as todo
-use Rattle.wx_action.specs.Due.{Agenda}
+use Rattle.wx_machine.specs.Due.{Agenda}
 use Rattle.wx_action.specs.HeldJobs.{with_task}
 use Rattle.wx_action.specs.Perform.{OwesActs}
 use Rattle.wx_action.proofs.ServesLaws.{adds}

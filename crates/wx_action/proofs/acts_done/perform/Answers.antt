@@ -1,5 +1,5 @@
 use Rattle.std.proofs.Common.{rules, arith, ◌≡◌, length}
-use Rattle.wx_job.proofs.SteadyLemmas.{only_none, only_then}
+use Rattle.wx_machine.proofs.SteadyLemmas.{only_none, only_then}
 use Rattle.wx_action.proofs.ServesLaws.{adds_none, adds_then}
 use Rattle.wx_action.proofs.PerformLemmas.{nothing_left}
 use Rattle.wx_action.proofs.acts_done.perform.Goals as goal

@@ -1,5 +1,5 @@
-use Rattle.wx_job.specs.Steady.{OnlyRoom}
-use Rattle.wx_action.specs.Due.{Agenda}
+use Rattle.wx_machine.specs.Steady.{OnlyRoom}
+use Rattle.wx_machine.specs.Due.{Agenda}
 use Rattle.wx_action.specs.Serves.{Adds}
 use Rattle.wx_action.specs.Perform.{OwesActs}
 use Rattle.wx_action.specs.Stands.{Stands, HasRoom}

@@ -1,7 +1,7 @@
 use Rattle.std.proofs.Common.{◌≡◌, ◌*◌, true, false, arith, refl, ap, sym, subst, ◌∙◌}
 use Rattle.wx_journal.specs.declared.entry.TurnKind.TheVariants.{Ask}
 use Rattle.wx_job.specs.declared.task.JobTask.{JobTask}
-use Rattle.wx_job.specs.History.{lives}
+use Rattle.wx_machine.specs.History.{lives}
 use Rattle.wx_job.specs.Stands.{Stands as TaskStands}
 use Rattle.wx_action.proofs.TurnLaws.{at_turn}
 use Rattle.wx_action.specs.HeldJobs.{with_task}

@@ -1,6 +1,6 @@
 use Rattle.std.proofs.Common.{◌≡◌, true, false, refl, sym, ◌∙◌}
 use Rattle.wx_journal.specs.declared.entry.TurnKind.TheVariants.{Job}
-use Rattle.wx_job.specs.History.{lives}
+use Rattle.wx_machine.specs.History.{lives}
 use Rattle.wx_action.proofs.TurnLaws.{at_turn}
 use Rattle.wx_action.proofs.HeldLemmas.{alive_is}
 use Rattle.wx_action.proofs.JobLemmas.{step_owed, steps_settled}

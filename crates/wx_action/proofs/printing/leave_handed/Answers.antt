@@ -1,6 +1,6 @@
 use Rattle.std.proofs.Common.{rules, not}
 use Rattle.std.proofs.lemmas.Fn.{filter_same}
-use Rattle.wx_action.specs.Journal.{is_among}
+use Rattle.wx_machine.specs.Journal.{is_among}
 use Rattle.wx_action.proofs.printing.leave_handed.Goals as goal
 
 pub returns : goal.returns

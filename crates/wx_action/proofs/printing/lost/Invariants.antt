@@ -1,5 +1,5 @@
 use Rattle.std.proofs.Common.{◌≡◌, take, reverse}
-use Rattle.wx_action.specs.Journal.{window}
+use Rattle.wx_machine.specs.Journal.{window}
 use Rattle.wx_action.proofs.printing.lost.Given as goal
 
 abbrev pub invariant-loop-i : goal.invariant-loop-i

@@ -1,5 +1,5 @@
 use Rattle.std.proofs.Common.{◌≡◌, ◌+◌, ◌-◌, length, reverse, take, arith, ap, sym, ◌∙◌}
-use Rattle.wx_action.specs.Journal.{passes_unseen}
+use Rattle.wx_machine.specs.Journal.{passes_unseen}
 use Rattle.wx_action.specs.Printed.{or_before}
 use Rattle.wx_action.proofs.PrintLemmas.{further_back}
 use Rattle.wx_action.proofs.printing.passes_unseen.Goals.{After-lists_unseen}

@@ -1,5 +1,5 @@
 use Rattle.std.proofs.Common.{◌≡◌, ◌-◌, length, reverse, take}
-use Rattle.wx_action.specs.Journal.{passes_unseen}
+use Rattle.wx_machine.specs.Journal.{passes_unseen}
 use Rattle.wx_action.proofs.printing.passes_unseen.Given as goal
 
 abbrev pub invariant-loop-back : goal.invariant-loop-back

@@ -1,6 +1,6 @@
 use Rattle.std.proofs.Common.{arith}
-use Rattle.wx_action.specs.Laws.{NoneUrgentWaits}
-use Rattle.wx_action.specs.Due.{after_acts}
+use Rattle.wx_machine.specs.RunLaws.{NoneUrgentWaits}
+use Rattle.wx_machine.specs.Due.{after_acts}
 use Rattle.wx_action.specs.Serves.{Continues}
 use Rattle.wx_action.proofs.HandLemmas.{works_by, calm_acts, on_err, none_to_go}
 use Rattle.wx_action.proofs.work_turn.hand.Goals.{After-perform}

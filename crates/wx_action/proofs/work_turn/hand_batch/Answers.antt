@@ -1,11 +1,11 @@
 use Rattle.std.proofs.Common.{refl, ap, ◌∙◌}
 use Rattle.wx_journal.specs.declared.entry.Entry.TheVariants.{Hand}
 use Rattle.wx_journal.specs.Names.{next_job}
-use Rattle.wx_action.specs.Due.{Due}
-use Rattle.wx_action.specs.Jobs.{AreLawful}
-use Rattle.wx_action.proofs.RunLaws.{window_to_hand}
-use Rattle.wx_job.specs.Kept.{Called, KeepsOn}
-use Rattle.wx_action.specs.Leads.{FollowsHooks}
+use Rattle.wx_machine.specs.Due.{Due}
+use Rattle.wx_machine.specs.Jobs.{AreLawful}
+use Rattle.wx_machine.proofs.RunLaws.{window_to_hand}
+use Rattle.wx_machine.specs.Kept.{Called, KeepsOn}
+use Rattle.wx_machine.specs.Leads.{FollowsHooks}
 use Rattle.wx_action.proofs.ServesLaws.{adds_hand}
 use Rattle.wx_action.proofs.HeldLemmas.{shown}
 use Rattle.wx_action.proofs.HandLemmas.{Handed, handed, hand_due, hand_follows, turns_hand}

@@ -4,7 +4,7 @@ use Rattle.wx_journal.specs.declared.entry.TurnKind.TheVariants.{Work}
 use Rattle.wx_action.specs.Serves.{Continues}
 use Rattle.wx_action.specs.Stands.{Stands}
 use Rattle.wx_action.proofs.TurnLaws.{at_turn, calm_after}
-use Rattle.wx_job.proofs.SteadyLemmas.{only_none}
+use Rattle.wx_machine.proofs.SteadyLemmas.{only_none}
 use Rattle.wx_action.proofs.HandLemmas.{not_hands, not_hands_at_end}
 use Rattle.wx_action.proofs.BreakLemmas.{behind, breaks_want, breaks_on, breaks_fails, calm_fails}
 use Rattle.wx_action.proofs.work_turn.worker.Goals.{After-reserve, After-hand}

@@ -1,9 +1,9 @@
 use Rattle.std.proofs.Common.{◌≡◌, ◌<◌, ◌+◌, List, length, drop, ap, arith, subst, sym, ◌∙◌}
 use Rattle.wx_events.specs.declared.event.Event.{Event}
 use Rattle.wx_events.specs.declared.priority.Priority.{Priority}
-use Rattle.wx_action.specs.Start.{Start, IsStart}
-use Rattle.wx_action.specs.Journal.{bag}
-use Rattle.wx_action.specs.Due.{Sends, rest, sends, begin_of}
+use Rattle.wx_machine.specs.Start.{Start, IsStart}
+use Rattle.wx_machine.specs.Journal.{bag}
+use Rattle.wx_machine.specs.Due.{Sends, rest, sends, begin_of}
 use Rattle.wx_action.proofs.ServesLaws.{adds, adds_then}
 use Rattle.wx_engine.proofs.BeginLemmas.{none_yet, begun, calm_begun, next_sent}
 use Rattle.wx_engine.proofs.running.begin.Goals as goal

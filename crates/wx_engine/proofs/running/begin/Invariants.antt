@@ -1,9 +1,9 @@
 use Rattle.std.proofs.Common.{◌≡◌, false, length, drop}
-use Rattle.wx_action.specs.Journal.{closed, bag}
-use Rattle.wx_action.specs.Due.{agenda, sends}
+use Rattle.wx_machine.specs.Journal.{closed, bag}
+use Rattle.wx_machine.specs.Due.{agenda, sends}
 use Rattle.wx_action.specs.Serves.{Adds}
 use Rattle.wx_action.specs.Stands.{Stands, end_room}
-use Rattle.wx_action.specs.Start.{IsStart}
+use Rattle.wx_machine.specs.Start.{IsStart}
 use Rattle.wx_engine.proofs.running.begin.Given as goal
 
 abbrev pub ghost-send : goal.ghost-send

@@ -1,11 +1,11 @@
 use Rattle.std.proofs.Common.{rules, [], arith, refl, ap, sym, ◌∙◌}
-use Rattle.wx_action.proofs.EndLaws.{dying_keeps, dying_turns}
-use Rattle.wx_action.proofs.FaultLaws.{counted_from}
-use Rattle.wx_action.proofs.JobLaws.{same_turns}
-use Rattle.wx_job.specs.Kept.{Same, Still, Past}
-use Rattle.wx_job.proofs.KeptLemmas.{promised}
-use Rattle.wx_action.specs.Leads.{Here}
-use Rattle.wx_action.proofs.RunLaws.{orderly, run_led, run_is_batched, run_has_batches}
+use Rattle.wx_machine.proofs.EndLaws.{dying_keeps, dying_turns}
+use Rattle.wx_machine.proofs.FaultLaws.{counted_from}
+use Rattle.wx_machine.proofs.JobsLaws.{same_turns}
+use Rattle.wx_machine.specs.Kept.{Same, Still, Past}
+use Rattle.wx_machine.proofs.KeptLemmas.{promised}
+use Rattle.wx_machine.specs.Leads.{Here}
+use Rattle.wx_machine.proofs.RunLaws.{orderly, run_led, run_is_batched, run_has_batches}
 use Rattle.wx_engine.proofs.MainLaws.{leads_world, leads_hooks, dying_hooks, answered_ran, ran_is_batched, ran_has_batches}
 use Rattle.wx_engine.proofs.BeginLemmas.{begun_run}
 use Rattle.wx_engine.proofs.RunLemmas.{stopped, caused_by, broken, wants}

@@ -1,6 +1,6 @@
 use Rattle.std.proofs.Common.{None, refl, arith}
 use Rattle.wx_journal.specs.declared.entry.TurnKind.TheVariants.{Arrive, Last}
-use Rattle.wx_job.proofs.SteadyLemmas.{only_none}
+use Rattle.wx_machine.proofs.SteadyLemmas.{only_none}
 use Rattle.wx_action.proofs.TurnLaws.{at_turn, calm_after}
 use Rattle.wx_action.proofs.Serving.{hooks_none, continues_room, continues_grows}
 use Rattle.wx_action.proofs.BreakLemmas.{breaks_want, breaks_left, calm_left}

@@ -1,15 +1,15 @@
 use Rattle.std.proofs.Common.{◌+◌, ◌≤◌, ap, arith, refl, sym, ◌∙◌}
 use Rattle.wx_journal.specs.declared.entry.Entry.TheVariants.{Turn as Turned, TurnFault}
 use Rattle.wx_journal.specs.Told.{tell}
-use Rattle.wx_job.specs.Seen.{Shown}
-use Rattle.wx_job.specs.Faults.{CountsOn}
-use Rattle.wx_action.proofs.JobLaws.{same_turns}
-use Rattle.wx_action.specs.Laws.{NoneUrgentWaits, MomentsRise}
-use Rattle.wx_action.specs.Journal.{early_count}
-use Rattle.wx_job.specs.Kept.{KeepsOn, Past}
-use Rattle.wx_action.specs.Leads.{Follows}
+use Rattle.wx_machine.specs.Seen.{Shown}
+use Rattle.wx_machine.specs.Faults.{CountsOn}
+use Rattle.wx_machine.proofs.JobsLaws.{same_turns}
+use Rattle.wx_machine.specs.RunLaws.{NoneUrgentWaits, MomentsRise}
+use Rattle.wx_machine.specs.Journal.{early_count}
+use Rattle.wx_machine.specs.Kept.{KeepsOn, Past}
+use Rattle.wx_machine.specs.Leads.{Follows}
 use Rattle.wx_action.specs.Stands.{HasRoom}
-use Rattle.wx_action.specs.Told.{is_last}
+use Rattle.wx_machine.specs.Told.{is_last}
 use Rattle.wx_engine.specs.Run.{Rests, ServesTurns}
 use Rattle.wx_engine.proofs.TurnLemmas.{Drawn, turn_drawn, fault_drawn, drawn_follows, drawn_quiet, drawn_counts, turn_calm, fault_calm, early_drawn, served, turn_stands, fault_stands, turns_then}
 use Rattle.wx_engine.proofs.running.serve_turns.Goals.{After-push-in-turns, After-serve}

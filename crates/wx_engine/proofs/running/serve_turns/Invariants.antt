@@ -1,12 +1,12 @@
 use Rattle.std.proofs.Common.{◌≡◌, ◌≤◌, ◌+◌, None}
 use Rattle.std.specs.Prelude.{codes}
 use Rattle.wx_journal.specs.Names.{moment}
-use Rattle.wx_action.specs.Journal.{turn_count, early_count, turn_fault}
-use Rattle.wx_action.specs.Due.{agenda, Open}
-use Rattle.wx_job.specs.Faults.{CountsOn}
-use Rattle.wx_action.specs.Laws.{NoneUrgentWaits, MomentsRise}
-use Rattle.wx_job.specs.Kept.{KeepsOn}
-use Rattle.wx_action.specs.Leads.{Follows}
+use Rattle.wx_machine.specs.Journal.{turn_count, early_count, turn_fault}
+use Rattle.wx_machine.specs.Due.{agenda, Open}
+use Rattle.wx_machine.specs.Faults.{CountsOn}
+use Rattle.wx_machine.specs.RunLaws.{NoneUrgentWaits, MomentsRise}
+use Rattle.wx_machine.specs.Kept.{KeepsOn}
+use Rattle.wx_machine.specs.Leads.{Follows}
 use Rattle.wx_action.specs.Stands.{Stands, HasRoom}
 use Rattle.wx_engine.specs.Run.{TellsTurns}
 use Rattle.wx_engine.proofs.running.serve_turns.Given as goal

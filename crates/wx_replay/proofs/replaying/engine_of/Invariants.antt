@@ -1,5 +1,5 @@
 use Rattle.std.proofs.Common.{◌≡◌, take}
-use Rattle.wx_engine.specs.Follows.{start_of}
+use Rattle.wx_script.specs.Follows.{start_of}
 use Rattle.wx_replay.proofs.replaying.engine_of.Given as goal
 
 abbrev pub invariant-loop-event : goal.invariant-loop-event

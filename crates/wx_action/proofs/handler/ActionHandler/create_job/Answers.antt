@@ -1,6 +1,6 @@
 use Rattle.std.proofs.Common.{length, ap, arith}
 use Rattle.wx_journal.specs.Names.{next_job}
-use Rattle.wx_action.specs.Jobs.{set}
+use Rattle.wx_machine.specs.Jobs.{set}
 use Rattle.wx_action.proofs.HandlerLemmas.{kept_create, next_grows}
 use Rattle.wx_action.proofs.HeldLemmas.{not_seen}
 use Rattle.wx_action.proofs.handler.ActionHandler.create_job.Goals as goal

@@ -1,8 +1,8 @@
 use Rattle.std.proofs.Common.{◌≡◌, ◌≤◌, ◌+◌, length, set, length-set, add-one, arith, refl, ap, ◌∙◌}
 use Rattle.std.specs.Prelude.{None}
-use Rattle.wx_job.proofs.Sound.{leads_counted}
-use Rattle.wx_job.proofs.SteadyLemmas.{steady_then}
-use Rattle.wx_action.proofs.FaultLaws.{counts_end}
+use Rattle.wx_machine.proofs.Sound.{leads_counted}
+use Rattle.wx_machine.proofs.SteadyLemmas.{steady_then}
+use Rattle.wx_machine.proofs.FaultLaws.{counts_end}
 use Rattle.wx_action.proofs.EndLemmas.{ending_starts, ending_goes, ending_ends}
 use Rattle.wx_action.proofs.job_list.JobList.end_all.Goals as goal
 

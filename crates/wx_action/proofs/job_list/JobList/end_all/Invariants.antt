@@ -1,5 +1,5 @@
 use Rattle.std.proofs.Common.{◌≡◌, ◌+◌, ◌*◌, ◌≤◌, length}
-use Rattle.wx_job.specs.Steady.{IsSteady}
+use Rattle.wx_machine.specs.Steady.{IsSteady}
 use Rattle.wx_action.proofs.EndLemmas.{Ending}
 use Rattle.wx_action.proofs.job_list.JobList.end_all.Given as goal
 

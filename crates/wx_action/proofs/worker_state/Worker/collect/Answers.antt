@@ -1,7 +1,7 @@
 use Rattle.std.proofs.Common.{◌≡◌, false, length, arith, refl}
 use Rattle.std.specs.Prelude.{◌==◌}
-use Rattle.wx_action.specs.Journal.{bag}
-use Rattle.wx_action.specs.Due.{agenda, Takes}
+use Rattle.wx_machine.specs.Journal.{bag}
+use Rattle.wx_machine.specs.Due.{agenda, Takes}
 use Rattle.wx_action.specs.declared.work_turn.Found.TheVariants.{Idle}
 use Rattle.wx_action.specs.Stands.{Stands}
 use Rattle.wx_action.proofs.ArriveLemmas.{steps_add}

@@ -1,6 +1,6 @@
 use Rattle.std.proofs.Common.{refl, arith}
 use Rattle.wx_journal.specs.declared.entry.Word.TheVariants.{Ignored}
-use Rattle.wx_action.specs.Due.{Open}
+use Rattle.wx_machine.specs.Due.{Open}
 use Rattle.wx_action.proofs.ArriveLemmas.{Steps, grows, said_done, said_then}
 use Rattle.wx_action.proofs.worker_state.Worker.ignored.Goals as goal
 

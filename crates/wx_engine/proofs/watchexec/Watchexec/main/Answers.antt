@@ -1,4 +1,4 @@
-use Rattle.wx_action.proofs.ReapLaws.{ran_reaps}
+use Rattle.wx_machine.proofs.ReapLaws.{ran_reaps}
 use Rattle.wx_engine.proofs.MainLaws.{answered_ran, ran_shows, ran_shows_open, completed, ran_makes_once, ran_is_served, ran_is_placed, graces_have_children}
 use Rattle.wx_engine.proofs.OfferLaws.{ran_offers}
 use Rattle.wx_engine.proofs.WishLaws.{answered_granted}

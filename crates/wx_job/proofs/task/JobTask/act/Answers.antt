@@ -1,8 +1,8 @@
 use Rattle.std.proofs.Common.{rules, refl}
-use Rattle.wx_job.specs.Kept.{Past}
+use Rattle.wx_machine.specs.Kept.{Past}
 use Rattle.wx_job.specs.Stands.{Behind}
-use Rattle.wx_job.proofs.CaseLemmas.{on_err, ran-says, brings-adds}
-use Rattle.wx_job.proofs.KeptLemmas.{quiet-followed}
+use Rattle.wx_machine.proofs.CaseLemmas.{on_err, ran-says, brings-adds}
+use Rattle.wx_machine.proofs.KeptLemmas.{quiet-followed}
 use Rattle.wx_job.proofs.Sets.{steps}
 use Rattle.wx_job.proofs.StandsLemmas.{row-is}
 use Rattle.wx_job.proofs.task.JobTask.act.Goals as goal

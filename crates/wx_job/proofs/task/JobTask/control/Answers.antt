@@ -1,7 +1,7 @@
 use Rattle.std.proofs.Common.{◌≡◌, true, sym, ◌∙◌}
 use Rattle.std.specs.Prelude.{is_some}
-use Rattle.wx_job.specs.Stands.{child_of}
-use Rattle.wx_job.specs.Table.{spawns}
+use Rattle.wx_machine.specs.States.{child_of}
+use Rattle.wx_machine.specs.Table.{spawns}
 use Rattle.wx_job.proofs.StandsLemmas.{ready-spawns, spawning-row}
 use Rattle.wx_job.proofs.task.JobTask.control.Goals as goal
 

@@ -1,6 +1,6 @@
 use Rattle.std.proofs.Common.{rules}
-use Rattle.wx_job.specs.Kept.{Past}
-use Rattle.wx_job.proofs.KeptLemmas.{quiet-followed}
+use Rattle.wx_machine.specs.Kept.{Past}
+use Rattle.wx_machine.proofs.KeptLemmas.{quiet-followed}
 use Rattle.wx_job.proofs.Sets.{steps}
 use Rattle.wx_job.proofs.task.JobTask.control_alone.Goals as goal
 

@@ -1,5 +1,5 @@
 use Rattle.wx_job.proofs.StandsLemmas.{end-is}
-use Rattle.wx_job.proofs.StepLaws.{end_left}
+use Rattle.wx_machine.proofs.StepLaws.{end_left}
 use Rattle.wx_job.proofs.task.JobTask.end.Goals as goal
 
 pub returns-clause-leaves : goal.returns-clause-leaves

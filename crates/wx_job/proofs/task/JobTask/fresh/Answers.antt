@@ -1,4 +1,4 @@
-use Rattle.wx_job.proofs.CaseLemmas.{fresh_hooked}
+use Rattle.wx_machine.proofs.CaseLemmas.{fresh_hooked}
 use Rattle.wx_job.proofs.task.JobTask.fresh.Goals as goal
 
 pub returns-clause-ok : goal.returns-clause-ok

@@ -1,5 +1,5 @@
 use Rattle.std.proofs.Common.{refl}
-use Rattle.wx_job.proofs.CaseLemmas.{ran-says, ran-later, brings-adds}
+use Rattle.wx_machine.proofs.CaseLemmas.{ran-says, ran-later, brings-adds}
 use Rattle.wx_job.proofs.task.JobTask.poll.Goals as goal
 
 pub returns-then-not-ready-clause-follows : goal.returns-then-not-ready-clause-follows

@@ -1,10 +1,10 @@
 use Rattle.std.proofs.Common.{◌≡◌, ◌≤◌, ◌+◌, ℕ, length}
 use Rattle.wx_journal.specs.Names.{moment}
-use Rattle.wx_job.specs.History.{before_spawn}
-use Rattle.wx_job.specs.Table.{Plan, waiters}
-use Rattle.wx_job.specs.Case.{FollowsHost}
-use Rattle.wx_job.specs.Kept.{Quiet}
-use Rattle.wx_job.specs.Steady.{IsSteady}
+use Rattle.wx_machine.specs.History.{before_spawn}
+use Rattle.wx_machine.specs.Table.{Plan, waiters}
+use Rattle.wx_machine.specs.Case.{FollowsHost}
+use Rattle.wx_machine.specs.Kept.{Quiet}
+use Rattle.wx_machine.specs.Steady.{IsSteady}
 use Rattle.wx_job.specs.Stands.{Stands, holds}
 use Rattle.wx_job.proofs.task.JobTask.raise_parked.Given as goal
 

@@ -1,4 +1,4 @@
-use Rattle.wx_job.proofs.StepLaws.{send_left}
+use Rattle.wx_machine.proofs.StepLaws.{send_left}
 use Rattle.wx_job.proofs.task.JobTask.send.Goals as goal
 
 pub returns-clause-leaves : goal.returns-clause-leaves

@@ -1,6 +1,7 @@
-use Rattle.wx_job.specs.Kept.{Still}
-use Rattle.wx_job.proofs.KeptLemmas.{promised}
-use Rattle.wx_job.proofs.StepLaws.{Stepped, stepped, on_stops}
+use Rattle.wx_machine.specs.Kept.{Still}
+use Rattle.wx_machine.proofs.KeptLemmas.{promised}
+use Rattle.wx_machine.proofs.StepLaws.{Stepped}
+use Rattle.wx_job.proofs.StopLaws.{stepped, on_stops}
 use Rattle.wx_job.proofs.task.JobTask.step.Goals as goal
 
 done : (g : _) (c : goal.After-walk g) → Stepped c.args.self.now.id c.args.journal.now.past (g.H.Outside.seen c.args.host.now).shown.faults c.walk.new.journal.past (g.H.Outside.seen c.walk.new.host).shown.faults

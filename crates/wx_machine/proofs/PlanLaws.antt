@@ -1,0 +1,168 @@
+-- What the plans of a run let come, and what they name.
+use Rattle.std.proofs.Common.{◌≡◌, ℕ, ◌+◌, Bool, true, false, cond, List, [], ◌∷◌, refl, sym, subst, ◌∙◌, eq-eqb}
+use Rattle.std.specs.Prelude.{◌==◌, ◌||◌, Option, None, Some}
+use Rattle.std.proofs.lemmas.Bool.{or_right}
+use Rattle.wx_command.specs.declared.command.Command.{Command}
+use Rattle.wx_control.specs.declared.id.Id.{Id}
+use Rattle.wx_control.specs.declared.ask.Ask.{Ask as AnAsk}
+use Rattle.wx_control.specs.declared.control.Control.{Control}
+use Rattle.wx_control.specs.declared.level.Level.{Level}
+use Rattle.wx_control.specs.Asks.{sends_of}
+use Rattle.wx_journal.specs.Acts.{JournalAct as Act}
+use Rattle.wx_journal.specs.declared.entry.Act.TheVariants.{Create, Ask, Quit}
+use Rattle.wx_journal.specs.declared.entry.Entry.{Entry}
+use Rattle.wx_journal.specs.declared.entry.Entry.TheVariants.{Begin, Sent, Turn as Turned, TurnFault, Offer, Word as Said, Take, Filter, Show, Hand, Made, Asked, Spawn, Signal, Kill, Wait, Dropped, Gone}
+use Rattle.wx_journal.specs.declared.entry.Word.TheVariants.{Ignored}
+use Rattle.wx_journal.specs.Names.{Names, NamesItsOwn, creates, is_created, next_job, ticket_count}
+use Rattle.wx_machine.specs.History.{same, lives, child}
+use Rattle.wx_machine.specs.Table.{Plan, Done, adds, asks, step_plan, ask_second, ask_plan, drop_plan, end_plan}
+use Rattle.wx_machine.specs.Case.{Admits as Follows, next}
+use Rattle.wx_machine.specs.TicketLaws.{IsPlaced}
+use Rattle.wx_machine.proofs.Owners.{either}
+use Rattle.wx_machine.proofs.Always.{Always, always_now, always_next, always_also}
+use Rattle.wx_machine.proofs.Sound.{Fits, IsSound, Sound, sound_step, sound_ask, sound_end}
+use Rattle.wx_machine.proofs.Places.{placed_silent, placed_dropped}
+use Rattle.wx_machine.proofs.Moves.{placed_made, placed_gone}
+use Rattle.wx_machine.proofs.Placing.{Placing}
+use Rattle.wx_machine.proofs.PlacedPlans.{placed_step, placed_asks, placed_ask}
+use Rattle.wx_machine.specs.Jobs.{AreLawful, act_plan, jobs, first_end, end}
+use Rattle.wx_machine.proofs.Lawful.{IsOfPlan, IsOfEnd, IsFree, LetsGo, InOrder, IsLawful, Lawful}
+
+pub lawful_now : (p : List Entry) (k : Plan) (e : Entry) → Follows p k e → Lawful p k → IsLawful p e (next k e)
+lawful_now p k e d l = always_now IsLawful p k e d l.each
+
+pub placed_now : (p : List Entry) (k : Plan) (e : Entry) → Follows p k e → Lawful p k → IsPlaced (e ∷ p)
+placed_now p k e d l = always_now Placing p k e d l.placed
+
+pub lawful_next : (p : List Entry) (k : Plan) (e : Entry) → Follows p k e → Lawful p k → Lawful (e ∷ p) (next k e)
+lawful_next p k e d l = record { each = always_next IsLawful p k e d l.each; placed = always_next Placing p k e d l.placed }
+
+-- ---- the plans of a job
+
+order_fit : (id : Id) (e : Entry) (p : List Entry) → Fits id p e → InOrder p e
+order_fit id (Made job) p s = absurd s
+order_fit id (_) p s = tt
+
+pub plan_fit : (id : Id) (e : Entry) (p : List Entry) → Fits id p e → IsOfPlan e
+plan_fit id (Begin throttle size errors keyboard follow jobsignals watcher cwd paths) p s = absurd s
+plan_fit id (Sent name event priority) p s = absurd s
+plan_fit id (Turned t) p s = absurd s
+plan_fit id (TurnFault code) p s = absurd s
+plan_fit id (Offer name item result event priority) p s = absurd s
+plan_fit id (Take name) p s = absurd s
+plan_fit id (Filter n name answer) p s = absurd s
+plan_fit id (Show n error wish) p s = absurd s
+plan_fit id (Hand n names acts) p s = absurd s
+plan_fit id (_) p s = tt
+
+free_fit : (id : Id) (e : Entry) (k : Plan) (p : List Entry) → IsSound id p e k → IsFree p e
+free_fit id (Spawn c job tag what answer) k p s = rw s.fits.0 (s.alive, s.fits.1)
+free_fit id (Signal c number answer) k p s = (id, s.fits)
+free_fit id (Kill c answer) k p s = (id, s.fits)
+free_fit id (Wait c answer) k p s = (id, s.fits)
+free_fit id (Gone job) k p s = rw s.fits.0 s.fits.1
+free_fit id (_) k p s = tt
+
+go_fit : (id : Id) (e : Entry) (k : Plan) (p : List Entry) → IsSound id p e k → LetsGo p e k
+go_fit id (Dropped c) k p s = (id, s.fits, s.closes)
+go_fit id (_) k p s = tt
+
+lawful_fit : (id : Id) (p : List Entry) (e : Entry) (k : Plan) → NamesItsOwn p → IsSound id p e k → IsLawful p e k
+lawful_fit id p e k own s = record { names = s.names own; in_order = order_fit id e p s.fits; free = free_fit id e k p s; of_plan = plan_fit id e p s.fits; lets_go = go_fit id e k p s }
+
+each_sound : (id : Id) (p : List Entry) (k : Plan) → NamesItsOwn p → Sound id p k → Always IsLawful p k
+each_sound id p k own s = always_also NamesItsOwn (IsSound id) IsLawful (λ q e j own s. let l = lawful_fit id q e j own s in (l, (l.names, own))) p k own s
+
+pub lawful_step : (id : Id) (command : Command) (p : List Entry) → NamesItsOwn p → IsPlaced p → Lawful p (step_plan id command p)
+lawful_step id command p own h = record { each = each_sound id p (step_plan id command p) own (sound_step false id command p); placed = placed_step false id command p h }
+
+pub lawful_ask : (id : Id) (ask : AnAsk) (p : List Entry) → NamesItsOwn p → IsPlaced p → lives id p ≡ true → Lawful p (ask_plan id (sends_of ask) Done)
+lawful_ask id ask p own h alive = record { each = each_sound id p (ask_plan id (sends_of ask) Done) own (sound_ask id ask p alive); placed = placed_ask id ask p alive h }
+
+-- ---- the plan of acts
+
+each_asked : (id : Id) (level : Level) (first : Control) (second : Option Control) (k : Plan) (p : List Entry) → Always IsLawful (Asked (ticket_count p) id level first ∷ p) k → ((c : Control) → Always IsLawful (Asked (ticket_count p + 1) id level c ∷ Asked (ticket_count p) id level first ∷ p) k)
+    → Always IsLawful p (asks id level first (ask_second id level second k))
+each_asked id level first None k p one two = λ a. (record { names = refl; in_order = tt; free = tt; of_plan = tt; lets_go = tt }, one)
+each_asked id level first (Some c) k p one two = λ a. (
+  record { names = refl; in_order = tt; free = tt; of_plan = tt; lets_go = tt },
+  λ b. (record { names = refl; in_order = tt; free = tt; of_plan = tt; lets_go = tt }, two c),
+)
+
+each_acts : (there : Id → Bool) (acts : List Act) (p : List Entry) → ((id : Id) → creates id acts ≡ true → is_created id p ≡ true) → AreLawful (next_job p) acts → Always IsLawful p (act_plan there acts)
+each_acts there [] p h l = tt
+each_acts there (Create id command ∷ acts) p h l = λ a. (
+  record { names = h id (rw (eq-eqb id.0 id.0 refl) refl); in_order = l.0; free = tt; of_plan = tt; lets_go = tt },
+  each_acts (λ job. same id job || there job) acts (Made id ∷ p) (λ job e. h job (or_right (id.0 == job.0) (creates job acts) e)) l.1,
+)
+each_acts there (Ask id ask ∷ acts) p h l =
+    either (Always IsLawful p) (there id) _ _
+    (each_asked id (sends_of ask).level (sends_of ask).first (sends_of ask).second (act_plan there acts) p (each_acts there acts _ h l) (λ second. each_acts there acts _ h l))
+    (λ a. (record { names = tt; in_order = tt; free = tt; of_plan = tt; lets_go = tt }, each_acts there acts _ h l))
+each_acts there (Quit ∷ acts) p h l = each_acts there acts p h l
+
+-- tickets stay placed, where what comes behind the asks keeps that
+placed_asked : (id : Id) (level : Level) (first : Control) (second : Option Control) (k : Plan) (p : List Entry) → lives id p ≡ true → IsPlaced p → ((q : List Entry) → ((job : Id) → lives job q ≡ lives job p) → IsPlaced q → Always Placing q k)
+    → Always Placing p (asks id level first (ask_second id level second k))
+placed_asked id level first None k p alive h rest = placed_asks id level first k p alive h (λ one. rest _ (λ job. refl) one)
+placed_asked id level first (Some c) k p alive h rest = placed_asks id level first (asks id level c k) p alive h (λ one. placed_asks id level c k (Asked (ticket_count p) id level first ∷ p) alive one (λ two. rest _ (λ job. refl) two))
+
+placed_if : (p : List Entry) (b : Bool) (k f : Plan) → (b ≡ true → Always Placing p k) → Always Placing p f → Always Placing p (cond b k f)
+placed_if p true k f h g = h refl
+placed_if p false k f h g = g
+
+-- a job that is made lives, and so do those that lived
+lives_made : (b there living : Bool) → (b || there) ≡ true → (there ≡ true → living ≡ true) → (b || living) ≡ true
+lives_made true there living e h = refl
+lives_made false there living e h = h e
+
+placed_acts : (there : Id → Bool) (acts : List Act) (p : List Entry) → ((id : Id) → there id ≡ true → lives id p ≡ true) → IsPlaced p → Always Placing p (act_plan there acts)
+placed_acts there [] p living h = tt
+placed_acts there (Create id command ∷ acts) p living h = λ a. (
+  placed_made id p h,
+  placed_acts (λ job. same id job || there job) acts (Made id ∷ p) (λ job e. lives_made (same id job) (there job) (lives job p) e (living job)) (placed_made id p h),
+)
+placed_acts there (Ask id ask ∷ acts) p living h =
+    let said = placed_silent (Said Ignored) p tt h in
+    placed_if p (there id) _ _
+    (λ is. placed_asked id (sends_of ask).level (sends_of ask).first (sends_of ask).second (act_plan there acts) p (living id is) h (λ q same_lives asked. placed_acts there acts q (λ job e. same_lives job ∙ living job e) asked))
+    (λ a. (said, placed_acts there acts (Said Ignored ∷ p) living said))
+placed_acts there (Quit ∷ acts) p living h = placed_acts there acts p living h
+
+pub lawful_acts : (acts : List Act) (p : List Entry) → ((id : Id) → creates id acts ≡ true → is_created id p ≡ true) → AreLawful (next_job p) acts → IsPlaced p → Lawful p (act_plan (λ id. lives id p) acts)
+lawful_acts acts p h l placed = record { each = each_acts (λ id. lives id p) acts p h l; placed = placed_acts (λ id. lives id p) acts p (λ id e. e) placed }
+
+-- ---- the end
+
+of_drop : (p : List Entry) (id : Id) (b : Bool) (running : Option ℕ) (e : Entry) → Follows p (cond b (drop_plan running (adds (Gone id) Done)) Done) e → IsOfEnd e
+of_drop p id true None e d = subst IsOfEnd (sym d.1) tt
+of_drop p id true (Some c) e d = subst IsOfEnd (sym d.1) tt
+of_drop p id false running e d = absurd d
+
+of_first_end : (ids : List Id) (p : List Entry) (e : Entry) → Follows p (first_end ids p) e → IsOfEnd e
+of_first_end [] p e d = absurd d
+of_first_end (id ∷ ids) p e d = of_drop p id (lives id p) (child id p) e d
+
+pub of_end : (p : List Entry) (e : Entry) → Follows p (end p) e → IsOfEnd e
+of_end p e d = of_first_end (jobs p) p e d
+
+pub end_is_plan : (e : Entry) → IsOfEnd e → IsOfPlan e
+end_is_plan (Dropped c) o = tt
+end_is_plan (Gone id) o = tt
+end_is_plan (_) o = absurd o
+
+pub end_placed : (e : Entry) (p : List Entry) → IsOfEnd e → IsPlaced p → IsPlaced (e ∷ p)
+end_placed (Dropped c) p o h = placed_dropped c p h
+end_placed (Gone id) p o h = placed_gone id p h
+end_placed (_) p o h = absurd o
+
+pub end_in_order : (e : Entry) (p : List Entry) → IsOfEnd e → InOrder p e
+end_in_order (Made job) p o = absurd o
+end_in_order (_) p o = tt
+
+names_first_end : (ids : List Id) (p : List Entry) (e : Entry) → NamesItsOwn p → Follows p (first_end ids p) e → Names p e
+names_first_end [] p e own d = absurd d
+names_first_end (id ∷ ids) p e own d = (always_now (IsSound id) p (end_plan id p) e d (sound_end id p)).names own
+
+pub names_end : (p : List Entry) (e : Entry) → NamesItsOwn p → Follows p (end p) e → Names p e
+names_end p e own d = names_first_end (jobs p) p e own d

@@ -1,0 +1,127 @@
+-- What holds of the history of every job.
+use Rattle.std.specs.Prelude.{◌≡◌, ℕ, Bool, true, false, not, ◌&&◌, ◌||◌, if◌then◌else◌, Option, None, Some, Ok, Err, List, [], ◌∷◌}
+use Rattle.wx_command.specs.declared.command.Command.{Command}
+use Rattle.wx_control.specs.declared.id.Id.{Id}
+use Rattle.wx_control.specs.declared.ask.Ask.{Ask}
+use Rattle.wx_control.specs.Asks.{sends_of}
+use Rattle.wx_journal.specs.declared.entry.Entry.{Entry}
+use Rattle.wx_journal.specs.declared.entry.Entry.TheVariants.{Begin, Sent, Turn as Turned, TurnFault, Offer, Word as Said, Take, Filter, Show, Hand, Made, Asked, Pick, GraceOver, Spawn, Signal, Kill, Wait, Dropped, Raise, Gone, Run, Begun, Poll, Hook, JobError}
+use Rattle.wx_journal.specs.Names.{ticket_count, child_count}
+use Rattle.wx_machine.specs.declared.state.CommandState.TheVariants.{Pending}
+use Rattle.wx_machine.specs.History.{same, lives, child, state, grace, unless, owner}
+use Rattle.wx_machine.specs.Table.{Plan, Done, step_by, send_plan, end_plan}
+use Rattle.wx_machine.specs.Case.{Leads, IsCut}
+
+-- the child that was spawned and not reaped: no Wait of it answered ok
+abbrev pub unreaped : Id → List Entry → Option ℕ
+unreaped id [] = None
+unreaped id (Made job ∷ p) = if same job id then None else unreaped id p
+unreaped id (Spawn c job tag what (Ok done) ∷ p) = if same job id then Some c else unreaped id p
+unreaped id (Wait c (Ok status) ∷ p) = unless c (unreaped id p)
+unreaped id (_ ∷ p) = unreaped id p
+
+-- each child of a job is reaped before the next spawn, save a last one, since the job was last made
+abbrev pub AreReaped : Id → List Entry → Type 0
+AreReaped id [] = Unit {0}
+AreReaped id (Made job ∷ p) = same job id ≡ false → AreReaped id p
+AreReaped id (Spawn c job tag what answer ∷ p) = (same job id ≡ true → unreaped id p ≡ None) × AreReaped id p
+AreReaped id (_ ∷ p) = AreReaped id p
+
+-- It speaks of a job since it was last made: each child was reaped before the next spawn. While the job lives a last one that
+-- wasn't is the one that runs, and where it is gone none runs: the last one was let go.
+pub record IsReaping (id : Id) (p : List Entry) : Type 0 where
+  pub each : AreReaped id p
+  pub last : lives id p ≡ true → unreaped id p ≡ child id p
+  pub none : lives id p ≡ false → child id p ≡ None
+
+-- the child of this name runs: it is that of some job
+abbrev pub Runs : ℕ → List Entry → Type 0
+Runs c p = (id : Id) × (child id p ≡ Some c)
+
+-- the case of this job is that of the end of its grace: this is the newest of what begins a case, and no turn came since
+abbrev pub ends_grace : Id → List Entry → Bool
+ends_grace id [] = false
+ends_grace id (Turned t ∷ p) = false
+ends_grace id (Made job ∷ p) = not (same job id) && ends_grace id p
+ends_grace id (Pick job ticket ∷ p) = not (same job id) && ends_grace id p
+ends_grace id (GraceOver job ∷ p) = same job id || ends_grace id p
+ends_grace id (_ ∷ p) = ends_grace id p
+
+-- no grace stands behind this call on a child in the case of the end of a grace
+abbrev pub LeavesNoGrace : ℕ → Entry → List Entry → Type 0
+LeavesNoGrace c e p = (id : Id) → child id p ≡ Some c → ends_grace id p ≡ true → grace id (e ∷ p) ≡ None
+
+-- each job has the grace behind this call that it had before
+abbrev pub BeginsNoGrace : Entry → List Entry → Type 0
+BeginsNoGrace e p = (id : Id) → grace id (e ∷ p) ≡ grace id p
+
+-- After each failed spawn the state of its job is Pending. After each failed signal, kill or wait the child still runs, after a
+-- failed signal no grace was begun, and after a failed kill or wait in the case of the end of a grace none stands.
+abbrev pub AfterFaults : List Entry → Type 0
+AfterFaults [] = Unit {0}
+AfterFaults (Spawn c id tag what (Err fault) ∷ p) = (state id (Spawn c id tag what (Err fault) ∷ p) ≡ Pending) × AfterFaults p
+AfterFaults (Signal c number (Err fault) ∷ p) = Runs c (Signal c number (Err fault) ∷ p) × BeginsNoGrace (Signal c number (Err fault)) p × AfterFaults p
+AfterFaults (Kill c (Err fault) ∷ p) = Runs c (Kill c (Err fault) ∷ p) × LeavesNoGrace c (Kill c (Err fault)) p × AfterFaults p
+AfterFaults (Wait c (Err fault) ∷ p) = Runs c (Wait c (Err fault) ∷ p) × LeavesNoGrace c (Wait c (Err fault)) p × AfterFaults p
+AfterFaults (_ ∷ p) = AfterFaults p
+
+-- a child of this job
+abbrev pub is_owner : Id → Option Id → Bool
+is_owner id None = false
+is_owner id (Some job) = same job id
+
+-- an entry is about a job where it names the job or a child that this spawned
+abbrev pub is_about : Id → List Entry → Entry → Bool
+is_about id p (Begin throttle size errors keyboard follow jobsignals watcher cwd paths) = false
+is_about id p (Sent name event priority) = false
+is_about id p (Turned t) = false
+is_about id p (TurnFault code) = false
+is_about id p (Offer name item result event priority) = false
+is_about id p (Said word) = false
+is_about id p (Take name) = false
+is_about id p (Filter n name answer) = false
+is_about id p (Show n error wish) = false
+is_about id p (Hand n names acts) = false
+is_about id p (Made job) = same job id
+is_about id p (Asked ticket job level control) = same job id
+is_about id p (Pick job ticket) = same job id
+is_about id p (GraceOver job) = same job id
+is_about id p (Spawn c job tag what answer) = same job id
+is_about id p (Signal c number answer) = is_owner id (owner c p)
+is_about id p (Kill c answer) = is_owner id (owner c p)
+is_about id p (Wait c answer) = is_owner id (owner c p)
+is_about id p (Dropped c) = is_owner id (owner c p)
+is_about id p (Raise ticket) = false
+is_about id p (Gone job) = same job id
+is_about id p (Run job n) = same job id
+is_about id p (Begun job n) = same job id
+is_about id p (Poll job n ready) = same job id
+is_about id p (Hook job n answer) = same job id
+is_about id p (JobError job n code) = same job id
+
+-- each child has the next name
+abbrev pub NamesChildren : List Entry → Type 0
+NamesChildren [] = Unit {0}
+NamesChildren (Spawn c job tag what answer ∷ p) = (c ≡ child_count p) × NamesChildren p
+NamesChildren (_ ∷ p) = NamesChildren p
+
+-- each ticket has the next name
+abbrev pub NamesTickets : List Entry → Type 0
+NamesTickets [] = Unit {0}
+NamesTickets (Asked ticket job level control ∷ p) = (ticket ≡ ticket_count p) × NamesTickets p
+NamesTickets (_ ∷ p) = NamesTickets p
+
+-- The life of a job since it was last made: then come asks, whole steps, steps that were given up, and its end, each by its
+-- plan, and between them entries that are not about it. Nothing is asked of other names than those of children.
+pub data Lived (id : Id) (command : Command) : List Entry → Type 0 where
+  Begins : (p : List Entry) → NamesChildren p → Lived id command (Made id ∷ p)
+  Others : (e : Entry) (p : List Entry) → Lived id command p → NamesChildren (e ∷ p) → is_about id p e ≡ false → Lived id command (e ∷ p)
+  Asks : (ask : Ask) (p p' : List Entry) (host hooks host' hooks' : Option (List Entry)) (n n' : ℕ) → Lived id command p → Leads (send_plan id (sends_of ask) p) p host hooks n Done p' host' hooks' n' → Lived id command p'
+  Steps : (closed : Bool) (p p' : List Entry) (host hooks host' hooks' : Option (List Entry)) (n n' : ℕ) → Lived id command p → Leads (step_by closed id command p) p host hooks n Done p' host' hooks' n' → Lived id command p'
+  GivesUp : (closed : Bool) (rest : Plan) (p p' : List Entry) (host hooks host' hooks' : Option (List Entry)) (n n' : ℕ) → Lived id command p → Leads (step_by closed id command p) p host hooks n rest p' host' hooks' n' → IsCut rest → Lived id command p'
+  Ends : (p p' : List Entry) (host hooks host' hooks' : Option (List Entry)) (n n' : ℕ) → Lived id command p → Leads (end_plan id p) p host hooks n Done p' host' hooks' n' → Lived id command p'
+
+-- in the life of a job, since it was last made, each child is reaped before the next spawn, save a last one, and no child
+-- runs after its end
+abbrev pub ChildrenAreReaped : Type 0
+ChildrenAreReaped = (id : Id) (command : Command) (p : List Entry) → Lived id command p → IsReaping id p

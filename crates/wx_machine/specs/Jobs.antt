@@ -1,0 +1,84 @@
+-- What a journal says of the jobs of an engine.
+use Rattle.std.specs.Prelude.{ℕ, ◌<◌, Bool, ◌||◌, nat_lt, if◌then◌else◌, Option, None, Some, List, [], ◌∷◌}
+use Rattle.std.specs.List.{filter, list_any, AllByRecursion}
+use Rattle.wx_command.specs.declared.command.Command.{Command}
+use Rattle.wx_control.specs.declared.id.Id.{Id}
+use Rattle.wx_control.specs.Asks.{sends_of}
+use Rattle.wx_journal.specs.Acts.{JournalAct as Act}
+use Rattle.wx_journal.specs.declared.entry.Act.TheVariants.{Create, Ask, Quit}
+use Rattle.wx_journal.specs.declared.entry.Entry.{Entry}
+use Rattle.wx_journal.specs.declared.entry.Entry.TheVariants.{Word as Said, Hand, Made}
+use Rattle.wx_journal.specs.declared.entry.Word.TheVariants.{Ignored}
+use Rattle.wx_journal.specs.Names.{above, IsNextJob}
+use Rattle.wx_machine.specs.History.{same, lives, child, is_child, command}
+use Rattle.wx_machine.specs.Table.{Plan, Done, adds, ask_plan, end_plan}
+
+-- a job among others, by rising id
+abbrev pub insert : Id → List Id → List Id
+insert id [] = id ∷ []
+insert id (job ∷ ids) = if nat_lt id.0 job.0 then id ∷ job ∷ ids else job ∷ insert id ids
+
+-- the jobs that a handler sees, by rising id: those that were made, without those that were gone before a batch was handed
+abbrev pub set : List Entry → List Id
+set [] = []
+set (Made id ∷ p) = insert id (set p)
+set (Hand n names acts ∷ p) = filter (λ id. lives id p) (set p)
+set (_ ∷ p) = set p
+
+-- a handler sees the job of this name
+abbrev pub is_seen : Id → List Entry → Bool
+is_seen id p = list_any (λ job. same job id) (set p)
+
+-- the jobs that live, in the same order
+abbrev pub jobs : List Entry → List Id
+jobs p = filter (λ id. lives id p) (set p)
+
+-- what a job that lives runs
+abbrev pub living : Id → List Entry → Option Command
+living id p = if lives id p then command id p else None
+
+-- the job whose child this is, where it runs
+abbrev pub parent_among : List Id → ℕ → List Entry → Option Id
+parent_among [] c p = None
+parent_among (id ∷ ids) c p = if is_child c (child id p) then Some id else parent_among ids c p
+
+abbrev pub parent : ℕ → List Entry → Option Id
+parent c p = parent_among (set p) c p
+
+-- acts are lawful where each job that they create is new
+abbrev pub AreLawful : ℕ → List Act → Type 0
+AreLawful next [] = Unit {0}
+AreLawful next (Create id command ∷ acts) = IsNextJob next id × AreLawful (above next id) acts
+AreLawful next (Ask id ask ∷ acts) = AreLawful next acts
+AreLawful next (Quit ∷ acts) = AreLawful next acts
+
+-- the id of the next new job, behind these acts
+abbrev pub next_created : ℕ → List Act → ℕ
+next_created next [] = next
+next_created next (Create id command ∷ acts) = next_created (above next id) acts
+next_created next (Ask id ask ∷ acts) = next_created next acts
+next_created next (Quit ∷ acts) = next_created next acts
+
+-- What acts ask for, in order: each job that they create is made, and each ask is asked of a job that lives or was created
+-- by an act before it, and else is ignored.
+abbrev pub act_plan : (Id → Bool) → List Act → Plan
+act_plan there [] = Done
+act_plan there (Create id command ∷ acts) = adds (Made id) (act_plan (λ job. same id job || there job) acts)
+act_plan there (Ask id ask ∷ acts) = if there id then ask_plan id (sends_of ask) (act_plan there acts) else adds (Said Ignored) (act_plan there acts)
+act_plan there (Quit ∷ acts) = act_plan there acts
+
+-- the end: each job that lives ends, in this order
+abbrev pub first_end : List Id → List Entry → Plan
+first_end [] p = Done
+first_end (id ∷ ids) p = end_plan id p
+
+abbrev pub end : List Entry → Plan
+end p = first_end (jobs p) p
+
+-- ids that rise, and ids below a number
+abbrev pub AreRising : List Id → Type 0
+AreRising [] = Unit {0}
+AreRising (id ∷ ids) = AllByRecursion (λ job. id.0 < job.0) ids × AreRising ids
+
+abbrev pub AreBelow : ℕ → List Id → Type 0
+AreBelow n ids = AllByRecursion (λ id. id.0 < n) ids

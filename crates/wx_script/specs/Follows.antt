@@ -1,0 +1,51 @@
+-- What it means that a run follows a script.
+use Rattle.std.specs.Prelude.{◌≡◌, ◌≤◌, true, List, [], ◌∷◌, length}
+use Rattle.std.specs.List.{list_all}
+use Rattle.wx_journal.specs.declared.entry.Entry.{Entry}
+use Rattle.wx_config.specs.Defaults.{default_config}
+use Rattle.wx_machine.specs.Start.{Start, IsSize}
+use Rattle.wx_script.specs.declared.script.Script.{Script}
+use Rattle.wx_script.specs.Turns.{comes, Rises, Given, FollowsGiven}
+use Rattle.wx_script.specs.Answered.{AreAnswered}
+use Rattle.wx_script.specs.HostCalls.{FollowsAnswers}
+use Rattle.wx_script.specs.Acted.{hands, filters, errors, polls, AreHooked, Wished}
+
+-- what holds of each script that is read
+pub record IsScript (s : Script) : Type 0 where
+  pub size : IsSize s.size
+  pub error_size : IsSize s.error_size
+  pub sends : length s.sends ≤ s.size
+  pub comes : list_all comes s.turns ≡ true
+  pub rises : Rises s.turns s.last
+
+-- what the engine starts from: the default settings but for the throttle and the two sizes, and the topmost folder
+abbrev pub start_of : Script → Start
+start_of s = record {
+  config = record default_config { throttle = s.throttle; event_channel_size = s.size; error_channel_size = s.error_size };
+  folder = 47 ∷ [];
+  events = s.sends;
+}
+
+-- what its world gives
+abbrev pub given_of : Script → Given
+given_of s = record { turns = s.turns; last = s.last; answers = s.answers }
+
+-- what its hooks do
+abbrev pub wished_of : Script → Wished
+wished_of s = record { actions = s.actions; filters = s.filters; errors = s.errors; polls = s.polls; hooks = s.hooks }
+
+-- the turns of the run are the script's first ones, and then last turns at its last moment
+abbrev pub FollowsTurns : Script → List Entry → Type 0
+FollowsTurns s p = FollowsGiven s.turns s.last p
+
+-- the run follows the script: in its turns, in what is asked for in each call of the action handler, in what the error
+-- handler wishes, in the words that spawn hooks append, and in what the calls of the filter, the polls of begun functions and
+-- the calls on the host are answered
+pub record Follows (s : Script) (p : List Entry) : Type 0 where
+  pub turns : FollowsTurns s p
+  pub acts : AreAnswered hands s.actions p
+  pub filtered : AreAnswered filters s.filters p
+  pub wished : AreAnswered errors s.errors p
+  pub polled : AreAnswered polls s.polls p
+  pub hooked : AreHooked s.hooks p
+  pub answers : FollowsAnswers s.answers p

@@ -1,0 +1,61 @@
+// What a script says that the host answers, a field for each kind of calls.
+ghost use Rattle.std.specs.Prelude.{◌≡◌, IfOk};
+ghost use Rattle.wx_script.specs.HostCalls.{no_answers};
+
+use std::alloc::Global;
+use wx_events::{Copies, List, Memory, ProcessEnd};
+use wx_journal::HostFault;
+
+/// The answers to the calls of each kind, in order.
+#[derive(Drop, Debug)]
+pub struct Answers {
+    /// To the spawns of children.
+    pub spawns: List<Result<(), HostFault>>,
+    /// To the signals that are sent to them.
+    pub signals: List<Result<(), HostFault>>,
+    /// To their kills.
+    pub kills: List<Result<(), HostFault>>,
+    /// To the waits for them.
+    pub waits: List<Result<ProcessEnd, HostFault>>,
+}
+
+impl Answers {
+    /// No answer of any kind.
+    pub fn new(alloc: Global) -> Answers
+        ensures { result ≡ no_answers }
+    {
+        Answers {
+            spawns: List::new(alloc),
+            signals: List::new(alloc),
+            kills: List::new(alloc),
+            waits: List::new(alloc),
+        }
+    }
+}
+
+impl Copies for Answers {
+    fn copy(&self, alloc: Global) -> Result<Answers, Memory> {
+        Ok(Answers {
+            spawns: copied(alloc, &self.spawns)?,
+            signals: copied(alloc, &self.signals)?,
+            kills: copied(alloc, &self.kills)?,
+            waits: copied(alloc, &self.waits)?,
+        })
+    }
+}
+
+/// These answers once more. It fails only for want of memory.
+fn copied<T: Copy>(alloc: Global, answers: &List<T>) -> Result<List<T>, Memory>
+    ensures { IfOk result (λ copied. copied ≡ answers.now) }
+{
+    Ok(List::from_vec(Vec::from_slice(alloc, answers.as_slice())?))
+}
+
+/// How many answers of each kind were used.
+#[derive(Clone, Copy, Default, Debug)]
+pub(crate) struct Used {
+    pub(crate) spawns: usize,
+    pub(crate) signals: usize,
+    pub(crate) kills: usize,
+    pub(crate) waits: usize,
+}

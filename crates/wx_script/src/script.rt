@@ -1,0 +1,75 @@
+// What is written down for a run.
+use crate::answers::Answers;
+use std::alloc::Global;
+use wx_config::RuntimeError;
+use wx_events::{Copies, Event, List, Memory, Priority, Spelled, Text, Words};
+use wx_journal::{Act, Turn, Wish};
+
+/// What the world is to do when it is asked for a turn.
+#[derive(Drop, Debug)]
+pub enum ScriptTurn {
+    /// It gives this turn.
+    Turn(Turn),
+    /// It has none to give, and this is the code of the fault.
+    Fault(u32),
+}
+
+impl Copies for ScriptTurn {
+    fn copy(&self, alloc: Global) -> Result<ScriptTurn, Memory> {
+        match self {
+            ScriptTurn::Turn(turn) => Ok(ScriptTurn::Turn(turn.copy(alloc)?)),
+            ScriptTurn::Fault(code) => Ok(ScriptTurn::Fault(*code)),
+        }
+    }
+}
+
+/// Which job is created by an act of a script.
+#[derive(Clone, Copy, Debug)]
+pub enum Wanted {
+    /// A new one. It gets its name in the run.
+    New,
+}
+
+#[tactic(auto, using(wx_words::specs::LineLaws::behinds))]
+impl Spelled for Wanted {
+    ghost use Rattle.wx_script.specs.Wishes.{wanted};
+
+    ghost spelling = { wanted };
+
+    fn put_after(&self, _out: &mut Text) -> Result<(), Memory> {
+        Ok(())
+    }
+
+    fn read(_alloc: Global, _line: &mut Words) -> Result<Option<Wanted>, Memory> {
+        Ok(Some(Wanted::New))
+    }
+}
+
+/// A run written down in advance: what the engine starts from, and what its world and its hooks do.
+#[derive(Drop, Debug)]
+pub struct Script {
+    /// How long events are collected, in nanoseconds.
+    pub throttle: u64,
+    /// How many events the queue holds.
+    pub size: u32,
+    /// The size of the channel of errors in the settings.
+    pub error_size: u32,
+    /// The events that are sent before the run.
+    pub sends: List<(Event, Priority)>,
+    /// The turns, in order. Those after them are last turns.
+    pub turns: List<ScriptTurn>,
+    /// What the action handler asks for: the acts of its first call, of its second, and so on.
+    pub actions: List<List<Act<Wanted>>>,
+    /// What the filter answers: to its first call, to its second, and so on.
+    pub filters: List<Result<bool, RuntimeError>>,
+    /// What the error handler wishes: in its first call, in its second, and so on.
+    pub errors: List<Wish>,
+    /// Whether a begun function is ready: in the first poll of one, in the second, and so on.
+    pub polls: List<bool>,
+    /// What spawn hooks append to the words of what is spawned: in their first call, in the second, and so on.
+    pub hooks: List<List<Text>>,
+    /// What the host answers.
+    pub answers: Answers,
+    /// The moment of the last turn that is written down, in nanoseconds, 0 where there is none.
+    pub last: u64,
+}
