@@ -1,9 +1,10 @@
 #!/usr/bin/env bash
-# Runs the gate, which begins from nothing, and prints when each of its steps ended, in minutes and seconds since its begin.
+# Runs the gate from nothing, and prints when each of its steps ended, in minutes and seconds since its begin. What earlier runs
+# on this machine passed is not taken.
 # It ends with the status of the gate.
 cd "$(dirname "$0")/.." || exit 1
 begin=$(date +%s)
-rt ci 2>&1 | while IFS= read -r line; do
+rt ci --anew 2>&1 | while IFS= read -r line; do
   case "$line" in
     "rt: "* | *passed,*)
       now=$(($(date +%s) - begin))

@@ -25,7 +25,7 @@ use Rattle.wx_machine.specs.Leads.{FollowsAlone, Then}
 use Rattle.wx_machine.specs.Turns.{StaysInTurn}
 use Rattle.wx_action.specs.Serves.{Adds, Grows}
 use Rattle.wx_action.proofs.ServesLaws.{adds, adds_none}
-use Rattle.wx_machine.proofs.JobsLaws.{turns_over}
+use Rattle.wx_machine.proofs.AllJobs.{turns_over}
 use Rattle.wx_action.specs.Stands.{Stands, IsOffered, end_room}
 use Rattle.wx_action.proofs.StandsLemmas.{stands_behind, offered_is, stands_offered, stands_sent}
 

@@ -1,9 +1,9 @@
 -- Why a run breaks off in a Work turn.
 use Rattle.std.proofs.Common.{◌≡◌, ℕ, Bool, true, false, cond, List, ◌∷◌, inl, inr, refl, ap, sym, subst, ◌∙◌}
 use Rattle.std.specs.Prelude.{Option, None, Some, Result, Ok, Err, IfErr, IsErrAnd, ◌||◌}
-use Rattle.wx_config.specs.declared.error.CriticalError.{CriticalError}
-use Rattle.wx_config.specs.declared.error.CriticalError.TheVariants.{Memory}
-use Rattle.wx_config.specs.declared.runtime.RuntimeError.{RuntimeError}
+use Rattle.wx_error.specs.declared.error.CriticalError.{CriticalError}
+use Rattle.wx_error.specs.declared.error.CriticalError.TheVariants.{Memory}
+use Rattle.wx_error.specs.declared.runtime.RuntimeError.{RuntimeError}
 use Rattle.wx_journal.specs.declared.entry.Entry.{Entry}
 use Rattle.wx_journal.specs.declared.entry.Entry.TheVariants.{Take, Filter, Show}
 use Rattle.wx_journal.specs.declared.entry.TurnKind.{TurnKind}
@@ -105,15 +105,3 @@ shown_drop s p p' p'' error dropped owes (inr shown) = record {
 
 pub collects_shown : (s : Start) (p p' p'' : List Entry) (error : RuntimeError) → HasDropped p p' → agenda s p' ≡ Shows error → MayShow p' p'' → agenda s p'' ≡ Open → Collects s p collected.Dropped p''
 collects_shown s p p' p'' error dropped owes shown done = (shown_drop s p p' p'' error dropped owes shown, done)
-
--- ---- collecting failed
-
--- for want of memory, before anything was done
-pub fails_before : {T : Type 0} (s : Start) (p p' : List Entry) (result : Result T CriticalError) → IsErrAnd result (λ e. e ≡ Memory) → p' ≡ p → IfErr result (λ e. Fails s p p' e)
-fails_before s p p' (Ok x) is same = tt
-fails_before s p p' (Err e) is same = inl (is, same)
-
--- for want of memory, where an error is to be shown
-pub fails_showing : {T : Type 0} (s : Start) (p p' : List Entry) (result : Result T CriticalError) (error : RuntimeError) → IsErrAnd result (λ e. e ≡ Memory) → agenda s p' ≡ Shows error → IfErr result (λ e. Fails s p p' e)
-fails_showing s p p' (Ok x) error is owes = tt
-fails_showing s p p' (Err e) error is owes = let go : NoneIsToGo (agenda s p') = rw owes tt in rw is (inr (go, inr go))

@@ -15,7 +15,7 @@ use Rattle.wx_machine.specs.Jobs.{set, jobs}
 use Rattle.wx_machine.specs.Due.{agenda, Ends}
 use Rattle.wx_machine.specs.Leads.{Follows}
 use Rattle.wx_machine.specs.Answer.{Dying, Alive}
-use Rattle.wx_machine.proofs.JobsLaws.{none_by_end}
+use Rattle.wx_machine.proofs.AllJobs.{none_by_end}
 use Rattle.wx_machine.proofs.EndLaws.{AreGone, end_leads, next_to_end, none_left, still_gone, dying_then, dying_ends}
 use Rattle.wx_machine.specs.Told.{TellsOn}
 use Rattle.wx_action.specs.Stands.{JobsStand, held_id}

@@ -1,5 +1,5 @@
 -- The window is handed.
-use Rattle.std.proofs.Common.{◌≡◌, ℕ, Bool, true, false, cond, List, [], ◌∷◌, ◌++◌, inl, inr, refl, ap, sym, subst, ◌∙◌, append_assoc}
+use Rattle.std.proofs.Common.{◌≡◌, ◌≢◌, ℕ, Bool, true, false, cond, List, [], ◌∷◌, ◌++◌, inl, inr, refl, ap, sym, subst, ◌∙◌, append_assoc}
 use Rattle.std.specs.Prelude.{Option, None, Some, Result, Ok, Err, OnErr, map}
 use Rattle.std.specs.List.{AllByRecursion, filter}
 use Rattle.wx_command.specs.declared.command.Command.{Command}
@@ -15,6 +15,8 @@ use Rattle.wx_machine.specs.Table.{Plan, Done}
 use Rattle.wx_action.specs.declared.handler.Todo.{Todo}
 use Rattle.wx_action.specs.declared.worker_state.Held.{Held}
 use Rattle.wx_action.specs.declared.worker_state.Worker.{Worker}
+use Rattle.wx_action.specs.declared.work_turn.Collected.{Collected}
+use Rattle.wx_action.specs.declared.work_turn.Collected.TheVariants as collected
 use Rattle.wx_action.specs.declared.work_turn.Worked.TheVariants.{On, End}
 use Rattle.wx_machine.specs.Start.{Start}
 use Rattle.wx_machine.specs.Journal.{settings, window}
@@ -24,13 +26,13 @@ use Rattle.wx_machine.specs.Due.{Agenda, agenda, Due, Hands, Open, Ends, plans, 
 use Rattle.wx_machine.specs.RunLaws.{NoneUrgent, urgent_in, NoneUrgentWaits}
 use Rattle.wx_machine.specs.Leads.{FollowsHooks, FollowsAlone, Then}
 use Rattle.wx_action.specs.Perform.{AreCommanded, OwesActs}
-use Rattle.wx_action.specs.Stands.{Stands, HeldStands, held_id, Works}
+use Rattle.wx_action.specs.Stands.{Stands, HeldStands, held_id, Collects, Works, without_hand}
 use Rattle.wx_action.specs.HeldJobs.{is_here}
 use Rattle.wx_action.specs.Todo.{AreTodo}
 use Rattle.wx_machine.specs.Turns.{StaysInTurn}
 use Rattle.wx_machine.proofs.Orderly.{IsOrderly}
 use Rattle.wx_machine.proofs.RunLaws.{orderly_more, calm_led, hand_is, window_handed}
-use Rattle.wx_machine.proofs.JobsLaws.{IsIn, command_kept, creation_is, turns_over}
+use Rattle.wx_machine.proofs.AllJobs.{IsIn, command_kept, creation_is, turns_over}
 use Rattle.wx_action.proofs.StandsLemmas.{same_held, over_hand}
 
 -- the entry of a batch that was due
@@ -113,12 +115,24 @@ not_hands_ends : Ends ≡ Hands → ⊥
 not_hands_ends e = cc
 
 -- an agenda that is open owes no batch
-pub not_hands : (s : Start) (p : List Entry) → agenda s p ≡ Open → agenda s p ≡ Hands → ⊥
+not_hands : (s : Start) (p : List Entry) → agenda s p ≡ Open → agenda s p ≡ Hands → ⊥
 not_hands s p is e = not_hands_open (sym is ∙ e)
 
 -- one that is to end owes none either
-pub not_hands_at_end : (s : Start) (p : List Entry) → agenda s p ≡ Ends → agenda s p ≡ Hands → ⊥
+not_hands_at_end : (s : Start) (p : List Entry) → agenda s p ≡ Ends → agenda s p ≡ Hands → ⊥
 not_hands_at_end s p is e = not_hands_ends (sym is ∙ e)
+
+-- what was collected, where this isn't a window that is due, owes none, and says whether the run goes on
+pub record Unhanded (s : Start) (found : Collected) (p : List Entry) : Type 0 where
+  pub none : agenda s p ≡ Hands → ⊥
+  pub works : Works s (without_hand found) p
+
+pub unhanded : (s : Start) (p p' : List Entry) (found : Collected) → found ≢ collected.Hand → Collects s p found p' → Unhanded s found p'
+unhanded s p p' collected.Stop other c = record { none = not_hands_at_end s p' c.1; works = c.1 }
+unhanded s p p' collected.Hand other c = absurd (other refl)
+unhanded s p p' collected.Idle other c = record { none = not_hands s p' c.1; works = c.1 }
+unhanded s p p' collected.Kept other c = record { none = not_hands s p' c.1; works = c.1 }
+unhanded s p p' collected.Dropped other c = record { none = not_hands s p' c.1; works = c.1 }
 
 -- what holds whatever is answered holds where the answer is an error
 pub on_err : {T E P : Type 0} (result : Result T E) → P → OnErr result P

@@ -15,7 +15,8 @@ use Rattle.wx_action.specs.declared.handler.Todo.{Todo}
 use Rattle.wx_action.specs.declared.handler.Todo.TheVariants as todo
 use Rattle.wx_action.specs.declared.worker_state.Held.{Held}
 use Rattle.wx_machine.specs.Due.{is_quit}
-use Rattle.wx_action.specs.Handled.{with_quit, asks_of}
+use Rattle.wx_action.specs.Handled.{asks_of}
+use Rattle.wx_machine.specs.Quits.{with_quit}
 use Rattle.wx_machine.specs.Jobs.{AreLawful, next_created}
 use Rattle.wx_machine.specs.Last.{last_added, without_last}
 use Rattle.wx_action.specs.KeptHandler.{HasSecondRoom, HasQuitRoom, AreTwice, StaysTwice, AddsTwice, QuitsTwice, IsKept, quit_room}
@@ -140,6 +141,23 @@ twice_adds names acts m n act (Some old) (Some new) t room a =
     }
 
 -- ---- what a handler keeps
+
+-- where only room was taken
+pub kept_room : (past : List Entry) (shown : List Held) (names : List ℕ) (events : List Event) (ids : ℕ) (acts : List Act) (room : ℕ) (second : Option Second) (rest : List Todo) (acts' : List Act) (room' : ℕ) (second' : Option Second) (rest' : List Todo) → IsKept past shown names events ids acts room second rest → acts' ≡ acts → room ≤ room' → StaysTwice second second' → rest' ≡ rest → IsKept past shown names events ids acts' room' second' rest'
+kept_room past shown names events ids acts room second rest acts' room' second' rest' k acts_is more stays rest_is =
+    rw (acts_is, rest_is) (record {
+      shown = k.shown;
+      are_events = k.are_events;
+      next = k.next;
+      lawful = k.lawful;
+      todo = k.todo;
+      room = omega (arith, k.room, more);
+      twice = twice_stays names acts (quit_room acts) second second' k.twice stays;
+    })
+
+-- where an id is left not all were given
+pub ids_left : (next ids : ℕ) → ids ≡ min next (2 ^ 32 - 1) → ids < 2 ^ 32 - 1 → 2 ^ 32 - 1 ≤ next → ⊥
+ids_left next ids is left spent = omega arith
 
 pub kept_create : (past : List Entry) (shown : List Held) (names : List ℕ) (events : List Event) (ids : ℕ) (acts : List Act) (room : ℕ) (second mid second' : Option Second) (rest : List Todo) (id : Id) (command : Command) (held : Held) (ids' : ℕ) (acts' : List Act) (room' : ℕ) (rest' : List Todo) → IsKept past shown names events ids acts room second rest → id.0 ≡ ids → ids < 2 ^ 32 - 1 → ids' ≡ ids + 1 → IsNew held id command → length acts + 2 ≤ room' → StaysTwice second mid → HasSecondRoom 2 mid → AddsTwice (Create id command) mid second' → acts' ≡ acts ++ Create id command ∷ [] → rest' ≡ rest ++ todo.Create held ∷ [] → IsKept past shown names events ids' acts' room' second' rest'
 kept_create past shown names events ids acts room second mid second' rest id command held ids' acts' room' rest' k is left more new here stays free adds acts_is rest_is =

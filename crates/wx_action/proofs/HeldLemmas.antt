@@ -14,7 +14,7 @@ use Rattle.wx_action.specs.HeldJobs.{IsHandle, AreShown, is_of, is_alive, handle
 use Rattle.wx_machine.specs.Jobs.{AreBelow, set, is_seen}
 use Rattle.wx_machine.specs.Start.{Start}
 use Rattle.wx_action.specs.Stands.{HeldStands, Stands, held_id}
-use Rattle.wx_machine.proofs.JobsLaws.{IsIn, in_set, set_rising}
+use Rattle.wx_machine.proofs.AllJobs.{IsIn, in_set, set_rising}
 use Rattle.wx_machine.proofs.Orderly.{GoneRunNone}
 
 -- ---- the handle on a job

@@ -1,6 +1,6 @@
 -- The turns of jobs.
 use Rattle.std.proofs.Common.{◌≡◌, ℕ, zero, suc, ◌<◌, Bool, true, false, cond, List, [], ◌∷◌, length, get_or, inl, inr, arith, refl, ap, sym, subst, ◌∙◌, eq-eqb}
-use Rattle.std.specs.Prelude.{Option, None, Some, Result, Ok, Err, is_some, is_err, option_map, map, not}
+use Rattle.std.specs.Prelude.{Option, None, Some, Result, Ok, Err, is_some, option_map, map, not}
 use Rattle.std.specs.List.{AllByRecursion, find}
 use Rattle.wx_words.specs.OptionLaws.{refused}
 use Rattle.wx_command.specs.declared.command.Command.{Command}
@@ -32,7 +32,7 @@ use Rattle.wx_machine.specs.Leads.{FollowsAlone, Follows}
 use Rattle.wx_action.specs.Serves.{LeavesOff, Steps, Settles}
 use Rattle.wx_machine.specs.Turns.{StaysInTurn}
 use Rattle.wx_machine.proofs.RunLaws.{orderly_turn}
-use Rattle.wx_machine.proofs.JobsLaws.{calls_none_ask, IsIn, is_child_some, none_by_ask, none_by_step, parent_is, parent_is_none}
+use Rattle.wx_machine.proofs.AllJobs.{calls_none_ask, IsIn, is_child_some, none_by_ask, none_by_step, parent_is, parent_is_none}
 use Rattle.wx_action.proofs.TurnLaws.{at_end_of_none, other_over_end}
 use Rattle.wx_action.specs.HeldJobs.{is_of, runs_child, handle_id, task_of, with_task, parked_in, parked_at}
 use Rattle.wx_action.specs.Stands.{Stands, AtTurn, IsStepOf, HeldStands, held_id}
@@ -180,11 +180,6 @@ step_stopped seen told s w w' at id task task' j j' host host' x x' stands step 
 }
 step_stopped seen told s w w' at id task task' j j' host host' x x' stands step l fields jobs same stood leaves (BehindHook pending gave) =
     step_gave s w w' at id task task' j.past j'.past (seen host) (seen host') (told x) (told x') stands step l fields jobs same stood leaves gave.0
-
--- where want of memory is answered
-pub steps_left : {X E : Type 0} (s : Start) (p p' : List Entry) (result : Result X E) → is_err result ≡ true → LeavesOff s p p' → Steps result s p p'
-steps_left s p p' (Ok x) is left = absurd cc
-steps_left s p p' (Err e) is left = record { done = tt; err = left }
 
 -- behind room that was taken
 pub steps_after : {X E : Type 0} (s : Start) (p q p' : List Entry) (result : Result X E) → q ≡ p → Steps result s q p' → Steps result s p p'

@@ -38,7 +38,7 @@ use Rattle.wx_machine.specs.Turns.{StaysInTurn}
 use Rattle.wx_action.specs.HeldJobs.{with_task}
 use Rattle.wx_machine.proofs.Orderly.{IsOrderly}
 use Rattle.wx_machine.proofs.RunLaws.{orderly_more}
-use Rattle.wx_machine.proofs.JobsLaws.{made_above, insert_last, none_by_ask, turns_over}
+use Rattle.wx_machine.proofs.AllJobs.{made_above, insert_last, none_by_ask, turns_over}
 use Rattle.wx_action.specs.Stands.{Stands, HeldStands, held_id}
 use Rattle.wx_action.proofs.StandsLemmas.{stands_quiet, stands_behind, same_held}
 use Rattle.wx_action.proofs.PlanLemmas.{jobs_stand, jobs_change, still_led}

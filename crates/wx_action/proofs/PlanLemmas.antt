@@ -22,7 +22,7 @@ use Rattle.wx_machine.proofs.Orderly.{IsOrderly}
 use Rattle.wx_machine.specs.Kept.{StaysQuiet}
 use Rattle.wx_machine.specs.Leads.{Follows}
 use Rattle.wx_machine.specs.Turns.{StaysInTurn}
-use Rattle.wx_machine.proofs.JobsLaws.{set_rising, IsOfJob, MakesNone, CallsNone, plans_lead}
+use Rattle.wx_machine.proofs.AllJobs.{set_rising, IsOfJob, MakesNone, CallsNone, plans_lead}
 use Rattle.wx_action.specs.Stands.{Stands, HeldStands, JobsStand, AreApart, held_id}
 use Rattle.wx_action.proofs.StandsLemmas.{Quiet, quiet, quiet_then, stands_quiet, same_held, ids_put, tasks_put, held_at}
 

@@ -38,8 +38,6 @@ serves_then s p q r a b c hooks hooks' hooks'' h g = record {
 pub serves_both : {Fixed : Type 0} (s : Start) (p q r : List Entry) (a b : Seen Fixed) (hooks hooks' : Option (List Entry)) → AddsHand s p hooks q hooks' → Adds s q r → OnlyRoom a b → Serves s p a hooks r b hooks'
 serves_both s p q r a b hooks hooks' h adds only = serves_then s p q r a b b hooks hooks' hooks' (serves_adds s q r b hooks' adds) (serves_then s p p q a b b hooks hooks hooks' (serves_hand s p q b hooks hooks' h) (serves_room s p p a b hooks hooks only refl refl))
 
-pub ruleset serving = (serves_room, serves_adds, serves_hand, serves_then, serves_both)
-
 -- what hooks keep, where entries are added that are no calls on them
 pub keeps_adds : {K Fixed : Type 0} (seen : K → Hooked Fixed) (rule : Fixed → List Entry → Entry → Type 0) (stands : K → List Entry → Type 0) (x : K) (s : Start) (p p' : List Entry) → Adds s p p' → KeepsOn seen rule stands x p x p'
 keeps_adds seen rule stands x s p p' adds = λ x₀ p₀ k. Past x p p' k (adds.quiet p Same)
@@ -82,6 +80,10 @@ continues_from seen rule holds s u v w j k a b x y same h = record {
   keeps = h.keeps;
   room = λ r. h.room (record { in_journal = omega (arith, same, r.in_journal); in_host = omega (arith, same, r.in_host) });
 }
+
+-- more room may have been used
+pub within_more : {K Fixed : Type 0} (seen : K → Hooked Fixed) (rule : Fixed → List Entry → Entry → Type 0) (holds : K → List Entry → Type 0) (s : Start) (n m n' m' : ℕ) (v w : Worker) (j k : Written) (x y : K) → n ≤ n' → m ≤ m' → GrowsWithin seen rule holds s n m v j x w k y → GrowsWithin seen rule holds s n' m' v j x w k y
+within_more seen rule holds s n m n' m' v w j k x y more more_hooks g = record { grows = g.grows; end_kept = g.end_kept; in_journal = omega (arith, g.in_journal, more); in_hooks = omega (arith, g.in_hooks, more_hooks) }
 
 -- it continues where only hooks were called
 pub continues_grown : {K Fixed Plan : Type 0} (seen : K → Hooked Fixed) (rule : Fixed → List Entry → Entry → Type 0) (holds : K → List Entry → Type 0) (s : Start) (n m : ℕ) (v w : Worker) (j k : Written) (a : Seen Plan) (x y : K) → GrowsWithin seen rule holds s n m v j x w k y → (end_room v ≤ j.spare → end_room w ≤ k.spare) → Continues seen rule holds s v j a x w k a y

@@ -23,7 +23,7 @@ use Rattle.wx_machine.specs.Leads.{Follows}
 use Rattle.wx_machine.specs.Jobs.{set, parent_among, parent}
 use Rattle.wx_action.specs.Stands.{HeldStands, held_id, Stands, AtTurn}
 use Rattle.wx_machine.proofs.RunLaws.{orderly_turn, calm_turn}
-use Rattle.wx_machine.proofs.JobsLaws.{IsIn, parent_none, one_parent}
+use Rattle.wx_machine.proofs.AllJobs.{IsIn, parent_none, one_parent}
 
 -- what is known of every turn that was drawn: it owes what its kind says
 pub record IsTurned (s : Start) (at : ℕ) (kind : TurnKind) (p : List Entry) : Type 0 where

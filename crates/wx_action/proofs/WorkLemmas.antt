@@ -1,14 +1,12 @@
 -- A Work turn.
-use Rattle.std.proofs.Common.{◌≡◌, ◌≤◌, ℕ, ◌+◌, Bool, true, false, cond, List, [], ◌∷◌, ◌++◌, length, inl, inr, refl, arith, ap, sym, subst, ◌∙◌}
+use Rattle.std.proofs.Common.{◌≡◌, ◌≤◌, ℕ, ◌+◌, Bool, true, false, cond, List, [], ◌∷◌, ◌++◌, length, inl, refl, arith, ap, sym, subst, ◌∙◌}
 use Rattle.std.proofs.lemmas.Bool.{eqb-true}
-use Rattle.std.specs.Prelude.{Option, None, Some, Result, Ok, Err, is_some, ◌==◌, ◌||◌}
+use Rattle.std.specs.Prelude.{Option, Some, Result, Ok, Err, is_some, ◌==◌, ◌||◌}
 use Rattle.wx_events.specs.declared.event.Event.{Event}
 use Rattle.wx_events.specs.declared.priority.Priority.{Priority}
 use Rattle.wx_events.specs.Priority.{is_urgent}
-use Rattle.wx_config.specs.declared.runtime.RuntimeError.{RuntimeError}
-use Rattle.wx_config.specs.declared.runtime.RuntimeError.TheVariants.{Exit}
-use Rattle.wx_config.specs.declared.error.CriticalError.{CriticalError}
-use Rattle.wx_config.specs.declared.error.CriticalError.TheVariants.{Memory as WantOfMemory}
+use Rattle.wx_error.specs.declared.runtime.RuntimeError.{RuntimeError}
+use Rattle.wx_error.specs.declared.runtime.RuntimeError.TheVariants.{Exit}
 use Rattle.wx_journal.specs.declared.wish.Wish.{Wish}
 use Rattle.prio_channel.specs.Channel.{Channel, AllAtMost}
 use Rattle.prio_channel.specs.SameBag.{Takes}
@@ -26,8 +24,7 @@ use Rattle.wx_journal.specs.declared.entry.Word.TheVariants.{Idle}
 use Rattle.wx_action.specs.Batch.{Waiting}
 use Rattle.wx_machine.specs.Start.{Start}
 use Rattle.wx_machine.specs.Journal.{settings, listed, is_urgent_in, is_urgent_named, is_unseen, is_unseen_in, passes_unseen, lets_pass, is_exit, is_close, closed, ending, wished, one_if, and_one, begun, without, bag, window, first, is_over, is_over_of}
-use Rattle.wx_machine.specs.Due.{agenda, Due, Open, Says, Takes as TakesNext, Filters, Shows as ShowsNext, Hands, Breaks, work, after_pass, after_drop, after_show, after_filter}
-use Rattle.wx_machine.specs.Answer.{NoneIsToGo, BreaksOff, BreaksHere}
+use Rattle.wx_machine.specs.Due.{agenda, Due, Open, Says, Takes as TakesNext, Filters, Shows as ShowsNext, Hands, work, after_pass, after_drop, after_show, after_filter}
 use Rattle.wx_action.specs.Handled.{lookup}
 use Rattle.wx_machine.specs.Kept.{More, Keeps, Called}
 use Rattle.wx_machine.specs.Seen.{Hooked}
@@ -37,7 +34,7 @@ use Rattle.wx_machine.specs.Leads.{FollowsHooks, Then}
 use Rattle.wx_action.specs.Stands.{Stands, AddsTake, HasTaken, HasPassed, IsDropped, LeavesRoom, Finds, Judges, IsJudged}
 use Rattle.wx_machine.proofs.BagLaws.{IsTaken, is_taken}
 use Rattle.wx_machine.proofs.RunLaws.{joined_if, orderly_more}
-use Rattle.wx_machine.proofs.JobsLaws.{turns_over}
+use Rattle.wx_machine.proofs.AllJobs.{turns_over}
 use Rattle.wx_action.proofs.ArriveLemmas.{Steps, said_done, said_then}
 use Rattle.wx_machine.proofs.Orderly.{IsGoing, IsOrderly}
 use Rattle.wx_machine.proofs.SettleLaws.{settle_calm}
@@ -305,25 +302,6 @@ show_grows seen rule holds s w p p' x x' n error lent pushed wish asked queue st
     let owed : agenda s p ≡ ShowsNext lent = due ∙ ap (λ (e : RuntimeError). ShowsNext e) (sym same_error) in
     let done = show_done s w p p' n lent wish queue stands owed number items size (shut ∙ ap (λ (m : Wish). is_close m || w.queue.closed) same_wish) grew in
     called_grows seen rule holds s p p' x x' (record w { queue = queue }) (Show n lent wish) refl (show_follows s p p' n lent wish (seen x).told (seen x').told done.due grew told) grew keeps done.stands
-
--- the run breaks off where the wish ends it
-pub breaks_here : (s : Start) (p : List Entry) (o : Option CriticalError) (error : CriticalError) → agenda s p ≡ after_show o → wished p ≡ o → o ≡ Some error → BreaksHere s p error
-breaks_here s p o error after newest is =
-    let breaks : agenda s p ≡ Breaks = after ∙ ap after_show is in
-    let go : NoneIsToGo (agenda s p) = rw breaks tt in
-    (go, breaks_off error (newest ∙ is) go)
-  where
-    breaks_off : (error : CriticalError) → wished p ≡ Some error → NoneIsToGo (agenda s p) → BreaksOff s p error
-    breaks_off WantOfMemory is go = inr go
-    breaks_off (_) is go = is
-
--- want of memory behind an error that was shown, or before
-pub wants_here : (s : Start) (p : List Entry) → NoneIsToGo (agenda s p) → BreaksHere s p WantOfMemory
-wants_here s p go = (go, inr go)
-
-pub none_after_show : (s : Start) (p : List Entry) (o : Option CriticalError) → agenda s p ≡ after_show o → NoneIsToGo (agenda s p)
-none_after_show s p None after = rw after tt
-none_after_show s p (Some error) after = rw after tt
 
 -- one that passes doesn't ask for the end
 pub no_exit : (answer : Result Bool RuntimeError) → lets_pass answer ≡ true → is_exit answer ≡ false

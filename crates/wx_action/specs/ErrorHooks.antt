@@ -1,6 +1,6 @@
 -- What contracts see of the hook that is lent to an error handler.
 use Rattle.std.specs.Prelude.{◌≡◌, Bool, true, Option, None, Some, is_some}
-use Rattle.wx_config.specs.declared.runtime.RuntimeError.{RuntimeError}
+use Rattle.wx_error.specs.declared.runtime.RuntimeError.{RuntimeError}
 use Rattle.wx_journal.specs.declared.wish.Wish.{Wish}
 use Rattle.wx_journal.specs.declared.wish.Wish.TheVariants.{Nothing}
 use Rattle.wx_action.specs.declared.error_hook.Twice.{Twice}
@@ -25,6 +25,16 @@ IsWish (_) = Unit {0}
 abbrev pub wish_in : Option (Twice Wish) → Wish
 wish_in None = Nothing
 wish_in (Some both) = both.kept
+
+-- the copy, where there is one
+abbrev pub copy_in : {T : Type 0} → Option (Twice T) → Option T
+copy_in None = None
+copy_in (Some both) = both.copy
+
+-- the same without its copy
+abbrev pub without_copy : {T : Type 0} → Option (Twice T) → Option (Twice T)
+without_copy None = None
+without_copy (Some both) = Some (record both { copy = None })
 
 -- a value and its copy, where there is one, are equal
 abbrev pub IsCopy : {T : Type 0} → T → Option T → Type 0

@@ -9,8 +9,6 @@ use Rattle.wx_control.specs.declared.id.Id.{Id}
 use Rattle.wx_control.specs.declared.ask.Ask.{Ask}
 use Rattle.wx_control.specs.Sent.{Sink}
 use Rattle.wx_machine.specs.Journal.{listed}
-use Rattle.wx_machine.specs.Due.{is_quit}
-use Rattle.wx_machine.specs.Last.{last_is, without_last}
 
 -- the journal so far, the names and the events of the batch, the acts so far, and whether they were handed
 pub record Handled : Type 0 where
@@ -19,17 +17,6 @@ pub record Handled : Type 0 where
   pub events : List Event
   pub acts : List Act
   pub handed : Bool
-
--- whether the last of these acts is a quit
-abbrev pub ends_with_quit : List Act → Bool
-ends_with_quit acts = last_is is_quit acts
-
--- the acts with this act behind them, a quit, which takes the place of one that stands last
-abbrev pub with_this_quit : Act → List Act → List Act
-with_this_quit act acts = without_last is_quit acts ++ act ∷ []
-
-abbrev pub with_quit : List Act → List Act
-with_quit acts = with_this_quit Quit acts
 
 -- what these acts ask, in order: the job, and what is asked of it
 abbrev pub asks_of : List Act → List (Id × Ask)

@@ -6,7 +6,8 @@ use Rattle.wx_journal.specs.Acts.{JournalAct as Act}
 use Rattle.wx_journal.specs.Names.{next_job}
 use Rattle.wx_action.specs.declared.handler.Second.{Second}
 use Rattle.wx_action.specs.declared.handler.Todo.{Todo}
-use Rattle.wx_action.specs.Handled.{ends_with_quit, with_this_quit, AreEvents, lookup}
+use Rattle.wx_action.specs.Handled.{AreEvents, lookup}
+use Rattle.wx_machine.specs.Quits.{ends_with_quit, with_this_quit}
 use Rattle.wx_action.specs.declared.worker_state.Held.{Held}
 use Rattle.wx_action.specs.HeldJobs.{AreShown}
 use Rattle.wx_machine.specs.Jobs.{AreLawful, next_created}

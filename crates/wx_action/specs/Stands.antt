@@ -14,8 +14,8 @@ use Rattle.wx_journal.specs.declared.entry.TurnKind.TheVariants.{Work}
 use Rattle.wx_journal.specs.declared.entry.Word.TheVariants.{Idle}
 use Rattle.wx_journal.specs.Names.{event_count, moment}
 use Rattle.wx_journal.specs.Written.{Written}
-use Rattle.wx_config.specs.declared.runtime.RuntimeError.{RuntimeError}
-use Rattle.wx_config.specs.declared.runtime.RuntimeError.TheVariants.{Exit}
+use Rattle.wx_error.specs.declared.runtime.RuntimeError.{RuntimeError}
+use Rattle.wx_error.specs.declared.runtime.RuntimeError.TheVariants.{Exit}
 use Rattle.wx_words.specs.declared.list.Memory.{Memory as NoMemory}
 use Rattle.wx_journal.specs.declared.wish.Wish.{Wish}
 use Rattle.wx_control.specs.declared.id.Id.{Id}
@@ -216,6 +216,11 @@ pub record IsJudged (s : Start) (p : List Entry) (name : ℕ) (found : Found) (p
   pub answer : Result Bool RuntimeError
   pub shown : p' ≡ Filter n name answer ∷ p
   pub judged : Judges s p name found p'
+
+-- what a turn did that collected this and handed nothing
+abbrev pub without_hand : Collected → Worked
+without_hand collected.Stop = worked.End
+without_hand (_) = worked.On
 
 -- whether the run goes on
 abbrev pub Works : Start → Worked → List Entry → Type 0

@@ -1,12 +1,13 @@
 // What acts ask for is done.
-ghost use Rattle.std.specs.Prelude.{◌≡◌, List, OnOk};
+ghost use Rattle.std.specs.Prelude.{◌≡◌, ◌+◌, ◌≤◌, List, OnOk};
 ghost use Rattle.wx_action.specs.declared.handler.Todo.{Todo as ATodo};
 ghost use Rattle.wx_action.specs.declared.handler.Todo.TheVariants as todo;
 ghost use Rattle.wx_action.specs.Serves.{Grows, Performs};
 ghost use Rattle.wx_machine.specs.Start.{Start};
 ghost use Rattle.wx_machine.specs.Due.{Agenda, agenda};
+ghost use Rattle.wx_machine.specs.Steady.{OnlyRoom};
 ghost use Rattle.wx_action.specs.Perform.{OwesActs, IsFirst, Does};
-ghost use Rattle.wx_action.specs.Stands.{Stands, Ready};
+ghost use Rattle.wx_action.specs.Stands.{Stands, Ready, end_room};
 
 use crate::handler::Todo;
 use crate::worker_state::{Held, Worker};
@@ -15,6 +16,18 @@ use wx_control::{Ask, Flag, Id};
 use wx_events::Memory;
 use wx_job::Host;
 use wx_journal::{Entry, Journal, Word};
+
+/// Takes the room for making a job, and for its end. It fails only for want of memory.
+fn reserve_job<W: Host>(worker: &Worker, host: &mut W, journal: &mut Journal) -> Result<(), Memory>
+    ensures same { journal.new.past ≡ journal.old.past }
+    ensures rest { OnlyRoom (W.seen host.old) (W.seen host.new) }
+    ensures kept { journal.old.spare ≤ journal.new.spare }
+    ensures room { OnOk result (3 + end_room worker.now ≤ journal.new.spare) }
+    ensures host_room { OnOk result (2 + end_room worker.now ≤ (W.seen host.new).spare) }
+{
+    worker.reserve(3, journal)?;
+    worker.reserve_host(2, host)
+}
 
 /// Makes a job that an act created: it is held from now on, with the room for its end. It fails only for want of memory,
 /// and adds no entry then.
@@ -30,8 +43,10 @@ fn make<W: Host>(
     ensures performs { Performs start journal.old.past (W.seen host.old) worker.new journal.new (W.seen host.new) }
     ensures does { Does result start journal.old.past (todo.Create held) journal.new.past }
 {
-    worker.reserve(3, journal)?;
-    worker.reserve_host(2, host)?;
+    let Ok(()) = reserve_job(worker, host, journal) else {
+        drop(held);
+        return Err(Memory);
+    };
     let id = held.handle.id();
     worker.jobs.add(held)?;
     journal.push(Entry::Made(id));
@@ -54,13 +69,18 @@ fn ask_or_ignore(
     ensures grows { Grows start worker.old journal.old worker.new journal.new }
     ensures does { Does result start journal.old.past (todo.Ask id ask done) journal.new.past }
 {
-    worker.reserve(2, journal)?;
+    let Ok(()) = worker.reserve(2, journal) else {
+        drop(done);
+        return Err(Memory);
+    };
     if !worker.jobs.lives(id) {
+        drop(done);
         journal.push(Entry::Word(Word::Ignored));
         return Ok(());
     }
     let task = worker.jobs.task_mut(id);
-    task.send(alloc, ask, Some(done), journal)?;
+    let ticket = task.send(alloc, ask, Some(done), journal)?;
+    drop(ticket);
     Ok(())
 }
 

@@ -1,5 +1,5 @@
 // The events that wait to be handed, with the room for handing them.
-ghost use Rattle.std.specs.Prelude.{◌≡◌, ℕ, ◌+◌, ◌<◌, ◌≤◌, ◌==◌, [], ◌∷◌, ◌++◌, length, OnOk, OnErr};
+ghost use Rattle.std.specs.Prelude.{◌≡◌, ℕ, ◌+◌, ◌<◌, ◌≤◌, ◌==◌, [], ◌∷◌, ◌++◌, length, vec_len, vec_capacity, OnOk, OnErr};
 
 use std::alloc::Global;
 use std::marker::Model;
@@ -33,6 +33,20 @@ impl Model for Batch {
     ghost invariant = { λ b. IsReady b.names.items b.second_names.items b.acts.items b.second_acts.items (min (vec_capacity b.acts) (vec_capacity b.second_acts)) };
 }
 
+/// Takes room for one value more in each of two lists. It fails only for want of memory.
+fn reserve_both<T>(first: &mut Vec<T>, second: &mut Vec<T>) -> Result<(), Memory>
+    ensures first { first.new.items ≡ first.old.items }
+    ensures second { second.new.items ≡ second.old.items }
+    ensures kept { vec_capacity first.old ≤ vec_capacity first.new }
+    ensures second_kept { vec_capacity second.old ≤ vec_capacity second.new }
+    ensures room { OnOk result (vec_len first.new + 1 ≤ vec_capacity first.new) }
+    ensures second_room { OnOk result (vec_len second.new + 1 ≤ vec_capacity second.new) }
+{
+    first.reserve(1)?;
+    second.reserve(1)?;
+    Ok(())
+}
+
 impl Batch {
     /// No event, and no room. It takes no memory.
     pub fn new(alloc: Global) -> Batch
@@ -54,12 +68,9 @@ impl Batch {
         ensures events { self.new.events ≡ self.old.events }
         ensures room { OnOk result (1 ≤ self.new.room) }
     {
-        self.names.reserve(1)?;
-        self.second_names.reserve(1)?;
+        reserve_both(&mut self.names, &mut self.second_names)?;
         self.events.reserve(1)?;
-        self.acts.reserve(1)?;
-        self.second_acts.reserve(1)?;
-        Ok(())
+        reserve_both(&mut self.acts, &mut self.second_acts)
     }
 
     /// Adds an event in room that was taken.

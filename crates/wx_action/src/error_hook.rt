@@ -2,11 +2,11 @@
 ghost use Rattle.std.specs.Prelude.{◌≡◌, false, true, is_none, Some, None, if◌then◌else◌, IfOk, OnOk, OnErr};
 ghost use Rattle.wx_journal.specs.declared.wish.Wish.TheVariants.{Nothing, Elevate, Critical};
 ghost use Rattle.wx_journal.specs.declared.entry.Entry.TheVariants.{Show};
-ghost use Rattle.wx_action.specs.ErrorHooks.{first_wish, IsKeptWish, wish_in};
+ghost use Rattle.wx_action.specs.ErrorHooks.{first_wish, IsKeptWish, wish_in, copy_in, without_copy};
 
 use std::alloc::Global;
 use std::marker::Model;
-use wx_config::{CriticalError, RuntimeError};
+use wx_error::{CriticalError, RuntimeError};
 use wx_events::{Copies, Memory};
 use wx_journal::{Entry, Wish};
 
@@ -28,6 +28,13 @@ fn make_twice<T: Copies + Drop>(alloc: Global, value: T) -> Result<Twice<T>, Mem
     })
 }
 
+/// The value that stays. The other is let go.
+fn into_kept<T: Drop>(both: Twice<T>) -> T
+    ensures { result ≡ both.kept }
+{
+    both.kept
+}
+
 /// Puts a value where none is.
 fn set_once<T: Drop>(slot: &mut Option<T>, value: T)
     ensures { slot.new ≡ (if is_none slot.old then Some value else slot.old) }
@@ -42,8 +49,19 @@ fn kept_of(wish: Option<Twice<Wish>>) -> Wish
     ensures { result ≡ wish_in wish }
 {
     match wish {
-        Some(both) => both.kept,
+        Some(both) => into_kept(both),
         None => Wish::Nothing,
+    }
+}
+
+/// Moves out the copy of a value, where there is one.
+fn take_copy<T: Drop>(slot: &mut Option<Twice<T>>) -> Option<T>
+    ensures copy { result ≡ copy_in slot.old }
+    ensures kept { slot.new ≡ without_copy slot.old }
+{
+    match slot {
+        Some(both) => both.copy.take(),
+        None => None,
     }
 }
 
@@ -54,14 +72,9 @@ fn copy_of(wish: &mut Option<Twice<Wish>>) -> Wish
     ensures wish { wish_in wish.new ≡ wish_in wish.old }
     ensures kept { IsKeptWish false wish.new }
 {
-    let Some(both) = wish.take() else {
-        return Wish::Nothing;
-    };
-    let Twice { kept, copy } = both;
-    *wish = Some(Twice { kept, copy: None });
-    match copy {
+    match take_copy(wish) {
         Some(copy) => copy,
-        None => unreachable!(),
+        None => Wish::Nothing,
     }
 }
 
@@ -145,8 +158,7 @@ impl ErrorHook {
         ensures error { result.0 ≡ self.error }
         ensures wish { result.1 ≡ self.wish }
     {
-        let error = self.error;
-        let wish = self.wish;
-        (error.kept, kept_of(wish))
+        let ErrorHook { error, wish } = self;
+        (into_kept(error), kept_of(wish))
     }
 }

@@ -8,7 +8,8 @@ ghost use Rattle.wx_journal.specs.declared.entry.Act.TheVariants.{Create, Ask as
 ghost use Rattle.wx_journal.specs.declared.entry.Entry.TheVariants.{Hand};
 ghost use Rattle.wx_action.specs.declared.handler.CreateRefused.TheVariants.{IdsSpent};
 ghost use Rattle.wx_machine.specs.Due.{is_quit};
-ghost use Rattle.wx_action.specs.Handled.{ends_with_quit, with_this_quit, with_quit, sink_of, AreEvents, lookup, Handled};
+ghost use Rattle.wx_action.specs.Handled.{sink_of, AreEvents, lookup, Handled};
+ghost use Rattle.wx_machine.specs.Quits.{ends_with_quit, with_this_quit, with_quit};
 ghost use Rattle.wx_action.specs.HeldJobs.{IsHandle, AreSeen, AreShown};
 ghost use Rattle.wx_machine.specs.Jobs.{is_seen, AreLawful, next_created};
 ghost use Rattle.wx_machine.specs.Last.{without_last};
@@ -16,6 +17,7 @@ ghost use Rattle.wx_action.specs.KeptHandler.{HasSecondRoom, HasQuitRoom, StaysT
 ghost use Rattle.wx_action.specs.Todo.{AreTodo, IsNew};
 
 use crate::batch::Batch;
+use crate::copied::{with_copies, with_copy};
 use crate::ids::IdCount;
 use crate::job_list::{JobList, Jobs};
 use crate::worker_state::Held;
@@ -124,8 +126,9 @@ fn push_second(second: &mut Option<Second>, act: Act)
     requires { HasSecondRoom 1 second.old }
     ensures { AddsTwice act second.old second.new }
 {
-    if let Some(second) = second {
-        second.acts.push_reserved(act);
+    match second {
+        Some(second) => second.acts.push_reserved(act),
+        None => drop(act),
     }
 }
 
@@ -149,6 +152,28 @@ fn reserve_act(
     reserve_second(second)
 }
 
+/// Adds an act, also among those that stand a second time, and what has to be done for it, in room that was taken.
+fn put_act(
+    acts: &mut Vec<Act>,
+    second: &mut Option<Second>,
+    todo: &mut Vec<Todo>,
+    act: Act,
+    twice: Act,
+    one: Todo,
+)
+    requires room { vec_len acts.old + 1 ≤ vec_capacity acts.old }
+    requires second_room { HasSecondRoom 1 second.old }
+    requires todo_room { vec_len todo.old + 1 ≤ vec_capacity todo.old }
+    ensures acts { acts.new.items ≡ acts.old.items ++ act ∷ [] }
+    ensures capacity { vec_capacity acts.new ≡ vec_capacity acts.old }
+    ensures second { AddsTwice twice second.old second.new }
+    ensures todo { todo.new.items ≡ todo.old.items ++ one ∷ [] }
+{
+    acts.push_reserved(act);
+    push_second(second, twice);
+    todo.push_reserved(one);
+}
+
 /// Lets go of a quit that stands last among these acts, and keeps the room for it.
 #[tactic(auto, using(crate::proofs::QuitLemmas::left_as_is))]
 fn leave_last_quit(acts: &mut Vec<Act>)
@@ -156,7 +181,7 @@ fn leave_last_quit(acts: &mut Vec<Act>)
     ensures capacity { vec_capacity acts.new ≡ vec_capacity acts.old }
 {
     if ends_with_quit(acts.as_slice()) {
-        acts.pop();
+        drop(acts.pop());
     }
 }
 
@@ -177,8 +202,9 @@ fn put_second_quit(second: &mut Option<Second>, quit: Act)
     requires { HasQuitRoom second.old }
     ensures { QuitsTwice quit second.old second.new }
 {
-    if let Some(second) = second {
-        put_quit(&mut second.acts, quit);
+    match second {
+        Some(second) => put_quit(&mut second.acts, quit),
+        None => drop(quit),
     }
 }
 
@@ -191,22 +217,63 @@ struct NewJob {
     held: Held,
 }
 
+/// A handle on a new job of this id that runs this command, and what is to be held of it. It fails only for want of memory.
+fn start_held(alloc: Global, id: Id, command: Command) -> Result<(Job, Held), Memory>
+    ensures job { IfOk result (λ made. (made.0.id ≡ id) × (made.0.command ≡ command)) }
+    ensures held { IfOk result (λ made. IsNew made.1 id command) }
+{
+    let (job, task) = start_job(alloc, id, command)?;
+    match job.copy(alloc) {
+        Ok(handle) => Ok((job, Held { handle, task })),
+        Err(memory) => {
+            drop((job, task));
+            Err(memory)
+        }
+    }
+}
+
 /// A new job of this id that runs this command. It fails only for want of memory.
 fn new_job(alloc: Global, id: Id, command: Command) -> Result<NewJob, Memory>
     ensures acts { IfOk result (λ new. (new.act ≡ Create id command) × (new.twice ≡ Create id command)) }
     ensures job { IfOk result (λ new. (new.job.id ≡ id) × (new.job.command ≡ command)) }
     ensures held { IfOk result (λ new. IsNew new.held id command) }
 {
-    let act = Act::Create(id, command.copy(alloc)?);
-    let twice = Act::Create(id, command.copy(alloc)?);
-    let (job, task) = start_job(alloc, id, command)?;
-    let handle = job.copy(alloc)?;
-    Ok(NewJob {
-        act,
-        twice,
-        job,
-        held: Held { handle, task },
-    })
+    let (command, first, second) = with_copies(alloc, command)?;
+    match start_held(alloc, id, command) {
+        Ok((job, held)) => Ok(NewJob {
+            act: Act::Create(id, first),
+            twice: Act::Create(id, second),
+            job,
+            held,
+        }),
+        Err(memory) => {
+            drop((first, second));
+            Err(memory)
+        }
+    }
+}
+
+/// The ticket of an ask of this job, and a copy of its flag. It fails only for want of memory.
+fn new_ticket(alloc: Global, job: &Job) -> Result<(Ticket, Flag), Memory>
+    ensures gone { IfOk result (λ made. made.0.gone ≡ job.now.gone) }
+    ensures done { IfOk result (λ made. made.0.done ≡ made.1) }
+{
+    let gone = job.gone().copy(alloc)?;
+    match new_flag(alloc) {
+        Ok((done, copy)) => Ok((Ticket { gone, done }, copy)),
+        Err(memory) => {
+            drop(gone);
+            Err(memory)
+        }
+    }
+}
+
+/// A new flag and a copy of it. It fails only for want of memory.
+fn new_flag(alloc: Global) -> Result<(Flag, Flag), Memory>
+    ensures { IfOk result (λ both. both.0 ≡ both.1) }
+{
+    let flag = Flag::new(alloc, false)?;
+    with_copy(alloc, flag)
 }
 
 impl<'a> ActionHandler<'a> {
@@ -300,14 +367,23 @@ impl<'a> ActionHandler<'a> {
     {
         let mut ids = self.ids;
         let Some(id) = ids.next() else {
+            drop(command);
             return Err(CreateRefused::IdsSpent);
         };
-        reserve_act(&mut self.acts, &mut self.second, &mut self.todo)?;
+        let Ok(()) = reserve_act(&mut self.acts, &mut self.second, &mut self.todo) else {
+            drop(command);
+            return Err(CreateRefused::Memory);
+        };
         let new = new_job(alloc, id, command)?;
         self.ids = ids;
-        self.acts.push_reserved(new.act);
-        push_second(&mut self.second, new.twice);
-        self.todo.push_reserved(Todo::Create(new.held));
+        put_act(
+            &mut self.acts,
+            &mut self.second,
+            &mut self.todo,
+            new.act,
+            new.twice,
+            Todo::Create(new.held),
+        );
         Ok((id, new.job))
     }
 
@@ -345,11 +421,16 @@ impl<'a> ActionHandler<'a> {
         ensures lawful { AreLawful (next_job self.entry.past) result.1 }
         ensures todo { AreTodo result.1 result.2.items }
     {
-        (
-            List::from_vec(self.names),
-            List::from_vec(self.acts),
-            self.todo,
-        )
+        let ActionHandler {
+            names,
+            events,
+            acts,
+            second,
+            todo,
+            ..
+        } = self;
+        drop((events, second));
+        (List::from_vec(names), List::from_vec(acts), todo)
     }
 }
 
@@ -368,17 +449,16 @@ impl<'a> Controls for ActionHandler<'a> {
         ensures memory { IfErr result (λ refusal. refusal ≡ WantOfMemory) }
     {
         let id = job.id();
-        let done = Flag::new(alloc, false)?;
-        let ticket = Ticket {
-            gone: job.gone().copy(alloc)?,
-            done: done.copy(alloc)?,
-        };
-        let act = Act::Ask(id, ask.copy(alloc)?);
-        let twice = Act::Ask(id, ask.copy(alloc)?);
         reserve_act(&mut self.acts, &mut self.second, &mut self.todo)?;
-        self.acts.push_reserved(act);
-        push_second(&mut self.second, twice);
-        self.todo.push_reserved(Todo::Ask { job: id, ask, done });
+        let (ticket, done) = new_ticket(alloc, job)?;
+        put_act(
+            &mut self.acts,
+            &mut self.second,
+            &mut self.todo,
+            Act::Ask(id, ask),
+            Act::Ask(id, ask),
+            Todo::Ask { job: id, ask, done },
+        );
         Ok(ticket)
     }
 }

@@ -110,8 +110,7 @@ impl JobList {
         ensures added { OnOk result (self.new ≡ self.old ++ held ∷ []) }
         ensures err { OnErr result (self.new ≡ self.old) }
     {
-        self.items.reserve(1)?;
-        self.items.push_reserved(held);
+        self.items.push(held)?;
         Ok(())
     }
 

@@ -35,7 +35,8 @@ pub fn ask_turn(
     }
     worker.reserve(2, journal)?;
     let task = worker.jobs.task_mut(id);
-    task.send(alloc, ask, None, journal)?;
+    let ticket = task.send(alloc, ask, None, journal)?;
+    drop(ticket);
     Ok(())
 }
 
@@ -72,7 +73,6 @@ fn step_room(worker: &Worker, id: Id) -> Result<u64, Memory>
 
 /// The step of the job of this id, which is owed, once room is taken for it. It fails only for want of memory: then no
 /// entry was added, or the case was given up behind the call of the job's spawn hook.
-#[tactic(auto, using(wx_machine::proofs::KeptLemmas::kept))]
 fn take_step<W: Host, H: Hooks>(
     alloc: Global,
     worker: &mut Worker,
@@ -89,9 +89,7 @@ fn take_step<W: Host, H: Hooks>(
     ensures steps { Steps result start journal.old.past journal.new.past }
 {
     let room = step_room(worker, id)?;
-    worker.reserve(room, journal)?;
-    worker.reserve_host(room, host)?;
-    hooks.reserve(16)?;
+    worker.reserve_calls(room, room, 16, host, hooks, journal)?;
     step_of(alloc, worker, id, at, host, hooks, journal)
 }
 

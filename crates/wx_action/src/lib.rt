@@ -3,6 +3,7 @@
 
 mod acts_done;
 mod batch;
+mod copied;
 mod error_hook;
 mod handler;
 mod ids;

@@ -9,7 +9,7 @@ ghost use Rattle.wx_action.specs.Given.{gives_last, GivesTurn};
 
 use crate::error_hook::ErrorHook;
 use crate::handler::ActionHandler;
-use wx_config::RuntimeError;
+use wx_error::RuntimeError;
 use wx_events::{Event, Priority};
 use wx_job::{Host, JobHooks};
 use wx_journal::{Entry, Turn};

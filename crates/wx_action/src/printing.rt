@@ -7,7 +7,7 @@ ghost use Rattle.wx_journal.specs.declared.entry.Entry.{Entry as AnEntry};
 
 use crate::work_turn::is_unseen;
 use std::alloc::Global;
-use wx_config::CriticalError;
+use wx_error::CriticalError;
 use wx_events::{List, Memory, Text};
 use wx_journal::{Entry, Journal, put_end, put_lines};
 

@@ -4,7 +4,7 @@ ghost use Rattle.wx_journal.specs.declared.entry.Entry.{Entry};
 ghost use Rattle.wx_journal.specs.declared.entry.Entry.TheVariants.{Filter};
 ghost use Rattle.wx_journal.specs.Names.{moment};
 ghost use Rattle.wx_events.specs.Priority.{is_urgent};
-ghost use Rattle.wx_config.specs.declared.error.CriticalError.TheVariants.{Memory as WantOfMemory};
+ghost use Rattle.wx_error.specs.declared.error.CriticalError.TheVariants.{Memory as WantOfMemory};
 ghost use Rattle.wx_job.specs.Calls.{AreRoomy};
 ghost use Rattle.wx_action.specs.Serves.{GrowsHand, GrowsWithin, Continues};
 ghost use Rattle.wx_machine.specs.Start.{Start};
@@ -13,7 +13,7 @@ ghost use Rattle.wx_machine.specs.Due.{agenda, work, has_quit, Open, Takes, Filt
 ghost use Rattle.wx_machine.specs.Answer.{NoneIsToGo, BreaksOff, BreaksHere, Fails};
 ghost use Rattle.wx_action.specs.Perform.{OwesActs};
 ghost use Rattle.wx_machine.specs.RunLaws.{NoneUrgentWaits};
-ghost use Rattle.wx_action.specs.Stands.{Owes, OwesAt, AtWork, MayShow, Finds, Collects, IsDropped, IsJudged, LeavesRoom, Works, end_room};
+ghost use Rattle.wx_action.specs.Stands.{Owes, OwesAt, AtWork, MayShow, Finds, Collects, IsDropped, IsJudged, LeavesRoom, Works, without_hand, end_room};
 
 use crate::acts_done::perform;
 use crate::batch::Batch;
@@ -24,7 +24,7 @@ use crate::worker_state::Worker;
 use prio_channel::PrioQueue;
 use std::alloc::Global;
 use std::mem;
-use wx_config::{CriticalError, RuntimeError};
+use wx_error::{CriticalError, RuntimeError};
 use wx_events::{Copies, Event, Memory, Priority};
 use wx_job::Host;
 use wx_journal::{Act, Entry, Journal, Named, Wish, Word};
@@ -215,6 +215,7 @@ impl Worker {
             journal.push(Entry::Filter { n, name, answer });
             return self.join(item, priority, at);
         }
+        drop(item);
         self.reject(alloc, n, name, answer, journal)
     }
 
@@ -366,6 +367,16 @@ pub fn throttle_collect<H: Hooks>(
     }
 }
 
+/// What a turn did that handed nothing.
+fn without_hand(found: Collected) -> Worked
+    ensures { result ≡ without_hand found }
+{
+    match found {
+        Collected::Stop => Worked::End,
+        _ => Worked::On,
+    }
+}
+
 /// What a turn did that handed a batch.
 fn done_or_on(ends: bool) -> Worked
     ensures { result ≡ (if ends then Worked.End else Worked.On) }
@@ -428,7 +439,6 @@ fn hand<W: Host, H: Hooks>(
 /// answer says whether the run goes on. It fails where the error handler wished that the run ends with an error, and for want
 /// of memory, but not while an event is to be shown or a window to be handed behind an entry of its own. Where no urgent event
 /// waited, none waits afterwards. Where there was room for the end of all jobs, there is.
-#[tactic(auto, using(wx_machine::proofs::KeptLemmas::kept))]
 pub fn worker<W: Host, H: Hooks>(
     alloc: Global,
     worker: &mut Worker,
@@ -444,14 +454,9 @@ pub fn worker<W: Host, H: Hooks>(
     ensures breaks { IfErr result (λ error. BreaksOff start journal.new.past error) }
     ensures calm { NoneUrgentWaits journal.old.past → NoneUrgentWaits journal.new.past }
 {
-    worker.reserve(4, journal)?;
-    worker.reserve_host(0, host)?;
-    hooks.reserve(3)?;
+    worker.reserve_calls(4, 0, 3, host, hooks, journal)?;
     match throttle_collect(alloc, worker, at, hooks, journal)? {
-        Collected::Stop => Ok(Worked::End),
         Collected::Hand => Ok(hand(alloc, worker, host, hooks, journal)?),
-        Collected::Idle => Ok(Worked::On),
-        Collected::Kept => Ok(Worked::On),
-        Collected::Dropped => Ok(Worked::On),
+        found => Ok(without_hand(found)),
     }
 }

@@ -7,6 +7,7 @@ ghost use Rattle.wx_journal.specs.declared.entry.Entry.{Entry};
 ghost use Rattle.wx_journal.specs.declared.entry.Word.TheVariants.{Ignored};
 ghost use Rattle.wx_journal.specs.Names.{event_count};
 ghost use Rattle.wx_machine.specs.Steady.{OnlyRoom};
+ghost use Rattle.wx_machine.specs.Kept.{OnlyHooksRoom};
 ghost use Rattle.wx_action.specs.Serves.{Grows, Settles};
 ghost use Rattle.wx_machine.specs.Start.{Start, IsSize};
 ghost use Rattle.wx_machine.specs.Journal.{closed, bag};
@@ -15,13 +16,14 @@ ghost use Rattle.wx_action.specs.Stands.{Stands, Owes, IsOffered, end_room};
 ghost use Rattle.wx_action.specs.HeldJobs.{is_here, runs_child};
 
 use crate::batch::Batch;
+use crate::copied::with_copy;
 use crate::job_list::JobList;
 use prio_channel::{PrioQueue, TrySendError};
 use std::alloc::Global;
 use wx_config::Config;
 use wx_control::Job;
-use wx_events::{Copies, Event, Memory, Priority};
-use wx_job::{Host, JobTask};
+use wx_events::{Event, Memory, Priority};
+use wx_job::{Host, JobHooks, JobTask};
 use wx_journal::{Entry, Journal, Named, Offered, Word};
 
 /// What is held of a job: a handle on it, for the action handler, and its task.
@@ -79,15 +81,20 @@ impl Worker {
         ensures stands { IfOk result (λ worker. (s : Start) → s.config ≡ config → Stands s worker (begin_of s ∷ [])) }
         ensures room { IfOk result (λ worker. end_room worker ≡ 0) }
     {
-        let queue = PrioQueue::bounded(alloc, config.event_channel_size)?;
-        Ok(Worker {
-            config,
-            queue,
-            named: 0,
-            batch: Batch::new(alloc),
-            first: 0,
-            jobs: JobList::new(alloc),
-        })
+        match PrioQueue::bounded(alloc, config.event_channel_size) {
+            Ok(queue) => Ok(Worker {
+                config,
+                queue,
+                named: 0,
+                batch: Batch::new(alloc),
+                first: 0,
+                jobs: JobList::new(alloc),
+            }),
+            Err(memory) => {
+                drop(config);
+                Err(memory)
+            }
+        }
     }
 
     /// Takes room in the journal for so many entries, besides what the end of all jobs takes. It fails only for want of
@@ -113,6 +120,30 @@ impl Worker {
         Ok(())
     }
 
+    /// Takes room in the journal and in a host, as both above do, and in the hooks, for so many entries each. It fails only
+    /// for want of memory.
+    pub(crate) fn reserve_calls<W: Host, H: JobHooks>(
+        &self,
+        n: u64,
+        hosted: u64,
+        hooked: u64,
+        host: &mut W,
+        hooks: &mut H,
+        journal: &mut Journal,
+    ) -> Result<(), Memory>
+        ensures same { journal.new.past ≡ journal.old.past }
+        ensures kept { journal.old.spare ≤ journal.new.spare }
+        ensures host { OnlyRoom (W.seen host.old) (W.seen host.new) }
+        ensures hooks { OnlyHooksRoom H.seen H.stands hooks.old hooks.new }
+        ensures room { OnOk result (n + end_room self.now ≤ journal.new.spare) }
+        ensures host_room { OnOk result (hosted + end_room self.now ≤ (W.seen host.new).spare) }
+        ensures hooks_room { OnOk result (hooked ≤ (H.seen hooks.new).spare) }
+    {
+        self.reserve(n, journal)?;
+        self.reserve_host(hosted, host)?;
+        hooks.reserve(hooked)
+    }
+
     /// Lists an event that was sent before the run, and puts it into the queue, where there is room. It fails only for
     /// want of memory. The worker stays as it was then, and no entry is added.
     pub fn send(
@@ -133,9 +164,12 @@ impl Worker {
         ensures err { OnErr result (journal.new.past ≡ journal.old.past) }
         ensures same { OnErr result (self.new ≡ self.old) }
     {
-        self.reserve(1, journal)?;
+        let Ok(()) = self.reserve(1, journal) else {
+            drop(event);
+            return Err(Memory);
+        };
+        let (event, twice) = with_copy(alloc, event)?;
         let name = self.named;
-        let twice = event.copy(alloc)?;
         let _ = offer_to(&mut self.queue, Named { name, event: twice }, priority);
         self.named = name + 1;
         journal.push(Entry::Sent {
@@ -161,9 +195,12 @@ impl Worker {
         ensures settles { Settles result start journal.old.past journal.new.past }
         ensures same { OnErr result (self.new ≡ self.old) }
     {
-        self.reserve(1, journal)?;
+        let Ok(()) = self.reserve(1, journal) else {
+            drop(event);
+            return Err(Memory);
+        };
+        let (event, twice) = with_copy(alloc, event)?;
         let name = self.named;
-        let twice = event.copy(alloc)?;
         let result = offer_to(&mut self.queue, Named { name, event: twice }, priority);
         self.named = name + 1;
         journal.push(Entry::Offer {
@@ -197,7 +234,13 @@ fn offer_to(queue: &mut PrioQueue<Named>, item: Named, priority: Priority) -> Of
 {
     match queue.try_send(item, priority) {
         Ok(()) => Offered::Queued,
-        Err(TrySendError::Full(_, _)) => Offered::Full,
-        Err(TrySendError::Closed(_, _)) => Offered::Closed,
+        Err(TrySendError::Full(item, _)) => {
+            drop(item);
+            Offered::Full
+        }
+        Err(TrySendError::Closed(item, _)) => {
+            drop(item);
+            Offered::Closed
+        }
     }
 }

@@ -22,19 +22,25 @@ pub enum Program {
 impl Copies for Program {
     fn copy(&self, alloc: Global) -> Result<Program, Memory> {
         match self {
-            Program::Exec { prog, args } => Ok(Program::Exec {
-                prog: prog.copy(alloc)?,
-                args: args.copy(alloc)?,
-            }),
+            Program::Exec { prog, args } => {
+                let prog = prog.copy(alloc)?;
+                let args = args.copy(alloc)?;
+                Ok(Program::Exec { prog, args })
+            }
             Program::Shell {
                 shell,
                 command,
                 args,
-            } => Ok(Program::Shell {
-                shell: shell.copy(alloc)?,
-                command: command.copy(alloc)?,
-                args: args.copy(alloc)?,
-            }),
+            } => {
+                let shell = shell.copy(alloc)?;
+                let command = command.copy(alloc)?;
+                let args = args.copy(alloc)?;
+                Ok(Program::Shell {
+                    shell,
+                    command,
+                    args,
+                })
+            }
         }
     }
 }

@@ -45,9 +45,11 @@ impl Copies for Shell {
             Some(text) => Some(text.copy(alloc)?),
             None => None,
         };
+        let prog = self.prog.copy(alloc)?;
+        let options = self.options.copy(alloc)?;
         Ok(Shell {
-            prog: self.prog.copy(alloc)?,
-            options: self.options.copy(alloc)?,
+            prog,
+            options,
             program_option,
             quote: self.quote,
         })

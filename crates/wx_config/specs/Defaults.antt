@@ -1,7 +1,7 @@
 -- The default settings.
 use Rattle.std.specs.Prelude.{true, false, []}
 use Rattle.wx_config.specs.declared.config.Config.{Config}
-use Rattle.wx_config.specs.declared.watched.Watcher.TheVariants.{Native}
+use Rattle.wx_watch.specs.declared.watched.Watcher.TheVariants.{Native}
 
 abbrev pub default_config : Config
 default_config = record {

@@ -1,6 +1,6 @@
 -- What filters answer.
 use Rattle.std.specs.Prelude.{Bool, true, false, Result, Ok, Err}
-use Rattle.wx_config.specs.declared.runtime.RuntimeError.{RuntimeError}
+use Rattle.wx_error.specs.declared.runtime.RuntimeError.{RuntimeError}
 
 -- that it passes, or else such an answer
 abbrev pub PassesOr : Type 0 → Result Bool RuntimeError → Type 0

@@ -1,10 +1,10 @@
 // The settings of an engine.
 ghost use Rattle.std.specs.Prelude.{◌≡◌, IfOk};
 
-use crate::watched::{WatchedPath, Watcher};
 use std::alloc::Global;
 use std::marker::Model;
 use wx_events::{List, Memory};
+use wx_watch::{WatchedPath, Watcher};
 
 /// A value that can be replaced, which contracts see as that value.
 #[derive(Drop, Debug)]

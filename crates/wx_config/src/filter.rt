@@ -3,9 +3,9 @@ ghost use Rattle.std.specs.Prelude.{◌≡◌, ℕ, Bool, true, List, Result as 
 ghost use Rattle.wx_events.specs.declared.event.Event.{Event as AnEvent};
 ghost use Rattle.wx_events.specs.declared.priority.Priority.{Priority as APriority};
 ghost use Rattle.wx_config.specs.Filters.{PassesOr};
-ghost use Rattle.wx_config.specs.declared.runtime.RuntimeError.{RuntimeError as AnError};
+ghost use Rattle.wx_error.specs.declared.runtime.RuntimeError.{RuntimeError as AnError};
 
-use crate::runtime::RuntimeError;
+use wx_error::RuntimeError;
 use wx_events::{Event, Priority, TextPath};
 
 /// Judges events, and the folders that may be watched for them.

@@ -7,11 +7,10 @@ use std::alloc::Global;
 use std::fmt;
 use std::hash::{DefaultHasher, Hash, Hasher};
 use std::process::Abort;
-use wx_config::{
-    Changeable, Config, CriticalError, EntryKind, Filterer, FsWatcherError, NotifyFault,
-    RuntimeError, ScanFault, WatchedPath, Watcher,
-};
+use wx_config::{Changeable, Config, Filterer};
+use wx_error::{CriticalError, RuntimeError};
 use wx_events::{Copies, Event, List, Memory, Priority, Spelled, Text, TextPath, Words};
+use wx_watch::{EntryKind, FsWatcherError, NotifyFault, ScanFault, WatchedPath, Watcher};
 
 /// The value whose words are this whole line.
 fn read_line<T: Spelled>(alloc: Global, line: &[u8]) -> Result<Option<T>, Memory> {

@@ -305,11 +305,14 @@ impl Job {
 
 impl Copies for Job {
     fn copy(&self, alloc: Global) -> Result<Job, Memory> {
+        let command = self.command.copy(alloc)?;
+        let gone = self.gone.copy(alloc)?;
+        let running = self.running.copy(alloc)?;
         Ok(Job {
             id: self.id,
-            command: self.command.copy(alloc)?,
-            gone: self.gone.copy(alloc)?,
-            running: self.running.copy(alloc)?,
+            command,
+            gone,
+            running,
         })
     }
 }

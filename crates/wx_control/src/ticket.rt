@@ -24,20 +24,18 @@ impl Ticket {
     pub fn resolved(alloc: Global, gone: &Flag) -> Result<Ticket, Memory>
         ensures { IfOk result (λ ticket. ticket ≡ twice gone.now) }
     {
-        Ok(Ticket {
-            gone: gone.copy(alloc)?,
-            done: gone.copy(alloc)?,
-        })
+        let done = gone.copy(alloc)?;
+        let gone = gone.copy(alloc)?;
+        Ok(Ticket { gone, done })
     }
 }
 
 impl Copies for Ticket {
     /// One more over copies of both flags.
     fn copy(&self, alloc: Global) -> Result<Ticket, Memory> {
-        Ok(Ticket {
-            gone: self.gone.copy(alloc)?,
-            done: self.done.copy(alloc)?,
-        })
+        let gone = self.gone.copy(alloc)?;
+        let done = self.done.copy(alloc)?;
+        Ok(Ticket { gone, done })
     }
 }
 

@@ -50,10 +50,9 @@ impl Controls for Kept {
 
 /// A ticket of this job that is done by this flag.
 fn open_ticket(alloc: Global, job: &Job, done: &Flag) -> Result<Ticket, Memory> {
-    Ok(Ticket {
-        gone: job.gone().copy(alloc)?,
-        done: done.copy(alloc)?,
-    })
+    let gone = job.gone().copy(alloc)?;
+    let done = done.copy(alloc)?;
+    Ok(Ticket { gone, done })
 }
 
 /// A sink that holds nothing and answers this.

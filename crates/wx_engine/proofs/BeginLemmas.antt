@@ -20,7 +20,7 @@ use Rattle.wx_machine.specs.Turns.{StaysInTurn}
 use Rattle.wx_machine.specs.Jobs.{set, jobs}
 use Rattle.wx_action.specs.Stands.{Stands, held_id, end_room}
 use Rattle.wx_machine.proofs.RunLaws.{none_waits, run_led}
-use Rattle.wx_machine.proofs.JobsLaws.{turns_over}
+use Rattle.wx_machine.proofs.AllJobs.{turns_over}
 
 -- what is known once the beginning is listed
 pub record Begun (s : Start) (w : Worker) (p p' : List Entry) : Type 0 where

@@ -7,13 +7,13 @@ use Rattle.wx_journal.specs.Told.{Rose, tell_if, tells, anywhere, is_world, is_h
 use Rattle.wx_machine.specs.TicketLaws.{Throughout, GracesNeedChildren, IsPlaced}
 use Rattle.wx_machine.proofs.Graces.{graces_need_children}
 use Rattle.wx_machine.specs.Start.{Start}
-use Rattle.wx_config.specs.declared.error.CriticalError.{CriticalError}
-use Rattle.wx_config.specs.declared.error.CriticalError.TheVariants.{IoError, Memory}
+use Rattle.wx_error.specs.declared.error.CriticalError.{CriticalError}
+use Rattle.wx_error.specs.declared.error.CriticalError.TheVariants.{IoError, Memory}
 use Rattle.wx_machine.specs.Answer.{Dying, Alive, Dies, IsBroken, AtAnyPlace, Wishes, MemoryCuts, Answers}
 use Rattle.wx_journal.specs.Lines.{Answer}
 use Rattle.wx_machine.specs.RunLaws.{IsBatched, AreBatches, NoneUnseenIsShown, NoneIsShownClosed, AreMadeOnce, AreServed}
 use Rattle.wx_machine.specs.Leads.{Leads, Here, Then}
-use Rattle.wx_machine.proofs.JobsLaws.{run_makes_once}
+use Rattle.wx_machine.proofs.AllJobs.{run_makes_once}
 use Rattle.wx_machine.proofs.RunLaws.{orderly, run_is_batched, run_has_batches, run_shows, run_shows_open, run_is_served}
 use Rattle.wx_machine.proofs.PlanLaws.{of_end}
 use Rattle.wx_machine.proofs.Lawful.{IsOfEnd}

@@ -7,9 +7,9 @@ use Rattle.wx_journal.specs.declared.entry.Entry.{Entry}
 use Rattle.wx_journal.specs.declared.entry.Entry.TheVariants.{Show}
 use Rattle.wx_journal.specs.declared.wish.Wish.{Wish}
 use Rattle.wx_journal.specs.declared.wish.Wish.TheVariants.{Nothing, Elevate, Critical}
-use Rattle.wx_config.specs.declared.runtime.RuntimeError.{RuntimeError}
-use Rattle.wx_config.specs.declared.error.CriticalError.{CriticalError}
-use Rattle.wx_config.specs.declared.error.CriticalError.TheVariants.{Exit, IoError, Memory}
+use Rattle.wx_error.specs.declared.runtime.RuntimeError.{RuntimeError}
+use Rattle.wx_error.specs.declared.error.CriticalError.{CriticalError}
+use Rattle.wx_error.specs.declared.error.CriticalError.TheVariants.{Exit, IoError, Memory}
 use Rattle.wx_machine.specs.Journal.{ending}
 use Rattle.wx_machine.specs.Start.{Start}
 use Rattle.wx_machine.specs.Jobs.{jobs}

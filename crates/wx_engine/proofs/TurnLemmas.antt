@@ -10,7 +10,7 @@ use Rattle.wx_machine.specs.Case.{is_fault}
 use Rattle.wx_action.specs.declared.worker_state.Worker.{Worker}
 use Rattle.wx_machine.specs.Start.{Start}
 use Rattle.wx_machine.specs.Journal.{turn_count, early_count, turn_fault}
-use Rattle.wx_machine.specs.Due.{agenda, Open, Due}
+use Rattle.wx_machine.specs.Due.{agenda, Open, Hands, Due}
 use Rattle.wx_machine.specs.RunLaws.{NoneUrgentWaits, MomentsRise}
 use Rattle.wx_machine.specs.Faults.{CountsOn}
 use Rattle.wx_machine.proofs.FaultLaws.{counts_entry}
@@ -20,11 +20,18 @@ use Rattle.wx_action.specs.Stands.{Stands}
 use Rattle.wx_machine.specs.Turns.{SameTurns}
 use Rattle.wx_machine.specs.Seen.{Seen}
 use Rattle.wx_action.specs.Serves.{Serves}
-use Rattle.wx_machine.proofs.JobsLaws.{same_turns}
+use Rattle.wx_machine.proofs.AllJobs.{same_turns}
 use Rattle.wx_engine.specs.Run.{ServesTurns}
 use Rattle.wx_machine.specs.Told.{is_last, TellsNoEnd}
 use Rattle.wx_action.proofs.TurnLaws.{at_turn, next_turn}
 use Rattle.wx_action.proofs.StandsLemmas.{stands_behind}
+
+-- where a turn may come no window is to be handed
+not_both : Open ≡ Hands → ⊥
+not_both e = cc
+
+pub not_hands : (s : Start) (p : List Entry) → agenda s p ≡ Open → agenda s p ≡ Hands → ⊥
+not_hands s p is e = not_both (sym is ∙ e)
 
 -- ---- a turn that was drawn, or the fault of one
 

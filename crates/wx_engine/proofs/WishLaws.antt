@@ -1,7 +1,7 @@
 -- A run ends with what the error handler wished.
 use Rattle.std.proofs.Common.{◌≡◌, inl, inr, Option, None, Some, IfSome, List, [], ◌∷◌, Ok, Err, refl}
-use Rattle.wx_config.specs.declared.error.CriticalError.{CriticalError}
-use Rattle.wx_config.specs.declared.error.CriticalError.TheVariants.{IoError, Memory}
+use Rattle.wx_error.specs.declared.error.CriticalError.{CriticalError}
+use Rattle.wx_error.specs.declared.error.CriticalError.TheVariants.{IoError, Memory}
 use Rattle.wx_journal.specs.declared.entry.Entry.{Entry}
 use Rattle.wx_journal.specs.declared.entry.Entry.TheVariants.{Show, Dropped, Gone}
 use Rattle.wx_journal.specs.Lines.{Answer}

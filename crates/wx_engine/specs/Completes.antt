@@ -2,8 +2,8 @@
 use Rattle.std.specs.Prelude.{◌≡◌, None, IfSome, Ok, Err, List, [], ◌∷◌}
 use Rattle.wx_journal.specs.declared.entry.Entry.{Entry}
 use Rattle.wx_journal.specs.declared.entry.Entry.TheVariants.{Show}
-use Rattle.wx_config.specs.declared.error.CriticalError.{CriticalError}
-use Rattle.wx_config.specs.declared.error.CriticalError.TheVariants.{Memory}
+use Rattle.wx_error.specs.declared.error.CriticalError.{CriticalError}
+use Rattle.wx_error.specs.declared.error.CriticalError.TheVariants.{Memory}
 use Rattle.wx_journal.specs.Lines.{Answer}
 use Rattle.wx_machine.specs.Journal.{ending}
 

@@ -1,5 +1,3 @@
-pub mod Boxed
-pub mod BoxedLaws
 pub mod Sent
 pub mod Run
 pub mod Completes

@@ -6,8 +6,8 @@ use Rattle.wx_journal.specs.Told.{tells, anywhere, is_turn, is_world, is_hooks, 
 use Rattle.wx_journal.specs.Written.{Written}
 use Rattle.wx_machine.specs.Seen.{Seen}
 use Rattle.wx_machine.specs.Faults.{Counted, CountsOn}
-use Rattle.wx_config.specs.declared.error.CriticalError.{CriticalError}
-use Rattle.wx_config.specs.declared.error.CriticalError.TheVariants.{Exit, IoError}
+use Rattle.wx_error.specs.declared.error.CriticalError.{CriticalError}
+use Rattle.wx_error.specs.declared.error.CriticalError.TheVariants.{Exit, IoError}
 use Rattle.wx_machine.specs.Start.{Start}
 use Rattle.wx_action.specs.declared.worker_state.Worker.{Worker}
 use Rattle.wx_machine.specs.Journal.{turn_count, early_count, turn_fault}

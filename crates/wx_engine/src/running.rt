@@ -4,7 +4,7 @@ ghost use Rattle.wx_journal.specs.declared.entry.Entry.{Entry as AnEntry};
 ghost use Rattle.wx_journal.specs.Names.{moment};
 ghost use Rattle.wx_journal.specs.Told.{is_world, is_hooks, is_turn, anywhere, tells, Obeys, Rose};
 ghost use Rattle.wx_machine.specs.Steady.{OnlyRoom};
-ghost use Rattle.wx_config.specs.declared.error.CriticalError.TheVariants.{Memory as WantOfMemory};
+ghost use Rattle.wx_error.specs.declared.error.CriticalError.TheVariants.{Memory as WantOfMemory};
 ghost use Rattle.wx_machine.specs.Kept.{KeepsOn, Promised};
 ghost use Rattle.wx_action.specs.Serves.{Adds, Continues};
 ghost use Rattle.wx_machine.specs.Start.{Start, IsStart, IsSize};
@@ -24,7 +24,8 @@ use std::alloc::Global;
 use wx_action::{
     Hooks, Host, JobHooks, Worked, Worker, World, ask_turn, end_jobs, ended_turn, job_turn, worker,
 };
-use wx_config::{Config, CriticalError};
+use wx_config::Config;
+use wx_error::CriticalError;
 use wx_events::{Copies, Memory, Text, TextPath};
 use wx_journal::{Entry, Journal, TurnKind};
 
@@ -32,6 +33,7 @@ use wx_journal::{Entry, Journal, TurnKind};
 fn beginning(alloc: Global, config: &Config, folder: TextPath) -> Result<Entry, Memory>
     ensures { IfOk result (λ entry. entry ≡ begin_of (record { config = config.now; folder = folder; events = [] })) }
 {
+    let paths = config.pathset.get().copy(alloc)?;
     Ok(Entry::Begin {
         throttle: *config.throttle.get(),
         size: config.event_channel_size,
@@ -41,7 +43,7 @@ fn beginning(alloc: Global, config: &Config, folder: TextPath) -> Result<Entry, 
         jobsignals: config.signal_job_control,
         watcher: *config.file_watcher.get(),
         cwd: folder,
-        paths: config.pathset.get().copy(alloc)?,
+        paths,
     })
 }
 

@@ -22,7 +22,8 @@ use crate::running::run;
 use std::alloc::Global;
 use std::marker::Model;
 use wx_action::{Hooks, Host, JobHooks, Outside, World};
-use wx_config::{Config, CriticalError};
+use wx_config::Config;
+use wx_error::CriticalError;
 use wx_events::{Event, List, Memory, Priority, TextPath};
 use wx_journal::Journal;
 

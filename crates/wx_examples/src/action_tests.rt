@@ -4,8 +4,8 @@ ghost use Rattle.std.specs.Prelude.{◌≤◌, IfOk};
 use std::alloc::Global;
 use std::process::Abort;
 use wx_action::{IdCount, lost, print_journal};
-use wx_config::{CriticalError, RuntimeError};
 use wx_control::Id;
+use wx_error::{CriticalError, RuntimeError};
 use wx_events::{Event, List, Memory, Priority, Tag, Text};
 use wx_journal::{Entry, Journal};
 

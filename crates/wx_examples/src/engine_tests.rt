@@ -11,13 +11,14 @@ use std::process::Abort;
 use std::test::Fail;
 use wx_action::{Hooks, Host, JobHooks, World, print_journal};
 use wx_command::{SpawnOptions, Spawnable};
-use wx_config::{Config, RuntimeError};
+use wx_config::Config;
 use wx_control::{Flag, Id};
 use wx_engine::{SendRefused, Watchexec};
+use wx_error::RuntimeError;
 use wx_events::{Event, List, Memory, Priority, ProcessEnd, Tag, Text, TextPath, cut};
+use wx_follow::{ScriptHooks, ScriptWorld};
 use wx_journal::{Journal, SpawnTag, TurnKind};
-use wx_replay::read_script;
-use wx_script::{Script, ScriptHooks, ScriptWorld};
+use wx_script::{Script, read_script};
 
 /// The script of these lines.
 pub(crate) fn script_of(alloc: Global, lines: &[u8]) -> Result<Script, Fail>

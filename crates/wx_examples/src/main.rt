@@ -8,15 +8,16 @@ mod boxed_tests;
 #[cfg(test)]
 mod engine_tests;
 #[cfg(test)]
-mod own_hooks;
+mod own_hooks_tests;
 #[cfg(test)]
 mod ticket_tests;
 
 use std::fs;
 use std::io::{self, Error, ErrorKind};
 use std::process::ExitCode;
+use wx_bytes::{MemSink, MemSource};
 use wx_events::Memory;
-use wx_replay::{MemSink, MemSource, replay};
+use wx_replay::replay;
 
 /// The error that stands for want of memory.
 fn no_memory(_want: Memory) -> Error {

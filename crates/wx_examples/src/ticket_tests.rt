@@ -3,19 +3,21 @@ ghost use Rattle.std.specs.Prelude.{◌≡◌, false};
 ghost use Rattle.wx_script.specs.Follows.{IsScript};
 
 use crate::engine_tests::{root, script_of, text_in};
-use crate::own_hooks::created;
+use crate::own_hooks_tests::created;
 use futures::Future;
 use futures::executor::{LocalPool, LocalSpawner};
 use futures::task::{Context, Poll};
 use std::alloc::Global;
 use std::test::Fail;
 use wx_action::{ActionHandler, Host, Outside, TurnFault, Turned, World};
+use wx_boxed::{BoxedHooks, OnAction};
 use wx_command::Spawnable;
 use wx_control::{Flag, Id, Job, Ticket};
-use wx_engine::{BoxedHooks, OnAction, Watchexec};
+use wx_engine::Watchexec;
 use wx_events::{Copies, List, Memory, ProcessEnd, Signal, Text, cut};
+use wx_follow::ScriptWorld;
 use wx_journal::{HostFault, SpawnTag};
-use wx_script::{Script, ScriptWorld};
+use wx_script::Script;
 
 /// Awaits a ticket, and then raises a flag.
 #[derive(Drop)]
@@ -179,8 +181,9 @@ fn text_between(
 ) -> Result<(Text, Text), Memory>
     requires { IsScript script.now }
 {
+    let inner = ScriptWorld::new(alloc, script)?;
     let mut world = Polls {
-        inner: ScriptWorld::new(alloc, script)?,
+        inner,
         pool,
         started: flags.0,
         stopped: flags.1,
@@ -199,9 +202,10 @@ fn tickets_are_awaited_while_turns_go_on(rt: HostRuntime) -> Result<(), Fail> {
     let pool = LocalPool::new(&rt)?;
     let started = Flag::new(alloc, false)?;
     let stopped = Flag::new(alloc, false)?;
+    let spawner = pool.spawner()?;
     let boxed = StartsAndStops {
         alloc,
-        spawner: pool.spawner()?,
+        spawner,
         started: started.copy(alloc)?,
         stopped: stopped.copy(alloc)?,
     };

@@ -1,4 +1,5 @@
 pub mod StandsLemmas
+pub mod DoneLemmas
 pub mod Sets
 pub mod StopLaws
 pub mod GivenUp

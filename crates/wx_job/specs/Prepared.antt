@@ -4,10 +4,8 @@ use Rattle.wx_command.specs.declared.command.Command.{Command}
 use Rattle.wx_command.specs.declared.spawnable.Spawnable.{Spawnable}
 use Rattle.wx_command.specs.Spawnables.{spawnable_of}
 use Rattle.wx_control.specs.declared.control.Control.{Control}
-use Rattle.wx_machine.specs.declared.choice.Choice.{Choice}
-use Rattle.wx_machine.specs.declared.grace.Grace.{Grace}
 use Rattle.wx_control.specs.declared.id.Id.{Id}
-use Rattle.wx_machine.specs.Table.{Plan, Kit, spawns, is_spawning, reap, waiters, fresh, raises}
+use Rattle.wx_machine.specs.Table.{Plan, Kit, spawns, reap, waiters, fresh, raises}
 
 -- what a case spawns, twice, for the call and for its entry, where it spawns
 abbrev pub twice : Command → Bool → Option (Spawnable × Spawnable)
@@ -15,10 +13,6 @@ twice command spawning = if spawning then Some (spawnable_of command, spawnable_
 
 abbrev pub prepared : Command → Control → Option ℕ → Option (Spawnable × Spawnable)
 prepared command control running = twice command (spawns control running)
-
--- the same of what was picked, where this grace stands
-abbrev pub prepared_for : Command → Choice → Option ℕ → Option Grace → Option (Spawnable × Spawnable)
-prepared_for command choice running standing = twice command (is_spawning choice running standing)
 
 -- a fresh child is spawned where that is so, and the ticket is raised
 abbrev pub fresh_or : Bool → Id → Kit → ℕ → Plan

@@ -355,7 +355,9 @@ impl JobTask {
 fn two_copies(alloc: Global, what: &Spawnable) -> Result<(Spawnable, Spawnable), Memory>
     ensures { IfOk result (λ two. (two.0 ≡ what.now) × (two.1 ≡ what.now)) }
 {
-    Ok((what.copy(alloc)?, what.copy(alloc)?))
+    let one = what.copy(alloc)?;
+    let two = what.copy(alloc)?;
+    Ok((one, two))
 }
 
 /// The state after this child ended.

@@ -4,11 +4,10 @@ ghost use Rattle.wx_control.specs.declared.control.Control.TheVariants.{Stop, De
 ghost use Rattle.wx_control.specs.Waits.{picked, first_of};
 ghost use Rattle.wx_journal.specs.declared.entry.Entry.{Entry};
 ghost use Rattle.wx_journal.specs.Names.{moment};
-ghost use Rattle.wx_machine.specs.declared.grace.Grace.{Grace as the-Grace};
 ghost use Rattle.wx_machine.specs.declared.state.CommandState.TheVariants.{Pending};
 ghost use Rattle.wx_machine.specs.History.{before_spawn, just_picked, begins_by, set_hook, set_handler, set_tag};
-ghost use Rattle.wx_machine.specs.Table.{Done, adds, raises, reap, waiters, row, graceful, signalled, over, ended, polled, number_of, spawns, deletes, is_restart, is_spawning, is_deletion, is_parking, case};
-ghost use Rattle.wx_job.specs.Prepared.{twice, prepared, prepared_for, fresh_or, fresh_in};
+ghost use Rattle.wx_machine.specs.Table.{Done, adds, raises, reap, waiters, kit_after, row, graceful, signalled, over, ended_in, ended, polled, number_of, spawns, deletes, is_restart, is_spawning, is_deletion, is_parking, case};
+ghost use Rattle.wx_job.specs.Prepared.{twice, prepared, fresh_or, fresh_in};
 ghost use Rattle.wx_machine.specs.Case.{FollowsHost, FollowsHooks, Follows, GivesUp};
 ghost use Rattle.wx_job.specs.Calls.{IsReady, IsReadyAt, IsInHand, AreRoomy, HasCalled, HasServed, HasDone};
 ghost use Rattle.wx_machine.specs.Steady.{AreSpare, Spends};
@@ -274,22 +273,52 @@ impl JobTask {
         ensures fields { self.new ≡ record self.old { state = self.new.state; previous = self.new.previous; kept = self.new.kept; grace = self.new.grace; parked = self.new.parked } }
         ensures served { HasServed K.seen K.rule K.stands (6 + length self.old.parked.tickets) 3 journal.old (H.seen host.old) hooks.old self.new journal.new (H.seen host.new) hooks.new }
     {
-        let Ok(standing) = self.wait(child, at, host, hooks, journal) else {
-            return Ok(());
-        };
-        let Some(standing) = standing else {
-            self.raise_parked(host, journal);
-            return Ok(());
-        };
-        let ticket = standing.grace.ticket;
-        if !standing.grace.restarts {
-            self.raise(ticket, &standing.done, host, journal);
-            self.raise_parked(host, journal);
-            return Ok(());
+        match self.wait(child, at, host, hooks, journal) {
+            Ok(Some(standing)) => {
+                self.end_in_grace(alloc, standing, what, at, host, hooks, journal)
+            }
+            Ok(None) => {
+                drop(what);
+                self.raise_parked(host, journal);
+                Ok(())
+            }
+            Err(_) => {
+                drop(what);
+                Ok(())
+            }
         }
+    }
+
+    /// The child ended in this grace, which stands no longer: the parked tickets are raised, and that of the grace, behind a
+    /// fresh spawn where it is one of a restart.
+    fn end_in_grace<H: Host, K: JobHooks>(
+        &mut self,
+        alloc: Global,
+        standing: Standing,
+        what: Option<(Spawnable, Spawnable)>,
+        at: u64,
+        host: &mut H,
+        hooks: &mut K,
+        journal: &mut Journal,
+    ) -> Result<(), Memory>
+        requires unheld { holds standing.grace.ticket self.old ≡ 0 }
+        requires runs { child_of self.old.state ≡ None }
+        requires what { what ≡ twice self.old.command (standing.grace.restarts) }
+        requires before { before_spawn self.old.id journal.old.past ≡ self.old.state }
+        requires ready { IsReadyAt at self.old (4 + length self.old.parked.tickets) 2 journal.old (H.seen host.old) (K.seen hooks.old) }
+        ensures done { HasDone result self.new (standing.grace.restarts) (ended_in self.old.id (kit_of self.old) standing.grace) journal.old.past (H.seen host.old) (K.seen hooks.old).told journal.new.past (H.seen host.new) (K.seen hooks.new).told }
+        ensures fields { self.new ≡ record self.old { state = self.new.state; previous = self.new.previous; kept = self.new.kept; parked = self.new.parked } }
+        ensures served { HasServed K.seen K.rule K.stands (4 + length self.old.parked.tickets) 2 journal.old (H.seen host.old) hooks.old self.new journal.new (H.seen host.new) hooks.new }
+    {
+        let Standing { grace, done } = standing;
+        if grace.restarts {
+            self.raise_parked(host, journal);
+            return self.start(alloc, grace.ticket, &done, what, at, host, hooks, journal);
+        }
+        drop(what);
+        self.raise(grace.ticket, &done, host, journal);
         self.raise_parked(host, journal);
-        let done = &standing.done;
-        self.start(alloc, ticket, done, what, at, host, hooks, journal)
+        Ok(())
     }
 
     /// The case of SyncFunc: the function of this number is called, and the ticket is raised.
@@ -405,16 +434,16 @@ impl JobTask {
         }
     }
 
-    /// What the case of what was picked spawns, twice, where it spawns. It takes no memory where it doesn't.
+    /// What a case spawns, twice, where it spawns. It takes no memory where it doesn't.
     fn prepare(
         &self,
         alloc: Global,
-        choice: Choice,
+        spawning: bool,
     ) -> Result<Option<(Spawnable, Spawnable)>, Memory>
-        ensures ok { IfOk result (λ what. what ≡ prepared_for self.now.command choice (child_of self.now.state) (grace_of self.now)) }
-        ensures err { OnErr result (is_spawning choice (child_of self.now.state) (grace_of self.now) ≡ true) }
+        ensures ok { IfOk result (λ what. what ≡ twice self.now.command spawning) }
+        ensures err { OnErr result (spawning ≡ true) }
     {
-        if !is_spawning(choice, child_of(self.state), self.restarts()) {
+        if !spawning {
             return Ok(None);
         }
         let what = self.command.get().to_spawnable(alloc)?;
@@ -547,6 +576,33 @@ impl JobTask {
         }
     }
 
+    /// Picks a control, and does its case where its ticket isn't parked.
+    fn next<H: Host, K: JobHooks>(
+        &mut self,
+        alloc: Global,
+        ticket: u64,
+        control: Control,
+        what: Option<(Spawnable, Spawnable)>,
+        at: u64,
+        host: &mut H,
+        hooks: &mut K,
+        journal: &mut Journal,
+    ) -> Result<(), Memory>
+        requires chosen { first_of (is_some (grace_of self.old)) self.old.waiting ≡ Some (ticket, control) }
+        requires none { begun_of self.old ≡ None }
+        requires what { what ≡ prepared self.old.command control (child_of self.old.state) }
+        requires ready { IsReadyAt at self.old (10 + length self.old.parked.tickets) 4 journal.old (H.seen host.old) (K.seen hooks.old) }
+        ensures done { HasDone result self.new (spawns control (child_of self.old.state)) (adds (Entry.Pick self.old.id ticket) (row self.old.id (kit_after control (kit_of self.old)) ticket control (child_of self.old.state))) journal.old.past (H.seen host.old) (K.seen hooks.old).told journal.new.past (H.seen host.new) (K.seen hooks.new).told }
+        ensures gone { self.new.gone ≡ deletes control }
+        ensures job { SameJob self.old self.new }
+        ensures served { HasServed K.seen K.rule K.stands (10 + length self.old.parked.tickets) 4 journal.old (H.seen host.old) hooks.old self.new journal.new (H.seen host.new) hooks.new }
+    {
+        match self.pick(ticket, control, journal) {
+            Some(picked) => self.control(alloc, control, picked, what, at, host, hooks, journal),
+            None => Ok(()),
+        }
+    }
+
     /// Does what was picked. Want of memory comes before anything was done, or behind the call of a hook.
     pub(crate) fn act<H: Host, K: JobHooks>(
         &mut self,
@@ -566,22 +622,23 @@ impl JobTask {
         ensures job { SameJob self.old self.new }
         ensures served { HasServed K.seen K.rule K.stands (10 + length self.old.parked.tickets) 4 journal.old (H.seen host.old) hooks.old self.new journal.new (H.seen host.new) hooks.new }
     {
-        let what = self.prepare(alloc, choice)?;
         match choice {
             Choice::Poll(function) => {
                 self.poll(function, host, hooks, journal);
                 Ok(())
             }
             Choice::Over(child, grace) => {
+                let what = self.prepare(alloc, grace.restarts)?;
                 self.end_grace(alloc, child, grace, what, at, host, hooks, journal)
             }
-            Choice::End(child) => self.end_child(alloc, child, what, at, host, hooks, journal),
-            Choice::Next { ticket, control } => match self.pick(ticket, control, journal) {
-                Some(picked) => {
-                    self.control(alloc, control, picked, what, at, host, hooks, journal)
-                }
-                None => Ok(()),
-            },
+            Choice::End(child) => {
+                let what = self.prepare(alloc, self.restarts())?;
+                self.end_child(alloc, child, what, at, host, hooks, journal)
+            }
+            Choice::Next { ticket, control } => {
+                let what = self.prepare(alloc, spawns(control, child_of(self.state)))?;
+                self.next(alloc, ticket, control, what, at, host, hooks, journal)
+            }
             Choice::Leave => {
                 self.let_go(child_of(self.state), host, journal);
                 Ok(())
@@ -591,18 +648,6 @@ impl JobTask {
                 Ok(())
             }
         }
-    }
-}
-
-/// Whether the case of what was picked spawns a child, where this one runs and a grace of a restart stands or none.
-fn is_spawning(choice: Choice, child: Option<u64>, restarts: bool) -> bool
-    ensures { (standing : Option the-Grace) → restarts ≡ is_restart standing → result ≡ is_spawning choice child standing }
-{
-    match choice {
-        Choice::Over(_, grace) => grace.restarts,
-        Choice::End(_) => restarts,
-        Choice::Next { control, .. } => spawns(control, child),
-        Choice::Poll(_) | Choice::Leave | Choice::Nothing => false,
     }
 }
 

@@ -69,12 +69,7 @@ pub fn start_job(alloc: Global, id: Id, command: Command) -> Result<(Job, JobTas
     let command = SharedCommand::new(alloc, command)?;
     let flag = Flag::new(alloc, false)?;
     let mirror = Mirror::new(alloc)?;
-    let job = Job::new(
-        id,
-        command.copy(alloc)?,
-        flag.copy(alloc)?,
-        mirror.copy(alloc)?,
-    );
+    let job = handle_on(alloc, id, &command, &flag, &mirror)?;
     let task = JobTask {
         id,
         command,
@@ -94,6 +89,22 @@ pub fn start_job(alloc: Global, id: Id, command: Command) -> Result<(Job, JobTas
         parked: Parking::new(alloc),
     };
     Ok((job, task))
+}
+
+/// A handle on the job of this name, over copies of what it shares with its task.
+fn handle_on(
+    alloc: Global,
+    id: Id,
+    command: &SharedCommand,
+    flag: &Flag,
+    mirror: &Mirror,
+) -> Result<Job, Memory>
+    ensures { IfOk result (λ job. (job.id ≡ id) × (job.command ≡ command.now) × (job.gone ≡ flag.now)) }
+{
+    let command = command.copy(alloc)?;
+    let flag = flag.copy(alloc)?;
+    let mirror = mirror.copy(alloc)?;
+    Ok(Job::new(id, command, flag, mirror))
 }
 
 #[tactic(auto, using(crate::proofs::Sets::steps))]
@@ -328,10 +339,9 @@ impl JobTask {
     fn ticket(&self, alloc: Global, done: &Flag) -> Result<Ticket, Memory>
         ensures { IfOk result (λ ticket. (ticket.gone ≡ self.now.flag) × (ticket.done ≡ done.now)) }
     {
-        Ok(Ticket {
-            gone: self.flag.copy(alloc)?,
-            done: done.copy(alloc)?,
-        })
+        let gone = self.flag.copy(alloc)?;
+        let done = done.copy(alloc)?;
+        Ok(Ticket { gone, done })
     }
 
     /// A control waits at a level.

@@ -12,6 +12,7 @@ use Rattle.wx_job.specs.declared.task.JobTask.{JobTask}
 use Rattle.wx_machine.specs.History.{command, RunsOnly}
 use Rattle.wx_machine.specs.Leaves.{LeavesOthers}
 use Rattle.wx_job.specs.Stands.{Stands, IsEnding, id_of}
+use Rattle.wx_job_tests.specs.Two.{AreTwo}
 use Rattle.wx_machine.proofs.Owners.{self, other-is}
 use Rattle.wx_machine.proofs.Frame.{frame_turn}
 use Rattle.wx_job.proofs.StandsLemmas.{stands_history}
@@ -49,3 +50,11 @@ created_runs id what n names acts p q one last = rw (last, one) (λ created is. 
 
 pub names_created : (id : Id) (what : Command) (n : ℕ) (names : List ℕ) (acts : List Act) (p : List Entry) → names ≡ [] → acts ≡ Create id what ∷ [] → NamesItsOwn p → NamesItsOwn (Made id ∷ Hand n names acts ∷ p)
 names_created id what n names acts p none one own = rw (none, one) (rw (self id) refl, (tt, own))
+
+-- one of two jobs did something, which left the other alone
+pub two_left : (a a' b : JobTask) (p p' : List Entry) → Stands a' p' → id_of a' ≡ id_of a → (NamesItsOwn p → NamesItsOwn p') → (NamesItsOwn p → (k : JobTask) → id_of k ≢ id_of a → Stands k p → Stands k p') → AreTwo a b p → AreTwo a' b p'
+two_left a a' b p p' s id names others two = record { first = s; second = others two.names b two.apart two.second; names = names two.names; apart = rw id two.apart; back = rw id two.back }
+
+-- the same two the other way round
+pub swapped : (a b : JobTask) (p : List Entry) → AreTwo b a p → AreTwo a b p
+swapped a b p two = record { first = two.second; second = two.first; names = two.names; apart = two.back; back = two.apart }

@@ -620,9 +620,14 @@ fn cases_after_a_close(rt: HostRuntime) {
 fn each_case(rt: &impl Abort, alloc: Global, table: &str) {
     for block in table.split("\n\n") {
         let (before, cases) = block.split_once(":\n").expect(rt, "moves and cases");
-        for case in cases.lines() {
-            expect_case(rt, alloc, before, case);
-        }
+        each_behind(rt, alloc, before, cases);
+    }
+}
+
+/// Plays each of these cases behind these moves.
+fn each_behind(rt: &impl Abort, alloc: Global, before: &str, cases: &str) {
+    for case in cases.lines() {
+        expect_case(rt, alloc, before, case);
     }
 }
 

@@ -8,7 +8,7 @@ use crate::test_world::{
 use std::alloc::Global;
 use std::process::Abort;
 use wx_control::{Ask, Flag, Id, Job, Ticket};
-use wx_events::{Copies, Memory, Spelled, Text, Words};
+use wx_events::{Copies, Memory, ProcessEnd, Spelled, Text, Words};
 use wx_job::{CommandState, JobTask, Stepped};
 use wx_journal::{Entry, Journal, put_entry};
 
@@ -33,46 +33,29 @@ fn read<T: Spelled>(alloc: Global, words: &[u8]) -> Result<Option<T>, Memory> {
     if words.is_done() { Ok(found) } else { Ok(None) }
 }
 
-/// The move that these words alone stand for.
-fn read_word(words: &[u8]) -> Option<Move> {
-    let moves: [(&[u8], Move); 4] = [
-        (b"end", Move::End),
-        (b"close", Move::Close),
-        (b"poll ready", Move::Poll(true)),
-        (b"poll later", Move::Poll(false)),
-    ];
-    for (spelling, with) in moves {
-        if words == spelling {
-            return Some(with);
-        }
-    }
-    None
-}
-
-/// The move of these words.
-fn read_move(alloc: Global, words: &[u8]) -> Result<Option<Move>, Memory> {
-    if let Some(with) = read_word(words) {
-        return Ok(Some(with));
-    }
-    if let Some(at) = words.strip_prefix(b"step ") {
-        return Ok(read::<u64>(alloc, at)?.map(|at| Move::Step(at)));
-    }
-    if let Some(at) = words.strip_prefix(b"ended ") {
-        return Ok(read::<u64>(alloc, at)?.map(|at| Move::Ended(at)));
-    }
-    Ok(read::<Ask>(alloc, words)?.map(|wish| Move::Ask(wish)))
-}
-
-/// The move of these words, where the test has one there.
-fn move_of(rt: &impl Abort, alloc: Global, words: &[u8]) -> Move {
-    let found = read_move(alloc, words).expect(rt, "words");
-    found.expect(rt, "a move")
-}
-
 /// The number of these words, where the test has one there.
 fn number_of(rt: &impl Abort, alloc: Global, words: &str) -> u64 {
     let found = read::<u64>(alloc, words.as_bytes()).expect(rt, "words");
     found.expect(rt, "a number")
+}
+
+/// What is asked by these words, where the test has that there.
+fn ask_of(rt: &impl Abort, alloc: Global, words: &str) -> Ask {
+    let found = read::<Ask>(alloc, words.as_bytes()).expect(rt, "words");
+    found.expect(rt, "a move")
+}
+
+/// The move of these words, where the test has one there.
+fn move_of(rt: &impl Abort, alloc: Global, words: &str) -> Move {
+    match words.split_once(" ") {
+        Some(("step", at)) => Move::Step(number_of(rt, alloc, at)),
+        Some(("ended", at)) => Move::Ended(number_of(rt, alloc, at)),
+        Some(("poll", "ready")) => Move::Poll(true),
+        Some(("poll", "later")) => Move::Poll(false),
+        None if words == "end" => Move::End,
+        None if words == "close" => Move::Close,
+        _ => Move::Ask(ask_of(rt, alloc, words)),
+    }
 }
 
 /// What came of the moves of a line.
@@ -139,28 +122,50 @@ impl One {
     /// Makes one move, and gives what a step answered.
     pub(crate) fn play(&mut self, alloc: Global, with: Move) -> Result<Option<Stepped>, Memory> {
         match with {
-            Move::Ask(wish) => {
-                let named = self.world.journal.tickets();
-                let ticket = ask(&mut self.task, alloc, wish, &mut self.world)?;
-                self.keep(named, ticket)?;
-                Ok(None)
-            }
-            Move::Step(at) => Ok(Some(step(&mut self.task, Id(0), alloc, at, &mut self.world)?)),
-            Move::Ended(at) => Ok(Some(end_child(&mut self.task, alloc, at, &mut self.world)?)),
-            Move::Poll(ready) => {
-                self.world.hooks.polls.reserve(1)?;
-                self.world.hooks.polls.push_reserved(ready);
-                Ok(None)
-            }
-            Move::Close => {
-                self.task.close();
-                Ok(None)
-            }
-            Move::End => {
-                end_job(&mut self.task, &mut self.world)?;
-                Ok(None)
-            }
+            Move::Ask(wish) => self.ask(alloc, wish),
+            Move::Step(at) => self.step(alloc, at),
+            Move::Ended(at) => self.end_child(alloc, at),
+            Move::Poll(ready) => self.poll(ready),
+            Move::Close => self.close(),
+            Move::End => self.end(),
         }
+    }
+
+    /// This is asked, and the ticket is kept.
+    fn ask(&mut self, alloc: Global, wish: Ask) -> Result<Option<Stepped>, Memory> {
+        let named = self.world.journal.tickets();
+        let ticket = ask(&mut self.task, alloc, wish, &mut self.world)?;
+        self.keep(named, ticket)
+    }
+
+    /// A turn of the job.
+    fn step(&mut self, alloc: Global, at: u64) -> Result<Option<Stepped>, Memory> {
+        let answer = step(&mut self.task, Id(0), alloc, at, &mut self.world)?;
+        Ok(Some(answer))
+    }
+
+    /// A turn that tells the end of the running child.
+    fn end_child(&mut self, alloc: Global, at: u64) -> Result<Option<Stepped>, Memory> {
+        let answer = end_child(&mut self.task, alloc, at, &mut self.world)?;
+        Ok(Some(answer))
+    }
+
+    /// A poll that comes later answers this.
+    fn poll(&mut self, ready: bool) -> Result<Option<Stepped>, Memory> {
+        self.world.hooks.polls.push(ready)?;
+        Ok(None)
+    }
+
+    /// There are no more handles.
+    fn close(&mut self) -> Result<Option<Stepped>, Memory> {
+        self.task.close();
+        Ok(None)
+    }
+
+    /// The end of the job.
+    fn end(&mut self) -> Result<Option<Stepped>, Memory> {
+        end_job(&mut self.task, &mut self.world)?;
+        Ok(None)
     }
 
     /// Asks this over a flag of the caller. Its ticket isn't kept here.
@@ -175,28 +180,18 @@ impl One {
     }
 
     /// Keeps a ticket that was given when so many had names before.
-    fn keep(&mut self, named: u64, ticket: Ticket) -> Result<(), Memory> {
-        let last = self.world.journal.tickets().checked_sub(1);
-        let name = last.filter(|name| *name >= named);
-        self.tickets.reserve(1)?;
-        self.tickets.push_reserved(Given { name, ticket });
-        Ok(())
+    fn keep(&mut self, named: u64, ticket: Ticket) -> Result<Option<Stepped>, Memory> {
+        let name = name_behind(named, self.world.journal.tickets());
+        self.tickets.push(Given { name, ticket })?;
+        Ok(None)
     }
 
     /// Whether the flags of each ticket are raised just where the journal says so, and the handle tells what the task does.
     fn is_told(&mut self) -> bool {
         let gone = self.task.is_gone();
-        for given in self.tickets.iter() {
-            let done = match given.name {
-                Some(name) => is_raised(name, &self.world.journal),
-                None => gone,
-            };
-            if given.ticket.done.raised() != done || given.ticket.gone.raised() != gone {
-                return false;
-            }
-        }
         let runs = self.task.running_child().is_some();
-        self.handle.is_dead() == gone && self.handle.is_running() == runs
+        let life = life_of(&mut self.handle);
+        life == (gone, runs) && are_told(&self.tickets, gone, &self.world.journal)
     }
 
     /// The moves of a line. Where a number stands behind ` ! ` in it, the call on the host of this number, from 0, fails.
@@ -218,22 +213,64 @@ impl One {
             failed: 0,
             answer: Ok(None),
         };
-        for words in moves.as_bytes().split(|byte| *byte == b',') {
+        for words in moves.split(",") {
             let with = move_of(rt, alloc, words);
-            played.listed = self.world.journal.as_slice().len();
-            played.answer = self.play(alloc, with);
-            if played.answer.is_err() {
-                played.failed = played.failed.saturating_add(1);
-            }
+            let listed = self.world.journal.as_slice().len();
+            played = played.then(listed, self.play(alloc, with));
         }
         played
     }
 }
 
+impl Played {
+    /// The same with one move more, which answered this, behind so many entries.
+    fn then(self, listed: usize, answer: Result<Option<Stepped>, Memory>) -> Played {
+        let failed = self.failed.saturating_add(answer.is_err() as u64);
+        Played {
+            listed,
+            failed,
+            answer,
+        }
+    }
+}
+
+/// The name of a ticket that was given when so many had names before, and so many have them now.
+fn name_behind(before: u64, now: u64) -> Option<u64> {
+    if now > before { Some(now - 1) } else { None }
+}
+
+/// Whether a job is gone and whether its child runs, as the handle tells.
+fn life_of(handle: &mut Job) -> (bool, bool) {
+    let dead = handle.is_dead();
+    (dead, handle.is_running())
+}
+
+/// Whether the flags of each ticket are raised just where the journal says so, of a job that is gone or isn't.
+fn are_told(tickets: &[Given], gone: bool, journal: &Journal) -> bool {
+    for given in tickets {
+        let done = match given.name {
+            Some(name) => is_raised(name, journal),
+            None => gone,
+        };
+        if given.ticket.done.raised() != done || given.ticket.gone.raised() != gone {
+            return false;
+        }
+    }
+    true
+}
+
+/// Whether this entry lists that the ticket of this name was raised.
+fn raises(entry: &Entry, name: u64) -> bool {
+    match entry {
+        Entry::Raise(ticket) => *ticket == name,
+        _ => false,
+    }
+}
+
 /// Whether the journal lists that the ticket of this name was raised.
 fn is_raised(name: u64, journal: &Journal) -> bool {
-    for entry in journal.iter() {
-        if matches!(entry, Entry::Raise(ticket) if *ticket == name) {
+    for entry in journal.as_slice() {
+        if raises(entry, name) {
             return true;
         }
     }
@@ -269,80 +306,105 @@ fn answer_word(answer: Result<Option<Stepped>, Memory>) -> &'static str {
     }
 }
 
+/// Appends an entry but a turn, with a comma before it where it isn't the first.
+fn put_seen(entry: &Entry, text: &mut Text) -> Result<(), Memory> {
+    if matches!(entry, Entry::Turn(_)) {
+        return Ok(());
+    }
+    if text.len() > 0 {
+        text.append(b", ")?;
+    }
+    put_entry(entry, text)
+}
+
 /// Appends the entries behind the first `listed`, but turns, with a comma between them.
 fn put_entries(journal: &Journal, listed: usize, text: &mut Text) -> Result<(), Memory> {
-    for entry in journal.iter().skip(listed) {
-        if matches!(entry, Entry::Turn(_)) {
-            continue;
-        }
-        if text.len() > 0 {
-            text.append(b", ")?;
-        }
-        put_entry(entry, text)?;
+    for entry in journal.as_slice().iter().skip(listed) {
+        put_seen(entry, text)?;
     }
     Ok(())
 }
 
-/// The state, with a space before it. A child that was let go has `left`, and one that runs `runs`.
-fn state_of(alloc: Global, task: &JobTask) -> Result<String, Memory> {
-    let runs = task.running_child().is_some();
-    Ok(match task.state() {
-        CommandState::Pending => format!(in alloc; " pending")?,
-        CommandState::Running { child, started } if runs => {
-            format!(in alloc; " runs {child} from {started}")?
-        }
-        CommandState::Running { child, started } => {
-            format!(in alloc; " left {child} from {started}")?
-        }
+/// Appends a word and a number, with a space before each.
+fn put_number(text: &mut Text, word: &[u8], number: u64) -> Result<(), Memory> {
+    text.append(word)?;
+    number.put_after(text)
+}
+
+/// The word of a child that runs, or was let go.
+fn child_word(runs: bool) -> &'static [u8] {
+    if runs { b" runs" } else { b" left" }
+}
+
+/// Appends a child behind this word, and since when it runs.
+fn put_child(text: &mut Text, word: &[u8], child: u64, started: u64) -> Result<(), Memory> {
+    put_number(text, word, child)?;
+    put_number(text, b" from", started)
+}
+
+/// Appends how a child ended, and when it ran.
+fn put_end(text: &mut Text, status: ProcessEnd, started: u64, ended: u64) -> Result<(), Memory> {
+    status.put_after(text)?;
+    put_number(text, b" from", started)?;
+    put_number(text, b" to", ended)
+}
+
+/// Appends the state, with a space before it. A child that was let go has `left`, and one that runs `runs`.
+fn put_state(task: &JobTask, text: &mut Text) -> Result<(), Memory> {
+    let word = child_word(task.running_child().is_some());
+    match *task.state() {
+        CommandState::Pending => text.append(b" pending"),
+        CommandState::Running { child, started } => put_child(text, word, child, started),
         CommandState::Finished {
             status,
             started,
             finished,
-        } => format!(in alloc; " {status} from {started} to {finished}")?,
-    })
+        } => put_end(text, status, started, finished),
+    }
 }
 
-/// Appends the state.
-fn put_state(alloc: Global, task: &JobTask, text: &mut Text) -> Result<(), Memory> {
-    let state = state_of(alloc, task)?;
-    text.append(state.as_bytes())
+/// Appends a moment behind ` until `.
+fn put_until(alloc: Global, ends: u128, text: &mut Text) -> Result<(), Memory> {
+    let until = format!(in alloc; " until {ends}")?;
+    text.append(until.as_bytes())
 }
 
 /// Appends the end of the grace that stands, where one does.
 fn put_grace(alloc: Global, task: &JobTask, text: &mut Text) -> Result<(), Memory> {
     match task.grace_end() {
-        Some(ends) => {
-            let until = format!(in alloc; " until {ends}")?;
-            text.append(until.as_bytes())
-        }
+        Some(ends) => put_until(alloc, ends, text),
         None => Ok(()),
     }
 }
 
 /// Appends how many tickets are parked, where there are any.
 fn put_parked(task: &JobTask, text: &mut Text) -> Result<(), Memory> {
-    if task.parked() > 0 {
-        text.append(b" parks ")?;
-        text.append_number(task.parked())?;
+    match task.parked() {
+        0 => Ok(()),
+        parked => put_number(text, b" parks", parked),
     }
-    Ok(())
 }
 
 /// Appends what the job is.
 fn put_job(alloc: Global, task: &JobTask, text: &mut Text) -> Result<(), Memory> {
-    put_state(alloc, task, text)?;
+    put_state(task, text)?;
     put_grace(alloc, task, text)?;
     put_parked(task, text)
 }
 
-/// What the last move of a line listed and answered, and what the job is then.
-fn seen_of(alloc: Global, job: &One, played: Played) -> Result<Text, Memory> {
-    let mut text = Text::new(alloc);
-    put_entries(&job.world.journal, played.listed, &mut text)?;
+/// Appends what the last move of a line listed and answered, and what the job is then.
+fn put_played(alloc: Global, job: &One, played: Played, text: &mut Text) -> Result<(), Memory> {
+    put_entries(&job.world.journal, played.listed, text)?;
     text.append(b" |")?;
     text.append(answer_word(played.answer).as_bytes())?;
-    put_job(alloc, &job.task, &mut text)?;
-    Ok(text)
+    put_job(alloc, &job.task, text)
+}
+
+/// Whether this is what is seen behind the last move of a line.
+fn is_seen(alloc: Global, job: &One, played: Played, want: &str) -> Result<bool, Memory> {
+    let mut text = Text::new(alloc);
+    put_played(alloc, job, played, &mut text)?;
+    Ok(text.as_slice() == want.as_bytes())
 }
 
 /// Ends the test where this isn't so at this line.
@@ -356,7 +418,7 @@ pub(crate) fn expect_at(rt: &impl Abort, so: bool, what: &str, line: &str) {
 pub(crate) fn expect_line(rt: &impl Abort, alloc: Global, job: &mut One, line: &str) {
     let (moves, want) = line.split_once(" = ").expect(rt, "moves and what is seen");
     let played = job.play_line(rt, alloc, moves);
-    let seen = seen_of(alloc, job, played).expect(rt, "what is seen");
-    expect_at(rt, seen.as_slice() == want.as_bytes(), "what is seen", line);
+    let seen = is_seen(alloc, job, played, want).expect(rt, "what is seen");
+    expect_at(rt, seen, "what is seen", line);
     expect_at(rt, job.is_told(), "flags", line);
 }

@@ -30,8 +30,9 @@ impl TestHost {
         bad: Option<u64>,
         ends: Vec<ProcessEnd>,
     ) -> Result<TestHost, Memory> {
+        let told = Journal::new(alloc)?;
         Ok(TestHost {
-            told: Journal::new(alloc)?,
+            told,
             calls: 0,
             bad,
             ends,
@@ -232,33 +233,49 @@ pub(crate) struct World {
 pub(crate) fn new_world(alloc: Global, host: TestHost) -> Result<World, Memory>
     ensures { IfOk result (λ world. world.journal.past ≡ []) }
 {
-    Ok(World {
-        host,
-        hooks: TestHooks::new(alloc),
-        journal: Journal::new(alloc)?,
-    })
+    match Journal::new(alloc) {
+        Ok(journal) => Ok(World {
+            host,
+            hooks: TestHooks::new(alloc),
+            journal,
+        }),
+        Err(want) => {
+            drop(host);
+            Err(want)
+        }
+    }
+}
+
+/// Appends the line of an entry. A hand that creates jobs has none.
+fn put_line(entry: &Entry, text: &mut Text) -> Result<(), Memory> {
+    if matches!(entry, Entry::Hand { .. }) {
+        return Ok(());
+    }
+    put_entry(entry, text)?;
+    text.append(b"\n")
+}
+
+/// Appends the lines of these entries.
+fn put_all(entries: &[Entry], text: &mut Text) -> Result<(), Memory> {
+    for entry in entries {
+        put_line(entry, text)?;
+    }
+    Ok(())
 }
 
 /// The journal's lines, without those of the hands that create jobs.
 pub(crate) fn lines_of(alloc: Global, world: &World) -> Result<Text, Memory> {
     let mut text = Text::new(alloc);
-    for entry in world.journal.iter() {
-        if matches!(entry, Entry::Hand { .. }) {
-            continue;
-        }
-        put_entry(entry, &mut text)?;
-        text.append(b"\n")?;
-    }
+    put_all(world.journal.as_slice(), &mut text)?;
     Ok(text)
 }
 
 /// The command that runs this program.
 pub(crate) fn command_of(alloc: Global, prog: &[u8]) -> Result<Command, Memory> {
+    let prog = Text::from_slice(alloc, prog)?;
+    let args = List::new(alloc);
     Ok(Command {
-        program: Program::Exec {
-            prog: Text::from_slice(alloc, prog)?,
-            args: List::new(alloc),
-        },
+        program: Program::Exec { prog, args },
         options: SpawnOptions::default(),
     })
 }
@@ -295,13 +312,13 @@ pub(crate) fn make_first(alloc: Global, id: Id, world: &mut World) -> Result<(Jo
     ensures stands { IfOk result (λ made. Stands made.1 world.new.journal.past) }
 {
     world.journal.reserve(1)?;
-    let (handle, task) = start_job(alloc, id, command_of(alloc, b"a")?)?;
+    let command = command_of(alloc, b"a")?;
+    let made = start_job(alloc, id, command)?;
     world.journal.push(Entry::Made(id));
-    Ok((handle, task))
+    Ok(made)
 }
 
 /// This is asked of the job.
-#[tactic(auto, using(crate::proofs::Turns::stands_left))]
 pub(crate) fn ask(
     task: &mut JobTask,
     alloc: Global,
@@ -330,7 +347,6 @@ fn make_room(task: &JobTask, world: &mut World) -> Result<(), Memory>
 }
 
 /// A step of the job in the turn that was given.
-#[tactic(auto, using(crate::proofs::Turns::stands_left))]
 fn step_now(
     task: &mut JobTask,
     alloc: Global,
@@ -404,7 +420,6 @@ pub(crate) fn end_child(
 }
 
 /// The end of the job.
-#[tactic(auto, using(crate::proofs::Turns::stands_left))]
 pub(crate) fn end_job(task: &mut JobTask, world: &mut World) -> Result<(), Memory>
     requires stands { Stands task.old world.old.journal.past }
     ensures stands { Stands task.new world.new.journal.past }

@@ -2,9 +2,10 @@
 //
 // A test plays moves, which stand in a text with commas between them: what is asked, `step` or `ended` and a moment, `poll
 // ready` or `poll later` for what a later poll answers, `close`, or `end`. What is seen of the job behind them is held to a text.
-ghost use Rattle.std.specs.Prelude.{◌≡◌, ◌≢◌, ◌≤◌, [], IfOk};
+ghost use Rattle.std.specs.Prelude.{◌≡◌, ◌≢◌, ◌≤◌, []};
 ghost use Rattle.wx_journal.specs.Names.{NamesItsOwn};
 ghost use Rattle.wx_job.specs.Stands.{Stands, id_of};
+ghost use Rattle.wx_job_tests.specs.Two.{AreTwo};
 
 use crate::player::{Move, One, expect_at, host, is_journal, job_with, one_job};
 use crate::test_world::{
@@ -13,17 +14,11 @@ use crate::test_world::{
 use std::alloc::Global;
 use std::num::NonZeroI64;
 use std::process::Abort;
+use wx_command::Command;
 use wx_control::{Ask, Control, Flag, Id, Job, Ticket};
 use wx_events::{Copies, Memory, ProcessEnd, Text};
 use wx_job::{CommandState, JobTask, Stepped, children_are_reaped, start_job};
 use wx_journal::{Entry, Journal};
-
-/// The state and the one before, with a space between them.
-fn states_of(alloc: Global, task: &JobTask) -> Result<String, Memory> {
-    let state = task.state();
-    let previous = task.previous();
-    Ok(format!(in alloc; "{state:?} {previous:?}")?)
-}
 
 /// Whether what the last move answered, the state and the one before are shown by this text.
 fn is_seen(
@@ -32,8 +27,8 @@ fn is_seen(
     last: Option<Stepped>,
     seen: &str,
 ) -> Result<bool, Memory> {
-    let states = states_of(alloc, task)?;
-    let shown = format!(in alloc; "{last:?} {states}")?;
+    let (state, previous) = (task.state(), task.previous());
+    let shown = format!(in alloc; "{last:?} {state:?} {previous:?}")?;
     Ok(shown.as_str() == seen)
 }
 
@@ -277,11 +272,12 @@ fn expect_hooked(rt: &impl Abort, alloc: Global, moves: &str, lines: &str, seen:
     drop(job);
 }
 
-/// Whether these are shown by this text.
+/// Whether how many moves had no memory, the state, the one before, and what the last hook or function was shown are shown by
+/// this text.
 fn is_hooked(alloc: Global, job: &One, failed: u64, seen: &str) -> Result<bool, Memory> {
-    let states = states_of(alloc, &job.task)?;
+    let (state, previous) = (job.task.state(), job.task.previous());
     let hook = &job.world.hooks.shown;
-    let shown = format!(in alloc; "{failed} {states} {hook:?}")?;
+    let shown = format!(in alloc; "{failed} {state:?} {previous:?} {hook:?}")?;
     Ok(shown.as_str() == seen)
 }
 
@@ -409,6 +405,7 @@ const BOTH: &str = "made 0\nmade 1\n\
 
 /// Makes one move of the job of this id beside another one. The end of its child isn't told here, no function is polled, and
 /// it isn't closed.
+#[tactic(auto, using(crate::proofs::Turns::two_left))]
 fn play_beside(
     task: &mut JobTask,
     other: &JobTask,
@@ -416,83 +413,78 @@ fn play_beside(
     alloc: Global,
     with: Move,
     world: &mut World,
-) -> Result<Option<Stepped>, Memory>
-    requires stands { Stands task.old world.old.journal.past }
-    requires other { Stands other.now world.old.journal.past }
-    requires names { NamesItsOwn world.old.journal.past }
-    requires apart { id_of other.now ≢ id_of task.old }
-    requires back { id_of task.old ≢ id_of other.now }
-    ensures stands { Stands task.new world.new.journal.past }
-    ensures other { Stands other.now world.new.journal.past }
-    ensures names { NamesItsOwn world.new.journal.past }
-    ensures apart { id_of other.now ≢ id_of task.new }
-    ensures back { id_of task.new ≢ id_of other.now }
+) -> Result<(), Memory>
+    requires { AreTwo task.old other.now world.old.journal.past }
+    ensures { AreTwo task.new other.now world.new.journal.past }
 {
     let _ = &other;
     match with {
         Move::Ask(wish) => {
-            let _ticket = ask(task, alloc, wish, world)?;
-            Ok(None)
+            let ticket = ask(task, alloc, wish, world)?;
+            drop(ticket);
+            Ok(())
         }
-        Move::Step(at) => Ok(Some(step(task, id, alloc, at, world)?)),
-        Move::Ended(_) | Move::Poll(_) | Move::Close => Ok(None),
-        Move::End => {
-            end_job(task, world)?;
-            Ok(None)
+        Move::Step(at) => {
+            step(task, id, alloc, at, world)?;
+            Ok(())
         }
+        Move::End => end_job(task, world),
+        Move::Ended(_) | Move::Poll(_) | Move::Close => Ok(()),
     }
 }
 
 /// Makes one move of the second job, or of the first.
+#[tactic(auto, using(crate::proofs::Turns::swapped))]
 fn play_one(
     a: &mut JobTask,
     b: &mut JobTask,
     alloc: Global,
-    with: (bool, Move),
+    second: bool,
+    with: Move,
     world: &mut World,
 ) -> Result<(), Memory>
-    requires stands { Stands a.old world.old.journal.past }
-    requires other { Stands b.old world.old.journal.past }
-    requires names { NamesItsOwn world.old.journal.past }
-    requires apart { id_of b.old ≢ id_of a.old }
-    requires back { id_of a.old ≢ id_of b.old }
-    ensures stands { Stands a.new world.new.journal.past }
-    ensures other { Stands b.new world.new.journal.past }
-    ensures names { NamesItsOwn world.new.journal.past }
-    ensures apart { id_of b.new ≢ id_of a.new }
-    ensures back { id_of a.new ≢ id_of b.new }
+    requires { AreTwo a.old b.old world.old.journal.past }
+    ensures { AreTwo a.new b.new world.new.journal.past }
 {
-    if with.0 {
-        play_beside(b, a, Id(1), alloc, with.1, world)?;
-    } else {
-        play_beside(a, b, Id(0), alloc, with.1, world)?;
+    if second {
+        return play_beside(b, a, Id(1), alloc, with, world);
+    }
+    play_beside(a, b, Id(0), alloc, with, world)
+}
+
+/// Makes these moves of two jobs, each of the second one where it says so.
+fn play_all(
+    a: &mut JobTask,
+    b: &mut JobTask,
+    alloc: Global,
+    moves: &[(bool, Move)],
+    world: &mut World,
+) -> Result<(), Memory>
+    requires { AreTwo a.old b.old world.old.journal.past }
+    ensures { AreTwo a.new b.new world.new.journal.past }
+{
+    for (second, with) in moves {
+        play_one(a, b, alloc, *second, *with, world)?;
     }
     Ok(())
 }
 
-/// Makes three moves of two jobs, each of the second one where it says so.
-fn play_three(
-    a: &mut JobTask,
-    b: &mut JobTask,
-    alloc: Global,
-    moves: [(bool, Move); 3],
-    world: &mut World,
-) -> Result<(), Memory>
-    requires stands { Stands a.old world.old.journal.past }
-    requires other { Stands b.old world.old.journal.past }
-    requires names { NamesItsOwn world.old.journal.past }
-    requires apart { id_of b.old ≢ id_of a.old }
-    requires back { id_of a.old ≢ id_of b.old }
-    ensures stands { Stands a.new world.new.journal.past }
-    ensures other { Stands b.new world.new.journal.past }
-    ensures names { NamesItsOwn world.new.journal.past }
-    ensures apart { id_of b.new ≢ id_of a.new }
-    ensures back { id_of a.new ≢ id_of b.new }
-{
-    play_one(a, b, alloc, moves[0], world)?;
-    play_one(a, b, alloc, moves[1], world)?;
-    play_one(a, b, alloc, moves[2], world)
-}
+/// Both jobs start, the second one first, which is asked to stop then.
+const STARTED: [(bool, Move); 6] = [
+    (false, START),
+    (true, START),
+    (false, STOP),
+    (true, Move::Step(1)),
+    (false, Move::Step(2)),
+    (true, STOP),
+];
+
+/// The first one stops and the second one ends.
+const ENDED: [(bool, Move); 3] = [
+    (false, Move::Step(3)),
+    (true, Move::End),
+    (false, Move::Step(4)),
+];
 
 /// Both jobs start, the second one first. Then the first one stops and the second one ends.
 fn play_both(
@@ -502,23 +494,11 @@ fn play_both(
     b: &mut JobTask,
     world: &mut World,
 ) -> Result<(), Memory>
-    requires stands { Stands a.old world.old.journal.past }
-    requires other { Stands b.old world.old.journal.past }
-    requires names { NamesItsOwn world.old.journal.past }
-    requires apart { id_of b.old ≢ id_of a.old }
-    requires back { id_of a.old ≢ id_of b.old }
+    requires { AreTwo a.old b.old world.old.journal.past }
 {
-    let asked = [(false, START), (true, START), (false, STOP)];
-    play_three(a, b, alloc, asked, world)?;
-    let started = [(true, Move::Step(1)), (false, Move::Step(2)), (true, STOP)];
-    play_three(a, b, alloc, started, world)?;
+    play_all(a, b, alloc, &STARTED, world)?;
     assert!(rt; b.state() == &RUNS);
-    let ended = [
-        (false, Move::Step(3)),
-        (true, Move::End),
-        (false, Move::Step(4)),
-    ];
-    play_three(a, b, alloc, ended, world)
+    play_all(a, b, alloc, &ENDED, world)
 }
 
 /// Holds the two jobs and the journal to what they should be when both were played.
@@ -592,35 +572,38 @@ fn expect_sent(
     with: (Ask, Option<Flag>),
     journal: &mut Journal,
     counts: (u64, u64),
-) -> Result<(), Memory>
+)
     requires { Stands task.old journal.old.past }
     ensures { Stands task.new journal.new.past }
 {
-    let ticket = task.send(alloc, with.0, with.1, journal)?;
+    let ticket = task.send(alloc, with.0, with.1, journal);
+    let ticket = ticket.expect(rt, "a ticket");
     assert!(rt; (journal.len(), journal.tickets()) == counts);
     expect_yes(rt, is_copied(alloc, &ticket), "a copy of a ticket");
     drop(ticket);
-    Ok(())
 }
 
 /// Asks for a stop over a flag of the caller, and for a restart over one of the job's own.
-fn expect_asked(
-    rt: &impl Abort,
-    alloc: Global,
-    task: &mut JobTask,
-    journal: &mut Journal,
-) -> Result<(), Memory>
+fn expect_asked(rt: &impl Abort, alloc: Global, task: &mut JobTask, journal: &mut Journal)
     requires { Stands task.old journal.old.past }
 {
-    let stop = (Ask::One(Control::Stop), Some(Flag::new(alloc, false)?));
-    expect_sent(rt, alloc, task, stop, journal, (2, 1))?;
-    expect_sent(rt, alloc, task, (Ask::Restart, None), journal, (4, 3))
+    let flag = Flag::new(alloc, false).expect(rt, "a flag");
+    let stop = (Ask::One(Control::Stop), Some(flag));
+    expect_sent(rt, alloc, task, stop, journal, (2, 1));
+    expect_sent(rt, alloc, task, (Ask::Restart, None), journal, (4, 3));
 }
 
-/// Whether this is a handle on job 4, which runs the program `a`.
-fn is_handle(alloc: Global, job: &Job) -> Result<bool, Memory> {
-    let want = command_of(alloc, b"a")?;
-    Ok(job.id() == Id(4) && job.command() == &want)
+/// Whether this is a handle on job 4, which runs this command.
+fn is_handle(job: &Job, command: &Command) -> bool {
+    job.id() == Id(4) && job.command() == command
+}
+
+/// Holds a handle to be one on job 4, which runs the program `a`.
+fn expect_handle(rt: &impl Abort, alloc: Global, job: Job) {
+    let command = command_of(alloc, b"a").expect(rt, "a command");
+    assert!(rt; is_handle(&job, &command));
+    drop(command);
+    drop(job);
 }
 
 /// Starts a job, lists in an empty journal that it was made, and asks something of it.
@@ -628,14 +611,12 @@ fn expect_started(rt: &impl Abort, alloc: Global, journal: &mut Journal) -> Resu
     requires room { 1 ≤ journal.old.spare }
     requires empty { journal.old.past ≡ [] }
 {
-    let (job, mut task) = start_job(alloc, Id(4), command_of(alloc, b"a")?)?;
-    let right = is_handle(alloc, &job);
-    drop(job);
+    let command = command_of(alloc, b"a")?;
+    let (job, mut task) = start_job(alloc, Id(4), command)?;
+    expect_handle(rt, alloc, job);
     journal.push(Entry::Made(Id(4)));
-    let held = expect_asked(rt, alloc, &mut task, journal);
+    expect_asked(rt, alloc, &mut task, journal);
     drop(task);
-    held?;
-    assert!(rt; right?);
     Ok(())
 }
 

@@ -2,7 +2,7 @@
 //
 // A block is the story of one job. Each of its lines goes on from the one before: it is a line as `expect_line` reads it,
 // and behind ` => ` what one poll of each ticket finds, in the order of the asks, and what the handle tells then.
-use crate::player::{Move, One, expect_at, expect_line, host, job_with, made_job};
+use crate::player::{Given, Move, One, expect_at, expect_line, host, job_with, made_job};
 use crate::test_world::lines_of;
 use futures::Future;
 use futures::executor::block_on;
@@ -19,30 +19,54 @@ fn is_ready(task: &MockTask, ticket: &mut Ticket) -> bool {
     matches!(task.poll(ticket), Poll::Ready(()))
 }
 
-/// The word of what one poll finds: the flags that are seen raised then. A copy that is made behind it has to find the same.
-fn poll_word(task: &MockTask, alloc: Global, ticket: &mut Ticket) -> Result<&'static str, Memory> {
-    let ready = is_ready(task, ticket);
-    let mut copy = ticket.copy(alloc)?;
-    let seen = (ticket.done.seen(), ticket.gone.seen());
-    let same = (copy.done.seen(), copy.gone.seen()) == seen;
-    if !same || is_ready(task, &mut copy) != ready {
-        return Ok("apart");
-    }
-    Ok(match (ready, seen) {
+/// Whether a ticket is seen done, and its job gone.
+fn seen_of(ticket: &Ticket) -> (bool, bool) {
+    (ticket.done.seen(), ticket.gone.seen())
+}
+
+/// The word of a poll that finds a ticket ready or not, by what is seen of it then.
+fn word_of(ready: bool, seen: (bool, bool)) -> &'static str {
+    match (ready, seen) {
         (false, (false, false)) => "pending",
         (true, (true, false)) => "done",
         (true, (false, true)) => "gone",
         (true, (true, true)) => "both",
         _ => "wrong",
-    })
+    }
+}
+
+/// The word of what one poll finds: the flags that are seen raised then. A copy that is made behind it has to find the same.
+fn poll_word(task: &MockTask, alloc: Global, ticket: &mut Ticket) -> Result<&'static str, Memory> {
+    let ready = is_ready(task, ticket);
+    let mut copy = ticket.copy(alloc)?;
+    let seen = seen_of(ticket);
+    let same = seen_of(&copy) == seen;
+    let apart = !same || is_ready(task, &mut copy) != ready;
+    drop(copy);
+    Ok(if apart { "apart" } else { word_of(ready, seen) })
+}
+
+/// Appends what one poll of a ticket finds.
+fn put_poll(
+    task: &MockTask,
+    alloc: Global,
+    ticket: &mut Ticket,
+    text: &mut Text,
+) -> Result<(), Memory> {
+    let word = poll_word(task, alloc, ticket)?;
+    text.append(word.as_bytes())?;
+    text.append(b" ")
 }
 
 /// Appends what one poll of each ticket finds.
-fn put_polls(task: &MockTask, alloc: Global, job: &mut One, text: &mut Text) -> Result<(), Memory> {
-    for given in job.tickets.iter_mut() {
-        let word = poll_word(task, alloc, &mut given.ticket)?;
-        text.append(word.as_bytes())?;
-        text.append(b" ")?;
+fn put_polls(
+    task: &MockTask,
+    alloc: Global,
+    tickets: &mut [Given],
+    text: &mut Text,
+) -> Result<(), Memory> {
+    for given in tickets.iter_mut() {
+        put_poll(task, alloc, &mut given.ticket, text)?;
     }
     Ok(())
 }
@@ -57,12 +81,12 @@ fn life_of(job: &mut One) -> &'static str {
     }
 }
 
-/// What one poll of each ticket finds, and then what the handle tells.
-fn told_of(task: &MockTask, alloc: Global, job: &mut One) -> Result<Text, Memory> {
+/// Whether this is what one poll of each ticket finds, and then what the handle tells.
+fn is_told(task: &MockTask, alloc: Global, job: &mut One, want: &str) -> Result<bool, Memory> {
     let mut text = Text::new(alloc);
-    put_polls(task, alloc, job, &mut text)?;
+    put_polls(task, alloc, &mut job.tickets, &mut text)?;
     text.append(life_of(job).as_bytes())?;
-    Ok(text)
+    Ok(text.as_slice() == want.as_bytes())
 }
 
 /// Plays a line, and holds what comes of it and what is told then to what stands there.
@@ -71,8 +95,8 @@ fn expect_told(rt: &impl Abort, task: &MockTask, alloc: Global, job: &mut One, l
         .split_once(" => ")
         .expect(rt, "a line and what is told");
     expect_line(rt, alloc, job, played);
-    let told = told_of(task, alloc, job).expect(rt, "what is told");
-    expect_at(rt, told.as_slice() == want.as_bytes(), "what is told", line);
+    let told = is_told(task, alloc, job, want).expect(rt, "what is told");
+    expect_at(rt, told, "what is told", line);
 }
 
 /// Plays a story, line by line.
@@ -203,11 +227,10 @@ fn expect_poll(
 }
 
 /// A flag of the caller is raised by the last control of its ask. One that the caller raises ends the wait for its ticket
-/// alone. That of an ask of a job that is gone is left alone.
+/// alone.
 fn expect_flags(rt: &impl Abort, task: &MockTask, alloc: Global, job: &mut One) {
     let first = new_flag(rt, alloc);
     let second = new_flag(rt, alloc);
-    let third = new_flag(rt, alloc);
     let mut restart = ask_over(rt, alloc, job, Ask::Restart, &first);
     let mut start = ask_over(rt, alloc, job, START, &second);
     play(rt, alloc, job, Move::Step(1));
@@ -220,9 +243,14 @@ fn expect_flags(rt: &impl Abort, task: &MockTask, alloc: Global, job: &mut One) 
     assert!(rt; !restart.gone.raised() && !start.gone.raised());
     drop(start);
     drop(restart);
+}
+
+/// The flag of an ask of a job that is gone is left alone.
+fn expect_late(rt: &impl Abort, task: &MockTask, alloc: Global, job: &mut One) {
     play(rt, alloc, job, Move::End);
-    let mut late = ask_over(rt, alloc, job, START, &third);
-    expect_poll(rt, task, &mut late, true, &third, false);
+    let flag = new_flag(rt, alloc);
+    let mut late = ask_over(rt, alloc, job, START, &flag);
+    expect_poll(rt, task, &mut late, true, &flag, false);
     drop(late);
 }
 
@@ -231,6 +259,7 @@ fn flags_of_the_caller(rt: HostRuntime) {
     let task = MockTask::new(&rt).expect(&rt, "a task");
     let mut job = job_with(&rt, rt.alloc(), None);
     expect_flags(&rt, &task, rt.alloc(), &mut job);
+    expect_late(&rt, &task, rt.alloc(), &mut job);
     drop(job);
     drop(task);
 }

@@ -14,7 +14,7 @@ use Rattle.wx_words.specs.EachLaws.{each_append}
 use Rattle.wx_words.specs.ToEndLaws.{all_again}
 use Rattle.wx_journal.specs.declared.entry.Entry.{Entry}
 use Rattle.wx_journal.specs.declared.entry.Entry.TheVariants.{Take, Filter, Hand}
-use Rattle.wx_config.specs.declared.runtime.RuntimeError.{RuntimeError}
+use Rattle.wx_error.specs.declared.runtime.RuntimeError.{RuntimeError}
 use Rattle.wx_control.specs.Ids.{id}
 use Rattle.wx_journal.specs.Acts.{act, act_has_word}
 use Rattle.wx_journal.specs.Entries.{entry, hand, entry_words, read_entry, EntryFits}

@@ -16,8 +16,8 @@ use Rattle.wx_events.specs.declared.process.ProcessEnd.{ProcessEnd}
 use Rattle.wx_command.specs.Commands.{spawnable}
 use Rattle.wx_command.specs.OptionsLaws.{options}
 use Rattle.wx_command.specs.declared.spawnable.Spawnable.{Spawnable}
-use Rattle.wx_config.specs.Runtime.{runtime}
-use Rattle.wx_config.specs.declared.runtime.RuntimeError.{RuntimeError}
+use Rattle.wx_error.specs.Runtime.{runtime}
+use Rattle.wx_error.specs.declared.runtime.RuntimeError.{RuntimeError}
 use Rattle.wx_journal.specs.declared.child.HostFault.{HostFault}
 
 -- the values of a spelling are read again from their words, what is read was spelled so, and no word has a byte of 32 or less

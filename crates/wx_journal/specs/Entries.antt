@@ -17,11 +17,11 @@ use Rattle.wx_events.specs.declared.event.Event.{Event}
 use Rattle.wx_events.specs.declared.process.ProcessEnd.{ProcessEnd}
 use Rattle.wx_command.specs.Commands.{spawnable}
 use Rattle.wx_command.specs.declared.spawnable.Spawnable.{Spawnable}
-use Rattle.wx_config.specs.Watched.{watcher, watched}
-use Rattle.wx_config.specs.Runtime.{runtime}
-use Rattle.wx_config.specs.declared.runtime.RuntimeError.{RuntimeError}
-use Rattle.wx_config.specs.declared.watched.Watcher.{Watcher}
-use Rattle.wx_config.specs.declared.watched.WatchedPath.{WatchedPath}
+use Rattle.wx_watch.specs.Watched.{watcher, watched}
+use Rattle.wx_error.specs.Runtime.{runtime}
+use Rattle.wx_error.specs.declared.runtime.RuntimeError.{RuntimeError}
+use Rattle.wx_watch.specs.declared.watched.Watcher.{Watcher}
+use Rattle.wx_watch.specs.declared.watched.WatchedPath.{WatchedPath}
 use Rattle.wx_control.specs.Ids.{id}
 use Rattle.wx_control.specs.Levels.{level}
 use Rattle.wx_control.specs.Controls.{control}

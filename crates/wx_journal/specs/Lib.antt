@@ -1,4 +1,5 @@
 pub mod Written
+pub mod Sorts
 pub mod Names
 pub mod Told
 pub mod Counted

@@ -7,8 +7,8 @@ use Rattle.wx_words.specs.Spellings.{Spelling}
 use Rattle.wx_words.specs.Choices.{Row, row, Behind, fields}
 use Rattle.wx_words.specs.ChoiceLaws.{MadeAgain, SpeltSo, choice}
 use Rattle.wx_words.specs.Parts.{line, nothing, both, named, list_of, as_line, number}
-use Rattle.wx_config.specs.Critical.{critical}
-use Rattle.wx_config.specs.declared.error.CriticalError.{CriticalError}
+use Rattle.wx_error.specs.Critical.{critical}
+use Rattle.wx_error.specs.declared.error.CriticalError.{CriticalError}
 use Rattle.wx_journal.specs.declared.entry.Entry.{Entry}
 use Rattle.wx_journal.specs.Entries.{entry_words, EntryFits}
 

@@ -5,7 +5,8 @@ use Rattle.wx_control.specs.declared.id.Id.{Id}
 use Rattle.wx_journal.specs.Acts.{JournalAct as Act}
 use Rattle.wx_journal.specs.declared.entry.Act.TheVariants.{Create, Ask, Quit}
 use Rattle.wx_journal.specs.declared.entry.Entry.{Entry}
-use Rattle.wx_journal.specs.declared.entry.Entry.TheVariants.{Begin, Sent, Turn as Turned, TurnFault, Offer, Word as Said, Take, Filter, Show, Hand, Made, Asked, Pick, GraceOver, Spawn, Signal, Kill, Wait, Dropped, Raise, Gone, Run, Begun, Poll, Hook, JobError}
+use Rattle.wx_journal.specs.declared.entry.Entry.TheVariants.{Turn as Turned, Offer, Take, Filter, Hand, Made, Pick}
+use Rattle.wx_journal.specs.Sorts.{Naming, NoName, NewEvent, NewTicket, NewChild, Subject, OfChild, OfTicket, sort}
 
 -- the moment of the last turn, 0 before the first
 abbrev pub moment : List Entry → ℕ
@@ -13,90 +14,27 @@ moment [] = 0
 moment (Turned t ∷ p) = t.at
 moment (_ ∷ p) = moment p
 
+abbrev pub is_new_event : Naming → Bool
+is_new_event (NewEvent name) = true
+is_new_event (_) = false
+
+abbrev pub is_new_ticket : Naming → Bool
+is_new_ticket (NewTicket ticket) = true
+is_new_ticket (_) = false
+
+abbrev pub is_new_child : Naming → Bool
+is_new_child (NewChild child) = true
+is_new_child (_) = false
+
 -- the entries that name an event, a ticket or a child
 abbrev pub names_event : Entry → Bool
-names_event (Begin throttle size errors keyboard follow jobsignals watcher cwd paths) = false
-names_event (Sent name event priority) = true
-names_event (Turned t) = false
-names_event (TurnFault code) = false
-names_event (Offer name item result event priority) = true
-names_event (Said word) = false
-names_event (Take name) = false
-names_event (Filter n name answer) = false
-names_event (Show n error wish) = false
-names_event (Hand n names acts) = false
-names_event (Made job) = false
-names_event (Asked ticket job level control) = false
-names_event (Pick job ticket) = false
-names_event (GraceOver job) = false
-names_event (Spawn child job tag what answer) = false
-names_event (Signal child number answer) = false
-names_event (Kill child answer) = false
-names_event (Wait child answer) = false
-names_event (Dropped child) = false
-names_event (Raise ticket) = false
-names_event (Gone job) = false
-names_event (Run job n) = false
-names_event (Begun job n) = false
-names_event (Poll job n ready) = false
-names_event (Hook job n answer) = false
-names_event (JobError job n code) = false
+names_event e = is_new_event (sort e).naming
 
 abbrev pub names_ticket : Entry → Bool
-names_ticket (Begin throttle size errors keyboard follow jobsignals watcher cwd paths) = false
-names_ticket (Sent name event priority) = false
-names_ticket (Turned t) = false
-names_ticket (TurnFault code) = false
-names_ticket (Offer name item result event priority) = false
-names_ticket (Said word) = false
-names_ticket (Take name) = false
-names_ticket (Filter n name answer) = false
-names_ticket (Show n error wish) = false
-names_ticket (Hand n names acts) = false
-names_ticket (Made job) = false
-names_ticket (Asked ticket job level control) = true
-names_ticket (Pick job ticket) = false
-names_ticket (GraceOver job) = false
-names_ticket (Spawn child job tag what answer) = false
-names_ticket (Signal child number answer) = false
-names_ticket (Kill child answer) = false
-names_ticket (Wait child answer) = false
-names_ticket (Dropped child) = false
-names_ticket (Raise ticket) = false
-names_ticket (Gone job) = false
-names_ticket (Run job n) = false
-names_ticket (Begun job n) = false
-names_ticket (Poll job n ready) = false
-names_ticket (Hook job n answer) = false
-names_ticket (JobError job n code) = false
+names_ticket e = is_new_ticket (sort e).naming
 
 abbrev pub names_child : Entry → Bool
-names_child (Begin throttle size errors keyboard follow jobsignals watcher cwd paths) = false
-names_child (Sent name event priority) = false
-names_child (Turned t) = false
-names_child (TurnFault code) = false
-names_child (Offer name item result event priority) = false
-names_child (Said word) = false
-names_child (Take name) = false
-names_child (Filter n name answer) = false
-names_child (Show n error wish) = false
-names_child (Hand n names acts) = false
-names_child (Made job) = false
-names_child (Asked ticket job level control) = false
-names_child (Pick job ticket) = false
-names_child (GraceOver job) = false
-names_child (Spawn child job tag what answer) = true
-names_child (Signal child number answer) = false
-names_child (Kill child answer) = false
-names_child (Wait child answer) = false
-names_child (Dropped child) = false
-names_child (Raise ticket) = false
-names_child (Gone job) = false
-names_child (Run job n) = false
-names_child (Begun job n) = false
-names_child (Poll job n ready) = false
-names_child (Hook job n answer) = false
-names_child (JobError job n code) = false
+names_child e = is_new_child (sort e).naming
 
 -- how many entries are of a kind
 abbrev pub count : (Entry → Bool) → List Entry → ℕ
@@ -144,34 +82,24 @@ abbrev pub NamesItem : Option ℕ → Type 0
 NamesItem None = Unit {0}
 NamesItem (Some item) = ⊥
 
+-- a name that is given is the next, and a child or a ticket that is spoken of has one
+abbrev pub IsNamed : List Entry → Naming → Subject → Type 0
+IsNamed p (NewEvent name) subject = name ≡ event_count p
+IsNamed p (NewTicket ticket) subject = ticket ≡ ticket_count p
+IsNamed p (NewChild child) subject = child ≡ child_count p
+IsNamed p NoName (OfChild child) = child < child_count p
+IsNamed p NoName (OfTicket ticket) = ticket < ticket_count p
+IsNamed p NoName (_) = Unit {0}
+
 -- what an entry behind these may name: the next name where it names something, and else only what has a name
 abbrev pub Names : List Entry → Entry → Type 0
-Names p (Begin throttle size errors keyboard follow jobsignals watcher cwd paths) = Unit {0}
-Names p (Sent name event priority) = name ≡ event_count p
-Names p (Turned t) = Unit {0}
-Names p (TurnFault code) = Unit {0}
 Names p (Offer name item result event priority) = (name ≡ event_count p) × NamesItem item
-Names p (Said word) = Unit {0}
 Names p (Take name) = name < event_count p
 Names p (Filter n name answer) = name < event_count p
-Names p (Show n error wish) = Unit {0}
 Names p (Hand n names acts) = AllByRecursion (λ name. name < event_count p) names
 Names p (Made job) = is_created job p ≡ true
-Names p (Asked ticket job level control) = ticket ≡ ticket_count p
 Names p (Pick job ticket) = ticket < ticket_count p
-Names p (GraceOver job) = Unit {0}
-Names p (Spawn child job tag what answer) = child ≡ child_count p
-Names p (Signal child number answer) = child < child_count p
-Names p (Kill child answer) = child < child_count p
-Names p (Wait child answer) = child < child_count p
-Names p (Dropped child) = child < child_count p
-Names p (Raise ticket) = ticket < ticket_count p
-Names p (Gone job) = Unit {0}
-Names p (Run job n) = Unit {0}
-Names p (Begun job n) = Unit {0}
-Names p (Poll job n ready) = Unit {0}
-Names p (Hook job n answer) = Unit {0}
-Names p (JobError job n code) = Unit {0}
+Names p e = IsNamed p (sort e).naming (sort e).subject
 
 -- a journal names only what its own entries made
 abbrev pub NamesItsOwn : List Entry → Type 0

@@ -6,7 +6,7 @@ ghost use Rattle.wx_journal.specs.Answers.{AreReadAgain, done, waited, verdict, 
 use crate::child::HostFault;
 use std::alloc::Global;
 use wx_command::Spawnable;
-use wx_config::RuntimeError;
+use wx_error::RuntimeError;
 use wx_events::{Memory, Spelled, Text, Words};
 use wx_words::{Fields, put_row, put_word, read_rows};
 

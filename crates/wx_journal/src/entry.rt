@@ -5,9 +5,10 @@ use crate::child::{HostFault, SpawnTag};
 use crate::wish::Wish;
 use std::alloc::Global;
 use wx_command::{Command, Spawnable};
-use wx_config::{RuntimeError, WatchedPath, Watcher};
 use wx_control::{Ask, Control, Id, Level};
+use wx_error::RuntimeError;
 use wx_events::{Copies, Event, List, Memory, Priority, ProcessEnd, TextPath};
+use wx_watch::{WatchedPath, Watcher};
 
 /// What a turn brings.
 #[derive(Drop, Debug)]

@@ -8,7 +8,7 @@ ghost use Rattle.wx_journal.specs.Entries.{EntryFits};
 
 use crate::entry::Entry;
 use crate::words::append_entry;
-use wx_config::CriticalError;
+use wx_error::CriticalError;
 use wx_events::{List, Memory, Spelled, Text};
 use wx_words::{put_row, put_word};
 

@@ -1,7 +1,7 @@
 // What an error handler wishes of the run.
 
 use std::alloc::Global;
-use wx_config::CriticalError;
+use wx_error::CriticalError;
 use wx_events::{Copies, Memory, Spelled, Text, Words};
 use wx_words::{put_row, put_word, read_rows};
 

@@ -2,7 +2,8 @@
 ghost use Rattle.std.specs.Prelude.{◌≡◌, ◌++◌, true, OnOk, OnErr};
 ghost use Rattle.wx_words.specs.Line.{joined};
 ghost use Rattle.wx_journal.specs.Entries.{entry_words, EntryFits};
-ghost use Rattle.wx_journal.specs.Words.{is_begin, is_of_job};
+ghost use Rattle.wx_journal.specs.Sorts.{is_of_job};
+ghost use Rattle.wx_journal.specs.Words.{is_begin};
 ghost use Rattle.wx_journal.specs.declared.entry.Entry.TheVariants.{Hand};
 
 use crate::answers::{HookedRef, ReadyRef, VerdictRef};

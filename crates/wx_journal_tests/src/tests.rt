@@ -3,8 +3,8 @@ use std::alloc::Global;
 use std::num::{NonZeroI32, NonZeroI64};
 use std::process::Abort;
 use wx_command::{Command, Program, SpawnOptions, Spawnable};
-use wx_config::{RuntimeError, WatchedPath, Watcher};
 use wx_control::{Ask, Control, Id, Level};
+use wx_error::RuntimeError;
 use wx_events::{
     Copies, Event, List, Memory, Priority, ProcessEnd, Signal, Spelled, Text, TextPath, Words,
 };
@@ -12,6 +12,7 @@ use wx_journal::{
     Act, Entry, HostFault, Journal, Offered, SpawnTag, Turn, TurnKind, VerdictRef, Word, put_entry,
     read_verdict,
 };
+use wx_watch::{WatchedPath, Watcher};
 use wx_words::{Fields, ResultRef, read_result};
 
 /// The line of an entry.

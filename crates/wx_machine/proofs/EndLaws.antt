@@ -26,8 +26,8 @@ use Rattle.wx_machine.specs.Turns.{SameTurns, StaysInTurn}
 use Rattle.wx_machine.proofs.PlanLaws.{of_end, end_is_plan, end_placed, names_end}
 use Rattle.wx_machine.proofs.Lawful.{IsOfEnd}
 use Rattle.wx_machine.proofs.Orderly.{GoneRunNone}
-use Rattle.wx_machine.proofs.RunLaws.{gone_gone, gone_by_end}
-use Rattle.wx_machine.proofs.JobsLaws.{IsIn, of_filter, in_jobs, agenda_plan, turns_plan, same_turns}
+use Rattle.wx_machine.proofs.RunLaws.{gone_gone, free_end}
+use Rattle.wx_machine.proofs.AllJobs.{IsIn, of_filter, in_jobs, agenda_plan, turns_plan, same_turns}
 
 -- ---- what an end leaves
 
@@ -262,7 +262,7 @@ still_gone s q p (id ∷ ids) l gone = ((dying_keeps s q p l).gone id gone.0, st
 -- the end of a run that was broken off keeps this
 none_one : (p : List Entry) (e : Entry) → IsOfEnd e → Follows p (end p) e → GoneRunNone p → GoneRunNone (e ∷ p)
 none_one p (Dropped c) o d h id e = ap (unless c) (h id e)
-none_one p (Gone job) o d h id e = gone_gone p job id (same job id) refl e (gone_by_end p (jobs p) job d) (h id)
+none_one p (Gone job) o d h id e = gone_gone p job id (same job id) refl e (free_end p (Gone job) d) (h id)
 none_one p (_) o d h id e = absurd o
 
 pub dying_none : (q p : List Entry) → Dying q p → GoneRunNone q → GoneRunNone p

@@ -1,7 +1,7 @@
 -- What counts the faults of calls on children.
 use Rattle.std.proofs.Common.{◌≡◌, ℕ, ◌+◌, ◌≤◌, Bool, true, false, cond, List, [], ◌∷◌, Option, None, Some, length, refl, arith, ap}
 use Rattle.wx_journal.specs.declared.entry.Entry.{Entry}
-use Rattle.wx_journal.specs.declared.entry.Entry.TheVariants.{Spawn, Signal, Kill, Wait, Dropped, Gone}
+use Rattle.wx_journal.specs.declared.entry.Entry.TheVariants.{Spawn, Dropped, Gone}
 use Rattle.wx_journal.specs.Told.{tell_if, is_world}
 use Rattle.wx_machine.specs.Case.{is_fault}
 use Rattle.wx_machine.specs.Faults.{fault_count, Counted, CountsOn}
@@ -25,11 +25,8 @@ counts_entry e p n n' calm later = calm_counts p (e ∷ p) n n' later (let same 
 
 -- each fault was told to the world
 no_fault : (p : List Entry) (e : Entry) → is_world p e ≡ false → is_fault e ≡ false
-no_fault p (Spawn c job tag what answer) other = absurd cc
-no_fault p (Signal c number answer) other = absurd cc
-no_fault p (Kill c answer) other = absurd cc
-no_fault p (Wait c answer) other = absurd cc
-no_fault p (_) other = refl
+no_fault p (Spawn c job tag what answer) other = cc
+no_fault p (_) other = cc
 
 -- so many faults more at most as entries were told
 record IsTold (n n' : ℕ) (told : Option (List Entry)) : Type 0 where

@@ -10,7 +10,8 @@ use Rattle.wx_control.specs.declared.level.Level.{Level}
 use Rattle.wx_journal.specs.declared.child.SpawnTag.{SpawnTag}
 use Rattle.wx_journal.specs.declared.child.HostFault.{HostFault}
 use Rattle.wx_journal.specs.declared.entry.Entry.{Entry}
-use Rattle.wx_journal.specs.declared.entry.Entry.TheVariants.{Turn as Turned, Hand, Made, Asked, Pick, GraceOver, Spawn, Signal, Wait, Dropped, Raise, Gone, Begun, Poll, Hook}
+use Rattle.wx_journal.specs.declared.entry.Entry.TheVariants.{Turn as Turned, Hand, Asked, Pick, GraceOver, Spawn, Signal, Kill, Wait, Dropped, Raise, Gone, Run, Begun, Poll, Hook, JobError}
+use Rattle.wx_journal.specs.Sorts.{is_of_job}
 use Rattle.wx_journal.specs.declared.entry.TurnKind.TheVariants as turn
 use Rattle.wx_journal.specs.Names.{moment}
 use Rattle.wx_machine.specs.declared.state.CommandState.{CommandState}
@@ -79,20 +80,11 @@ frame_raise i id t p ne own its = search (arith, parked_other i id t p ne own it
 abbrev pub is_silent : Entry → Bool
 is_silent (Turned t) = false
 is_silent (Hand n names acts) = false
-is_silent (Made job) = false
-is_silent (Asked ticket job level control) = false
-is_silent (Pick job ticket) = false
-is_silent (GraceOver job) = false
-is_silent (Spawn c job tag what answer) = false
-is_silent (Signal c number answer) = false
-is_silent (Raise ticket) = false
-is_silent (Wait c answer) = false
-is_silent (Dropped c) = false
-is_silent (Gone job) = false
-is_silent (Begun job n) = false
+is_silent (Kill c answer) = true
+is_silent (Run job n) = true
 is_silent (Poll job n ready) = not ready
-is_silent (Hook job n answer) = false
-is_silent (_) = true
+is_silent (JobError job n code) = true
+is_silent (e) = not (is_of_job e)
 
 pub frame_silent : (i : Id) (e : Entry) (p : List Entry) → is_silent e ≡ true → SameHistory i p (e ∷ p)
 frame_silent i (Poll job n true) p s = absurd cc

@@ -4,10 +4,10 @@ use Rattle.std.specs.Prelude.{◌==◌, ◌&&◌, ◌||◌, not}
 use Rattle.wx_words.specs.OptionLaws.{refused}
 use Rattle.wx_control.specs.declared.id.Id.{Id}
 use Rattle.wx_journal.specs.declared.entry.Entry.{Entry}
-use Rattle.wx_journal.specs.declared.entry.Entry.TheVariants.{Turn as Turned, Made, Pick, GraceOver, Spawn, Signal, Wait, Dropped, Gone}
+use Rattle.wx_journal.specs.declared.entry.Entry.TheVariants.{Turn as Turned, Made, Pick, GraceOver, Spawn, Signal, Gone}
 use Rattle.wx_journal.specs.Names.{moment}
 use Rattle.wx_machine.specs.declared.grace.Grace.{Grace}
-use Rattle.wx_machine.specs.History.{same, child, is_child, unless, grace, just_picked, begins_by, with_ticket, picked_control}
+use Rattle.wx_machine.specs.History.{same, child, is_child, ended_child, still_running, is_ended, grace, just_picked, begins_by, with_ticket, picked_control}
 use Rattle.wx_machine.specs.JobLaws.{ends_grace}
 use Rattle.wx_machine.specs.TicketLaws.{GracesNeedChildren}
 use Rattle.wx_machine.proofs.Owners.{either}
@@ -17,10 +17,11 @@ use Rattle.wx_machine.proofs.Owners.{either}
 over_needs : (b : Bool) (o : Option Grace) (g : Grace) (c : Option ℕ) → ((o ≡ Some g) → c ≢ None) → cond b None o ≡ Some g → c ≢ None
 over_needs b o g c needs e = needs (refused b o g e).1
 
--- where this child was reaped or let go, no grace stands, and where another was, that of the job runs on
-reaped_needs : (d : ℕ) (c : Option ℕ) (o : Option Grace) (g : Grace) → (o ≡ Some g → c ≢ None) → cond (is_child d c) None o ≡ Some g → unless d c ≢ None
-reaped_needs d None o g needs e = needs e
-reaped_needs d (Some x) o g needs e = by_test (x == d) e
+-- where the child has ended no grace stands, and where another has, that of the job runs on
+ended_needs : (over running : Option ℕ) (o : Option Grace) (g : Grace) → (o ≡ Some g → running ≢ None) → cond (is_ended over running) None o ≡ Some g → still_running over running ≢ None
+ended_needs None running o g needs e = needs e
+ended_needs (Some d) None o g needs e = needs e
+ended_needs (Some d) (Some x) o g needs e = by_test (x == d) e
   where
     by_test : (b : Bool) → cond b None o ≡ Some g → cond b None (Some x) ≢ None
     by_test true h is = cc
@@ -45,9 +46,7 @@ graces_need_children (Signal c number (Ok done) ∷ p) id g e = by_child (child 
     by_child : (o : Option ℕ) (begun : Option Grace) → (grace id p ≡ Some g → o ≢ None) → cond (is_child c o) begun (grace id p) ≡ Some g → o ≢ None
     by_child None begun needs h is = needs h is
     by_child (Some x) begun needs h is = cc
-graces_need_children (Wait c (Ok status) ∷ p) id g e = reaped_needs c (child id p) (grace id p) g (λ h. graces_need_children p id g h) e
-graces_need_children (Dropped c ∷ p) id g e = reaped_needs c (child id p) (grace id p) g (λ h. graces_need_children p id g h) e
-graces_need_children (_ ∷ p) id g e = graces_need_children p id g e
+graces_need_children (e ∷ p) id g is = ended_needs (ended_child e) (child id p) (grace id p) g (λ h. graces_need_children p id g h) is
 
 -- ---- not in the case of the end of a grace
 
@@ -82,7 +81,5 @@ over_without id (GraceOver job ∷ p) over = by_test (same job id) over (λ h. o
 over_without id (Signal c number (Ok done) ∷ p) over =
     let none = over_without id p over in
     either (λ o. o ≡ None) (is_child c (child id p)) (begins_by (just_picked id p) (moment p) (grace id p)) (grace id p) (none_begun id p (moment p) over none) none
-over_without id (Wait c (Ok status) ∷ p) over = either (λ o. o ≡ None) (is_child c (child id p)) None (grace id p) refl (over_without id p over)
-over_without id (Dropped c ∷ p) over = either (λ o. o ≡ None) (is_child c (child id p)) None (grace id p) refl (over_without id p over)
 over_without id (Gone job ∷ p) over = either (λ o. o ≡ None) (same job id) None (grace id p) refl (over_without id p over)
-over_without id (_ ∷ p) over = over_without id p over
+over_without id (e ∷ p) over = either (λ o. o ≡ None) (is_ended (ended_child e) (child id p)) None (grace id p) refl (over_without id p over)

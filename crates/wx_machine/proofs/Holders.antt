@@ -5,11 +5,11 @@ use Rattle.wx_control.specs.declared.id.Id.{Id}
 use Rattle.wx_control.specs.declared.control.Control.{Control}
 use Rattle.wx_control.specs.declared.control.Control.TheVariants.{GracefulStop, TryGracefulRestart}
 use Rattle.wx_journal.specs.declared.entry.Entry.{Entry}
-use Rattle.wx_journal.specs.declared.entry.Entry.TheVariants.{Made, Pick, GraceOver, Signal, Wait, Dropped, Raise, Gone, Begun, Poll}
+use Rattle.wx_journal.specs.declared.entry.Entry.TheVariants.{Made, Pick, GraceOver, Signal, Raise, Gone, Begun, Poll}
 use Rattle.wx_journal.specs.Names.{moment}
 use Rattle.wx_machine.specs.declared.function.Function.{Function}
 use Rattle.wx_machine.specs.declared.grace.Grace.{Grace}
-use Rattle.wx_machine.specs.History.{same, lives, child, is_child, state, grace, begun, begun_with, just_picked, begins, begins_by, with_ticket, picked_control, parked, in_hand, parks, takes, without_ticket}
+use Rattle.wx_machine.specs.History.{same, lives, child, is_child, ended_child, is_ended, state, grace, begun, begun_with, just_picked, begins, begins_by, with_ticket, picked_control, parked, in_hand, parks, takes, without_ticket}
 use Rattle.wx_machine.specs.Held.{once, times, times_grace, times_begun}
 use Rattle.wx_machine.specs.TicketLaws.{raises_of, IsPlaced}
 use Rattle.wx_machine.proofs.Owners.{either}
@@ -80,8 +80,6 @@ held_enough id t (Raise u ∷ p) un = by_test (u == t) refl un (λ e. held_enoug
         let hand : times t (without_ticket u (in_hand id p)) ≡ times t (in_hand id p) - once false = rw is at (times_without u t (in_hand id p)) in
         let rest : times t (without_ticket u (parked id p)) ≡ times t (parked id p) - once false = rw is at (times_without u t (parked id p)) in omega (arith, le, hand, rest)
 held_enough id t (GraceOver job ∷ p) un = let le = held_enough id t p un in let less = ended_less t (same job id) (grace id p) in omega (arith, le, less)
-held_enough id t (Wait c (Ok status) ∷ p) un = let le = held_enough id t p un in let less = ended_less t (is_child c (child id p)) (grace id p) in omega (arith, le, less)
-held_enough id t (Dropped c ∷ p) un = let le = held_enough id t p un in let less = ended_less t (is_child c (child id p)) (grace id p) in omega (arith, le, less)
 held_enough id t (Signal c number (Ok done) ∷ p) un =
     let le = held_enough id t p un in
     let sent = sent_once t (just_picked id p) (moment p) (grace id p) in
@@ -91,7 +89,7 @@ held_enough id t (Begun job n ∷ p) un =
     let one = begun_once t n (just_picked id p) in
     either (λ o. times_picked t None + times_grace t (grace id p) + times_begun t o ≤ times t (in_hand id p) + times t (parked id p)) (same job id) (begun_with n (just_picked id p)) (begun id p) (omega (arith, le, one)) (omega (arith, le))
 held_enough id t (Poll job n true ∷ p) un = let le = held_enough id t p un in let less = ready_less t (same job id) (begun id p) in omega (arith, le, less)
-held_enough id t (_ ∷ p) un = let le = held_enough id t p un in omega (arith, le)
+held_enough id t (e ∷ p) un = let le = held_enough id t p un in let less = ended_less t (is_ended (ended_child e) (child id p)) (grace id p) in omega (arith, le, less)
 
 -- a begun function has another ticket than the grace that stands
 pub begun_apart : (id : Id) (f : Function) (g : Grace) (p : List Entry) → IsPlaced p → lives id p ≡ true → begun id p ≡ Some f → grace id p ≡ Some g → f.ticket ≢ g.ticket

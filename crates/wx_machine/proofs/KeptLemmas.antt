@@ -32,9 +32,6 @@ quiet_led k p host n k' p' host' n' l = let h = heard k p host n k' p' host' (So
 
 -- ---- room
 
-pub kept-room : {K Fixed : Type 0} (seen : K → Hooked Fixed) (rule : Fixed → List Entry → Entry → Type 0) (stands : K → List Entry → Type 0) (x₀ : K) (p₀ : List Entry) (x x' : K) (p : List Entry) → OnlyHooksRoom seen stands x x' → Kept seen rule stands x₀ p₀ x p → Kept seen rule stands x₀ p₀ x' p
-kept-room seen rule stands x₀ p₀ x x' p only k = Roomy x x' p k only
-
 -- ---- calls on them, and entries that are none
 
 pub kept-call : {K Fixed : Type 0} (seen : K → Hooked Fixed) (rule : Fixed → List Entry → Entry → Type 0) (stands : K → List Entry → Type 0) (x₀ : K) (p₀ : List Entry) (x x' : K) (e : Entry) (p : List Entry) → Keeps seen rule stands x p e x' → Kept seen rule stands x₀ p₀ x p → Kept seen rule stands x₀ p₀ x' (e ∷ p)
@@ -55,8 +52,6 @@ pub ruleset quiets = (quiet_then)
 
 pub kept-past : {K Fixed : Type 0} (seen : K → Hooked Fixed) (rule : Fixed → List Entry → Entry → Type 0) (stands : K → List Entry → Type 0) (x₀ : K) (p₀ : List Entry) (x : K) (p p' : List Entry) → Quiet p p' → Kept seen rule stands x₀ p₀ x p → Kept seen rule stands x₀ p₀ x p'
 kept-past seen rule stands x₀ p₀ x p p' quiet k = Past x p p' k quiet
-
-pub ruleset kept = (kept-room)
 
 pub ruleset calls = (kept-call, kept-one, kept-past, More, Same)
 

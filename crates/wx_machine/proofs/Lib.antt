@@ -7,7 +7,7 @@ pub mod FaultLaws
 pub mod Frame
 pub mod Graces
 pub mod Holders
-pub mod JobsLaws
+pub mod AllJobs
 pub mod KeptLemmas
 pub mod Lawful
 pub mod LifeLaws

@@ -12,11 +12,11 @@ use Rattle.wx_control.specs.declared.level.Level.{Level}
 use Rattle.wx_control.specs.declared.level.Level.TheVariants.{High, Urgent}
 use Rattle.wx_control.specs.Levels.{rank}
 use Rattle.wx_journal.specs.declared.entry.Entry.{Entry}
-use Rattle.wx_journal.specs.declared.entry.Entry.TheVariants.{Made, Asked, Pick, Spawn, Wait, Dropped, Gone, Hook}
+use Rattle.wx_journal.specs.declared.entry.Entry.TheVariants.{Made, Asked, Pick, Spawn, Wait, Gone, Hook}
 use Rattle.wx_journal.specs.Names.{NamesItsOwn, ticket_count, child_count, moment}
 use Rattle.wx_machine.specs.declared.state.CommandState.{CommandState}
 use Rattle.wx_machine.specs.declared.state.CommandState.TheVariants.{Pending, Running, Finished}
-use Rattle.wx_machine.specs.History.{same, lives, has_above, without, waits, child, unless, state, finish, owner}
+use Rattle.wx_machine.specs.History.{same, lives, has_above, without, waits, child, unless, reaped_child, ended_child, still_running, state, finish, owner}
 use Rattle.wx_machine.specs.States.{child_of}
 use Rattle.wx_machine.specs.JobLaws.{unreaped, NamesChildren}
 
@@ -66,6 +66,10 @@ unless_some c (Some x) d e = by_test (x == c) e
     by_test true h = cc
     by_test false h = h
 
+still_some : (over running : Option ℕ) (d : ℕ) → still_running over running ≡ Some d → running ≡ Some d
+still_some None running d e = e
+still_some (Some c) running d e = unless_some c running d e
+
 -- ---- a child that runs, one that wasn't reaped, and the one in the state were spawned by their job
 
 -- what is looked back for in a history and names a child
@@ -79,19 +83,16 @@ spawned_ok c d id job p o false is own name look e = owner_kept c d id job p own
 pub child_owner : Spawned child
 child_owner id c [] own e = cc
 child_owner id c (Made job ∷ p) own e = child_owner id c p own (refused (same job id) (child id p) c e).1
-child_owner id c (Wait d (Ok status) ∷ p) own e = child_owner id c p own (unless_some d (child id p) c e)
-child_owner id c (Dropped d ∷ p) own e = child_owner id c p own (unless_some d (child id p) c e)
 child_owner id c (Spawn d job tag what (Ok done) ∷ p) own e = spawned_ok c d id job p (child id p) (same job id) refl own.1 own.0 (λ h. child_owner id c p own.1 h) e
 child_owner id c (Spawn d job tag what (Err fault) ∷ p) own e = owner_kept c d id job p own.1 own.0 (child_owner id c p own.1 e)
-child_owner id c (_ ∷ p) own e = child_owner id c p own e
+child_owner id c (e ∷ p) own is = child_owner id c p own (still_some (ended_child e) (child id p) c is)
 
 pub unreaped_owner : Spawned unreaped
 unreaped_owner id c [] own e = cc
 unreaped_owner id c (Made job ∷ p) own e = unreaped_owner id c p own (refused (same job id) (unreaped id p) c e).1
-unreaped_owner id c (Wait d (Ok status) ∷ p) own e = unreaped_owner id c p own (unless_some d (unreaped id p) c e)
 unreaped_owner id c (Spawn d job tag what (Ok done) ∷ p) own e = spawned_ok c d id job p (unreaped id p) (same job id) refl own.1 own.0 (λ h. unreaped_owner id c p own.1 h) e
 unreaped_owner id c (Spawn d job tag what (Err fault) ∷ p) own e = owner_kept c d id job p own.1 own.0 (unreaped_owner id c p own.1 e)
-unreaped_owner id c (_ ∷ p) own e = unreaped_owner id c p own e
+unreaped_owner id c (e ∷ p) own is = unreaped_owner id c p own (still_some (reaped_child e) (unreaped id p) c is)
 
 -- the child in the state
 pending_of : (b : Bool) (s : CommandState) (c : ℕ) → child_of (cond b Pending s) ≡ Some c → child_of s ≡ Some c

@@ -14,7 +14,7 @@ use Rattle.wx_control.specs.declared.level.Level.{Level}
 use Rattle.wx_control.specs.declared.level.Level.TheVariants.{Normal, High, Urgent}
 use Rattle.wx_journal.specs.declared.child.HostFault.{HostFault}
 use Rattle.wx_journal.specs.declared.entry.Entry.{Entry}
-use Rattle.wx_journal.specs.declared.entry.Entry.TheVariants.{Word as Said, Asked, Pick, GraceOver, Signal, Wait, Raise, Run, Begun, Poll as Polled}
+use Rattle.wx_journal.specs.declared.entry.Entry.TheVariants.{Word as Said, Asked, Pick, GraceOver, Signal, Raise, Run, Begun, Poll as Polled}
 use Rattle.wx_journal.specs.declared.entry.Word.TheVariants.{Idle as TheIdle, Later as TheLater}
 use Rattle.wx_journal.specs.Names.{ticket_count, moment}
 use Rattle.wx_machine.specs.declared.choice.Choice.{Choice}
@@ -187,8 +187,8 @@ placing_ended_by id by (Some g) p calm held is busy = placing_ended_in id by g p
 placing_ended : (id : Id) (command : Command) (d : ℕ) (p : List Entry) → MayWait id d p → Always Placing p (ended id (kit id command p) d)
 placing_ended id command d p m =
     placing_wait id d (ended_by id (kit id command p) (grace id p)) (shows id (handler id p) Done) p m
-    (λ fault h busy. placing_shows id (handler id p) Done (Wait d (Err fault) ∷ p) h (unraised id (Wait d (Err fault) ∷ p) h m.alive busy) tt (λ n code h'. tt))
-    (λ status calm busy. placing_ended_by id (kit id command p) (grace id p) (Wait d (Ok status) ∷ p) calm (m.placed.held id) refl busy)
+    (λ fault h busy. placing_shows id (handler id p) Done _ h (unraised id _ h m.alive busy) tt (λ n code h'. tt))
+    (λ status calm busy. placing_ended_by id (kit id command p) (grace id p) _ calm (m.placed.held id) refl busy)
 
 -- a begun function that is ready has its ticket raised
 placing_polled : (id : Id) (f : Function) (p : List Entry) → lives id p ≡ true → begun id p ≡ Some f → IsPlaced p → Always Placing p (polled id f)

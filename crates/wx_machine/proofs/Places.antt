@@ -1,6 +1,6 @@
 -- What one entry leaves of the places of tickets.
 use Rattle.std.proofs.Common.{◌≡◌, ℕ, ◌+◌, ◌≤◌, Bool, true, false, cond, List, [], ◌∷◌, Option, Some, None, Result, Ok, Err, refl, arith, ap, eq-eqb}
-use Rattle.std.specs.Prelude.{◌==◌, ◌&&◌, ◌||◌, ℤ}
+use Rattle.std.specs.Prelude.{◌==◌, ◌&&◌, ◌||◌, not, T, ℤ}
 use Rattle.wx_words.specs.declared.list.Memory.{Memory}
 use Rattle.wx_events.specs.declared.process.ProcessEnd.{ProcessEnd}
 use Rattle.wx_command.specs.declared.spawnable.Spawnable.{Spawnable}
@@ -10,7 +10,8 @@ use Rattle.wx_control.specs.declared.control.Control.TheVariants.{GracefulStop, 
 use Rattle.wx_journal.specs.declared.child.HostFault.{HostFault}
 use Rattle.wx_journal.specs.declared.child.SpawnTag.{SpawnTag}
 use Rattle.wx_journal.specs.declared.entry.Entry.{Entry}
-use Rattle.wx_journal.specs.declared.entry.Entry.TheVariants.{Begin, Sent, Turn as Turned, TurnFault, Offer, Word as Said, Take, Filter, Show, Hand, Made, Asked, Pick, GraceOver, Spawn, Signal, Kill, Wait, Dropped, Raise, Gone, Run, Begun, Poll, Hook, JobError}
+use Rattle.wx_journal.specs.declared.entry.Entry.TheVariants.{Word as Said, Made, Asked, Pick, GraceOver, Spawn, Signal, Kill, Wait, Dropped, Raise, Gone, Run, Begun, Poll, Hook, JobError}
+use Rattle.wx_journal.specs.Sorts.{is_of_job}
 use Rattle.wx_journal.specs.Names.{ticket_count, child_count, moment}
 use Rattle.wx_machine.specs.declared.function.Function.{Function}
 use Rattle.wx_machine.specs.declared.grace.Grace.{Grace}
@@ -145,51 +146,18 @@ placed_still (_) p s l h =
 
 -- entries that are of no job
 abbrev pub IsSilent : Entry → Type 0
-IsSilent (Begin throttle size errors keyboard follow jobsignals watcher cwd paths) = Unit {0}
-IsSilent (Sent name event priority) = Unit {0}
-IsSilent (Turned t) = Unit {0}
-IsSilent (TurnFault code) = Unit {0}
-IsSilent (Offer name item result event priority) = Unit {0}
-IsSilent (Said word) = Unit {0}
-IsSilent (Take name) = Unit {0}
-IsSilent (Filter n name answer) = Unit {0}
-IsSilent (Show n error wish) = Unit {0}
-IsSilent (Hand n names acts) = Unit {0}
-IsSilent (Made job) = ⊥
-IsSilent (Asked ticket job level control) = ⊥
-IsSilent (Pick job ticket) = ⊥
-IsSilent (GraceOver job) = ⊥
-IsSilent (Spawn c job tag what answer) = ⊥
-IsSilent (Signal c number answer) = ⊥
-IsSilent (Kill c answer) = ⊥
-IsSilent (Wait c answer) = ⊥
-IsSilent (Dropped c) = ⊥
-IsSilent (Raise ticket) = ⊥
-IsSilent (Gone job) = ⊥
-IsSilent (Run job n) = ⊥
-IsSilent (Begun job n) = ⊥
-IsSilent (Poll job n ready) = ⊥
-IsSilent (Hook job n answer) = ⊥
-IsSilent (JobError job n code) = ⊥
+IsSilent e = T (not (is_of_job e))
+
+silent_still : (e : Entry) → IsSilent e → is_still e ≡ true
+silent_still (Said word) s = search
+silent_still (_) s = search
+
+silent_leaves : (e : Entry) (p : List Entry) → IsSilent e → IsPlaced p → HoldsTickets p → Leaves e p
+silent_leaves (Said word) p s h held = search
+silent_leaves (_) p s h held = search
 
 pub placed_silent : (e : Entry) (p : List Entry) → IsSilent e → IsPlaced p → IsPlaced (e ∷ p)
-placed_silent (Made job) p s h = absurd s
-placed_silent (Asked ticket job level control) p s h = absurd s
-placed_silent (Pick job ticket) p s h = absurd s
-placed_silent (GraceOver job) p s h = absurd s
-placed_silent (Spawn c job tag what answer) p s h = absurd s
-placed_silent (Signal c number answer) p s h = absurd s
-placed_silent (Kill c answer) p s h = absurd s
-placed_silent (Wait c answer) p s h = absurd s
-placed_silent (Dropped c) p s h = absurd s
-placed_silent (Raise ticket) p s h = absurd s
-placed_silent (Gone job) p s h = absurd s
-placed_silent (Run job n) p s h = absurd s
-placed_silent (Begun job n) p s h = absurd s
-placed_silent (Poll job n ready) p s h = absurd s
-placed_silent (Hook job n answer) p s h = absurd s
-placed_silent (JobError job n code) p s h = absurd s
-placed_silent (e) p s h = placed_still e p refl (record { children = h.children; held = held_of p h; last = h.last; polled = h.polled }) h
+placed_silent e p s h = placed_still e p (silent_still e s) (silent_leaves e p s h (held_of p h)) h
 
 -- an entry that ends a grace leaves the others
 pub placed_over : (id : Id) (p : List Entry) → begun id p ≡ None → IsPlaced p → IsPlaced (GraceOver id ∷ p)

@@ -1,6 +1,6 @@
 -- What the plans of a run let come, and what they name.
 use Rattle.std.proofs.Common.{◌≡◌, ℕ, ◌+◌, Bool, true, false, cond, List, [], ◌∷◌, refl, sym, subst, ◌∙◌, eq-eqb}
-use Rattle.std.specs.Prelude.{◌==◌, ◌||◌, Option, None, Some}
+use Rattle.std.specs.Prelude.{◌==◌, ◌||◌, T, Option, None, Some}
 use Rattle.std.proofs.lemmas.Bool.{or_right}
 use Rattle.wx_command.specs.declared.command.Command.{Command}
 use Rattle.wx_control.specs.declared.id.Id.{Id}
@@ -11,16 +11,17 @@ use Rattle.wx_control.specs.Asks.{sends_of}
 use Rattle.wx_journal.specs.Acts.{JournalAct as Act}
 use Rattle.wx_journal.specs.declared.entry.Act.TheVariants.{Create, Ask, Quit}
 use Rattle.wx_journal.specs.declared.entry.Entry.{Entry}
-use Rattle.wx_journal.specs.declared.entry.Entry.TheVariants.{Begin, Sent, Turn as Turned, TurnFault, Offer, Word as Said, Take, Filter, Show, Hand, Made, Asked, Spawn, Signal, Kill, Wait, Dropped, Gone}
+use Rattle.wx_journal.specs.declared.entry.Entry.TheVariants.{Word as Said, Made, Asked, Spawn, Dropped, Gone}
+use Rattle.wx_journal.specs.Sorts.{Subject, OfRun, OfTurn, OfEvents, sort}
 use Rattle.wx_journal.specs.declared.entry.Word.TheVariants.{Ignored}
 use Rattle.wx_journal.specs.Names.{Names, NamesItsOwn, creates, is_created, next_job, ticket_count}
 use Rattle.wx_machine.specs.History.{same, lives, child}
 use Rattle.wx_machine.specs.Table.{Plan, Done, adds, asks, step_plan, ask_second, ask_plan, drop_plan, end_plan}
-use Rattle.wx_machine.specs.Case.{Admits as Follows, next}
+use Rattle.wx_machine.specs.Case.{Admits as Follows, is_planned, next}
 use Rattle.wx_machine.specs.TicketLaws.{IsPlaced}
 use Rattle.wx_machine.proofs.Owners.{either}
 use Rattle.wx_machine.proofs.Always.{Always, always_now, always_next, always_also}
-use Rattle.wx_machine.proofs.Sound.{Fits, IsSound, Sound, sound_step, sound_ask, sound_end}
+use Rattle.wx_machine.proofs.Sound.{IsOwn, Fits, own_fit, own_runs, IsSound, Sound, sound_step, sound_ask, sound_end}
 use Rattle.wx_machine.proofs.Places.{placed_silent, placed_dropped}
 use Rattle.wx_machine.proofs.Moves.{placed_made, placed_gone}
 use Rattle.wx_machine.proofs.Placing.{Placing}
@@ -43,25 +44,20 @@ order_fit : (id : Id) (e : Entry) (p : List Entry) → Fits id p e → InOrder p
 order_fit id (Made job) p s = absurd s
 order_fit id (_) p s = tt
 
+-- what is the job's own is of a plan
+own_planned : (id : Id) (p : List Entry) (subject : Subject) → IsOwn id p subject → T (is_planned subject)
+own_planned id p OfRun s = absurd s
+own_planned id p OfTurn s = absurd s
+own_planned id p OfEvents s = absurd s
+own_planned id p (_) s = tt
+
 pub plan_fit : (id : Id) (e : Entry) (p : List Entry) → Fits id p e → IsOfPlan e
-plan_fit id (Begin throttle size errors keyboard follow jobsignals watcher cwd paths) p s = absurd s
-plan_fit id (Sent name event priority) p s = absurd s
-plan_fit id (Turned t) p s = absurd s
-plan_fit id (TurnFault code) p s = absurd s
-plan_fit id (Offer name item result event priority) p s = absurd s
-plan_fit id (Take name) p s = absurd s
-plan_fit id (Filter n name answer) p s = absurd s
-plan_fit id (Show n error wish) p s = absurd s
-plan_fit id (Hand n names acts) p s = absurd s
-plan_fit id (_) p s = tt
+plan_fit id e p s = own_planned id p (sort e).subject (own_fit id e p s)
 
 free_fit : (id : Id) (e : Entry) (k : Plan) (p : List Entry) → IsSound id p e k → IsFree p e
 free_fit id (Spawn c job tag what answer) k p s = rw s.fits.0 (s.alive, s.fits.1)
-free_fit id (Signal c number answer) k p s = (id, s.fits)
-free_fit id (Kill c answer) k p s = (id, s.fits)
-free_fit id (Wait c answer) k p s = (id, s.fits)
 free_fit id (Gone job) k p s = rw s.fits.0 s.fits.1
-free_fit id (_) k p s = tt
+free_fit id (e) k p s = own_runs id p (sort e).subject (own_fit id e p s.fits)
 
 go_fit : (id : Id) (e : Entry) (k : Plan) (p : List Entry) → IsSound id p e k → LetsGo p e k
 go_fit id (Dropped c) k p s = (id, s.fits, s.closes)

@@ -3,16 +3,16 @@ use Rattle.std.proofs.Common.{◌≡◌, ℕ, Bool, true, false, cond, List, [],
 use Rattle.std.specs.Prelude.{Option, None, Some, ◌&&◌, ◌||◌, not}
 use Rattle.wx_control.specs.declared.id.Id.{Id}
 use Rattle.wx_journal.specs.declared.entry.Entry.{Entry}
-use Rattle.wx_journal.specs.declared.entry.Entry.TheVariants.{Made, Spawn, Signal, Kill, Wait, Dropped, Gone}
+use Rattle.wx_journal.specs.declared.entry.Entry.TheVariants.{Made, Spawn, Dropped, Gone}
+use Rattle.wx_journal.specs.Sorts.{sort}
 use Rattle.wx_journal.specs.Names.{NamesItsOwn}
-use Rattle.wx_machine.specs.History.{same, lives, child, unless, is_child}
+use Rattle.wx_machine.specs.History.{same, lives, child, unless, reaped_child, still_running, is_child}
 use Rattle.wx_machine.specs.Table.{Plan, Done, adds, drop_plan}
 use Rattle.wx_machine.specs.Case.{Admits as Follows, next}
 use Rattle.wx_machine.specs.JobLaws.{unreaped, AreReaped, IsReaping, AfterFaults}
 use Rattle.wx_machine.proofs.Owners.{self, same-is}
-use Rattle.wx_machine.proofs.Graces.{over_without}
-use Rattle.wx_machine.proofs.Sound.{Goes, goes_gone, gone_child}
-use Rattle.wx_config.specs.declared.error.CriticalError.TheVariants.{IoError, Memory}
+use Rattle.wx_machine.proofs.Sound.{RunsIn, Goes, goes_gone, gone_child, after_fault}
+use Rattle.wx_error.specs.declared.error.CriticalError.TheVariants.{IoError, Memory}
 use Rattle.wx_machine.specs.Start.{Start}
 use Rattle.wx_machine.specs.Jobs.{jobs, first_end}
 use Rattle.wx_machine.specs.Due.{Agenda, Begins, Sends, Open, Offers, Says, Takes, Filters, Shows, Hands, Plans, Ends, Breaks, plans, rest, settle, agenda, Admits, Due, IsRun}
@@ -20,7 +20,7 @@ use Rattle.wx_journal.specs.Lines.{Answer}
 use Rattle.wx_machine.specs.Answer.{Dying, Alive, Dies, IsComplete, IsBroken, Wishes, MemoryCuts, Answers}
 use Rattle.wx_machine.proofs.Orderly.{IsFit, GoneRunNone}
 use Rattle.wx_machine.proofs.RunLaws.{orderly, free, free_end}
-use Rattle.wx_machine.proofs.JobsLaws.{IsIn, in_jobs, is_child_some, one_parent}
+use Rattle.wx_machine.proofs.AllJobs.{IsIn, in_jobs, is_child_some, one_parent}
 use Rattle.wx_machine.proofs.PlanLaws.{lawful_now, of_end}
 use Rattle.wx_machine.proofs.Lawful.{IsOfEnd, IsFree}
 use Rattle.wx_machine.proofs.EndLaws.{dying_none, no_child}
@@ -129,11 +129,6 @@ reaps_on s p (Spawn c job tag what (Err fault)) own fit d h =
       last = λ id alive other. last_before s p (Spawn c job tag what (Err fault)) id (λ is. cc) d h alive;
       next = λ id is. absurd cc;
     }
-reaps_on s p (Wait c (Ok status)) own fit d h = record {
-  each = h.each;
-  last = λ id alive other. ap (unless c) (last_before s p (Wait c (Ok status)) id (λ is. cc) d h alive);
-  next = λ id is. absurd cc;
-}
 reaps_on s p (Dropped c) own fit d h = record {
   each = h.each;
   last = λ id alive other. last_before s p (Dropped c) id (λ is. cc) d h alive ∙ sym (unless_other c (child id p) other);
@@ -144,7 +139,7 @@ reaps_on s p (Gone job) own fit d h = record {
   last = λ id alive other. (let both = alive_other (same job id) (lives id p) alive in last_before s p (Gone job) id (another job id both.0) d h both.1);
   next = λ id is. absurd cc;
 }
-reaps_on s p (e) own fit d h = record { each = h.each; last = λ id alive other. last_before s p e id (λ is. cc) d h alive; next = λ id is. absurd cc }
+reaps_on s p (e) own fit d h = record { each = h.each; last = λ id alive other. ap (still_running (reaped_child e)) (last_before s p e id (λ is. cc) d h alive); next = λ id is. absurd cc }
 
 -- ---- whole runs
 
@@ -155,25 +150,19 @@ run_reaped s (e ∷ p) r = let o = orderly s p r.1 in reaps_on s p e o.own o.fit
 
 -- ---- what faults leave
 
-after_fault : (e : Entry) (p : List Entry) → IsFree p e → AfterFaults p → AfterFaults (e ∷ p)
-after_fault (Spawn c id tag what (Err fault)) p f h = (rw (self id) refl, h)
-after_fault (Spawn c id tag what (Ok done)) p f h = h
-after_fault (Signal c number (Err fault)) p f h = (f, (λ id. refl), h)
-after_fault (Signal c number (Ok done)) p f h = h
-after_fault (Kill c (Err fault)) p f h = (f, (λ id runs over. over_without id p over), h)
-after_fault (Kill c (Ok done)) p f h = h
-after_fault (Wait c (Err fault)) p f h = (f, (λ id runs over. over_without id p over), h)
-after_fault (Wait c (Ok status)) p f h = h
-after_fault (_) p f h = h
+free_runs : (e : Entry) (p : List Entry) → IsFree p e → RunsIn p (sort e).subject
+free_runs (Spawn c job tag what answer) p f = tt
+free_runs (Gone job) p f = tt
+free_runs (_) p f = f
 
 run_after_faults : (s : Start) (p : List Entry) → IsRun s p → AfterFaults p
 run_after_faults s [] r = tt
-run_after_faults s (e ∷ p) r = after_fault e p (free s p (agenda s p) e r.0 (orderly s p r.1).fit) (run_after_faults s p r.1)
+run_after_faults s (e ∷ p) r = after_fault e p (free_runs e p (free s p (agenda s p) e r.0 (orderly s p r.1).fit)) (run_after_faults s p r.1)
 
 dying_after_faults : (q p : List Entry) → Dying q p → AfterFaults q → AfterFaults p
 dying_after_faults q p l start = elim l as (λ p _. AfterFaults p) [
   | Alive ↦ start
-  | Dies e p (l → h) d ↦ after_fault e p (free_end p e (of_end p e d) d) h
+  | Dies e p (l → h) d ↦ after_fault e p (free_runs e p (free_end p e d)) h
 ]
 
 -- ---- after the end

@@ -9,15 +9,15 @@ use Rattle.wx_words.specs.EachLaws.{each_append, each_weaker, each_filter}
 use Rattle.wx_events.specs.declared.event.Event.{Event}
 use Rattle.wx_events.specs.declared.priority.Priority.{Priority}
 use Rattle.wx_command.specs.declared.command.Command.{Command}
-use Rattle.wx_config.specs.declared.runtime.RuntimeError.{RuntimeError}
-use Rattle.wx_config.specs.declared.runtime.RuntimeError.TheVariants.{Exit}
-use Rattle.wx_config.specs.declared.error.CriticalError.{CriticalError}
+use Rattle.wx_error.specs.declared.runtime.RuntimeError.{RuntimeError}
+use Rattle.wx_error.specs.declared.runtime.RuntimeError.TheVariants.{Exit}
+use Rattle.wx_error.specs.declared.error.CriticalError.{CriticalError}
 use Rattle.wx_journal.specs.declared.wish.Wish.{Wish}
 use Rattle.wx_control.specs.declared.id.Id.{Id}
 use Rattle.wx_control.specs.declared.ask.Ask.{Ask as AnAsk}
 use Rattle.wx_control.specs.Asks.{sends_of}
 use Rattle.wx_journal.specs.declared.entry.Entry.{Entry}
-use Rattle.wx_journal.specs.declared.entry.Entry.TheVariants.{Begin, Sent, Turn as Turned, TurnFault, Offer, Word as Said, Take, Filter, Show, Hand, Made, Spawn, Wait, Dropped, Gone}
+use Rattle.wx_journal.specs.declared.entry.Entry.TheVariants.{Begin, Sent, Turn as Turned, TurnFault, Offer, Word as Said, Take, Filter, Show, Hand, Made, Spawn, Gone}
 use Rattle.wx_journal.specs.Acts.{JournalAct as Act}
 use Rattle.wx_journal.specs.declared.entry.Named.{Named}
 use Rattle.wx_journal.specs.declared.entry.Offered.{Offered}
@@ -27,7 +27,7 @@ use Rattle.wx_journal.specs.declared.entry.TurnKind.TheVariants.{Arrive, Work, J
 use Rattle.wx_journal.specs.declared.entry.Word.TheVariants.{Idle, Ignored}
 use Rattle.wx_journal.specs.Names.{moment, event_count, creates, is_created, next_job, NamesItem, NamesItsOwn}
 use Rattle.wx_journal.specs.Told.{is_hand}
-use Rattle.wx_machine.specs.History.{same, lives, child, unless}
+use Rattle.wx_machine.specs.History.{same, lives, child, unless, ended_child, still_running}
 use Rattle.wx_machine.specs.TicketLaws.{IsPlaced}
 use Rattle.wx_machine.specs.Table.{Plan, Done, adds, drop_plan, step_plan, ask_plan}
 use Rattle.wx_machine.specs.Case.{Admits as Lets, next}
@@ -42,7 +42,7 @@ use Rattle.wx_machine.specs.Leads.{Leads, Here, Then, Follows}
 use Rattle.wx_machine.proofs.Orderly.{IsQuiet, IsFit, IsGoing, GoneRunNone, IsOrderly}
 use Rattle.wx_machine.proofs.SettleLaws.{fit_settle, going_calm, going_plans, quitting_over}
 use Rattle.wx_machine.proofs.PlanLaws.{lawful_now, placed_now, lawful_next, lawful_step, lawful_ask, lawful_acts, of_end, end_is_plan, end_placed, end_in_order, names_end}
-use Rattle.wx_machine.proofs.Lawful.{IsOfPlan, IsOfEnd, IsFree, MadeInOrder, Lawful}
+use Rattle.wx_machine.proofs.Lawful.{IsOfPlan, IsFree, MadeInOrder, Lawful}
 use Rattle.wx_machine.specs.Last.{last_is, last_added}
 use Rattle.wx_machine.specs.RunLaws.{joined, IsBatched, NoneUrgent, UrgentLast, urgent_in, IsBatch, AreBatches, NoneUrgentWaits, NoneUnseenIsShown, NoneIsShownClosed, AreServed}
 
@@ -313,19 +313,17 @@ free_turn p (Turned t) i = tt
 free_turn p (TurnFault code) i = tt
 free_turn p (_) i = absurd i
 
-gone_by_drop : (p : List Entry) (id job : Id) (b : Bool) (running : Option ℕ) → child id p ≡ running → Lets p (cond b (drop_plan running (adds (Gone id) Done)) Done) (Gone job) → child job p ≡ None
-gone_by_drop p id job true None is d = let same : job ≡ id = cc in subst (λ j. child j p ≡ None) (sym same) is
-gone_by_drop p id job true (Some c) is d = absurd cc
-gone_by_drop p id job false running is d = absurd d
+free_by_drop : (p : List Entry) (id : Id) (b : Bool) (running : Option ℕ) (e : Entry) → child id p ≡ running → Lets p (cond b (drop_plan running (adds (Gone id) Done)) Done) e → IsFree p e
+free_by_drop p id true None e is d = subst (IsFree p) (sym d.1) is
+free_by_drop p id true (Some c) e is d = subst (IsFree p) (sym d.1) (id, is)
+free_by_drop p id false running e is d = absurd d
 
-pub gone_by_end : (p : List Entry) (ids : List Id) (job : Id) → Lets p (first_end ids p) (Gone job) → child job p ≡ None
-gone_by_end p [] job d = absurd d
-gone_by_end p (id ∷ ids) job d = gone_by_drop p id job (lives id p) (child id p) refl d
+free_by_end : (p : List Entry) (ids : List Id) (e : Entry) → Lets p (first_end ids p) e → IsFree p e
+free_by_end p [] e d = absurd d
+free_by_end p (id ∷ ids) e d = free_by_drop p id (lives id p) (child id p) e refl d
 
-pub free_end : (p : List Entry) (e : Entry) → IsOfEnd e → Lets p (end p) e → IsFree p e
-free_end p (Dropped c) o d = tt
-free_end p (Gone id) o d = gone_by_end p (jobs p) id d
-free_end p (_) o d = absurd o
+pub free_end : (p : List Entry) (e : Entry) → Lets p (end p) e → IsFree p e
+free_end p e d = free_by_end p (jobs p) e d
 
 -- what an agenda that admits an entry says of it
 pub free : (s : Start) (p : List Entry) (k : Agenda) (e : Entry) → Admits s p k e → IsFit p k → IsFree p e
@@ -340,7 +338,7 @@ free s p (Shows m) e d f = subst (IsFree p) (sym d.1) tt
 free s p Breaks e d f = absurd d
 free s p Hands e d f = subst (IsFree p) (sym d.1) tt
 free s p (Plans k more) e d f = (lawful_now p k e d f.0).free
-free s p Ends e d f = free_end p e (of_end p e d) d
+free s p Ends e d f = free_end p e d
 
 gone_made : (b l : Bool) (running : Option ℕ) → (b || l) ≡ false → (l ≡ false → running ≡ None) → cond b None running ≡ None
 gone_made true l running e h = refl
@@ -356,14 +354,16 @@ pub gone_gone : (p : List Entry) (job id : Id) (b : Bool) → same job id ≡ b 
 gone_gone p job id true is e idle h = subst (λ j. child j p ≡ None) (same-is job id is) idle
 gone_gone p job id false is e idle h = h e
 
+none_left : (over running : Option ℕ) → running ≡ None → still_running over running ≡ None
+none_left None running none = none
+none_left (Some c) running none = ap (unless c) none
+
 -- an entry that may come leaves a child of no job that doesn't live
 idle_more : (s : Start) (p : List Entry) (e : Entry) → Due s p e → IsFit p (agenda s p) → GoneRunNone p → GoneRunNone (e ∷ p)
 idle_more s p (Made job) d f h id e = gone_made (same job id) (lives id p) (child id p) e (h id)
 idle_more s p (Spawn c job tag what (Ok done)) d f h id e = gone_spawn p c job id (same job id) refl (free s p (agenda s p) (Spawn c job tag what (Ok done)) d f).0 e (h id e)
-idle_more s p (Wait c (Ok status)) d f h id e = ap (unless c) (h id e)
-idle_more s p (Dropped c) d f h id e = ap (unless c) (h id e)
 idle_more s p (Gone job) d f h id e = gone_gone p job id (same job id) refl e (free s p (agenda s p) (Gone job) d f) (h id)
-idle_more s p (_) d f h id e = h id e
+idle_more s p (e) d f h id is = none_left (ended_child e) (child id p) (h id is)
 
 -- ---- whether the end was asked for
 

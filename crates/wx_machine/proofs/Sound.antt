@@ -15,7 +15,8 @@ use Rattle.wx_control.specs.Asks.{sends_of}
 use Rattle.wx_journal.specs.declared.child.HostFault.{HostFault}
 use Rattle.wx_journal.specs.declared.child.SpawnTag.{SpawnTag}
 use Rattle.wx_journal.specs.declared.entry.Entry.{Entry}
-use Rattle.wx_journal.specs.declared.entry.Entry.TheVariants.{Begin, Sent, Turn as Turned, TurnFault, Offer, Word as Said, Take, Filter, Show, Hand, Made, Asked, Pick, GraceOver, Spawn, Signal, Kill, Wait, Dropped, Raise, Gone, Run, Begun, Poll, Hook, JobError}
+use Rattle.wx_journal.specs.declared.entry.Entry.TheVariants.{Turn as Turned, Word as Said, Hand, Made, Asked, Pick, GraceOver, Spawn, Signal, Kill, Wait, Dropped, Raise, Gone, Run, Begun, Poll, Hook}
+use Rattle.wx_journal.specs.Sorts.{Subject, OfWord, OfJob, OfChild, OfTicket, sort}
 use Rattle.wx_journal.specs.declared.entry.Word.{Word}
 use Rattle.wx_journal.specs.declared.entry.Word.TheVariants.{Idle as TheIdle, Later as TheLater}
 use Rattle.wx_journal.specs.Names.{Names, NamesItsOwn, moment, ticket_count, child_count}
@@ -25,11 +26,11 @@ use Rattle.wx_machine.specs.declared.choice.Choice.TheVariants.{Poll as Polled, 
 use Rattle.wx_machine.specs.declared.function.Function.{Function}
 use Rattle.wx_machine.specs.declared.grace.Grace.{Grace}
 use Rattle.wx_events.specs.declared.process.Signal.{Signal as ASignal}
-use Rattle.wx_machine.specs.History.{same, lives, waits, child, kept, begun, grace, unless, asked_of, SameHistory}
+use Rattle.wx_machine.specs.History.{same, lives, waits, child, kept, begun, grace, unless, reaped_child, still_running, asked_of, SameHistory}
 use Rattle.wx_machine.specs.Table.{Words, Given, Left, Call, Adds, Spawns, Signals, Waits, Shows, Plan, Done, GivenUp, Owes, Kit, kit, kit_after, adds, asks, raises, shows, tries, reap, waiters, raise_grace, number_of, signalled, graceful, restart, spawn, fresh_by, fresh, row, fresh_over, over, ended_in, ended_by, polled, pick_by, case, step_by, ask_second, ask_plan, send_plan, end_plan, leave}
 use Rattle.wx_machine.specs.Case.{Answer, entry, Admits, is_fault, next, IsCut, Leads, Here, Then}
 use Rattle.wx_machine.specs.Faults.{fault_count, Counted}
-use Rattle.wx_machine.specs.JobLaws.{unreaped, AreReaped, AfterFaults, NamesChildren, NamesTickets}
+use Rattle.wx_machine.specs.JobLaws.{unreaped, Runs, AreReaped, AfterFaults, NamesChildren, NamesTickets}
 use Rattle.wx_machine.proofs.Owners.{self, either, children_named, owner_below, child_owner}
 use Rattle.wx_machine.proofs.Tickets.{tickets_named, asked_below, AreOf, picked_of, parked_of, grace_asked, begun_asked}
 use Rattle.wx_machine.proofs.Frame.{same_history, history_then, frame_pick, frame_asked, frame_spawn_ok, frame_spawn_err, frame_hook, frame_begun, frame_ready, frame_gone, frame_over, frame_raise, frame_silent, frame_signal_ok, frame_signal_err, frame_wait_ok, frame_wait_err, frame_drop}
@@ -38,35 +39,41 @@ use Rattle.wx_machine.proofs.Times.{is_first}
 use Rattle.wx_machine.proofs.PlacedPlans.{MayPick, due}
 use Rattle.wx_machine.proofs.Always.{Always, both, always_now, always_next, always_if}
 
+-- this job, its running child, a ticket of it, or a word
+abbrev pub IsOwn : Id → List Entry → Subject → Type 0
+IsOwn id p OfWord = Unit {0}
+IsOwn id p (OfJob job) = job ≡ id
+IsOwn id p (OfChild c) = child id p ≡ Some c
+IsOwn id p (OfTicket t) = NamesTickets p → asked_of t p ≡ Some id
+IsOwn id p (_) = ⊥
+
 -- What a plan of a job brings: it names this job, its running child, its tickets and what has the next name, spawns and calls a spawn hook
 -- only where no child runs, and says that the job is gone only then.
 abbrev pub Fits : Id → List Entry → Entry → Type 0
-Fits id p (Pick job t) = job ≡ id
-Fits id p (Spawn c job tag what answer) = (job ≡ id) × (child id p ≡ None) × (c ≡ child_count p)
-Fits id p (GraceOver job) = job ≡ id
-Fits id p (Signal c number answer) = child id p ≡ Some c
-Fits id p (Kill c answer) = child id p ≡ Some c
-Fits id p (Wait c answer) = child id p ≡ Some c
-Fits id p (Dropped c) = child id p ≡ Some c
-Fits id p (Raise t) = NamesTickets p → asked_of t p ≡ Some id
-Fits id p (Gone job) = (job ≡ id) × (child id p ≡ None)
-Fits id p (Run job n) = job ≡ id
-Fits id p (Begun job n) = job ≡ id
-Fits id p (Poll job n ready) = job ≡ id
-Fits id p (JobError job n code) = job ≡ id
-Fits id p (Asked t job level control) = (job ≡ id) × (t ≡ ticket_count p)
-Fits id p (Hook job n answer) = (job ≡ id) × (child id p ≡ None)
-Fits id p (Said word) = Unit {0}
-Fits id p (Begin throttle size errors keyboard follow jobsignals watcher cwd paths) = ⊥
-Fits id p (Sent name event priority) = ⊥
-Fits id p (Turned t) = ⊥
-Fits id p (TurnFault code) = ⊥
-Fits id p (Offer name item result event priority) = ⊥
-Fits id p (Take name) = ⊥
-Fits id p (Filter n name answer) = ⊥
-Fits id p (Show n error wish) = ⊥
-Fits id p (Hand n names acts) = ⊥
 Fits id p (Made job) = ⊥
+Fits id p (Asked t job level control) = (job ≡ id) × (t ≡ ticket_count p)
+Fits id p (Spawn c job tag what answer) = (job ≡ id) × (child id p ≡ None) × (c ≡ child_count p)
+Fits id p (Gone job) = (job ≡ id) × (child id p ≡ None)
+Fits id p (Hook job n answer) = (job ≡ id) × (child id p ≡ None)
+Fits id p (e) = IsOwn id p (sort e).subject
+
+-- what an entry that fits is about
+pub own_fit : (id : Id) (e : Entry) (p : List Entry) → Fits id p e → IsOwn id p (sort e).subject
+own_fit id (Made job) p s = absurd s
+own_fit id (Asked t job level control) p s = s.0
+own_fit id (Spawn c job tag what answer) p s = s.0
+own_fit id (Gone job) p s = s.0
+own_fit id (Hook job n answer) p s = s.0
+own_fit id (_) p s = s
+
+-- a child that an entry is about runs
+abbrev pub RunsIn : List Entry → Subject → Type 0
+RunsIn p (OfChild c) = Runs c p
+RunsIn p (_) = Unit {0}
+
+pub own_runs : (id : Id) (p : List Entry) (subject : Subject) → IsOwn id p subject → RunsIn p subject
+own_runs id p (OfChild c) s = (id, s)
+own_runs id p (_) s = tt
 
 -- that the job is gone comes next
 abbrev pub Goes : Id → Plan → Type 0
@@ -76,32 +83,8 @@ Goes id (Owes call k f) = call ≡ Adds (Gone id)
 
 -- where a child is let go the job is gone next
 abbrev pub Closes : Id → Entry → Plan → Type 0
-Closes id (Begin throttle size errors keyboard follow jobsignals watcher cwd paths) k = Unit {0}
-Closes id (Sent name event priority) k = Unit {0}
-Closes id (Turned t) k = Unit {0}
-Closes id (TurnFault code) k = Unit {0}
-Closes id (Offer name item result event priority) k = Unit {0}
-Closes id (Said word) k = Unit {0}
-Closes id (Take name) k = Unit {0}
-Closes id (Filter n name answer) k = Unit {0}
-Closes id (Show n error wish) k = Unit {0}
-Closes id (Hand n names acts) k = Unit {0}
-Closes id (Made job) k = Unit {0}
-Closes id (Asked ticket job level control) k = Unit {0}
-Closes id (Pick job ticket) k = Unit {0}
-Closes id (Spawn c job tag what answer) k = Unit {0}
-Closes id (GraceOver job) k = Unit {0}
-Closes id (Signal c number answer) k = Unit {0}
-Closes id (Kill c answer) k = Unit {0}
-Closes id (Wait c answer) k = Unit {0}
 Closes id (Dropped c) k = Goes id k
-Closes id (Raise ticket) k = Unit {0}
-Closes id (Gone job) k = Unit {0}
-Closes id (Run job n) k = Unit {0}
-Closes id (Begun job n) k = Unit {0}
-Closes id (Poll job n ready) k = Unit {0}
-Closes id (Hook job n answer) k = Unit {0}
-Closes id (JobError job n code) k = Unit {0}
+Closes id (_) k = Unit {0}
 
 -- What is known of each entry that a plan of a job brings, with what is owed behind it. The job lives while it owes
 -- anything: what ends it comes last.
@@ -354,13 +337,13 @@ tickets_fit : (id : Id) (e : Entry) (p : List Entry) → Fits id p e → NamesTi
 tickets_fit id (Asked t job level control) p s h = (s.1, h)
 tickets_fit id (_) p s h = h
 
--- it leaves after a fault what must be left
-fault_left : (id : Id) (e : Entry) (p : List Entry) → Fits id p e → AfterFaults p → AfterFaults (e ∷ p)
-fault_left id (Spawn c job tag what (Err a)) p s h = (rw (self job) refl, h)
-fault_left id (Signal c number (Err a)) p s h = ((id, s), (λ i. refl), h)
-fault_left id (Kill c (Err a)) p s h = ((id, s), (λ i runs over. over_without i p over), h)
-fault_left id (Wait c (Err a)) p s h = ((id, s), (λ i runs over. over_without i p over), h)
-fault_left id (_) p s h = h
+-- an entry leaves after a fault what must be left, where a child that it is about runs
+pub after_fault : (e : Entry) (p : List Entry) → RunsIn p (sort e).subject → AfterFaults p → AfterFaults (e ∷ p)
+after_fault (Spawn c id tag what (Err fault)) p r h = (rw (self id) refl, h)
+after_fault (Signal c number (Err fault)) p r h = (r, (λ id. refl), h)
+after_fault (Kill c (Err fault)) p r h = (r, (λ id runs over. over_without id p over), h)
+after_fault (Wait c (Err fault)) p r h = (r, (λ id runs over. over_without id p over), h)
+after_fault (_) p r h = h
 
 -- where the job is gone next, nothing else comes
 gone_by : (p : List Entry) (call : Call) (a : Answer call) (e : Entry) → call ≡ Adds e → entry p call a ≡ e
@@ -392,14 +375,13 @@ reaps_on id k (Made job) k' p d s r = absurd s.fits
 reaps_on id k (Spawn c job tag what (Ok a)) k' p d s r =
     let before = last_before id k (Spawn c job tag what (Ok a)) p d (λ is. cc) r s.alive in
     let here : same job id ≡ true = rw s.fits.0 (self id) in
-    record { each = (λ e. before ∙ s.fits.1, r.each); last = λ l g. rw here refl; none = λ dead. lives_on s.alive dead }
+    record { each = (λ e. before ∙ s.fits.1, r.each); last = λ l g. rw here (refl {a = Some c}); none = λ dead. lives_on s.alive dead }
 reaps_on id k (Spawn c job tag what (Err a)) k' p d s r =
     let before = last_before id k (Spawn c job tag what (Err a)) p d (λ is. cc) r s.alive in
     record { each = (λ e. before ∙ s.fits.1, r.each); last = λ l g. before; none = r.none }
-reaps_on id k (Wait c (Ok status)) k' p d s r = record { each = r.each; last = λ l g. ap (unless c) (last_before id k (Wait c (Ok status)) p d (λ is. cc) r l); none = λ dead. lives_on s.alive dead }
 reaps_on id k (Dropped c) k' p d s r = record { each = r.each; last = λ l g. absurd (g s.closes); none = λ dead. lives_on s.alive dead }
 reaps_on id k (Gone job) k' p d s r = record { each = r.each; last = λ l g. (let dead : (not (same job id) && lives id p) ≡ false = rw (s.fits.0, self id) refl in lives_on l dead); none = λ dead. s.fits.1 }
-reaps_on id k (e) k' p d s r = record { each = r.each; last = λ l g. last_before id k e p d (λ is. cc) r l; none = r.none }
+reaps_on id k (e) k' p d s r = record { each = r.each; last = λ l g. ap (still_running (reaped_child e)) (last_before id k e p d (λ is. cc) r l); none = λ dead. lives_on s.alive dead }
 
 -- ---- a whole way
 
@@ -421,7 +403,7 @@ follow id k p host hooks n k' p' host' hooks' n' l s = elim l as (λ k' p' host'
         sound = always_next (IsSound id) p₁ k₁ e d h.sound;
         children = λ named. children_fit id e p₁ o.fits (h.children named);
         reaps = λ r. reaps_on id k₁ e (next k₁ e) p₁ d o (h.reaps r);
-        failing = λ r. fault_left id e p₁ o.fits (h.failing r);
+        failing = λ r. after_fault e p₁ (own_runs id p₁ (sort e).subject (own_fit id e p₁ o.fits)) (h.failing r);
         own = λ own. (o.names (h.own own), h.own own);
         tickets = λ named. tickets_fit id e p₁ o.fits (h.tickets named);
         others = λ named tickets i ne. history_then i p p₁ (e ∷ p₁) (h.others named tickets i ne) (frame i id e p₁ ne (h.children named) (h.tickets tickets) o.fits);

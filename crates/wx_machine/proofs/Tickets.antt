@@ -12,13 +12,13 @@ use Rattle.wx_control.specs.declared.level.Level.{Level}
 use Rattle.wx_control.specs.declared.level.Level.TheVariants.{Normal, High, Urgent}
 use Rattle.wx_control.specs.Levels.{rank}
 use Rattle.wx_journal.specs.declared.entry.Entry.{Entry}
-use Rattle.wx_journal.specs.declared.entry.Entry.TheVariants.{Made, Asked, Pick, GraceOver, Signal, Wait, Dropped, Raise, Gone, Begun, Poll}
+use Rattle.wx_journal.specs.declared.entry.Entry.TheVariants.{Made, Asked, Pick, GraceOver, Signal, Raise, Gone, Begun, Poll}
 use Rattle.wx_journal.specs.Names.{NamesItsOwn, ticket_count, moment}
 use Rattle.wx_machine.specs.declared.function.Function.{Function}
 use Rattle.wx_machine.specs.declared.grace.Grace.{Grace}
 use Rattle.wx_machine.specs.declared.state.CommandState.{CommandState}
 use Rattle.wx_machine.specs.States.{is_finished}
-use Rattle.wx_machine.specs.History.{same, lives, has_above, without, waits, found, picked_control, state, child, is_child, with_ticket, just_picked, begun_with, begun, begins, begins_by, grace, without_ticket, parks, parked, asked_of}
+use Rattle.wx_machine.specs.History.{same, lives, has_above, without, waits, found, picked_control, state, child, is_child, ended_child, is_ended, with_ticket, just_picked, begun_with, begun, begins, begins_by, grace, without_ticket, parks, parked, asked_of}
 use Rattle.wx_machine.specs.JobLaws.{NamesTickets}
 use Rattle.wx_machine.proofs.Owners.{same-is, either}
 
@@ -149,10 +149,8 @@ grace_asked id (GraceOver job ∷ p) g own e = grace_asked id p g own (refused (
 grace_asked id (Signal c number (Ok a) ∷ p) g own e =
     one_of_two (asked_of g.ticket p ≡ Some id) (is_child c (child id p)) (begins_by (just_picked id p) (moment p) (grace id p)) (grace id p) g
     (λ h. begins_by_of id p (just_picked id p) (moment p) (grace id p) g (λ x is. just_asked id p x own is) (λ k. grace_asked id p g own k) h) (λ h. grace_asked id p g own h) e
-grace_asked id (Wait c (Ok status) ∷ p) g own e = grace_asked id p g own (refused (is_child c (child id p)) (grace id p) g e).1
-grace_asked id (Dropped c ∷ p) g own e = grace_asked id p g own (refused (is_child c (child id p)) (grace id p) g e).1
 grace_asked id (Gone job ∷ p) g own e = grace_asked id p g own (refused (same job id) (grace id p) g e).1
-grace_asked id (_ ∷ p) g own e = grace_asked id p g own e
+grace_asked id (e ∷ p) g own is = grace_asked id p g own (refused (is_ended (ended_child e) (child id p)) (grace id p) g is).1
 
 -- ---- the function that is begun
 

@@ -2,9 +2,9 @@
 use Rattle.std.specs.Prelude.{◌≡◌, ℕ, ◌⊎◌, None, Some, Ok, Err, List, [], ◌∷◌, codes}
 use Rattle.wx_journal.specs.declared.entry.Entry.{Entry}
 use Rattle.wx_machine.specs.Case.{Admits as Follows}
-use Rattle.wx_config.specs.declared.error.CriticalError.TheVariants.{IoError, Memory}
+use Rattle.wx_error.specs.declared.error.CriticalError.TheVariants.{IoError, Memory}
 use Rattle.wx_machine.specs.Start.{Start}
-use Rattle.wx_config.specs.declared.error.CriticalError.{CriticalError}
+use Rattle.wx_error.specs.declared.error.CriticalError.{CriticalError}
 use Rattle.wx_machine.specs.Journal.{turn_fault, wished}
 use Rattle.wx_machine.specs.Jobs.{jobs, end}
 use Rattle.wx_machine.specs.Due.{Agenda, Begins, Sends, Open, Offers, Says, Takes, Filters, Shows, Hands, Plans, Ends, Breaks, agenda, IsTurn, IsRun}

@@ -1,12 +1,13 @@
 -- Following a plan: which entries it lets come, and what is left of it then.
-use Rattle.std.specs.Prelude.{◌≡◌, ℕ, Bool, false, not, if◌then◌else◌, is_err, Option, Result, Ok, Err, List, [], ◌∷◌}
+use Rattle.std.specs.Prelude.{◌≡◌, ℕ, Bool, true, false, not, if◌then◌else◌, is_err, Option, Result, Ok, Err, List, [], ◌∷◌}
 use Rattle.wx_words.specs.declared.list.Memory.{Memory}
 use Rattle.wx_command.specs.declared.spawnable.Spawnable.{Spawnable}
 use Rattle.wx_events.specs.declared.process.ProcessEnd.{ProcessEnd}
 use Rattle.wx_control.specs.declared.id.Id.{Id}
 use Rattle.wx_journal.specs.declared.child.HostFault.{HostFault}
 use Rattle.wx_journal.specs.declared.entry.Entry.{Entry}
-use Rattle.wx_journal.specs.declared.entry.Entry.TheVariants.{Begin, Sent, Turn as Turned, TurnFault, Offer, Word as Said, Take, Filter, Show, Hand, Made, Asked, Pick, GraceOver, Spawn, Signal, Kill, Wait, Dropped, Raise, Gone, Run, Begun, Poll, Hook, JobError}
+use Rattle.wx_journal.specs.declared.entry.Entry.TheVariants.{Asked, Spawn, Signal, Kill, Wait, Poll, Hook, JobError}
+use Rattle.wx_journal.specs.Sorts.{Subject, OfWord, is_job, sort}
 use Rattle.wx_journal.specs.Names.{ticket_count, child_count}
 use Rattle.wx_journal.specs.Told.{tell, tell_if, is_world, is_hooks, Counts}
 use Rattle.wx_machine.specs.Seen.{Seen}
@@ -60,34 +61,17 @@ Admits p Done e = ⊥
 Admits p GivenUp e = ⊥
 Admits p (Owes call k f) e = (a : Answer call) × (e ≡ entry p call a)
 
+-- the entries of plans are of a job, or say a word
+abbrev pub is_planned : Subject → Bool
+is_planned OfWord = true
+is_planned (subject) = is_job subject
+
+abbrev pub is_of_plan : Entry → Bool
+is_of_plan e = is_planned (sort e).subject
+
 -- the entry holds the fault of a call on a child
 abbrev pub is_fault : Entry → Bool
-is_fault (Begin throttle size errors keyboard follow jobsignals watcher cwd paths) = false
-is_fault (Sent name event priority) = false
-is_fault (Turned t) = false
-is_fault (TurnFault code) = false
-is_fault (Offer name item result event priority) = false
-is_fault (Said word) = false
-is_fault (Take name) = false
-is_fault (Filter n name answer) = false
-is_fault (Show n error wish) = false
-is_fault (Hand n names acts) = false
-is_fault (Made job) = false
-is_fault (Asked ticket job level control) = false
-is_fault (Pick job ticket) = false
-is_fault (GraceOver job) = false
-is_fault (Spawn c job tag what answer) = is_err answer
-is_fault (Signal c number answer) = is_err answer
-is_fault (Kill c answer) = is_err answer
-is_fault (Wait c answer) = is_err answer
-is_fault (Dropped c) = false
-is_fault (Raise ticket) = false
-is_fault (Gone job) = false
-is_fault (Run job n) = false
-is_fault (Begun job n) = false
-is_fault (Poll job n ready) = false
-is_fault (Hook job n answer) = false
-is_fault (JobError job n code) = false
+is_fault e = (sort e).fault
 
 -- a plan goes on behind the entry as it does behind a fault: also where a hook had no memory, and where a function that was
 -- polled isn't ready

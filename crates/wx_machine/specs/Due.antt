@@ -6,7 +6,7 @@ use Rattle.wx_events.specs.declared.event.Event.{Event}
 use Rattle.wx_events.specs.declared.priority.Priority.{Priority}
 use Rattle.prio_channel.specs.Channel.{AllAtMost}
 use Rattle.wx_journal.specs.declared.entry.Entry.{Entry}
-use Rattle.wx_journal.specs.declared.entry.Entry.TheVariants.{Begin, Sent, Turn as Turned, TurnFault, Offer, Word as Said, Take, Filter, Show, Hand, Made, Asked, Pick, GraceOver, Spawn, Signal, Kill, Wait, Dropped, Raise, Gone, Run, Begun, Poll, Hook, JobError}
+use Rattle.wx_journal.specs.declared.entry.Entry.TheVariants.{Begin, Sent, Turn as Turned, TurnFault, Offer, Word as Said, Take, Filter, Show, Hand}
 use Rattle.wx_journal.specs.Acts.{JournalAct as Act}
 use Rattle.wx_journal.specs.declared.entry.Act.TheVariants.{Create, Ask as Asks, Quit}
 use Rattle.wx_journal.specs.declared.entry.Named.{Named}
@@ -17,16 +17,16 @@ use Rattle.wx_journal.specs.declared.entry.Word.TheVariants.{Idle, Ignored}
 use Rattle.wx_journal.specs.Told.{is_turn}
 use Rattle.wx_journal.specs.Names.{moment, event_count, next_job}
 use Rattle.wx_command.specs.declared.command.Command.{Command}
-use Rattle.wx_config.specs.declared.runtime.RuntimeError.{RuntimeError}
-use Rattle.wx_config.specs.declared.runtime.RuntimeError.TheVariants.{Exit}
-use Rattle.wx_config.specs.declared.error.CriticalError.{CriticalError}
+use Rattle.wx_error.specs.declared.runtime.RuntimeError.{RuntimeError}
+use Rattle.wx_error.specs.declared.runtime.RuntimeError.TheVariants.{Exit}
+use Rattle.wx_error.specs.declared.error.CriticalError.{CriticalError}
 use Rattle.wx_journal.specs.declared.wish.Wish.{Wish}
 use Rattle.wx_control.specs.declared.id.Id.{Id}
 use Rattle.wx_control.specs.declared.ask.Ask.{Ask as AnAsk}
 use Rattle.wx_control.specs.Asks.{sends_of}
 use Rattle.wx_machine.specs.History.{lives}
 use Rattle.wx_machine.specs.Table.{Plan, Done, step_plan, ask_plan}
-use Rattle.wx_machine.specs.Case.{Admits as Follows, next}
+use Rattle.wx_machine.specs.Case.{Admits as Follows, is_of_plan, next}
 use Rattle.wx_machine.specs.Start.{Start}
 use Rattle.wx_machine.specs.Jobs.{living, parent, AreLawful, act_plan, end}
 use Rattle.wx_machine.specs.Journal.{settings, is_urgent_named, passes_unseen, lets_pass, closed, ending, named, bag, offered, window, is_over}
@@ -149,34 +149,23 @@ after_acts ends = if ends then Ends else Open
 abbrev pub after_hand : List Act → List Entry → Agenda
 after_hand acts p = plans (act_plan (λ id. lives id p) acts) Open
 
--- What an entry leaves owed, where this was owed before it: some bring what they owe, and the others take from it.
+-- What an entry of no plan leaves owed, where this was owed before it: some bring what they owe, and the others take from it.
+-- Nothing may come behind one that has no row here.
+abbrev pub unplanned : Start → Entry → List Entry → Agenda → Agenda
+unplanned s (Begin throttle size errors keyboard follow jobsignals watcher cwd paths) p before = sends s.events
+unplanned s (Sent name event priority) p before = rest (Sent name event priority) before
+unplanned s (Turned t) p before = turn_agenda s t.kind t.at (Turned t ∷ p)
+unplanned s (TurnFault code) p before = Ends
+unplanned s (Offer name item result event priority) p before = rest (Offer name item result event priority) before
+unplanned s (Take name) p before = after_take s name p
+unplanned s (Filter n name answer) p before = after_filter s name answer (Filter n name answer ∷ p)
+unplanned s (Show n error wish) p before = after_show (ending error wish)
+unplanned s (Hand n names acts) p before = after_hand acts p
+unplanned s (_) p before = Breaks
+
+-- What an entry leaves owed: one of a plan takes from it.
 abbrev pub owed : Start → Entry → List Entry → Agenda → Agenda
-owed s (Begin throttle size errors keyboard follow jobsignals watcher cwd paths) p before = sends s.events
-owed s (Sent name event priority) p before = rest (Sent name event priority) before
-owed s (Turned t) p before = turn_agenda s t.kind t.at (Turned t ∷ p)
-owed s (TurnFault code) p before = Ends
-owed s (Offer name item result event priority) p before = rest (Offer name item result event priority) before
-owed s (Said word) p before = rest (Said word) before
-owed s (Take name) p before = after_take s name p
-owed s (Filter n name answer) p before = after_filter s name answer (Filter n name answer ∷ p)
-owed s (Show n error wish) p before = after_show (ending error wish)
-owed s (Hand n names acts) p before = after_hand acts p
-owed s (Made id) p before = rest (Made id) before
-owed s (Asked ticket id level control) p before = rest (Asked ticket id level control) before
-owed s (Pick id ticket) p before = rest (Pick id ticket) before
-owed s (GraceOver id) p before = rest (GraceOver id) before
-owed s (Spawn child id tag what answer) p before = rest (Spawn child id tag what answer) before
-owed s (Signal child number answer) p before = rest (Signal child number answer) before
-owed s (Kill child answer) p before = rest (Kill child answer) before
-owed s (Wait child answer) p before = rest (Wait child answer) before
-owed s (Dropped child) p before = rest (Dropped child) before
-owed s (Raise ticket) p before = rest (Raise ticket) before
-owed s (Gone id) p before = rest (Gone id) before
-owed s (Run id n) p before = rest (Run id n) before
-owed s (Begun id n) p before = rest (Begun id n) before
-owed s (Poll id n ready) p before = rest (Poll id n ready) before
-owed s (Hook id n answer) p before = rest (Hook id n answer) before
-owed s (JobError id n code) p before = rest (JobError id n code) before
+owed s e p before = if is_of_plan e then rest e before else unplanned s e p before
 
 -- the acts of this turn's batch ask for the end
 abbrev pub is_quitting : List Entry → Bool

@@ -65,18 +65,36 @@ abbrev pub unless : ℕ → Option ℕ → Option ℕ
 unless c None = None
 unless c (Some d) = if d == c then None else Some d
 
--- the child that runs: its Spawn answered ok, no Wait of it answered ok, and no Dropped names it
+-- the child that this entry reaps: a Wait of it answered ok
+abbrev pub reaped_child : Entry → Option ℕ
+reaped_child (Wait c (Ok status)) = Some c
+reaped_child (_) = None
+
+-- the child that no longer runs behind this entry: it was reaped or let go
+abbrev pub ended_child : Entry → Option ℕ
+ended_child (Dropped c) = Some c
+ended_child (e) = reaped_child e
+
+-- what is left of a child, where this one, if any, has ended
+abbrev pub still_running : Option ℕ → Option ℕ → Option ℕ
+still_running None running = running
+still_running (Some c) running = unless c running
+
+-- the child that runs: its Spawn answered ok, and nothing ended it since
 abbrev pub child : Id → List Entry → Option ℕ
 child id [] = None
 child id (Made job ∷ p) = if same job id then None else child id p
 child id (Spawn c job tag what (Ok done) ∷ p) = if same job id then Some c else child id p
-child id (Wait c (Ok status) ∷ p) = unless c (child id p)
-child id (Dropped c ∷ p) = unless c (child id p)
-child id (_ ∷ p) = child id p
+child id (e ∷ p) = still_running (ended_child e) (child id p)
 
 abbrev pub is_child : ℕ → Option ℕ → Bool
 is_child c None = false
 is_child c (Some d) = d == c
+
+-- the running child is the one that has ended
+abbrev pub is_ended : Option ℕ → Option ℕ → Bool
+is_ended None running = false
+is_ended (Some c) running = is_child c running
 
 -- a turn names the end of the child that runs
 abbrev pub names_end : TurnKind → Option ℕ → Bool
@@ -233,10 +251,8 @@ grace id [] = None
 grace id (Made job ∷ p) = if same job id then None else grace id p
 grace id (GraceOver job ∷ p) = if same job id then None else grace id p
 grace id (Signal c number (Ok done) ∷ p) = if is_child c (child id p) then begins_by (just_picked id p) (moment p) (grace id p) else grace id p
-grace id (Wait c (Ok status) ∷ p) = if is_child c (child id p) then None else grace id p
-grace id (Dropped c ∷ p) = if is_child c (child id p) then None else grace id p
 grace id (Gone job ∷ p) = if same job id then None else grace id p
-grace id (_ ∷ p) = grace id p
+grace id (e ∷ p) = if is_ended (ended_child e) (child id p) then None else grace id p
 
 -- ---- tickets
 

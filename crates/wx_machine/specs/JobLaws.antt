@@ -5,10 +5,11 @@ use Rattle.wx_control.specs.declared.id.Id.{Id}
 use Rattle.wx_control.specs.declared.ask.Ask.{Ask}
 use Rattle.wx_control.specs.Asks.{sends_of}
 use Rattle.wx_journal.specs.declared.entry.Entry.{Entry}
-use Rattle.wx_journal.specs.declared.entry.Entry.TheVariants.{Begin, Sent, Turn as Turned, TurnFault, Offer, Word as Said, Take, Filter, Show, Hand, Made, Asked, Pick, GraceOver, Spawn, Signal, Kill, Wait, Dropped, Raise, Gone, Run, Begun, Poll, Hook, JobError}
+use Rattle.wx_journal.specs.declared.entry.Entry.TheVariants.{Turn as Turned, Made, Asked, Pick, GraceOver, Spawn, Signal, Kill, Wait}
+use Rattle.wx_journal.specs.Sorts.{Subject, OfJob, OfChild, sort}
 use Rattle.wx_journal.specs.Names.{ticket_count, child_count}
 use Rattle.wx_machine.specs.declared.state.CommandState.TheVariants.{Pending}
-use Rattle.wx_machine.specs.History.{same, lives, child, state, grace, unless, owner}
+use Rattle.wx_machine.specs.History.{same, lives, child, state, grace, reaped_child, still_running, owner}
 use Rattle.wx_machine.specs.Table.{Plan, Done, step_by, send_plan, end_plan}
 use Rattle.wx_machine.specs.Case.{Leads, IsCut}
 
@@ -17,8 +18,7 @@ abbrev pub unreaped : Id → List Entry → Option ℕ
 unreaped id [] = None
 unreaped id (Made job ∷ p) = if same job id then None else unreaped id p
 unreaped id (Spawn c job tag what (Ok done) ∷ p) = if same job id then Some c else unreaped id p
-unreaped id (Wait c (Ok status) ∷ p) = unless c (unreaped id p)
-unreaped id (_ ∷ p) = unreaped id p
+unreaped id (e ∷ p) = still_running (reaped_child e) (unreaped id p)
 
 -- each child of a job is reaped before the next spawn, save a last one, since the job was last made
 abbrev pub AreReaped : Id → List Entry → Type 0
@@ -70,34 +70,15 @@ abbrev pub is_owner : Id → Option Id → Bool
 is_owner id None = false
 is_owner id (Some job) = same job id
 
+-- this job, or a child of it
+abbrev pub is_on : Id → List Entry → Subject → Bool
+is_on id p (OfJob job) = same job id
+is_on id p (OfChild c) = is_owner id (owner c p)
+is_on id p (_) = false
+
 -- an entry is about a job where it names the job or a child that this spawned
 abbrev pub is_about : Id → List Entry → Entry → Bool
-is_about id p (Begin throttle size errors keyboard follow jobsignals watcher cwd paths) = false
-is_about id p (Sent name event priority) = false
-is_about id p (Turned t) = false
-is_about id p (TurnFault code) = false
-is_about id p (Offer name item result event priority) = false
-is_about id p (Said word) = false
-is_about id p (Take name) = false
-is_about id p (Filter n name answer) = false
-is_about id p (Show n error wish) = false
-is_about id p (Hand n names acts) = false
-is_about id p (Made job) = same job id
-is_about id p (Asked ticket job level control) = same job id
-is_about id p (Pick job ticket) = same job id
-is_about id p (GraceOver job) = same job id
-is_about id p (Spawn c job tag what answer) = same job id
-is_about id p (Signal c number answer) = is_owner id (owner c p)
-is_about id p (Kill c answer) = is_owner id (owner c p)
-is_about id p (Wait c answer) = is_owner id (owner c p)
-is_about id p (Dropped c) = is_owner id (owner c p)
-is_about id p (Raise ticket) = false
-is_about id p (Gone job) = same job id
-is_about id p (Run job n) = same job id
-is_about id p (Begun job n) = same job id
-is_about id p (Poll job n ready) = same job id
-is_about id p (Hook job n answer) = same job id
-is_about id p (JobError job n code) = same job id
+is_about id p e = is_on id p (sort e).subject
 
 -- each child has the next name
 abbrev pub NamesChildren : List Entry → Type 0

@@ -7,15 +7,15 @@ use Rattle.wx_events.specs.Priority.{is_urgent}
 use Rattle.wx_journal.specs.Names.{moment, count}
 use Rattle.wx_journal.specs.Told.{is_turn}
 use Rattle.wx_journal.specs.declared.entry.Entry.{Entry}
-use Rattle.wx_journal.specs.declared.entry.Entry.TheVariants.{Begin, Sent, Turn as Turned, TurnFault, Offer, Word as Said, Take, Filter, Show, Hand, Made, Asked, Pick, GraceOver, Spawn, Signal, Kill, Wait, Dropped, Raise, Gone, Run, Begun, Poll, Hook, JobError}
+use Rattle.wx_journal.specs.declared.entry.Entry.TheVariants.{Sent, Turn as Turned, TurnFault, Offer, Take, Filter, Show, Hand}
 use Rattle.wx_journal.specs.declared.entry.Named.{Named}
 use Rattle.wx_journal.specs.declared.entry.Offered.{Offered}
 use Rattle.wx_journal.specs.declared.entry.Offered.TheVariants.{Queued, Full, Closed}
 use Rattle.wx_config.specs.declared.config.Config.{Config}
-use Rattle.wx_config.specs.declared.runtime.RuntimeError.{RuntimeError}
-use Rattle.wx_config.specs.declared.runtime.RuntimeError.TheVariants.{Exit}
-use Rattle.wx_config.specs.declared.error.CriticalError.{CriticalError}
-use Rattle.wx_config.specs.declared.error.CriticalError.TheVariants.{Exit as CriticalExit, Elevated}
+use Rattle.wx_error.specs.declared.runtime.RuntimeError.{RuntimeError}
+use Rattle.wx_error.specs.declared.runtime.RuntimeError.TheVariants.{Exit}
+use Rattle.wx_error.specs.declared.error.CriticalError.{CriticalError}
+use Rattle.wx_error.specs.declared.error.CriticalError.TheVariants.{Exit as CriticalExit, Elevated}
 use Rattle.wx_journal.specs.declared.wish.Wish.{Wish}
 use Rattle.wx_journal.specs.declared.wish.Wish.TheVariants.{Nothing, Elevate, Critical}
 use Rattle.wx_machine.specs.Start.{Start}
@@ -116,32 +116,9 @@ one_if so name = if so then Some name else None
 -- The event that an entry behind these lets join the window, where it lets one: one that passes unseen joins when it is
 -- taken, and any other when the filter lets it pass.
 abbrev pub joins : List Entry → Entry → Option ℕ
-joins p (Begin throttle size errors keyboard follow jobsignals watcher cwd paths) = None
-joins p (Sent name event priority) = None
-joins p (Turned t) = None
-joins p (TurnFault code) = None
-joins p (Offer name item result event priority) = None
-joins p (Said word) = None
 joins p (Take name) = one_if (passes_unseen name p) name
 joins p (Filter n name answer) = one_if (lets_pass answer) name
-joins p (Show n error wish) = None
-joins p (Hand n names acts) = None
-joins p (Made id) = None
-joins p (Asked ticket id level control) = None
-joins p (Pick id ticket) = None
-joins p (Spawn child id tag what answer) = None
-joins p (Kill child answer) = None
-joins p (Wait child answer) = None
-joins p (Dropped child) = None
-joins p (Raise ticket) = None
-joins p (Gone id) = None
-joins p (GraceOver id) = None
-joins p (Signal child number answer) = None
-joins p (Run id n) = None
-joins p (Begun id n) = None
-joins p (Poll id n ready) = None
-joins p (Hook id n answer) = None
-joins p (JobError id n code) = None
+joins p (_) = None
 
 -- names, and one behind them where there is one
 abbrev pub and_one : List ℕ → Option ℕ → List ℕ

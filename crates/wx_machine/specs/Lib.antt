@@ -12,6 +12,7 @@ pub mod Last
 pub mod Leads
 pub mod Leaves
 pub mod Progress
+pub mod Quits
 pub mod RunLaws
 pub mod Seen
 pub mod Start

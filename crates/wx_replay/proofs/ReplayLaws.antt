@@ -1,7 +1,7 @@
 -- What is due for the bytes that were read.
 use Rattle.std.proofs.Common.{ℕ, ◌≡◌, ◌<◌, ◌≤◌, Option, None, Some, IfSome, Result, Ok, Err, IfOk, List, length, codes, refl, ap, sym, subst, arith}
 use Rattle.std.specs.Io.KnownBytes.{Appends}
-use Rattle.wx_replay.specs.Causes.{AddsFront, IsWhole, IsLonger}
+use Rattle.wx_bytes.specs.Causes.{AddsFront, IsWhole, IsLonger}
 use Rattle.wx_replay.specs.Replays.{Replays, ReplaysRead, IsWritten}
 use Rattle.wx_replay.specs.declared.status.Status.{Status}
 use Rattle.wx_replay.specs.declared.status.Status.TheVariants.{NoScript}

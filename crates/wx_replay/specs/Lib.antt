@@ -1,4 +1,1 @@
-pub mod Causes
 pub mod Replays
-pub mod Lines
-pub mod Scripts

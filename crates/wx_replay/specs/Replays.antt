@@ -3,14 +3,14 @@ use Rattle.std.specs.Prelude.{ℕ, ◌≡◌, ◌<◌, ◌≤◌, ⊤, Option, I
 use Rattle.std.specs.Io.KnownBytes.{Appends, Consumes, IsAtEnd}
 use Rattle.wx_journal.specs.declared.entry.Entry.{Entry}
 use Rattle.wx_journal.specs.Told.{Rose}
-use Rattle.wx_config.specs.declared.error.CriticalError.TheVariants.{IoError, Memory as NoMemory}
+use Rattle.wx_error.specs.declared.error.CriticalError.TheVariants.{IoError, Memory as NoMemory}
 use Rattle.wx_machine.specs.Answer.{Answers}
 use Rattle.wx_action.specs.Printed.{printed}
 use Rattle.wx_journal.specs.Lines.{Answer, JournalFits, AnswerFits}
 use Rattle.wx_script.specs.declared.script.Script.{Script}
 use Rattle.wx_script.specs.Follows.{start_of, Follows}
-use Rattle.wx_replay.specs.Causes.{AddsFront}
-use Rattle.wx_replay.specs.Scripts.{IsScriptOf, IsFirstBad}
+use Rattle.wx_bytes.specs.Causes.{AddsFront}
+use Rattle.wx_script.specs.Scripts.{IsScriptOf, IsFirstBad}
 use Rattle.wx_replay.specs.declared.status.Status.{Status}
 use Rattle.wx_replay.specs.declared.status.Status.TheVariants.{Done, Critical, Usage, NoScript, ReadFault, WriteFault, Memory}
 

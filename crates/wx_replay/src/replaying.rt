@@ -4,21 +4,20 @@ ghost use Rattle.std.specs.Io.KnownBytes.{Appends};
 ghost use Rattle.wx_journal.specs.Told.{Rose};
 ghost use Rattle.wx_config.specs.Defaults.{default_config};
 ghost use Rattle.wx_script.specs.Follows.{IsScript, start_of};
-ghost use Rattle.wx_replay.specs.Causes.{AddsFront};
+ghost use Rattle.wx_bytes.specs.Causes.{AddsFront};
 ghost use Rattle.wx_replay.specs.Replays.{status_of, IsShown, IsReplay, ReplaysRead, IsWritten, HasRead, HasWritten};
 
-use crate::feeding::{LIMIT, Unread, read_all, write_all};
-use crate::reading::read_script;
-use crate::sink::Sink;
-use crate::source::Source;
 use crate::status::Status;
 use std::alloc::Global;
 use wx_action::print_journal;
-use wx_config::{Config, CriticalError};
+use wx_bytes::{LIMIT, Sink, Source, Unread, read_all, write_all};
+use wx_config::Config;
 use wx_engine::Watchexec;
+use wx_error::CriticalError;
 use wx_events::{Copies, Memory, Text, TextPath};
+use wx_follow::{ScriptHooks, ScriptWorld};
 use wx_journal::Journal;
-use wx_script::{Script, ScriptHooks, ScriptWorld};
+use wx_script::{Script, read_script};
 
 /// The settings that a script states.
 fn config_of(alloc: Global, script: &Script) -> Result<Config, Memory>

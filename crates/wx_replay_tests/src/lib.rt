@@ -11,5 +11,3 @@ mod random_counts;
 mod random_jobs;
 #[cfg(test)]
 mod random_tests;
-#[cfg(test)]
-mod script_tests;

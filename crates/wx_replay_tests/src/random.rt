@@ -1,22 +1,27 @@
 // Random scripts. How many lines of each sort their journals have is known by counting alone.
 ghost use Rattle.std.specs.Prelude.{◌<◌};
 
-use crate::random_counts::{Counts, up};
-use crate::random_jobs::{Asked, Control, Said, Task};
+use crate::random_counts::Sort;
+use crate::random_jobs::{Answers, Asked, Control, Queue, Task, World};
 use rand_pcg::Pcg32;
 use rand_pcg::rand_core::Rng;
 use std::alloc::Global;
 use wx_events::{Memory, Text};
 use wx_replay::Status;
 
-/// An action line, and what it asks for: so many new jobs, and then this of jobs.
-#[derive(Drop)]
-struct Action {
-    line: Text,
-    creates: u32,
-    asks: Vec<(u32, Asked)>,
-    quits: bool,
+/// What an action does.
+#[derive(Clone, Copy)]
+enum Act {
+    Nothing,
+    Quit,
+    Create,
+    Ask(u32, Asked),
+    // of a job that isn't there
+    AskNone,
 }
+
+/// How many acts an action has at most.
+const ACTS: usize = 7;
 
 /// What a filter answers.
 #[derive(Clone, Copy)]
@@ -25,18 +30,6 @@ enum Verdict {
     Reject,
     Fail,
     Exit,
-}
-
-impl Verdict {
-    /// The line of this answer.
-    fn line(self) -> &'static [u8] {
-        match self {
-            Verdict::Pass => b"filter pass\n",
-            Verdict::Reject => b"filter reject\n",
-            Verdict::Fail => b"filter fail filterer a b\n",
-            Verdict::Exit => b"filter fail exit\n",
-        }
-    }
 }
 
 /// What an error handler wishes.
@@ -48,18 +41,6 @@ enum Wished {
     Critical,
 }
 
-impl Wished {
-    /// The line of this wish.
-    fn line(self) -> &'static [u8] {
-        match self {
-            Wished::Nothing => b"error none\n",
-            Wished::Elevate => b"error elevate\n",
-            Wished::Exit => b"error critical exit\n",
-            Wished::Critical => b"error critical external c\n",
-        }
-    }
-}
-
 /// With what a run ends.
 #[derive(Clone, Copy)]
 enum Outcome {
@@ -67,6 +48,16 @@ enum Outcome {
     Fault(u32),
     Elevated,
     Critical,
+}
+
+/// What a turn brings: an event, which may be urgent, or the end of a child, or what is asked of a job or done by it.
+#[derive(Clone, Copy)]
+enum Turn {
+    Arrive(bool),
+    Work,
+    Ended(u32),
+    Ask(u32, Asked),
+    Job(u32),
 }
 
 /// What is due where each event that passes is handed at once, and each spawn, kill and wait goes well. Of the events that wait
@@ -77,89 +68,108 @@ pub(crate) struct Rules {
     waiting: u32,
     urgent: u32,
     is_tagged: bool,
-    verdicts: Vec<Verdict>,
-    wishes: Vec<Wished>,
+    verdicts: Answers<Verdict>,
+    wishes: Answers<Wished>,
     is_closed: bool,
-    actions: Vec<Action>,
+    actions: Queue<[Act; ACTS]>,
     jobs: Vec<Task>,
-    said: Said,
     outcome: Outcome,
     is_over: bool,
-    pub(crate) counts: Counts,
+    pub(crate) world: World,
 }
 
 impl Rules {
+    /// Those of a script of which nothing is drawn yet.
+    fn new(alloc: Global) -> Rules {
+        Rules {
+            size: 0,
+            waiting: 0,
+            urgent: 0,
+            is_tagged: false,
+            verdicts: Answers::new(alloc),
+            wishes: Answers::new(alloc),
+            is_closed: false,
+            actions: Queue::new(alloc),
+            jobs: Vec::new(alloc),
+            outcome: Outcome::Well,
+            is_over: false,
+            world: World::new(alloc),
+        }
+    }
+
+    /// Counts one more of this sort.
+    fn up(&mut self, sort: Sort) {
+        self.world.counts.up(sort);
+    }
+
     /// An event is sent before the run.
     fn send(&mut self, is_urgent: bool) {
-        up(&mut self.counts.sent);
+        self.up(Sort::Sent);
         self.wait(is_urgent);
     }
 
     /// An event waits.
     fn wait(&mut self, is_urgent: bool) {
-        up(&mut self.waiting);
+        self.waiting = self.waiting.saturating_add(1);
         if is_urgent {
-            up(&mut self.urgent);
+            self.urgent = self.urgent.saturating_add(1);
         }
     }
 
-    /// Gives a turn, and says whether there was one to give.
-    fn turn(&mut self) -> bool {
-        if !self.is_over {
-            up(&mut self.counts.turns);
-        }
-        !self.is_over
-    }
-
-    /// A turn that brings an event.
-    fn arrive(&mut self, is_urgent: bool) {
-        if !self.turn() {
+    /// Gives a turn at this moment, where the run isn't over.
+    fn give(&mut self, turn: Turn, at: u64) {
+        if self.is_over {
             return;
         }
-        if self.is_closed {
-            up(&mut self.counts.closed);
-        } else if self.waiting < self.size {
-            self.wait(is_urgent);
-            up(&mut self.counts.queued);
-        } else {
-            up(&mut self.counts.full);
+        self.up(Sort::Turn);
+        match turn {
+            Turn::Arrive(is_urgent) => self.arrive(is_urgent),
+            Turn::Work => self.work(),
+            Turn::Ended(child) => self.end_child(child, at),
+            Turn::Ask(job, asked) => self.ask(job, asked),
+            Turn::Job(job) => self.step(job, at),
         }
     }
 
-    /// A turn in which the worker acts.
-    fn work(&mut self, alloc: Global) -> Result<(), Memory> {
-        if !self.turn() {
-            return Ok(());
+    /// An event arrives.
+    fn arrive(&mut self, is_urgent: bool) {
+        if self.is_closed {
+            self.up(Sort::Closed);
+        } else if self.waiting < self.size {
+            self.wait(is_urgent);
+            self.up(Sort::Queued);
+        } else {
+            self.up(Sort::Full);
         }
+    }
+
+    /// The worker acts.
+    fn work(&mut self) {
         if self.is_closed {
             self.is_over = true;
         } else if self.waiting == 0 {
-            up(&mut self.counts.idle);
+            self.up(Sort::Idle);
         } else {
             self.waiting -= 1;
-            self.take(alloc)?;
+            self.take();
         }
-        Ok(())
     }
 
     /// An event is taken, an urgent one where there is one, and handed where it passes.
-    fn take(&mut self, alloc: Global) -> Result<(), Memory> {
-        up(&mut self.counts.takes);
+    fn take(&mut self) {
+        self.up(Sort::Take);
         if self.urgent > 0 {
             self.urgent -= 1;
-            self.hand(alloc)?;
+            self.hand();
         } else if !self.is_tagged || self.passes() {
-            self.hand(alloc)?;
+            self.hand();
         }
-        Ok(())
     }
 
     /// Whether the filter lets an event pass.
     fn passes(&mut self) -> bool {
-        let next = self.verdicts.get(self.counts.filters as usize).copied();
-        let verdict = next.unwrap_or(Verdict::Pass);
-        up(&mut self.counts.filters);
-        match verdict {
+        self.up(Sort::Filter);
+        match self.verdicts.answers.next().unwrap_or(Verdict::Pass) {
             Verdict::Pass => return true,
             Verdict::Reject => {}
             Verdict::Fail => self.show(),
@@ -170,9 +180,8 @@ impl Rules {
 
     /// An error is shown.
     fn show(&mut self) {
-        let next = self.wishes.get(self.counts.shows as usize).copied();
-        up(&mut self.counts.shows);
-        match next.unwrap_or(Wished::Nothing) {
+        self.up(Sort::Show);
+        match self.wishes.answers.next().unwrap_or(Wished::Nothing) {
             Wished::Nothing => {}
             Wished::Exit => self.is_closed = true,
             Wished::Elevate => self.end_with(Outcome::Elevated),
@@ -187,96 +196,112 @@ impl Rules {
     }
 
     /// An event is handed.
-    fn hand(&mut self, alloc: Global) -> Result<(), Memory> {
-        if let Some(action) = self.actions.get(self.counts.hands as usize) {
-            for _ in 0..action.creates {
-                up(&mut self.counts.made);
-                self.jobs.push(Task::new(alloc))?;
+    fn hand(&mut self) {
+        self.up(Sort::Hand);
+        if let Some(acts) = self.actions.next() {
+            for act in &acts {
+                self.act(*act);
             }
-            for (job, asked) in &action.asks {
-                ask_shown(&mut self.jobs, *job, *asked, &mut self.counts)?;
-            }
-            self.is_over = action.quits;
         }
-        up(&mut self.counts.hands);
         for task in &mut self.jobs {
             task.is_hidden = task.is_gone;
         }
-        Ok(())
     }
 
-    /// A turn that tells that this child has ended, where it runs.
-    fn end_child(&mut self, child: u32, at: u64) {
-        if !self.turn() {
-            return;
+    /// A handler does this.
+    fn act(&mut self, act: Act) {
+        match act {
+            Act::Quit => self.is_over = true,
+            Act::Create => self.create(),
+            Act::Ask(job, asked) => self.ask_shown(job, asked),
+            Act::AskNone | Act::Nothing => {}
         }
-        for task in &mut self.jobs {
-            if task.runs(child) {
-                task.end(at, &self.said, &mut self.counts);
-                return;
+    }
+
+    /// A job is created.
+    fn create(&mut self) {
+        self.up(Sort::Made);
+        let task = Task::new(*self.jobs.allocator());
+        let done = push(&mut self.jobs, task);
+        self.world.counts.keep(done);
+    }
+
+    /// A handler asks this of a job, where it is shown.
+    fn ask_shown(&mut self, job: u32, asked: Asked) {
+        if let Some(task) = self.jobs.get_mut(job as usize) {
+            if !task.is_hidden {
+                task.ask(asked, &mut self.world.counts);
             }
         }
-        up(&mut self.counts.ignored);
     }
 
-    /// A turn that asks this of a job, which was made or was not.
-    fn ask(&mut self, job: u32, asked: Asked) -> Result<(), Memory> {
-        if !self.turn() {
-            return Ok(());
+    /// This child has ended, where it runs.
+    fn end_child(&mut self, child: u32, at: u64) {
+        if !self.ends_of(child, at) {
+            self.up(Sort::Ignored);
         }
+    }
+
+    /// Whether this child runs, whose job takes a step then.
+    fn ends_of(&mut self, child: u32, at: u64) -> bool {
+        for task in &mut self.jobs {
+            if task.runs(child) {
+                task.end(at, &mut self.world);
+                return true;
+            }
+        }
+        false
+    }
+
+    /// This is asked of a job, which was made or was not.
+    fn ask(&mut self, job: u32, asked: Asked) {
         match self.jobs.get_mut(job as usize) {
-            Some(task) => task.ask(asked, &mut self.counts)?,
-            None => up(&mut self.counts.ignored),
+            Some(task) => task.ask(asked, &mut self.world.counts),
+            None => self.up(Sort::Ignored),
         }
-        Ok(())
     }
 
-    /// A turn of a job at this moment, which was made or was not.
+    /// A job takes a step at this moment, which was made or was not.
     fn step(&mut self, job: u32, at: u64) {
-        if !self.turn() {
-            return;
-        }
         match self.jobs.get_mut(job as usize) {
-            Some(task) => task.step(at, &self.said, &mut self.counts),
-            None => up(&mut self.counts.ignored),
+            Some(task) => task.step(at, &mut self.world),
+            None => self.up(Sort::Ignored),
         }
     }
 
     /// There is no turn to give.
     fn fail(&mut self, code: u32) {
         if !self.is_over {
-            up(&mut self.counts.faults);
+            self.up(Sort::Fault);
             self.end_with(Outcome::Fault(code));
         }
     }
 
     /// The script is at its end.
     fn end(&mut self) {
-        let _last = self.turn();
-        self.is_over = true;
-        self.counts.begins = 1;
-        for task in &mut self.jobs {
-            task.let_go(&mut self.counts);
+        if !self.is_over {
+            self.up(Sort::Turn);
         }
-        self.counts.gone = self.counts.made;
-        self.counts.ends = 1;
-        self.counts.others = 1;
+        self.up(Sort::Begin);
+        for task in &mut self.jobs {
+            task.let_go(&mut self.world.counts);
+        }
+        self.up(Sort::End);
+        self.up(Sort::Other);
     }
 
-    /// The end line, behind the line feed before it.
-    pub(crate) fn end_line(&self, alloc: Global) -> Result<Text, Memory> {
-        let mut line = Text::from_slice(alloc, b"\nend ")?;
-        match self.outcome {
-            Outcome::Well => line.append(b"ok")?,
-            Outcome::Fault(code) => {
-                line.append(b"error io turn ")?;
-                line.append_number(u64::from(code))?;
-            }
-            Outcome::Elevated => line.append(b"error elevated filterer a b none")?,
-            Outcome::Critical => line.append(b"error external c")?,
+    /// Appends the end line, behind the line feed before it.
+    pub(crate) fn put_end(&self, line: &mut Text) -> Result<(), Memory> {
+        line.append(match self.outcome {
+            Outcome::Well => b"\nend ok",
+            Outcome::Fault(_) => b"\nend error io turn ",
+            Outcome::Elevated => b"\nend error elevated filterer a b none",
+            Outcome::Critical => b"\nend error external c",
+        })?;
+        if let Outcome::Fault(code) = self.outcome {
+            line.append_number(u64::from(code))?;
         }
-        line.append(b" lost 0\n")?;
-        Ok(line)
+        line.append(b" lost 0\n")
     }
 
     /// How the program ends.
@@ -288,17 +313,10 @@ impl Rules {
     }
 }
 
-/// A handler asks this of a job, where it is shown.
-fn ask_shown(
-    jobs: &mut Vec<Task>,
-    job: u32,
-    asked: Asked,
-    counts: &mut Counts,
-) -> Result<(), Memory> {
-    match jobs.get_mut(job as usize) {
-        Some(task) if !task.is_hidden => task.ask(asked, counts),
-        _ => Ok(()),
-    }
+/// Adds an item at the end.
+fn push<T: Drop>(items: &mut Vec<T>, item: T) -> Result<(), Memory> {
+    items.push(item)?;
+    Ok(())
 }
 
 /// A script that is being drawn.
@@ -308,12 +326,8 @@ pub(crate) struct Draft {
     pub(crate) text: Text,
     moment: u64,
     is_urgent: bool,
-    written: usize,
-    answered: usize,
-    wished: usize,
-    hooked: usize,
-    signalled: usize,
-    polled: usize,
+    // the actions whose lines are left to write
+    actions: Queue<[Act; ACTS]>,
     // the jobs that the action lines so far create
     created: u32,
     pub(crate) rules: Rules,
@@ -327,80 +341,70 @@ impl Draft {
             text: Text::new(alloc),
             moment: 0,
             is_urgent: false,
-            written: 0,
-            answered: 0,
-            wished: 0,
-            hooked: 0,
-            signalled: 0,
-            polled: 0,
+            actions: Queue::new(alloc),
             created: 0,
-            rules: Rules {
-                size: 0,
-                waiting: 0,
-                urgent: 0,
-                is_tagged: false,
-                verdicts: Vec::new(alloc),
-                wishes: Vec::new(alloc),
-                is_closed: false,
-                actions: Vec::new(alloc),
-                jobs: Vec::new(alloc),
-                said: Said {
-                    hooks: Vec::new(alloc),
-                    signals: Vec::new(alloc),
-                    polls: Vec::new(alloc),
-                },
-                outcome: Outcome::Well,
-                is_over: false,
-                counts: Counts::default(),
-            },
+            rules: Rules::new(alloc),
         }
     }
 
     /// Draws the script.
-    pub(crate) fn draw_all(&mut self, alloc: Global) -> Result<(), Memory> {
+    pub(crate) fn draw_all(&mut self) {
         self.rules.is_tagged = self.draw(3) > 0;
-        self.put_head()?;
-        self.draw_answers(alloc)?;
-        self.draw_said()?;
-        self.put_work(alloc)?;
+        self.put_head();
+        self.draw_answers();
+        self.draw_said();
+        self.put_work();
         for _ in 0..30 + self.draw(60) {
-            self.put_line(alloc)?;
+            self.put_line();
         }
-        self.put_tail(alloc)
+        self.put_fault();
+        self.put_left();
+        self.rules.end();
+    }
+
+    /// Counts want of memory.
+    fn keep(&mut self, done: Result<(), Memory>) {
+        self.rules.world.counts.keep(done);
     }
 
     /// Draws what the filter, the error handler and the action handler answer in the run.
-    fn draw_answers(&mut self, alloc: Global) -> Result<(), Memory> {
+    fn draw_answers(&mut self) {
         for _ in 0..self.draw(6) {
             let verdict = self.draw_verdict();
-            self.rules.verdicts.push(verdict)?;
+            let done = self.rules.verdicts.push(verdict);
+            self.keep(done);
         }
         for _ in 0..self.draw(4) {
             let wish = self.draw_wish();
-            self.rules.wishes.push(wish)?;
+            let done = self.rules.wishes.push(wish);
+            self.keep(done);
         }
         for _ in 0..self.draw(6) {
-            let action = self.draw_action(alloc)?;
-            self.rules.actions.push(action)?;
+            let acts = self.draw_action();
+            let done = self.rules.actions.push(acts);
+            self.keep(done);
+            let done = self.actions.push(acts);
+            self.keep(done);
         }
-        Ok(())
     }
 
     /// Draws what hooks, the host and functions answer in the run.
-    fn draw_said(&mut self) -> Result<(), Memory> {
+    fn draw_said(&mut self) {
         for _ in 0..self.draw(4) {
-            let words = self.draw(3);
-            self.rules.said.hooks.push(words)?;
+            let words = self.draw_words();
+            let done = self.rules.world.hooks.push(words);
+            self.keep(done);
         }
         for _ in 0..self.draw(4) {
-            let is_sent = self.draw(2) == 0;
-            self.rules.said.signals.push(is_sent)?;
+            let sent = self.draw_one_of((true, b"signal ok\n"), (false, b"signal fault 9\n"));
+            let done = self.rules.world.signals.push(sent);
+            self.keep(done);
         }
         for _ in 0..self.draw(8) {
-            let is_ready = self.draw(2) == 0;
-            self.rules.said.polls.push(is_ready)?;
+            let ready = self.draw_one_of((true, b"poll ready\n"), (false, b"poll later\n"));
+            let done = self.rules.world.polls.push(ready);
+            self.keep(done);
         }
-        Ok(())
     }
 
     /// A number below this one.
@@ -413,7 +417,7 @@ impl Draft {
 
     /// A job that was made so far, or the one that is made next.
     fn draw_job(&mut self) -> u32 {
-        let made = self.rules.counts.made.min(3);
+        let made = self.rules.world.counts.get(Sort::Made).min(3);
         if made == 0 || self.draw(8) == 0 {
             made
         } else {
@@ -457,313 +461,268 @@ impl Draft {
         }
     }
 
-    /// An action line with up to seven acts. An ask of a job that isn't there asks for nothing.
-    fn draw_action(&mut self, alloc: Global) -> Result<Action, Memory> {
-        let mut action = Action {
-            line: Text::from_slice(alloc, b"action")?,
-            creates: 0,
-            asks: Vec::new(alloc),
-            quits: false,
-        };
-        for _ in 0..self.draw(8) {
-            match self.draw(24) {
-                0 => {
-                    action.line.append(b" quit")?;
-                    action.quits = true;
-                }
-                1 | 2 => action.line.append(b" ask 900 start")?,
-                3..=19 if self.created > 0 => self.put_ask_of(&mut action)?,
-                _ => {
-                    action.line.append(b" create exec ---- 1 a")?;
-                    up(&mut action.creates);
-                    up(&mut self.created);
-                }
-            }
+    /// An action with up to seven acts.
+    fn draw_action(&mut self) -> [Act; ACTS] {
+        let mut acts = [Act::Nothing; ACTS];
+        let drawn = self.draw(8) as usize;
+        for act in acts.iter_mut().take(drawn) {
+            *act = self.draw_act();
         }
-        action.line.push(10)?;
-        Ok(action)
+        acts
     }
 
-    /// Something is asked of one of the jobs that were created so far.
-    fn put_ask_of(&mut self, action: &mut Action) -> Result<(), Memory>
-        requires { 0 < self.old.created }
-    {
-        let job = self.draw(self.created);
-        let asked = self.draw_asked();
-        action.line.append(b" ask ")?;
-        action.line.append_number(u64::from(job))?;
-        action.line.append(asked.words())?;
-        action.asks.push((job, asked))?;
-        Ok(())
+    /// An act. Only a job that was created so far is asked for something.
+    fn draw_act(&mut self) -> Act {
+        match self.draw(24) {
+            0 => Act::Quit,
+            1 | 2 => Act::AskNone,
+            3..=19 if self.created > 0 => Act::Ask(self.draw(self.created), self.draw_asked()),
+            _ => {
+                self.created = self.created.saturating_add(1);
+                Act::Create
+            }
+        }
     }
 
     /// What the filter answers to a call. It asks for the end less often.
-    fn draw_verdict(&mut self) -> Verdict {
+    fn draw_verdict(&mut self) -> (Verdict, &'static [u8]) {
         match self.draw(9) {
-            0..=3 => Verdict::Pass,
-            4 | 5 => Verdict::Reject,
-            6 | 7 => Verdict::Fail,
-            _ => Verdict::Exit,
+            0..=3 => (Verdict::Pass, b"filter pass\n"),
+            4 | 5 => (Verdict::Reject, b"filter reject\n"),
+            6 | 7 => (Verdict::Fail, b"filter fail filterer a b\n"),
+            _ => (Verdict::Exit, b"filter fail exit\n"),
         }
     }
 
     /// What the error handler wishes in a call. Mostly it is nothing.
-    fn draw_wish(&mut self) -> Wished {
+    fn draw_wish(&mut self) -> (Wished, &'static [u8]) {
         match self.draw(8) {
-            0..=4 => Wished::Nothing,
-            5 => Wished::Exit,
-            6 => Wished::Elevate,
-            _ => Wished::Critical,
+            0..=4 => (Wished::Nothing, b"error none\n"),
+            5 => (Wished::Exit, b"error critical exit\n"),
+            6 => (Wished::Elevate, b"error elevate\n"),
+            _ => (Wished::Critical, b"error critical external c\n"),
         }
     }
 
+    /// How many words a hook appends in a call.
+    fn draw_words(&mut self) -> (u32, &'static [u8]) {
+        match self.draw(3) {
+            0 => (0, b"hook 0\n"),
+            1 => (1, b"hook 1 -v\n"),
+            _ => (2, b"hook 2 -v -v\n"),
+        }
+    }
+
+    /// One of two answers.
+    fn draw_one_of(
+        &mut self,
+        yes: (bool, &'static [u8]),
+        no: (bool, &'static [u8]),
+    ) -> (bool, &'static [u8]) {
+        if self.draw(2) == 0 { yes } else { no }
+    }
+
+    /// Writes these bytes.
+    fn put(&mut self, bytes: &[u8]) {
+        let done = self.text.append(bytes);
+        self.keep(done);
+    }
+
+    /// Writes a number between these bytes.
+    fn put_number(&mut self, front: &[u8], number: u32, back: &[u8]) {
+        self.put(front);
+        let done = self.text.append_number(u64::from(number));
+        self.keep(done);
+        self.put(back);
+    }
+
     /// An event with its priority. It answers whether it is urgent.
-    fn put_event(&mut self) -> Result<bool, Memory> {
+    fn put_event(&mut self) -> bool {
         let rank = if self.is_urgent { 3 } else { self.draw(4) };
-        self.text.append(match rank {
+        self.put(match rank {
             0 => b"low ",
             1 => b"normal ",
             2 => b"high ",
             _ => b"urgent ",
-        })?;
-        self.text.append(if self.rules.is_tagged {
+        });
+        self.put(if self.rules.is_tagged {
             b"1 unknown\n"
         } else {
             b"0\n"
-        })?;
-        Ok(rank == 3)
+        });
+        rank == 3
     }
 
-    /// A line with a number between its words.
-    fn put(&mut self, front: &[u8], number: u64, back: &[u8]) -> Result<(), Memory> {
-        self.text.append(front)?;
-        self.text.append_number(number)?;
-        self.text.append(back)
-    }
-
-    /// A `turn` line, but for what stands behind its moment.
-    fn put_turn(&mut self, word: &[u8]) -> Result<(), Memory> {
+    /// A `turn` line, but for what stands behind its word.
+    fn put_turn(&mut self, word: &[u8]) {
         self.moment = self.moment.saturating_add(u64::from(self.draw(3)));
-        self.put(b"turn ", self.moment, word)
+        self.put(b"turn ");
+        let done = self.text.append_number(self.moment);
+        self.keep(done);
+        self.put(word);
     }
 
-    /// The settings and what is sent. Either there is no throttle, or each event is urgent.
-    fn put_head(&mut self) -> Result<(), Memory> {
+    /// The settings and what is sent.
+    fn put_head(&mut self) {
+        self.put_throttle();
+        self.put_unread();
+        self.rules.size = 1 + self.draw(4);
+        self.put_number(b"set size ", self.rules.size, b"\n");
+        if self.draw(3) == 0 {
+            let size = 1 + self.draw(65_536);
+            self.put_number(b"set errors ", size, b"\n");
+        }
+        for _ in 0..self.draw(5).min(self.rules.size) {
+            self.put(b"send ");
+            let is_urgent = self.put_event();
+            self.rules.send(is_urgent);
+        }
+    }
+
+    /// Either there is no throttle, or each event is urgent.
+    fn put_throttle(&mut self) {
         match self.draw(4) {
-            0 | 1 => self.text.append(b"set throttle 0\n")?,
+            0 | 1 => self.put(b"set throttle 0\n"),
             2 => self.is_urgent = true,
             _ => {
                 self.is_urgent = true;
-                let throttle = u64::from(self.draw(9));
-                self.put(b"set throttle ", throttle, b"\n")?;
+                let throttle = self.draw(9);
+                self.put_number(b"set throttle ", throttle, b"\n");
             }
         }
-        self.put_unread()?;
-        self.rules.size = 1 + self.draw(4);
-        self.put(b"set size ", u64::from(self.rules.size), b"\n")?;
-        if self.draw(3) == 0 {
-            let size = 1 + u64::from(self.draw(65_536));
-            self.put(b"set errors ", size, b"\n")?;
-        }
-        for _ in 0..self.draw(5).min(self.rules.size) {
-            self.text.append(b"send ")?;
-            let is_urgent = self.put_event()?;
-            self.rules.send(is_urgent);
-        }
-        Ok(())
     }
 
     /// A line of any form that may stand in the middle.
-    fn put_line(&mut self, alloc: Global) -> Result<(), Memory> {
+    fn put_line(&mut self) {
         match self.draw(45) {
             0..=5 => self.put_arrival(),
-            6..=11 => self.put_work(alloc),
+            6..=11 => self.put_work(),
             12..=27 => self.put_step(),
             28..=30 => self.put_ended(),
             31..=35 => self.put_ask(),
             36 => self.put_unread(),
             37 => self.put_answer(),
-            38 => self.put_verdict(),
-            39 => self.put_wish(),
-            40 => self.put_hook(),
-            41 => self.put_signal(),
-            42 => self.put_poll(),
+            list @ 38..=42 => self.put_next(list),
             _ => self.put_action(),
         }
     }
 
     /// The worker acts.
-    fn put_work(&mut self, alloc: Global) -> Result<(), Memory> {
-        self.rules.work(alloc)?;
-        self.put_turn(b" work\n")
+    fn put_work(&mut self) {
+        self.put_turn(b" work\n");
+        self.rules.give(Turn::Work, self.moment);
     }
 
     /// An event arrives.
-    fn put_arrival(&mut self) -> Result<(), Memory> {
-        self.put_turn(b" arrive ")?;
-        let is_urgent = self.put_event()?;
-        self.rules.arrive(is_urgent);
-        Ok(())
+    fn put_arrival(&mut self) {
+        self.put_turn(b" arrive ");
+        let is_urgent = self.put_event();
+        self.rules.give(Turn::Arrive(is_urgent), self.moment);
     }
 
     /// A job takes a step, which was made or was not.
-    fn put_step(&mut self) -> Result<(), Memory> {
+    fn put_step(&mut self) {
         let job = self.draw_job();
-        self.put_turn(b" job ")?;
-        self.rules.step(job, self.moment);
-        self.put(b"", u64::from(job), b"\n")
+        self.put_turn(b" job ");
+        self.put_number(b"", job, b"\n");
+        self.rules.give(Turn::Job(job), self.moment);
     }
 
     /// A child has ended, or one that isn't there.
-    fn put_ended(&mut self) -> Result<(), Memory> {
-        let child = self.draw(self.rules.counts.spawns.saturating_add(2));
-        self.put_turn(b" ended ")?;
-        self.rules.end_child(child, self.moment);
-        self.put(b"", u64::from(child), b"\n")
+    fn put_ended(&mut self) {
+        let spawns = self.rules.world.counts.get(Sort::Spawn);
+        let child = self.draw(spawns.saturating_add(2));
+        self.put_turn(b" ended ");
+        self.put_number(b"", child, b"\n");
+        self.rules.give(Turn::Ended(child), self.moment);
     }
 
     /// Something is asked of a job, which was made or was not.
-    fn put_ask(&mut self) -> Result<(), Memory> {
+    fn put_ask(&mut self) {
         let job = self.draw_job();
         let asked = self.draw_asked();
-        self.rules.ask(job, asked)?;
-        self.put_turn(b" ask ")?;
-        self.put(b"", u64::from(job), asked.words())?;
-        self.text.push(10)
+        self.put_turn(b" ask ");
+        self.put_number(b"", job, asked.words());
+        self.put(b"\n");
+        self.rules.give(Turn::Ask(job, asked), self.moment);
     }
 
     /// A line that is not read.
-    fn put_unread(&mut self) -> Result<(), Memory> {
-        match self.draw(3) {
-            0 => self.text.append(b"\n"),
-            1 => self.text.append(b"#\n"),
-            _ => self.text.append(b"# turn 0 work\n"),
-        }
+    fn put_unread(&mut self) {
+        let line = match self.draw(3) {
+            0 => b"\n".as_slice(),
+            1 => b"#\n",
+            _ => b"# turn 0 work\n",
+        };
+        self.put(line);
     }
 
     /// The answer of a spawn, a kill or a wait, which goes well.
-    fn put_answer(&mut self) -> Result<(), Memory> {
-        match self.draw(4) {
-            0 => self.text.append(b"spawn ok\n"),
-            1 => self.text.append(b"kill ok\n"),
-            2 => self.text.append(b"wait error.1\n"),
-            _ => self.text.append(b"wait signal.terminate\n"),
-        }
+    fn put_answer(&mut self) {
+        let line = match self.draw(4) {
+            0 => b"spawn ok\n".as_slice(),
+            1 => b"kill ok\n",
+            2 => b"wait error.1\n",
+            _ => b"wait signal.terminate\n",
+        };
+        self.put(line);
     }
 
     /// The next action line, where one is left.
-    fn put_action(&mut self) -> Result<(), Memory> {
-        if let Some(action) = self.rules.actions.get(self.written) {
-            self.text.append(action.line.as_slice())?;
-            self.written = self.written.saturating_add(1);
-        }
-        Ok(())
-    }
-
-    /// The next answer of the filter, where one is left.
-    fn put_verdict(&mut self) -> Result<(), Memory> {
-        if let Some(verdict) = self.rules.verdicts.get(self.answered) {
-            self.text.append(verdict.line())?;
-            self.answered = self.answered.saturating_add(1);
-        }
-        Ok(())
-    }
-
-    /// The next wish of the error handler, where one is left.
-    fn put_wish(&mut self) -> Result<(), Memory> {
-        if let Some(wish) = self.rules.wishes.get(self.wished) {
-            self.text.append(wish.line())?;
-            self.wished = self.wished.saturating_add(1);
-        }
-        Ok(())
-    }
-
-    /// The words of the next call of a hook, where such are left.
-    fn put_hook(&mut self) -> Result<(), Memory> {
-        if let Some(words) = self.rules.said.hooks.get(self.hooked).copied() {
-            self.put(b"hook ", u64::from(words), b"")?;
-            for _ in 0..words {
-                self.text.append(b" -v")?;
+    fn put_action(&mut self) {
+        if let Some(acts) = self.actions.next() {
+            self.put(b"action");
+            for act in &acts {
+                self.put_act(*act);
             }
-            self.text.push(10)?;
-            self.hooked = self.hooked.saturating_add(1);
+            self.put(b"\n");
         }
-        Ok(())
     }
 
-    /// The answer of the next signal, where one is left.
-    fn put_signal(&mut self) -> Result<(), Memory> {
-        if let Some(is_sent) = self.rules.said.signals.get(self.signalled).copied() {
-            self.text.append(if is_sent {
-                b"signal ok\n"
-            } else {
-                b"signal fault 9\n"
-            })?;
-            self.signalled = self.signalled.saturating_add(1);
+    /// An act. An ask of a job that isn't there asks for nothing.
+    fn put_act(&mut self, act: Act) {
+        match act {
+            Act::Nothing => {}
+            Act::Quit => self.put(b" quit"),
+            Act::Create => self.put(b" create exec ---- 1 a"),
+            Act::Ask(job, asked) => self.put_number(b" ask ", job, asked.words()),
+            Act::AskNone => self.put(b" ask 900 start"),
         }
-        Ok(())
     }
 
-    /// The answer of the next poll, where one is left.
-    fn put_poll(&mut self) -> Result<(), Memory> {
-        if let Some(is_ready) = self.rules.said.polls.get(self.polled).copied() {
-            self.text.append(if is_ready {
-                b"poll ready\n".as_slice()
-            } else {
-                b"poll later\n".as_slice()
-            })?;
-            self.polled = self.polled.saturating_add(1);
-        }
-        Ok(())
+    /// The next line of the answers of this number, where one is left.
+    fn put_next(&mut self, list: u32) {
+        let line = match list {
+            38 => self.rules.verdicts.lines.next(),
+            39 => self.rules.wishes.lines.next(),
+            40 => self.rules.world.hooks.lines.next(),
+            41 => self.rules.world.signals.lines.next(),
+            _ => self.rules.world.polls.lines.next(),
+        };
+        self.put(line.unwrap_or(b""));
     }
 
     /// At times a fault with lines behind it.
-    fn put_fault(&mut self, alloc: Global) -> Result<(), Memory> {
+    fn put_fault(&mut self) {
         if self.draw(4) == 0 {
             let code = self.rng.next_u32();
             self.rules.fail(code);
-            self.put(b"turnfault ", u64::from(code), b"\n")?;
+            self.put_number(b"turnfault ", code, b"\n");
             for _ in 0..self.draw(5) {
-                self.put_line(alloc)?;
+                self.put_line();
             }
         }
-        Ok(())
     }
 
-    /// The actions, answers of the filter and wishes that are left.
-    fn put_answers_left(&mut self) -> Result<(), Memory> {
-        for _ in 0..self.rules.actions.len() {
-            self.put_action()?;
+    /// The actions and answers that are left, of which there are at most seven of each sort.
+    fn put_left(&mut self) {
+        for _ in 0..7 {
+            self.put_action();
         }
-        for _ in 0..self.rules.verdicts.len() {
-            self.put_verdict()?;
+        for list in 38..43 {
+            for _ in 0..7 {
+                self.put_next(list);
+            }
         }
-        for _ in 0..self.rules.wishes.len() {
-            self.put_wish()?;
-        }
-        Ok(())
-    }
-
-    /// The words of hooks and the answers of signals and polls that are left.
-    fn put_said_left(&mut self) -> Result<(), Memory> {
-        for _ in 0..self.rules.said.hooks.len() {
-            self.put_hook()?;
-        }
-        for _ in 0..self.rules.said.signals.len() {
-            self.put_signal()?;
-        }
-        for _ in 0..self.rules.said.polls.len() {
-            self.put_poll()?;
-        }
-        Ok(())
-    }
-
-    /// At times a fault, and what is left.
-    fn put_tail(&mut self, alloc: Global) -> Result<(), Memory> {
-        self.put_fault(alloc)?;
-        self.put_answers_left()?;
-        self.put_said_left()?;
-        self.rules.end();
-        Ok(())
     }
 }

@@ -1,14 +1,16 @@
 // Runs of scripts that are drawn by chance: each writes as many lines of each sort as plain counting says.
 use crate::random::{Draft, Rules};
-use crate::random_counts::{Counts, raises_twice};
+use crate::random_counts::{Counts, Sort, raises_twice};
 use std::alloc::Global;
 use std::process::Abort;
-use wx_replay::{MemSink, MemSource, replay};
+use wx_bytes::{MemSink, MemSource};
+use wx_events::Text;
+use wx_replay::replay;
 
-/// The script of this seed.
-fn drawn(rt: &impl Abort, alloc: Global, seed: u64) -> Draft {
+/// The script of this seed. Where memory lacked, its counts tell.
+fn drawn(alloc: Global, seed: u64) -> Draft {
     let mut draft = Draft::new(alloc, seed);
-    draft.draw_all(alloc).expect(rt, "memory for a script");
+    draft.draw_all();
     draft
 }
 
@@ -25,8 +27,9 @@ fn expect_counts(rt: &impl Abort, journal: &[u8], want: &Counts, seed: u64) {
 
 /// Holds this journal to what the rules of the script say.
 fn expect_journal(rt: &impl Abort, alloc: Global, journal: &[u8], rules: &Rules, seed: u64) {
-    expect_counts(rt, journal, &rules.counts, seed);
-    let end = rules.end_line(alloc).expect(rt, "an end line");
+    expect_counts(rt, journal, &rules.world.counts, seed);
+    let mut end = Text::new(alloc);
+    rules.put_end(&mut end).expect(rt, "an end line");
     expect_at(rt, journal.ends_with(end.as_slice()), seed);
     expect_at(rt, !raises_twice(journal), seed);
 }
@@ -42,24 +45,33 @@ fn expect_run(rt: &impl Abort, alloc: Global, draft: &Draft, seed: u64) {
     drop(sink);
 }
 
+/// What must come in some of the runs.
+const SOUGHT: [Sort; 6] = [
+    Sort::Grace,
+    Sort::Signal,
+    Sort::SentSignal,
+    Sort::JobError,
+    Sort::Poll,
+    Sort::LaterPoll,
+];
+
 /// Adds up what must come in some of the runs.
 fn add_counts(all: &mut Counts, counts: &Counts) {
-    all.graces = all.graces.saturating_add(counts.graces);
-    all.failed_signals = all.failed_signals.saturating_add(counts.failed_signals);
-    all.job_errors = all.job_errors.saturating_add(counts.job_errors);
-    all.later_polls = all.later_polls.saturating_add(counts.later_polls);
-    all.polls = all.polls.saturating_add(counts.polls);
+    for sort in &SOUGHT {
+        all.add(*sort, counts.get(*sort));
+    }
 }
 
 #[test]
 fn random_scripts_have_the_lines_that_are_due(rt: HostRuntime) {
-    let mut all = Counts::default();
+    let mut all = Counts::new();
     for seed in 0..300 {
-        let draft = drawn(&rt, rt.alloc(), seed);
+        let draft = drawn(rt.alloc(), seed);
         expect_run(&rt, rt.alloc(), &draft, seed);
-        add_counts(&mut all, &draft.rules.counts);
+        add_counts(&mut all, &draft.rules.world.counts);
         drop(draft);
     }
-    assert!(rt; all.graces > 0 && all.failed_signals > 0 && all.job_errors > 0);
-    assert!(rt; all.later_polls > 0 && all.polls > all.later_polls);
+    assert!(rt; all.get(Sort::Grace) > 0 && all.get(Sort::JobError) > 0);
+    assert!(rt; all.get(Sort::Signal) > all.get(Sort::SentSignal));
+    assert!(rt; all.get(Sort::LaterPoll) > 0 && all.get(Sort::Poll) > all.get(Sort::LaterPoll));
 }

@@ -2,7 +2,7 @@ ghost use Rattle.std.specs.Prelude.{◌≡◌, MatchOption, unsigned_abs};
 ghost use Rattle.std.specs.IoError.{raw_os_error};
 
 use std::io;
-use wx_replay::{ReadFault, Sink, Source, WriteFault};
+use wx_bytes::{ReadFault, Sink, Source, WriteFault};
 
 /// A source over a reader, as that of standard input.
 ///

@@ -2,8 +2,9 @@
 use crate::top::wx_main;
 use std::alloc::Global;
 use std::process::Abort;
+use wx_bytes::{LIMIT, MemSink, MemSource};
 use wx_events::{Memory, Text, cut};
-use wx_replay::{LIMIT, MemSink, MemSource, Status};
+use wx_replay::Status;
 
 /// These words, of which a space stands between two.
 fn words_of(alloc: Global, line: &[u8]) -> Result<Vec<Text>, Memory> {

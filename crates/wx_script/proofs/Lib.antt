@@ -1,2 +1,3 @@
-mod ActedLaws
-mod GivenLaws
+pub mod ReadingLaws
+pub mod ScanLemmas
+pub mod ScriptLaws

@@ -16,7 +16,7 @@ use Rattle.wx_journal.specs.declared.wish.Wish.{Wish}
 use Rattle.wx_journal.specs.declared.wish.Wish.TheVariants.{Nothing}
 use Rattle.wx_journal.specs.Names.{creates, next_job}
 use Rattle.wx_machine.specs.History.{same, command}
-use Rattle.wx_action.specs.Handled.{with_quit}
+use Rattle.wx_machine.specs.Quits.{with_quit}
 use Rattle.wx_machine.specs.Journal.{Verdict}
 use Rattle.wx_machine.specs.Jobs.{is_seen, next_created}
 use Rattle.wx_script.specs.Answered.{Calls, IsAnswered, answered_by}

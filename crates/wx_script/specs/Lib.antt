@@ -3,5 +3,7 @@ pub mod Answered
 pub mod FollowLaws
 pub mod Follows
 pub mod HostCalls
+pub mod Lines
+pub mod Scripts
 pub mod Turns
 pub mod Wishes

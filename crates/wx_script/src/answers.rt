@@ -35,11 +35,15 @@ impl Answers {
 
 impl Copies for Answers {
     fn copy(&self, alloc: Global) -> Result<Answers, Memory> {
+        let spawns = copied(alloc, &self.spawns)?;
+        let signals = copied(alloc, &self.signals)?;
+        let kills = copied(alloc, &self.kills)?;
+        let waits = copied(alloc, &self.waits)?;
         Ok(Answers {
-            spawns: copied(alloc, &self.spawns)?,
-            signals: copied(alloc, &self.signals)?,
-            kills: copied(alloc, &self.kills)?,
-            waits: copied(alloc, &self.waits)?,
+            spawns,
+            signals,
+            kills,
+            waits,
         })
     }
 }
@@ -53,9 +57,9 @@ fn copied<T: Copy>(alloc: Global, answers: &List<T>) -> Result<List<T>, Memory>
 
 /// How many answers of each kind were used.
 #[derive(Clone, Copy, Default, Debug)]
-pub(crate) struct Used {
-    pub(crate) spawns: usize,
-    pub(crate) signals: usize,
-    pub(crate) kills: usize,
-    pub(crate) waits: usize,
+pub struct Used {
+    pub spawns: usize,
+    pub signals: usize,
+    pub kills: usize,
+    pub waits: usize,
 }

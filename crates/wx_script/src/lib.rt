@@ -1,14 +1,12 @@
-//! Scripts of events: what one is, and a world and hooks that follow it.
+//! Scripts of events: what one is, what its lines say, and reading it.
 #![tactic(auto)]
 
 mod answers;
-mod replies;
+mod lines;
+mod reading;
 mod script;
-mod script_hooks;
-mod script_world;
-mod supply;
 
-pub use answers::Answers;
+pub use answers::{Answers, Used};
+pub use lines::{Line, line_in};
+pub use reading::{BadLine, read_script};
 pub use script::{Script, ScriptTurn, Wanted};
-pub use script_hooks::ScriptHooks;
-pub use script_world::ScriptWorld;

@@ -1,7 +1,7 @@
 // What is written down for a run.
 use crate::answers::Answers;
 use std::alloc::Global;
-use wx_config::RuntimeError;
+use wx_error::RuntimeError;
 use wx_events::{Copies, Event, List, Memory, Priority, Spelled, Text, Words};
 use wx_journal::{Act, Turn, Wish};
 

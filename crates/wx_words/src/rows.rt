@@ -1,5 +1,6 @@
 // Values that are told apart by their first word.
-ghost use Rattle.std.specs.Prelude.{◌≡◌, ℕ, List, [], ◌∷◌, ◌++◌, Some, None, IfOk, OnOk, MatchBool};
+ghost use Rattle.std.specs.Prelude.{◌≡◌, ℕ, false, List, [], ◌∷◌, ◌++◌, Some, None, IfOk, OnOk, MatchBool};
+ghost use Rattle.std.specs.Str.{bytes_eq};
 ghost use Rattle.wx_words.specs.Combine.{read_literal, IsMade};
 ghost use Rattle.wx_words.specs.Line.{behind, joined};
 
@@ -110,6 +111,14 @@ pub fn begin_row<F: Fields>(word: &[u8], fields: &F, out: &mut Text) -> Result<(
     Ok(())
 }
 
+/// Whether these are the same word.
+#[tactic(auto, using(crate::specs::LineLaws::bytes_same))]
+pub fn is_word(first: &[u8], word: &[u8]) -> bool
+    ensures { MatchBool result (first.now ≡ word.now) (bytes_eq first.now word.now ≡ false) }
+{
+    first == word
+}
+
 /// Takes this word, or loses the place.
 pub fn take_literal(word: &[u8], line: &mut Words) -> bool
     ensures { MatchBool result (read_literal word.now line.old ≡ Some (tt, line.new)) (read_literal word.now line.old ≡ None) }
@@ -141,7 +150,7 @@ macro_rules! read_rows {
         let Some(first) = $line.next() else {
             return Ok(None);
         };
-        $(if first == $word.as_slice() {
+        $(if $crate::is_word(first, $word.as_slice()) {
             return $crate::read_row!(_alloc, $line; $(($($field),+ $(= $reader)?))? => $value);
         })+
         Ok(None)

@@ -15,13 +15,13 @@ use Rattle.wx_action.proofs.JobLemmas.{lent, same_lent}
 use Rattle.wx_action.proofs.PerformLemmas.{OneDone, ignored_one, asked_one}
 use Rattle.wx_action.proofs.acts_done.ask_or_ignore.Goals as goal
 
-none : (g : _) (c : goal.After-drop-done-inside-then-not-lives g) (rest : List Todo) (more : Agenda) → OwesActs g.start c.args.journal.now.past (todo.Ask c.args.id c.args.ask c.args.done ∷ rest) more → OneDone g.start c.args.worker.now rest more c.args.journal.now.past c.push.new.self.past
+none : (g : _) (c : goal.After-push g) (rest : List Todo) (more : Agenda) → OwesActs g.start c.args.journal.now.past (todo.Ask c.args.id c.args.ask c.args.done ∷ rest) more → OneDone g.start c.args.worker.now rest more c.args.journal.now.past c.push.new.self.past
 none g c rest more owes =
     let gone : lives c.args.id c.args.journal.now.past ≡ false = sym (alive_is g.start c.args.worker.now c.args.journal.now.past c.args.id c.requires.1) ∙ sym c.lives.ensures ∙ c.if-not-lives.true in
-    ignored_one g.start c.args.worker.now c.args.id c.args.ask c.args.done rest more c.args.journal.now.past c.push.new.self.past owes c.requires.1 gone (rw c.in_ok-reserve.ensures.same at c.push.ensures.past)
+    ignored_one g.start c.args.worker.now c.args.id c.args.ask c.args.done rest more c.args.journal.now.past c.push.new.self.past owes c.requires.1 gone (rw c.in-Ok.ensures.same at c.push.ensures.past)
 
 pub returns-then-not-lives-clause-grows : goal.returns-then-not-lives-clause-grows
-returns-then-not-lives-clause-grows g c = let o = c.requires.0 in let d = none g c o.0 o.1 o.2 in record { stands = d.stands; adds = adds _ _ _ d.follows d.quiet d.turns; end_kept = refl; room = λ room. omega (arith, c.in_ok-reserve.ensures.room, c.push.ensures.room) }
+returns-then-not-lives-clause-grows g c = let o = c.requires.0 in let d = none g c o.0 o.1 o.2 in record { stands = d.stands; adds = adds _ _ _ d.follows d.quiet d.turns; end_kept = refl; room = λ room. omega (arith, c.in-Ok.ensures.room, c.push.ensures.room) }
 
 pub returns-then-not-lives-clause-does : goal.returns-then-not-lives-clause-does
 returns-then-not-lives-clause-does g c = record { done = λ rest more owes. (none g c rest more owes).owes; err = tt }
@@ -29,29 +29,29 @@ returns-then-not-lives-clause-does g c = record { done = λ rest more owes. (non
 pub send-requires : goal.send-requires
 send-requires g c =
     let l = lent g.start c.args.worker.now c.args.journal.now.past c.args.id c.task_mut-task.result.now c.requires.1 c.task_mut-task.ensures.task in
-    rw c.in_ok-reserve.ensures.same (record { stands = subst (λ (k : JobTask). TaskStands k c.args.journal.now.past) l.task_is l.stood.task_stands })
+    rw c.in-Ok.ensures.same (record { stands = subst (λ (k : JobTask). TaskStands k c.args.journal.now.past) l.task_is l.stood.task_stands })
 
-pub returns-in_err-send-clause-grows : goal.returns-in_err-send-clause-grows
-returns-in_err-send-clause-grows g c =
+pub returns-in_err-ticket-clause-grows : goal.returns-in_err-ticket-clause-grows
+returns-in_err-ticket-clause-grows g c =
     let l = lent g.start c.args.worker.now c.args.journal.now.past c.args.id c.task_mut-task.result.now c.requires.1 c.task_mut-task.ensures.task in
-    let same = c.in_err-send.ensures.refused.1 ∙ c.in_ok-reserve.ensures.same in
+    let same = c.in_err-ticket.ensures.refused.1 ∙ c.in-Ok.ensures.same in
     grows_none _ _ _ _ _ (same_lent g.start c.args.worker.now _ c.args.id c.task_mut-task.result.now c.send.new.self c.args.journal.now.past c.send.new.journal.past c.requires.1 same l refl refl c.send.ensures.job c.send.ensures.stands) same (ap (λ n. 2 * n) (length_with _ _ _))
-    (λ room. omega (arith, ap (λ n. 2 * n) (length_with c.args.id c.args.worker.now.jobs c.send.new.self), c.in_ok-reserve.ensures.room, c.send.ensures.journal_room))
+    (λ room. omega (arith, ap (λ n. 2 * n) (length_with c.args.id c.args.worker.now.jobs c.send.new.self), c.in-Ok.ensures.room, c.send.ensures.journal_room))
 
-done : (g : _) (c : goal.After-drop-branch-2 g) (rest : List Todo) (more : Agenda) → OwesActs g.start c.args.journal.now.past (todo.Ask c.args.id c.args.ask c.args.done ∷ rest) more → OneDone g.start (record c.args.worker.now { jobs = with_task c.args.id c.args.worker.now.jobs c.send.new.self }) rest more c.args.journal.now.past c.send.new.journal.past
+done : (g : _) (c : goal.After-drop-2 g) (rest : List Todo) (more : Agenda) → OwesActs g.start c.args.journal.now.past (todo.Ask c.args.id c.args.ask c.args.done ∷ rest) more → OneDone g.start (record c.args.worker.now { jobs = with_task c.args.id c.args.worker.now.jobs c.send.new.self }) rest more c.args.journal.now.past c.send.new.journal.past
 done g c rest more owes =
     let l = lent g.start c.args.worker.now c.args.journal.now.past c.args.id c.task_mut-task.result.now c.requires.1 c.task_mut-task.ensures.task in
     let alive : lives c.args.id c.args.journal.now.past ≡ true = sym (alive_is g.start c.args.worker.now c.args.journal.now.past c.args.id c.requires.1) ∙ sym c.lives.ensures ∙ c.if-not-lives.false in
     asked_one g.start c.args.worker.now _ c.args.id c.task_mut-task.result.now c.send.new.self c.args.ask c.args.done rest more c.args.journal.now.past c.send.new.journal.past owes c.requires.1 alive l refl refl c.send.ensures.job c.send.ensures.stands
-    (rw c.in_ok-reserve.ensures.same at (c.send.ensures.leaves.others (rw c.in_ok-reserve.ensures.same c.requires.1.orderly.own)))
-    (rw c.in_ok-reserve.ensures.same at c.in_ok-send.ensures.leads)
+    (rw c.in-Ok.ensures.same at (c.send.ensures.leaves.others (rw c.in-Ok.ensures.same c.requires.1.orderly.own)))
+    (rw c.in-Ok.ensures.same at c.in_ok-ticket.ensures.leads)
 
 pub returns-clause-grows : goal.returns-clause-grows
 returns-clause-grows g c = let o = c.requires.0 in let d = done g c o.0 o.1 o.2 in record {
   stands = d.stands;
   adds = adds _ _ _ d.follows d.quiet d.turns;
   end_kept = ap (λ n. 2 * n) (length_with _ _ _);
-  room = λ room. omega (arith, ap (λ n. 2 * n) (length_with c.args.id c.args.worker.now.jobs c.send.new.self), c.in_ok-reserve.ensures.room, c.send.ensures.journal_room);
+  room = λ room. omega (arith, ap (λ n. 2 * n) (length_with c.args.id c.args.worker.now.jobs c.send.new.self), c.in-Ok.ensures.room, c.send.ensures.journal_room);
 }
 
 pub returns-clause-does : goal.returns-clause-does

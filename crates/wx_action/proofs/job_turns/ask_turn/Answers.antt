@@ -28,22 +28,22 @@ pub returns-in_err-reserve-clause-grows : goal.returns-in_err-reserve-clause-gro
 returns-in_err-reserve-clause-grows g c =
     grows_none _ _ _ _ _ (rw c.in_err-reserve.ensures.same (at_turn g.start c.args.worker.now c.requires.0 (Ask c.args.id c.args.ask) c.args.journal.now.past tt c.requires.1).stands) c.in_err-reserve.ensures.same refl (λ room. omega (arith, room, c.in_err-reserve.ensures.kept))
 
-pub returns-in_err-send-clause-grows : goal.returns-in_err-send-clause-grows
-returns-in_err-send-clause-grows g c =
+pub returns-in_err-ticket-clause-grows : goal.returns-in_err-ticket-clause-grows
+returns-in_err-ticket-clause-grows g c =
     let at = at_turn g.start c.args.worker.now c.requires.0 (Ask c.args.id c.args.ask) c.args.journal.now.past tt c.requires.1 in
     let l = lent g.start c.args.worker.now c.args.journal.now.past c.args.id c.task_mut-task.result.now at.stands c.task_mut-task.ensures.task in
-    let same = c.in_err-send.ensures.refused.1 ∙ c.in_ok-reserve.ensures.same in
+    let same = c.in_err-ticket.ensures.refused.1 ∙ c.in_ok-reserve.ensures.same in
     grows_none _ _ _ _ _ (same_lent g.start c.args.worker.now _ c.args.id c.task_mut-task.result.now c.send.new.self c.args.journal.now.past c.send.new.journal.past at.stands same l refl refl c.send.ensures.job c.send.ensures.stands) same (ap (λ n. 2 * n) (length_with _ _ _))
     (λ room. omega (arith, ap (λ n. 2 * n) (length_with c.args.id c.args.worker.now.jobs c.send.new.self), c.in_ok-reserve.ensures.room, c.send.ensures.journal_room))
 
-done : (g : _) (c : goal.After-drop-branch-2 g) → AskDone g.start (record c.args.worker.now { jobs = with_task c.args.id c.args.worker.now.jobs c.send.new.self }) c.args.journal.now.past c.send.new.journal.past
+done : (g : _) (c : goal.After-drop g) → AskDone g.start (record c.args.worker.now { jobs = with_task c.args.id c.args.worker.now.jobs c.send.new.self }) c.args.journal.now.past c.send.new.journal.past
 done g c =
     let at = at_turn g.start c.args.worker.now c.requires.0 (Ask c.args.id c.args.ask) c.args.journal.now.past tt c.requires.1 in
     let l = lent g.start c.args.worker.now c.args.journal.now.past c.args.id c.task_mut-task.result.now at.stands c.task_mut-task.ensures.task in
     let alive : lives c.args.id c.args.journal.now.past ≡ true = sym (alive_is g.start c.args.worker.now c.args.journal.now.past c.args.id at.stands) ∙ sym c.lives.ensures ∙ c.if-not-lives.false in
     ask_done g.start c.args.worker.now _ c.args.id c.task_mut-task.result.now c.send.new.self c.args.ask c.args.journal.now.past c.send.new.journal.past at.stands at.going at.due alive l refl refl c.send.ensures.job c.send.ensures.stands
     (rw c.in_ok-reserve.ensures.same at (c.send.ensures.leaves.others (rw c.in_ok-reserve.ensures.same at.stands.orderly.own)))
-    (rw c.in_ok-reserve.ensures.same at c.in_ok-send.ensures.leads)
+    (rw c.in_ok-reserve.ensures.same at c.in_ok-ticket.ensures.leads)
 
 pub returns-clause-grows : goal.returns-clause-grows
 returns-clause-grows g c = let d = done g c in record {

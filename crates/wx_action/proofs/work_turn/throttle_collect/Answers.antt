@@ -1,6 +1,6 @@
 use Rattle.std.proofs.Common.{arith, ◌∙◌}
 use Rattle.wx_action.proofs.BreakLemmas.{collects_shown}
-use Rattle.wx_action.proofs.Serving.{hand_then}
+use Rattle.wx_action.proofs.Serving.{within_more, hand_then}
 use Rattle.wx_action.proofs.TurnLaws.{at_turn}
 use Rattle.wx_action.specs.Serves.{GrowsWithin}
 use Rattle.wx_action.proofs.work_turn.throttle_collect.Goals.{After-show}
@@ -8,6 +8,29 @@ use Rattle.wx_action.proofs.work_turn.throttle_collect.Goals as goal
 
 pub collect-requires : goal.collect-requires
 collect-requires g c = λ κs lives. let h = at_turn g.start c.args.worker.now c.args.at _ c.args.journal.now.past tt c.requires.1 in (lives, record { stands = h.stands; due = h.due; now = h.now })
+
+-- ---- what holds where none was shown
+
+pub returns-in_err-collect-clause-within : goal.returns-in_err-collect-clause-within
+returns-in_err-collect-clause-within g c = within_more _ _ _ _ _ _ _ _ _ _ _ _ _ _ (omega arith) (omega arith) c.collect.ensures.within
+
+pub returns-in-Stop-clause-within : goal.returns-in-Stop-clause-within
+returns-in-Stop-clause-within g c = within_more _ _ _ _ _ _ _ _ _ _ _ _ _ _ (omega arith) (omega arith) c.collect.ensures.within
+
+pub returns-in-Hand-clause-within : goal.returns-in-Hand-clause-within
+returns-in-Hand-clause-within g c = within_more _ _ _ _ _ _ _ _ _ _ _ _ _ _ (omega arith) (omega arith) c.collect.ensures.within
+
+pub returns-in-Idle-clause-within : goal.returns-in-Idle-clause-within
+returns-in-Idle-clause-within g c = within_more _ _ _ _ _ _ _ _ _ _ _ _ _ _ (omega arith) (omega arith) c.collect.ensures.within
+
+pub returns-in-Kept-clause-within : goal.returns-in-Kept-clause-within
+returns-in-Kept-clause-within g c = within_more _ _ _ _ _ _ _ _ _ _ _ _ _ _ (omega arith) (omega arith) c.collect.ensures.within
+
+pub returns-in-Dropped-clause-within : goal.returns-in-Dropped-clause-within
+returns-in-Dropped-clause-within g c = within_more _ _ _ _ _ _ _ _ _ _ _ _ _ _ (omega arith) (omega arith) c.collect.ensures.within
+
+pub returns-in_err-error-in-Failed-clause-within : goal.returns-in_err-error-in-Failed-clause-within
+returns-in_err-error-in-Failed-clause-within g c = within_more _ _ _ _ _ _ _ _ _ _ _ _ _ _ (omega arith) (omega arith) c.collect.ensures.within
 
 -- ---- the error of a filter was shown
 

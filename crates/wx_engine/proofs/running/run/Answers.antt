@@ -1,7 +1,7 @@
 use Rattle.std.proofs.Common.{rules, [], arith, refl, ap, sym, ◌∙◌}
 use Rattle.wx_machine.proofs.EndLaws.{dying_keeps, dying_turns}
 use Rattle.wx_machine.proofs.FaultLaws.{counted_from}
-use Rattle.wx_machine.proofs.JobsLaws.{same_turns}
+use Rattle.wx_machine.proofs.AllJobs.{same_turns}
 use Rattle.wx_machine.specs.Kept.{Same, Still, Past}
 use Rattle.wx_machine.proofs.KeptLemmas.{promised}
 use Rattle.wx_machine.specs.Leads.{Here}

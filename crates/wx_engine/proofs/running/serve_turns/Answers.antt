@@ -3,7 +3,7 @@ use Rattle.wx_journal.specs.declared.entry.Entry.TheVariants.{Turn as Turned, Tu
 use Rattle.wx_journal.specs.Told.{tell}
 use Rattle.wx_machine.specs.Seen.{Shown}
 use Rattle.wx_machine.specs.Faults.{CountsOn}
-use Rattle.wx_machine.proofs.JobsLaws.{same_turns}
+use Rattle.wx_machine.proofs.AllJobs.{same_turns}
 use Rattle.wx_machine.specs.RunLaws.{NoneUrgentWaits, MomentsRise}
 use Rattle.wx_machine.specs.Journal.{early_count}
 use Rattle.wx_machine.specs.Kept.{KeepsOn, Past}

@@ -24,6 +24,24 @@ returns-then-is_over-clause-found g c = over_done g.start c.args.self.now c.args
 pub returns-then-is_over-clause-within : goal.returns-then-is_over-clause-within
 returns-then-is_over-clause-within g c = record { grows = hand_room _ _ _ _ _ _ _ _ _ c.requires.1.stands refl (hooks_none _ _ _); end_kept = refl; in_journal = omega arith; in_hooks = omega arith }
 
+-- ---- there was no room
+
+pub returns-in_err-reserve-clause-within : goal.returns-in_err-reserve-clause-within
+returns-in_err-reserve-clause-within g c = record {
+  grows = hand_room _ _ _ _ _ _ _ _ _ c.requires.1.stands c.in_err-reserve.ensures.same (hooks_none _ _ _);
+  end_kept = refl;
+  in_journal = omega (arith, c.in_err-reserve.ensures.kept);
+  in_hooks = omega arith;
+}
+
+pub returns-in_err-reserve-2-clause-within : goal.returns-in_err-reserve-2-clause-within
+returns-in_err-reserve-2-clause-within g c = record {
+  grows = hand_room _ _ _ _ _ _ _ _ _ (stands_room g.start c.args.self.now c.args.journal.now.past c.reserve-2.new.self c.requires.1.stands c.reserve-2.ensures.names c.reserve-2.ensures.events) c.in_ok-reserve.ensures.same (hooks_none _ _ _);
+  end_kept = refl;
+  in_journal = omega (arith, c.in_ok-reserve.ensures.kept);
+  in_hooks = omega arith;
+}
+
 -- ---- there was nothing to take
 
 done : (g : _) (c : After-push g) → TakeDone g.start c.args.self.now c.args.journal.now.past c.push.new.self.past Idle

@@ -1,5 +1,6 @@
 use Rattle.std.proofs.Common.{refl, ap, arith, ◌∙◌}
 use Rattle.wx_action.specs.Serves.{GrowsWithin}
+use Rattle.wx_action.proofs.Serving.{hooks_none, hand_room}
 use Rattle.wx_action.proofs.WorkLemmas.{show_grows}
 use Rattle.wx_action.proofs.worker_state.Worker.show.Goals.{After-close_where}
 use Rattle.wx_action.proofs.worker_state.Worker.show.Goals as goal
@@ -13,6 +14,9 @@ within g c = record {
   in_journal = omega (arith, c.push.ensures.room);
   in_hooks = c.error.ensures.spare;
 }
+
+pub returns-in_err-hook-clause-within : goal.returns-in_err-hook-clause-within
+returns-in_err-hook-clause-within g c = record { grows = hand_room _ _ _ _ _ _ _ _ _ c.requires.1.0.stands refl (hooks_none _ _ _); end_kept = refl; in_journal = omega arith; in_hooks = omega arith }
 
 pub returns-in-Some-clause-within : goal.returns-in-Some-clause-within
 returns-in-Some-clause-within g c = within g (goal.at.returns-in-Some-clause-within g c).After-close_where

@@ -4,3 +4,6 @@ use Rattle.wx_job.proofs.task.JobTask.restart.Goals as goal
 
 pub returns-clause-served : goal.returns-clause-served
 returns-clause-served g c = record { stood = search (rules, steps); keeps = search (rules, steps); uses = search (rules, steps) }
+
+pub returns-clause-done : goal.returns-clause-done
+returns-clause-done g c = search (rules, steps)

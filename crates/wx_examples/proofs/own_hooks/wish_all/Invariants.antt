@@ -1,5 +1,0 @@
-use Rattle.std.proofs.Common.{◌≡◌}
-use Rattle.wx_examples.proofs.own_hooks.wish_all.Given as goal
-
-abbrev pub invariant-loop-says : goal.invariant-loop-says
-invariant-loop-says l = l.hook.error ≡ l.fn.hook.error

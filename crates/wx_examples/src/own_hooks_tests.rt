@@ -1,0 +1,485 @@
+// Hooks as a user writes them, and runs with them: their texts are worked out by hand.
+ghost use Rattle.std.specs.Prelude.{◌≡◌, ◌^◌, [], false, None, OnErr};
+ghost use Rattle.wx_script.specs.Follows.{IsScript};
+
+use crate::engine_tests::{engine_with, run_text, script_of};
+use std::alloc::Global;
+use std::test::Fail;
+use wx_action::{ActionHandler, ErrorHook, Hooks, JobHooks};
+use wx_command::{Command, Program, SpawnOptions, Spawnable};
+use wx_control::{Id, Job};
+use wx_error::{CriticalError, RuntimeError};
+use wx_events::{Copies, Event, List, Memory, Priority, Text, cut};
+use wx_job::{CommandState, JobTaskContext};
+use wx_journal::{Entry, HostFault, put_entry};
+use wx_script::Script;
+
+/// What hooks do in a call.
+#[derive(Clone, Copy)]
+enum Does {
+    /// Each batch starts one job, which the first creates. A batch that finds its child running quits.
+    Restarts,
+    /// The batch creates two jobs, starts the first and stops the second.
+    AsksTwo,
+    /// The batch creates a job, and looks for it.
+    Looks,
+    /// Each batch starts one job, which the first creates. Its spawn hook sets a variable of the environment.
+    SetsVariable,
+    /// The same, but the spawn hook has no memory.
+    WantsMemory,
+    /// A batch that is shown no job creates one and deletes it. One that is shown a job, which is gone by then, restarts it.
+    Deletes,
+    /// The filter fails, and the error handler wishes this, one after the other.
+    Wishes(&'static [Says]),
+}
+
+/// What an error handler wishes.
+#[derive(Clone, Copy)]
+enum Says {
+    /// The error that is shown is to end the run.
+    Elevate,
+    /// An error of its own is to end it.
+    Critical,
+    /// The run is to end without an error.
+    Exit,
+}
+
+/// Hooks that do this in each call, and whether what they saw in the last one was right.
+#[derive(Drop)]
+struct Own {
+    alloc: Global,
+    does: Does,
+    is_right: bool,
+}
+
+impl JobHooks for Own {
+    ghost Plan = { Unit {0} };
+
+    ghost seen = { λ _. record { plan = tt; told = None; spare = 2 ^ 64; short = false; place = [] } };
+
+    ghost rule = { λ _ _ _. Unit {0} };
+
+    fn reserve(&mut self, _n: u64) -> Result<(), Memory> {
+        Ok(())
+    }
+
+    fn run(&mut self, _job: Id, _n: u32, _cx: &JobTaskContext<'_>) {}
+
+    fn begin(&mut self, _job: Id, _n: u32, _cx: &JobTaskContext<'_>) {}
+
+    fn poll(&mut self, _job: Id, _n: u32) -> bool {
+        true
+    }
+
+    fn job_error(&mut self, _job: Id, _n: u32, _fault: HostFault) {}
+
+    fn spawn_hook(
+        &mut self,
+        _job: Id,
+        n: u32,
+        what: &mut Spawnable,
+        cx: &JobTaskContext<'_>,
+    ) -> Result<(), Memory> {
+        match self.does {
+            Does::SetsVariable => {
+                self.is_right = n == 3 && is_fresh(self.alloc, what, cx)?;
+                set_variable(self.alloc, what, cx)
+            }
+            Does::WantsMemory => Err(Memory),
+            _ => Ok(()),
+        }
+    }
+
+    ghost stands_other = { λ _ _ _ _ _ _. tt };
+}
+
+impl Hooks for Own {
+    fn check_event(
+        &mut self,
+        _n: u32,
+        _name: u64,
+        _event: &Event,
+        _priority: Priority,
+    ) -> Result<bool, RuntimeError> {
+        match self.does {
+            Does::Wishes(_) => Err(RuntimeError::ProcessDeadOnArrival),
+            _ => Ok(true),
+        }
+    }
+
+    fn error(&mut self, _n: u32, hook: &mut ErrorHook) {
+        self.is_right = wish_all(self.alloc, self.does, hook).unwrap_or(false);
+    }
+
+    fn action(&mut self, _n: u32, handler: &mut ActionHandler<'_>) {
+        self.is_right = act(self.alloc, self.does, handler).unwrap_or(false);
+    }
+}
+
+/// Does this in a call, and answers whether what it saw was right, or nothing where a call failed.
+fn act(alloc: Global, does: Does, handler: &mut ActionHandler<'_>) -> Option<bool>
+    requires open { handler.old.handed ≡ false }
+    ensures same { handler.new ≡ record handler.old { acts = handler.new.acts; handed = handler.new.handed } }
+{
+    match does {
+        Does::Restarts => restart(alloc, handler),
+        Does::AsksTwo => is_handed(alloc, handler),
+        Does::Looks => is_not_shown(alloc, handler),
+        Does::SetsVariable | Does::WantsMemory => start_hooked(alloc, handler),
+        Does::Deletes => delete(alloc, handler),
+        Does::Wishes(_) => None,
+    }
+}
+
+/// Whether no child of the job runs, and what is about to be spawned is what its command spawns.
+fn is_fresh(alloc: Global, what: &Spawnable, cx: &JobTaskContext<'_>) -> Result<bool, Memory> {
+    let given = cx.command.to_spawnable(alloc)?;
+    Ok(*cx.current == CommandState::Pending && given == *what)
+}
+
+/// Lets the program `env` run what is about to be spawned, with a variable that says whether a child of the job ended
+/// before.
+fn set_variable(alloc: Global, what: &mut Spawnable, cx: &JobTaskContext<'_>) -> Result<(), Memory>
+    ensures { OnErr result (what.new ≡ what.old) }
+{
+    let setting: &[u8] = match cx.previous {
+        Some(state) if state.is_finished() => b"RUN=again",
+        _ => b"RUN=first",
+    };
+    let mut words = List::new(alloc);
+    words.push(Text::from_slice(alloc, b"env")?)?;
+    words.push(Text::from_slice(alloc, setting)?)?;
+    for word in what.words.as_slice() {
+        words.push(word.copy(alloc)?)?;
+    }
+    what.words = words;
+    Ok(())
+}
+
+/// Wishes what is to be wished of an error, and answers whether this is the one of the filter, or nothing where a call failed.
+fn wish_all(alloc: Global, does: Does, hook: &mut ErrorHook) -> Option<bool>
+    ensures { hook.new.error ≡ hook.old.error }
+{
+    let Does::Wishes(wishes) = does else {
+        return None;
+    };
+    for says in wishes {
+        wish(alloc, *says, hook)?;
+    }
+    Some(matches!(hook.error(), RuntimeError::ProcessDeadOnArrival))
+}
+
+/// Wishes this, or answers nothing where that failed.
+fn wish(alloc: Global, says: Says, hook: &mut ErrorHook) -> Option<()>
+    ensures { hook.new.error ≡ hook.old.error }
+{
+    match says {
+        Says::Elevate => {
+            hook.elevate();
+            Some(())
+        }
+        Says::Critical => {
+            let text = Text::from_slice(alloc, b"own").ok()?;
+            hook.critical(alloc, CriticalError::External(text)).ok()
+        }
+        Says::Exit => hook.critical(alloc, CriticalError::Exit).ok(),
+    }
+}
+
+/// A command that runs this program, with no argument.
+fn command_of(alloc: Global, prog: &[u8]) -> Result<Command, Memory> {
+    Ok(Command {
+        program: Program::Exec {
+            prog: Text::from_slice(alloc, prog)?,
+            args: List::new(alloc),
+        },
+        options: SpawnOptions::default(),
+    })
+}
+
+/// Whether the job runs this program, with no argument.
+fn runs(alloc: Global, job: &Job, prog: &[u8]) -> Result<bool, Memory> {
+    let want = command_of(alloc, prog)?;
+    let is = job.command() == &want;
+    drop(want);
+    Ok(is)
+}
+
+/// Creates a job that runs this program, and answers the handle on it, where the job has this id and this command.
+pub(crate) fn created(
+    alloc: Global,
+    id: Id,
+    prog: &[u8],
+    handler: &mut ActionHandler<'_>,
+) -> Option<Job>
+    ensures same { handler.new ≡ record handler.old { acts = handler.new.acts } }
+{
+    let command = command_of(alloc, prog).ok()?;
+    let Ok((made, job)) = handler.create_job(alloc, command) else {
+        return None;
+    };
+    let runs = runs(alloc, &job, prog).unwrap_or(false);
+    if made == id && job.id() == id && runs {
+        Some(job)
+    } else {
+        drop(job);
+        None
+    }
+}
+
+/// Starts the job, or quits where its child runs.
+fn restart(alloc: Global, handler: &mut ActionHandler<'_>) -> Option<bool>
+    ensures same { handler.new ≡ record handler.old { acts = handler.new.acts } }
+{
+    let first = handler.list_jobs().next().map(|item| item.0);
+    let job = match first {
+        Some(id) => handler.get_job(alloc, id).ok()??,
+        None => created(alloc, Id(0), b"a", handler)?,
+    };
+    let started = if handler.job_running(job.id()) {
+        handler.quit();
+        true
+    } else {
+        job.start(alloc, handler).is_ok()
+    };
+    drop(job);
+    if started { Some(true) } else { None }
+}
+
+/// Creates a job whose spawn hook is the one of the number 3.
+fn hooked(alloc: Global, handler: &mut ActionHandler<'_>) -> Option<Job>
+    ensures same { handler.new ≡ record handler.old { acts = handler.new.acts } }
+{
+    let job = created(alloc, Id(0), b"make", handler)?;
+    if job.set_spawn_hook(alloc, handler, 3).is_ok() {
+        Some(job)
+    } else {
+        drop(job);
+        None
+    }
+}
+
+/// Starts the job, which is created where there is none.
+fn start_hooked(alloc: Global, handler: &mut ActionHandler<'_>) -> Option<bool>
+    ensures same { handler.new ≡ record handler.old { acts = handler.new.acts } }
+{
+    let first = handler.list_jobs().next().map(|item| item.0);
+    let job = match first {
+        Some(id) => handler.get_job(alloc, id).ok()??,
+        None => hooked(alloc, handler)?,
+    };
+    let started = job.start(alloc, handler).is_ok();
+    drop(job);
+    if started { Some(true) } else { None }
+}
+
+/// Creates a job.
+fn new_job(alloc: Global, handler: &mut ActionHandler<'_>) -> Option<Job>
+    ensures same { handler.new ≡ record handler.old { acts = handler.new.acts } }
+{
+    let command = command_of(alloc, b"a").ok()?;
+    match handler.create_job(alloc, command) {
+        Ok((_, job)) => Some(job),
+        Err(_) => None,
+    }
+}
+
+/// Creates a job and deletes it where none is shown, and else restarts the one that is shown. No child may run.
+fn delete(alloc: Global, handler: &mut ActionHandler<'_>) -> Option<bool>
+    ensures same { handler.new ≡ record handler.old { acts = handler.new.acts } }
+{
+    let first = handler.list_jobs().next().map(|item| item.0);
+    let job = match first {
+        Some(id) => handler.get_job(alloc, id).ok()??,
+        None => new_job(alloc, handler)?,
+    };
+    let asked = match first {
+        Some(_) => job.restart(alloc, handler).is_ok(),
+        None => job.delete_now(alloc, handler).is_ok(),
+    };
+    let runs = handler.job_running(job.id());
+    drop(job);
+    Some(asked && !runs)
+}
+
+/// Creates two jobs, starts the first, stops the second, and quits twice.
+fn ask_two(alloc: Global, handler: &mut ActionHandler<'_>) -> Option<()>
+    ensures same { handler.new ≡ record handler.old { acts = handler.new.acts } }
+{
+    let a = created(alloc, Id(0), b"a", handler)?;
+    let b = created(alloc, Id(1), b"b", handler);
+    let asked = match &b {
+        Some(b) => a.start(alloc, handler).is_ok() && b.stop(alloc, handler).is_ok(),
+        None => false,
+    };
+    drop(a);
+    drop(b);
+    handler.quit();
+    handler.quit();
+    if asked { Some(()) } else { None }
+}
+
+/// The line of the hand that asks for what `ask_two` does.
+const ASKED: &[u8] =
+    b"hand 0 1 0 create 0 exec ---- 1 a create 1 exec ---- 1 b ask 0 start ask 1 stop quit";
+
+/// The words of an entry. A long enum is dropped by generic code, which is quicker to prove.
+fn line_of(alloc: Global, entry: Entry) -> Result<Text, Memory> {
+    let mut line = Text::new(alloc);
+    let put = put_entry(&entry, &mut line);
+    drop(entry);
+    put?;
+    Ok(line)
+}
+
+/// Whether one event is shown, and `ASKED` tells what is asked for.
+fn is_handed(alloc: Global, handler: &mut ActionHandler<'_>) -> Option<bool>
+    requires open { handler.old.handed ≡ false }
+    ensures same { handler.new ≡ record handler.old { acts = handler.new.acts; handed = handler.new.handed } }
+{
+    let events = handler.events().len();
+    ask_two(alloc, handler)?;
+    let line = line_of(alloc, handler.hand(0)).ok()?;
+    Some(events == 1 && line.as_slice() == ASKED)
+}
+
+/// Creates a job, and answers whether the handler does not show it.
+fn is_not_shown(alloc: Global, handler: &mut ActionHandler<'_>) -> Option<bool>
+    ensures same { handler.new ≡ record handler.old { acts = handler.new.acts } }
+{
+    drop(created(alloc, Id(0), b"a", handler)?);
+    let found = handler.get_job(alloc, Id(0)).ok()?;
+    let is_found = found.is_some();
+    drop(found);
+    let listed = handler.list_jobs().next();
+    Some(!is_found && listed.is_none() && !handler.job_running(Id(0)))
+}
+
+/// The first batch creates the job, the second starts it again after its child ended, the third finds it running.
+const BATCHES: &[u8] =
+    b"turn 0 arrive urgent 0\nturn 0 work\nturn 0 job 0\nturn 1 ended 0\nturn 2 arrive urgent 0\nturn 2 work\nturn 2 job 0\nturn 3 arrive urgent 0\nturn 3 work\n";
+
+const RESTARTED: &[u8] =
+    b"turn 0 arrive urgent 0\noffer 0 - queued urgent 0\nturn 0 work\ntake 0\nhand 0 1 0 create 0 exec ---- 1 a ask 0 start\nmade 0\nasked 0 0 normal start\nturn 0 job 0\npick 0 0\nspawn 0 0 default ---- 1 a ok\nraise 0\nturn 1 ended 0\nwait 0 success\nturn 2 arrive urgent 0\noffer 1 - queued urgent 0\nturn 2 work\ntake 1\nhand 0 1 1 ask 0 start\nasked 1 0 normal start\nturn 2 job 0\npick 0 1\nspawn 1 0 default ---- 1 a ok\nraise 1\nturn 3 arrive urgent 0\noffer 2 - queued urgent 0\nturn 3 work\ntake 2\nhand 0 1 2 quit\ndrop 1\ngone 0\nend ok lost 0\n";
+
+/// One batch.
+const BATCH: &[u8] = b"turn 0 arrive urgent 0\nturn 0 work\n";
+
+const ASKED_TWO: &[u8] =
+    b"turn 0 arrive urgent 0\noffer 0 - queued urgent 0\nturn 0 work\ntake 0\nhand 0 1 0 create 0 exec ---- 1 a create 1 exec ---- 1 b ask 0 start ask 1 stop quit\nmade 0\nmade 1\nasked 0 0 normal start\nasked 1 1 normal stop\ngone 0\ngone 1\nend ok lost 0\n";
+
+const LOOKED: &[u8] =
+    b"turn 0 arrive urgent 0\noffer 0 - queued urgent 0\nturn 0 work\ntake 0\nhand 0 1 0 create 0 exec ---- 1 a\nmade 0\nturn 0 last\ngone 0\nend ok lost 0\n";
+
+/// The text of a run of this script with these hooks.
+fn own_text(alloc: Global, script: &Script, hooks: &mut Own) -> Result<Text, Memory>
+    requires { IsScript script.now }
+{
+    let engine = engine_with(alloc, 50_000_000, 4)?;
+    run_text(alloc, engine, script, hooks)
+}
+
+/// Whether hooks that do this saw what is right, and the run that follows these lines has this text behind its first line. A
+/// script is dropped by generic code, which is quicker to prove; so are jobs and commands above.
+fn runs_so(alloc: Global, does: Does, lines: &[u8], want: &[u8]) -> Result<bool, Fail> {
+    let script = script_of(alloc, lines)?;
+    let mut hooks = Own {
+        alloc,
+        does,
+        is_right: false,
+    };
+    let text = own_text(alloc, &script, &mut hooks);
+    drop(script);
+    let text = text?;
+    let rest = cut(text.as_slice(), 10).map(|parts| parts.1);
+    Ok(hooks.is_right && rest == Some(want))
+}
+
+#[test]
+fn hooks_of_a_user(rt: HostRuntime) -> Result<(), Fail> {
+    assert!(rt; runs_so(rt.alloc(), Does::Restarts, BATCHES, RESTARTED)?);
+    Ok(())
+}
+
+#[test]
+fn a_handler_lists_acts(rt: HostRuntime) -> Result<(), Fail> {
+    assert!(rt; runs_so(rt.alloc(), Does::AsksTwo, BATCH, ASKED_TWO)?);
+    Ok(())
+}
+
+#[test]
+fn a_handler_shows_no_job_that_it_created(rt: HostRuntime) -> Result<(), Fail> {
+    assert!(rt; runs_so(rt.alloc(), Does::Looks, BATCH, LOOKED)?);
+    Ok(())
+}
+
+/// The first batch creates the job and starts it, the second starts it again after its child ended.
+const STARTS: &[u8] =
+    b"turn 0 arrive urgent 0\nturn 0 work\nturn 0 job 0\nturn 1 job 0\nturn 2 ended 0\nturn 3 arrive urgent 0\nturn 3 work\nturn 4 job 0\n";
+
+const VARIABLE: &[u8] =
+    b"turn 0 arrive urgent 0\noffer 0 - queued urgent 0\nturn 0 work\ntake 0\nhand 0 1 0 create 0 exec ---- 1 make ask 0 sethook 3 ask 0 start\nmade 0\nasked 0 0 normal sethook 3\nasked 1 0 normal start\nturn 0 job 0\npick 0 0\nraise 0\nturn 1 job 0\npick 0 1\nhook 0 3 ---- 3 env RUN=first make\nspawn 0 0 default ---- 3 env RUN=first make ok\nraise 1\nturn 2 ended 0\nwait 0 success\nturn 3 arrive urgent 0\noffer 1 - queued urgent 0\nturn 3 work\ntake 1\nhand 0 1 1 ask 0 start\nasked 2 0 normal start\nturn 4 job 0\npick 0 2\nhook 0 3 ---- 3 env RUN=again make\nspawn 1 0 default ---- 3 env RUN=again make ok\nraise 2\nturn 4 last\ndrop 1\ngone 0\nend ok lost 0\n";
+
+#[test]
+fn a_hook_sets_a_variable(rt: HostRuntime) -> Result<(), Fail> {
+    assert!(rt; runs_so(rt.alloc(), Does::SetsVariable, STARTS, VARIABLE)?);
+    Ok(())
+}
+
+const WANTED: &[u8] =
+    b"turn 0 arrive urgent 0\noffer 0 - queued urgent 0\nturn 0 work\ntake 0\nhand 0 1 0 create 0 exec ---- 1 make ask 0 sethook 3 ask 0 start\nmade 0\nasked 0 0 normal sethook 3\nasked 1 0 normal start\nturn 0 job 0\npick 0 0\nraise 0\nturn 1 job 0\npick 0 1\nhook 0 3 memory\ngone 0\nend error memory lost 0\n";
+
+#[test]
+fn a_hook_without_memory_ends_the_run(rt: HostRuntime) -> Result<(), Fail> {
+    assert!(rt; runs_so(rt.alloc(), Does::WantsMemory, STARTS, WANTED)?);
+    Ok(())
+}
+
+/// The first batch creates the job. The second is shown it, though it is gone. The third is shown none, and creates the next.
+const DELETES: &[u8] =
+    b"turn 0 arrive urgent 0\nturn 0 work\nturn 0 job 0\nturn 0 job 0\nturn 1 arrive urgent 0\nturn 1 work\nturn 2 arrive urgent 0\nturn 2 work\nturn 2 job 0\n";
+
+const DELETED: &[u8] =
+    b"turn 0 arrive urgent 0\noffer 0 - queued urgent 0\nturn 0 work\ntake 0\nhand 0 1 0 create 0 exec ---- 1 a ask 0 deletenow\nmade 0\nasked 0 0 urgent stop\nasked 1 0 urgent delete\nturn 0 job 0\npick 0 0\nraise 0\nturn 0 job 0\npick 0 1\nraise 1\ngone 0\nturn 1 arrive urgent 0\noffer 1 - queued urgent 0\nturn 1 work\ntake 1\nhand 0 1 1 ask 0 restart\nword ignored\nturn 2 arrive urgent 0\noffer 2 - queued urgent 0\nturn 2 work\ntake 2\nhand 0 1 2 create 1 exec ---- 1 a ask 1 deletenow\nmade 1\nasked 2 1 urgent stop\nasked 3 1 urgent delete\nturn 2 job 0\nword ignored\nturn 2 last\ngone 1\nend ok lost 0\n";
+
+#[test]
+fn a_job_that_is_gone_is_shown_once_more(rt: HostRuntime) -> Result<(), Fail> {
+    assert!(rt; runs_so(rt.alloc(), Does::Deletes, DELETES, DELETED)?);
+    Ok(())
+}
+
+/// One event, which the filter is asked about, and a turn behind it.
+const SHOWN: &[u8] = b"turn 0 arrive low 1 unknown\nturn 0 work\nturn 1 arrive low 0\n";
+
+const CRITICAL: &[u8] =
+    b"turn 0 arrive low 1 unknown\noffer 0 - queued low 1 unknown\nturn 0 work\ntake 0\nfilter 0 0 fail deadonarrival\nshow 0 deadonarrival critical external own\nend error external own lost 0\n";
+
+const ELEVATED: &[u8] =
+    b"turn 0 arrive low 1 unknown\noffer 0 - queued low 1 unknown\nturn 0 work\ntake 0\nfilter 0 0 fail deadonarrival\nshow 0 deadonarrival elevate\nend error elevated deadonarrival none lost 0\n";
+
+const CLOSED: &[u8] =
+    b"turn 0 arrive low 1 unknown\noffer 0 - queued low 1 unknown\nturn 0 work\ntake 0\nfilter 0 0 fail deadonarrival\nshow 0 deadonarrival critical exit\nturn 1 arrive low 0\noffer 1 - closed low 0\nturn 1 last\nend ok lost 0\n";
+
+const UNWISHED: &[u8] =
+    b"turn 0 arrive low 1 unknown\noffer 0 - queued low 1 unknown\nturn 0 work\ntake 0\nfilter 0 0 fail deadonarrival\nshow 0 deadonarrival none\nturn 1 arrive low 0\noffer 1 - queued low 0\nturn 1 last\nend ok lost 0\n";
+
+#[test]
+fn the_first_wish_stands(rt: HostRuntime) -> Result<(), Fail> {
+    let table: [(&'static [Says], &[u8]); 8] = [
+        (&[], UNWISHED),
+        (&[Says::Elevate], ELEVATED),
+        (&[Says::Elevate, Says::Critical], ELEVATED),
+        (&[Says::Elevate, Says::Exit], ELEVATED),
+        (&[Says::Critical, Says::Exit], CRITICAL),
+        (&[Says::Critical, Says::Elevate], CRITICAL),
+        (&[Says::Exit, Says::Critical], CLOSED),
+        (&[Says::Exit, Says::Elevate], CLOSED),
+    ];
+    for (wishes, want) in table {
+        assert!(rt;
+            runs_so(rt.alloc(), Does::Wishes(wishes), SHOWN, want)?,
+            "of {want:?}"
+        );
+    }
+    Ok(())
+}

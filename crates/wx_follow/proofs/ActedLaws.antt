@@ -1,0 +1,116 @@
+-- What hooks that follow a script ask for, act by act.
+use Rattle.std.proofs.Common.{◌≡◌, ℕ, Bool, true, false, cond, ◌||◌, List, [], ◌∷◌, ◌++◌, Result, Ok, Err, refl, ap, sym, ◌∙◌}
+use mathlib.Core.Bool.{or-false}
+use Rattle.std.specs.Prelude.{Option, None, Some, OnOk, ◌==◌}
+use Rattle.std.specs.List.{find, list_any}
+use Rattle.std.proofs.lemmas.Bool.{eqb-true, or_right}
+use Rattle.wx_command.specs.declared.command.Command.{Command}
+use Rattle.wx_control.specs.declared.ask.Ask.{Ask as AnAsk}
+use Rattle.wx_control.specs.declared.id.Id.{Id}
+use Rattle.wx_control.specs.declared.job.Job.{Job}
+use Rattle.wx_journal.specs.Acts.{JournalAct as Act}
+use Rattle.wx_journal.specs.declared.entry.Act.TheVariants.{Create, Ask as Asks, Quit}
+use Rattle.wx_journal.specs.declared.entry.Entry.{Entry}
+use Rattle.wx_journal.specs.Names.{creates}
+use Rattle.wx_machine.specs.History.{same}
+use Rattle.wx_machine.specs.Due.{is_quit}
+use Rattle.wx_machine.specs.Quits.{with_quit}
+use Rattle.wx_machine.specs.Last.{without_last}
+use Rattle.wx_machine.specs.Jobs.{is_seen}
+use Rattle.wx_script.specs.Acted.{is_made, AreMade, is_there, with_ask}
+
+-- what holds after a call that went well
+pub ok_then : {T E : Type 0} {A B : Type 0} (r : Result T E) → OnOk r A → (A → B) → OnOk r B
+ok_then (Ok x) h f = f h
+ok_then (Err e) h f = tt
+
+-- ---- which jobs were created
+
+or_assoc : (a b c : Bool) → (a || (b || c)) ≡ ((a || b) || c)
+or_assoc true b c = refl
+or_assoc false b c = refl
+
+creates_ask : (id : Id) (acts : List Act) (job : Id) (ask : AnAsk) → creates id (acts ++ Asks job ask ∷ []) ≡ creates id acts
+creates_ask id [] job ask = refl
+creates_ask id (Create other command ∷ acts) job ask = ap (λ b. other.0 == id.0 || b) (creates_ask id acts job ask)
+creates_ask id (_ ∷ acts) job ask = creates_ask id acts job ask
+
+creates_quit : (id : Id) (acts : List Act) → creates id (acts ++ Quit ∷ []) ≡ creates id acts
+creates_quit id [] = refl
+creates_quit id (Create other command ∷ acts) = ap (λ b. other.0 == id.0 || b) (creates_quit id acts)
+creates_quit id (_ ∷ acts) = creates_quit id acts
+
+creates_more : (id : Id) (acts : List Act) (job : Id) (command : Command) → creates id (acts ++ Create job command ∷ []) ≡ (creates id acts || same job id)
+creates_more id [] job command = or-false (same job id)
+creates_more id (Create other what ∷ acts) job command = ap (λ b. other.0 == id.0 || b) (creates_more id acts job command) ∙ or_assoc (other.0 == id.0) (creates id acts) (same job id)
+creates_more id (_ ∷ acts) job command = creates_more id acts job command
+
+any_more : (id : Id) (made : List Job) (job : Job) → list_any (is_made id) (made ++ job ∷ []) ≡ (list_any (is_made id) made || is_made id job)
+any_more id [] job = or-false (is_made id job)
+any_more id (other ∷ made) job = ap (λ b. is_made id other || b) (any_more id made job) ∙ or_assoc (is_made id other) (list_any (is_made id) made) (is_made id job)
+
+pub made_ask : (made : List Job) (acts : List Act) (job : Id) (ask : AnAsk) → AreMade made acts → AreMade made (acts ++ Asks job ask ∷ [])
+made_ask made acts job ask is = λ id. is id ∙ sym (creates_ask id acts job ask)
+
+creates_one : (id : Id) (b : Bool) (act : Act) → is_quit act ≡ b → creates id (cond b [] (act ∷ [])) ≡ creates id (act ∷ [])
+creates_one id true (Create job command) is = absurd cc
+creates_one id true (Asks job ask) is = absurd cc
+creates_one id true Quit is = refl
+creates_one id false act is = refl
+
+creates_left : (id : Id) (acts : List Act) → creates id (without_last is_quit acts) ≡ creates id acts
+creates_left id [] = refl
+creates_left id (act ∷ []) = creates_one id (is_quit act) act refl
+creates_left id (Create other command ∷ next ∷ acts) = ap (λ b. other.0 == id.0 || b) (creates_left id (next ∷ acts))
+creates_left id (Asks job ask ∷ next ∷ acts) = creates_left id (next ∷ acts)
+creates_left id (Quit ∷ next ∷ acts) = creates_left id (next ∷ acts)
+
+pub made_quit : (made : List Job) (acts : List Act) → AreMade made acts → AreMade made (with_quit acts)
+made_quit made acts is = λ id. is id ∙ sym (creates_quit id (without_last is_quit acts) ∙ creates_left id acts)
+
+pub made_create : (made : List Job) (acts : List Act) (job : Job) (id : Id) (command : Command) → job.id ≡ id → AreMade made acts → AreMade (made ++ job ∷ []) (acts ++ Create id command ∷ [])
+made_create made acts job id command its is = λ other.
+    any_more other made job ∙ ap (λ b. b || same job.id other) (is other) ∙ ap (λ j. creates other acts || same j other) its ∙ sym (creates_more other acts id command)
+
+-- ---- of which job something is asked
+
+found_or : (id : Id) (b : Bool) (job first : Job) (rest : Option Job) (others : Bool) → is_made id first ≡ b → Some job ≡ cond b (Some first) rest → (Some job ≡ rest → (others ≡ true) × (job.id ≡ id)) → ((b || others) ≡ true) × (job.id ≡ id)
+found_or id true job first rest others mine found more =
+    let its : job ≡ first = cc in
+    let is : first.id.0 ≡ id.0 = eqb-true _ _ mine in
+    (refl, ap (λ (j : Job). j.id) its ∙ ap (λ (n : ℕ). record { 0 = n }) is)
+found_or id false job first rest others mine found more = more found
+
+found_made : (id : Id) (made : List Job) (job : Job) → Some job ≡ find (is_made id) made → (list_any (is_made id) made ≡ true) × (job.id ≡ id)
+found_made id [] job found = absurd cc
+found_made id (first ∷ made) job found = found_or id (is_made id first) job first (find (is_made id) made) (list_any (is_made id) made) refl found (found_made id made job)
+
+none_or : (b : Bool) (first : Job) (rest : Option Job) (others : Bool) → None ≡ cond b (Some first) rest → (None ≡ rest → others ≡ false) → (b || others) ≡ false
+none_or true first rest others found more = absurd cc
+none_or false first rest others found more = more found
+
+none_made : (id : Id) (made : List Job) → None ≡ find (is_made id) made → list_any (is_made id) made ≡ false
+none_made id [] found = refl
+none_made id (first ∷ made) found = none_or (is_made id first) first (find (is_made id) made) (list_any (is_made id) made) found (none_made id made)
+
+there_then : (p : List Entry) (done : List Act) (id job : Id) (ask : AnAsk) → job ≡ id → is_there p done id ≡ true → done ++ Asks job ask ∷ [] ≡ with_ask p done id ask
+there_then p done id job ask its there = rw (there, its) refl
+
+-- of one that was created in this call
+pub ask_made : (p : List Entry) (done : List Act) (made : List Job) (job : Job) (id : Id) (ask : AnAsk) → AreMade made done → Some job ≡ find (is_made id) made → done ++ Asks job.id ask ∷ [] ≡ with_ask p done id ask
+ask_made p done made job id ask is found =
+    let f = found_made id made job found in
+    let created : creates id done ≡ true = sym (is id) ∙ f.0 in
+    there_then p done id job.id ask f.1 (ap (λ b. b || is_seen id p) created)
+
+-- of one that was there
+pub ask_held : (p : List Entry) (done : List Act) (job : Job) (id : Id) (ask : AnAsk) → is_seen id p ≡ true → job.id ≡ id → done ++ Asks job.id ask ∷ [] ≡ with_ask p done id ask
+ask_held p done job id ask there its = there_then p done id job.id ask its (ap (λ b. creates id done || b) there ∙ or_right (creates id done) true refl)
+
+-- of none
+pub ask_none : (p : List Entry) (done : List Act) (made : List Job) (id : Id) (ask : AnAsk) → AreMade made done → None ≡ find (is_made id) made → is_seen id p ≡ false → done ≡ with_ask p done id ask
+ask_none p done made id ask are found there =
+    let created : creates id done ≡ false = sym (are id) ∙ none_made id made found in
+    rw (created, there) refl
+
+-- ---- one more act is done

@@ -1,0 +1,2 @@
+mod ActedLaws
+mod GivenLaws

@@ -1,0 +1,10 @@
+//! A world and hooks that follow a script.
+#![tactic(auto)]
+
+mod replies;
+mod script_hooks;
+mod script_world;
+mod supply;
+
+pub use script_hooks::ScriptHooks;
+pub use script_world::ScriptWorld;

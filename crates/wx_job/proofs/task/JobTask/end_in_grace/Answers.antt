@@ -1,0 +1,9 @@
+use Rattle.std.proofs.Common.{rules}
+use Rattle.wx_job.proofs.Sets.{steps}
+use Rattle.wx_job.proofs.task.JobTask.end_in_grace.Goals as goal
+
+pub returns-clause-done : goal.returns-clause-done
+returns-clause-done g c = search (rules, steps)
+
+pub returns-clause-served : goal.returns-clause-served
+returns-clause-served g c = record { stood = search (rules, steps); keeps = search (rules, steps); uses = search (rules, steps) }

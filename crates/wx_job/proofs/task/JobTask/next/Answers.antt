@@ -1,0 +1,19 @@
+use Rattle.std.proofs.Common.{◌≡◌, refl, arith, ap, rules}
+use Rattle.wx_machine.specs.States.{child_of}
+use Rattle.wx_job.specs.Parkings.{Tickets}
+use Rattle.wx_job.proofs.DoneLemmas.{done_picked}
+use Rattle.wx_job.proofs.Sets.{steps}
+use Rattle.wx_job.proofs.StandsLemmas.{row-is}
+use Rattle.wx_job.proofs.task.JobTask.next.Goals as goal
+
+pub returns-in-Some-clause-done : goal.returns-in-Some-clause-done
+returns-in-Some-clause-done g c =
+    let same = row-is c.args.self.now c.pick.new.self c.in-Some.picked c.args.ticket c.args.control c.pick.ensures.fields c.in-Some.ensures.kept c.in-Some.ensures.picked.0 in
+    let runs : child_of c.pick.new.self.state ≡ child_of c.args.self.now.state = rw c.pick.ensures.fields refl in
+    done_picked c.control.result _ _ _ _ _ _ _ _ _ _ _ (rw (c.pick.ensures.entry, same, runs) at c.control.ensures.done)
+
+pub returns-in-Some-clause-served : goal.returns-in-Some-clause-served
+returns-in-Some-clause-served g c =
+    let same : c.pick.new.self.parked.tickets ≡ c.args.self.now.parked.tickets = ap (λ (parking : Tickets). parking.tickets) c.in-Some.ensures.kept in
+    let uses = rw same at c.control.ensures.served.uses in
+    record { stood = c.control.ensures.served.stood; keeps = search (rules, steps); uses = record { steady = uses.steady; now = rw c.pick.ensures.entry at uses.now; in_journal = omega (arith, uses); in_host = omega (arith, uses); in_hooks = uses.in_hooks } }

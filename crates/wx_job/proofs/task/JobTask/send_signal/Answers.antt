@@ -1,0 +1,9 @@
+use Rattle.std.proofs.Common.{rules}
+use Rattle.wx_job.proofs.Sets.{steps}
+use Rattle.wx_job.proofs.task.JobTask.send_signal.Goals as goal
+
+pub returns-clause-follows : goal.returns-clause-follows
+returns-clause-follows g c = search (rules, steps)
+
+pub returns-clause-served : goal.returns-clause-served
+returns-clause-served g c = record { stood = search (rules, steps); keeps = search (rules, steps); uses = search (rules, steps) }

@@ -1,0 +1,421 @@
+-- The jobs of a run: their names, their commands, their children, and the plans that are followed for them.
+use Rattle.std.proofs.Common.{◌≡◌, ℕ, ◌≤◌, ◌<◌, Bool, true, false, cond, List, [], ◌∷◌, ◌++◌, inl, inr, arith, refl, ap, sym, subst, ◌∙◌, eq-eqb, ne_eqb}
+use Rattle.std.specs.Prelude.{Option, None, Some, ◌||◌, not, T, nat_lt, ◌⊎◌}
+use Rattle.std.specs.List.{AllByRecursion, filter}
+use Rattle.std.proofs.lemmas.Bool.{eqb-true, and_parts, or_right, le-ltb}
+use Rattle.wx_words.specs.EachLaws.{each_append, each_weaker, each_filter}
+use Rattle.wx_words.specs.OptionLaws.{neither}
+use Rattle.wx_command.specs.declared.command.Command.{Command}
+use Rattle.wx_control.specs.declared.id.Id.{Id}
+use Rattle.wx_control.specs.declared.ask.Ask.{Ask}
+use Rattle.wx_control.specs.declared.control.Control.{Control}
+use Rattle.wx_control.specs.declared.level.Level.{Level}
+use Rattle.wx_control.specs.Asks.{sends_of}
+use Rattle.wx_journal.specs.Acts.{JournalAct as Act}
+use Rattle.wx_journal.specs.declared.entry.Act.TheVariants.{Create}
+use Rattle.wx_journal.specs.declared.entry.Entry.{Entry}
+use Rattle.wx_journal.specs.declared.entry.Entry.TheVariants.{Turn as Turned, TurnFault, Hand, Made, Gone}
+use Rattle.wx_journal.specs.Names.{creates, is_created, above, next_job, NamesItsOwn}
+use Rattle.wx_journal.specs.Told.{tell_if, is_world, is_hooks, is_turn}
+use Rattle.wx_machine.specs.History.{same, lives, child, is_child, creation, or_else, command}
+use Rattle.wx_machine.specs.Table.{Plan, Done, step_plan, ask_second, ask_plan, end_plan}
+use Rattle.wx_machine.specs.Case.{Admits as Follows, is_of_plan, next, Leads as Led, Here, Then as OneMore}
+use Rattle.wx_machine.proofs.Owners.{either, same-is, children_named, child_owner}
+use Rattle.wx_machine.proofs.Always.{Always, always_now, always_next, always_also}
+use Rattle.wx_machine.proofs.Sound.{Fits, IsSound, Sound, sound_step, sound_end}
+use Rattle.wx_machine.specs.Start.{Start}
+use Rattle.wx_machine.specs.Jobs.{insert, set, jobs, parent_among, parent, AreLawful, AreRising, AreBelow}
+use Rattle.wx_machine.specs.Due.{Agenda, plans, rest, unplanned, is_quitting, settle, agenda, Admits, Due}
+use Rattle.wx_machine.specs.RunLaws.{was_made, AreMadeOnce}
+use Rattle.wx_machine.specs.Kept.{StaysQuiet, More}
+use Rattle.wx_machine.specs.Leads.{Follows as LeadsOn, Then}
+use Rattle.wx_machine.specs.Turns.{SameTurns, StaysInTurn}
+use Rattle.wx_machine.proofs.PlanLaws.{lawful_now, plan_fit}
+use Rattle.wx_machine.proofs.Lawful.{IsOfPlan, MadeInOrder, Lawful}
+use Rattle.wx_machine.proofs.Orderly.{IsFit, IsOrderly}
+use Rattle.wx_machine.proofs.SettleLaws.{quitting_over}
+use Rattle.wx_machine.proofs.RunLaws.{orderly_more}
+
+-- ---- names in lists
+
+abbrev pub IsIn : Id → List Id → Type 0
+IsIn id [] = ⊥
+IsIn id (job ∷ ids) = (job ≡ id) ⊎ IsIn id ids
+
+-- where a job was inserted, it and the others are
+in_new : (id : Id) (xs : List Id) (job : Id) → job ≡ id → IsIn id (insert job xs)
+in_new id [] job e = inl e
+in_new id (x ∷ xs) job e = either (IsIn id) (nat_lt job.0 x.0) (job ∷ x ∷ xs) (x ∷ insert job xs) (inl e) (inr (in_new id xs job e))
+
+in_others : (id : Id) (xs : List Id) (job : Id) → IsIn id xs → IsIn id (insert job xs)
+in_others id [] job h = absurd h
+in_others id (x ∷ xs) job (inl e) = either (IsIn id) (nat_lt job.0 x.0) (job ∷ x ∷ xs) (x ∷ insert job xs) (inr (inl e)) (inl e)
+in_others id (x ∷ xs) job (inr h) = either (IsIn id) (nat_lt job.0 x.0) (job ∷ x ∷ xs) (x ∷ insert job xs) (inr (inr h)) (inr (in_others id xs job h))
+
+of_two : (id job : Id) (b : Bool) (x : Id) (xs ys : List Id) → (IsIn id ys → IsIn id xs ⊎ (job ≡ id)) → IsIn id (cond b (job ∷ x ∷ xs) (x ∷ ys)) → IsIn id (x ∷ xs) ⊎ (job ≡ id)
+of_two id job true x xs ys more (inl e) = inr e
+of_two id job true x xs ys more (inr h) = inl h
+of_two id job false x xs ys more (inl e) = inl (inl e)
+of_two id job false x xs ys more (inr h) = elim (more h) [ inl g ↦ inl (inr g) | inr e ↦ inr e ]
+
+of_insert : (id : Id) (xs : List Id) (job : Id) → IsIn id (insert job xs) → IsIn id xs ⊎ (job ≡ id)
+of_insert id [] job (inl e) = inr e
+of_insert id [] job (inr h) = absurd h
+of_insert id (x ∷ xs) job h = of_two id job (nat_lt job.0 x.0) x xs (insert job xs) (λ g. of_insert id xs job g) h
+
+-- what is known of each and of the new one is known of all
+pub each_insert : (P : Id → Type 0) (job : Id) (xs : List Id) → P job → AllByRecursion P xs → AllByRecursion P (insert job xs)
+each_insert P job [] h all = (h, tt)
+each_insert P job (x ∷ xs) h all = either (AllByRecursion P) (nat_lt job.0 x.0) (job ∷ x ∷ xs) (x ∷ insert job xs) (h, all) (all.0, each_insert P job xs h all.1)
+
+-- a job above all others comes last
+pub insert_last : (job : Id) (xs : List Id) → AreBelow job.0 xs → insert job xs ≡ xs ++ job ∷ []
+insert_last job [] below = refl
+insert_last job (x ∷ xs) below = let later : nat_lt job.0 x.0 ≡ false = le-ltb job.0 x.0 (omega (arith, below.0)) in rw later (ap (λ ids. x ∷ ids) (insert_last job xs below.1))
+
+in_kept : (id : Id) (b : Bool) (x : Id) (xs : List Id) → IsIn id xs → IsIn id (cond b (x ∷ xs) xs)
+in_kept id true x xs h = inr h
+in_kept id false x xs h = h
+
+pub in_filter : (test : Id → Bool) (id : Id) (xs : List Id) → IsIn id xs → test id ≡ true → IsIn id (filter test xs)
+in_filter test id [] h t = absurd h
+in_filter test id (x ∷ xs) (inl e) t = let is : test x ≡ true = ap test e ∙ t in rw is (inl e)
+in_filter test id (x ∷ xs) (inr h) t = in_kept id (test x) x (filter test xs) (in_filter test id xs h t)
+
+of_kept : (test : Id → Bool) (id : Id) (b : Bool) (x : Id) (xs ys : List Id) → test x ≡ b → (IsIn id xs → IsIn id ys × (test id ≡ true)) → IsIn id (cond b (x ∷ xs) xs) → ((x ≡ id) ⊎ IsIn id ys) × (test id ≡ true)
+of_kept test id true x xs ys is more (inl e) = (inl e, ap test (sym e) ∙ is)
+of_kept test id true x xs ys is more (inr h) = let g = more h in (inr g.0, g.1)
+of_kept test id false x xs ys is more h = let g = more h in (inr g.0, g.1)
+
+pub of_filter : (test : Id → Bool) (id : Id) (xs : List Id) → IsIn id (filter test xs) → IsIn id xs × (test id ≡ true)
+of_filter test id [] h = absurd h
+of_filter test id (x ∷ xs) h = of_kept test id (test x) x (filter test xs) xs refl (λ g. of_filter test id xs g) h
+
+-- what holds of each holds of one
+pub all_in : (P : Id → Type 0) (id : Id) (xs : List Id) → AllByRecursion P xs → IsIn id xs → P id
+all_in P id [] all h = absurd h
+all_in P id (x ∷ xs) all (inl e) = subst P e all.0
+all_in P id (x ∷ xs) all (inr h) = all_in P id xs all.1 h
+
+-- ---- a job that lives is in the set
+
+in_made : (id job : Id) (b : Bool) (p : List Entry) → same job id ≡ b → (lives id p ≡ true → IsIn id (set p)) → (b || lives id p) ≡ true → IsIn id (insert job (set p))
+in_made id job true p is more e = in_new id (set p) job (same-is job id is)
+in_made id job false p is more e = in_others id (set p) job (more e)
+
+pub in_set : (id : Id) (p : List Entry) → lives id p ≡ true → IsIn id (set p)
+in_set id [] e = absurd cc
+in_set id (Made job ∷ p) e = in_made id job (same job id) p refl (λ g. in_set id p g) e
+in_set id (Gone job ∷ p) e = in_set id p (and_parts (not (same job id)) (lives id p) e).1
+in_set id (Hand n names acts ∷ p) e = in_filter (λ job. lives job p) id (set p) (in_set id p e) e
+in_set id (_ ∷ p) e = in_set id p e
+
+pub in_jobs : (id : Id) (p : List Entry) → lives id p ≡ true → IsIn id (jobs p)
+in_jobs id p e = in_filter (λ job. lives job p) id (set p) (in_set id p e) e
+
+-- ---- the names of the set rise, and are those of jobs that were made
+
+above_one : (n : ℕ) (id : Id) → id.0 < above n id
+above_one n id = omega arith
+
+above_others : (n m : ℕ) (id : Id) → m < n → m < above n id
+above_others n m id lt = omega arith
+
+below_rise : (n : ℕ) (job : Id) (ids : List Id) → AreBelow n ids → AreBelow (above n job) ids
+below_rise n job ids h = each_weaker (λ id. id.0 < n) (λ id. id.0 < above n job) (λ id lt. above_others n id.0 job lt) ids h
+
+rising_last : (ids : List Id) (id : Id) → AreRising ids → AreBelow id.0 ids → AreRising (ids ++ id ∷ [])
+rising_last [] id r b = (tt, tt)
+rising_last (x ∷ ids) id r b = (each_append (λ job. x.0 < job.0) ids (id ∷ []) r.0 (b.0, tt), rising_last ids id r.1 b.1)
+
+rising_kept : (b : Bool) (x : Id) (xs : List Id) → AllByRecursion (λ job. x.0 < job.0) xs → AreRising xs → AreRising (cond b (x ∷ xs) xs)
+rising_kept true x xs h r = (h, r)
+rising_kept false x xs h r = r
+
+rising_filter : (test : Id → Bool) (xs : List Id) → AreRising xs → AreRising (filter test xs)
+rising_filter test [] r = tt
+rising_filter test (x ∷ xs) r = rising_kept (test x) x (filter test xs) (each_filter (λ job. x.0 < job.0) test xs r.0) (rising_filter test xs r.1)
+
+pub record IsRising (p : List Entry) : Type 0 where
+  pub rising : AreRising (set p)
+  pub below : AreBelow (next_job p) (set p)
+
+made_rising : (p : List Entry) → MadeInOrder p → IsRising p
+made_rising [] made = record { rising = tt; below = tt }
+made_rising (Made id ∷ p) made =
+    let h = made_rising p made.1 in
+    let lower : AreBelow id.0 (set p) = subst (λ n. AreBelow n (set p)) (sym made.0) h.below in record {
+      rising = rw (insert_last id (set p) lower) (rising_last (set p) id h.rising lower);
+      below = each_insert (λ job. job.0 < above (next_job p) id) id (set p) (above_one (next_job p) id) (below_rise (next_job p) id (set p) h.below);
+    }
+made_rising (Hand n names acts ∷ p) made =
+    let h = made_rising p made.1 in record {
+      rising = rising_filter (λ id. lives id p) (set p) h.rising;
+      below = each_filter (λ id. id.0 < next_job p) (λ id. lives id p) (set p) h.below;
+    }
+made_rising (_ ∷ p) made = let h = made_rising p made.1 in record { rising = h.rising; below = h.below }
+
+pub set_rising : (s : Start) (p : List Entry) → IsOrderly s p → IsRising p
+set_rising s p o = made_rising p o.in_order
+
+-- a job that is made is above all others of the set
+pub made_above : (s : Start) (p : List Entry) (id : Id) → IsOrderly s p → IsOrderly s (Made id ∷ p) → AreBelow id.0 (set p)
+made_above s p id before o = subst (λ n. AreBelow n (set p)) (sym o.in_order.0) (set_rising s p before).below
+
+-- ---- ids made are distinct
+
+new_id : (id : Id) (p : List Entry) → next_job p ≤ id.0 → was_made id p ≡ false
+new_id id [] le = refl
+new_id id (Made job ∷ p) le =
+    let other : same job id ≡ false = ne_eqb job.0 id.0 (λ e. absurd (omega arith)) in
+    rw (other, new_id id p (omega arith)) refl
+new_id id (_ ∷ p) le = new_id id p le
+
+made_once : (p : List Entry) → MadeInOrder p → AreMadeOnce p
+made_once [] made = tt
+made_once (Made id ∷ p) made = let is : id.0 ≡ next_job p = made.0 in (new_id id p (omega arith), made_once p made.1)
+made_once (_ ∷ p) made = made_once p made.1
+
+pub run_makes_once : (s : Start) (p : List Entry) → IsOrderly s p → AreMadeOnce p
+run_makes_once s p o = made_once p o.in_order
+
+-- ---- each job of the set has a command, which stays
+
+creation_none : (n : ℕ) (id : Id) (acts : List Act) → AreLawful n acts → id.0 < n → creation id acts ≡ None
+creation_none n id [] l lt = refl
+creation_none n id (Create job command ∷ acts) l lt = rw (ne_eqb job.0 id.0 (λ e. let is : job.0 ≡ n = l.0 in absurd (omega arith))) (creation_none (above n job) id acts l.1 (above_others n id.0 job lt))
+creation_none n id (_ ∷ acts) l lt = creation_none n id acts l lt
+
+pub command_kept : (s : Start) (p : List Entry) (n : ℕ) (names : List ℕ) (acts : List Act) (id : Id) → IsOrderly s p → AreLawful (next_job p) acts → IsIn id (set p) → command id (Hand n names acts ∷ p) ≡ command id p
+command_kept s p n names acts id o lawful here = ap (λ o. or_else o (command id p)) (creation_none (next_job p) id acts lawful (all_in (λ job. job.0 < next_job p) id (set p) (set_rising s p o).below here))
+
+created_in : (id : Id) (p : List Entry) → NamesItsOwn p → IsIn id (set p) → is_created id p ≡ true
+created_in id [] own h = absurd h
+created_in id (Made job ∷ p) own h = elim (of_insert id (set p) job h) [ inl g ↦ created_in id p own.1 g | inr e ↦ subst (λ j. is_created j p ≡ true) e own.0 ]
+created_in id (Hand n names acts ∷ p) own h = or_right (creates id acts) (is_created id p) (created_in id p own.1 (of_filter (λ job. lives job p) id (set p) h).0)
+created_in id (_ ∷ p) own h = created_in id p own.1 h
+
+abbrev IsThere : Option Command → Type 0
+IsThere o = (c : Command) × (o ≡ Some c)
+
+there_first : (b : Bool) (c : Command) (o : Option Command) → (b ≡ false → IsThere o) → IsThere (cond b (Some c) o)
+there_first true c o h = (c, refl)
+there_first false c o h = h refl
+
+there_else : (a b : Option Command) → IsThere b → IsThere (or_else a b)
+there_else None b h = h
+there_else (Some c) b h = (c, refl)
+
+there_made : (a b : Option Command) → IsThere a → IsThere (or_else a b)
+there_made a b h = (h.0, ap (λ o. or_else o b) h.1)
+
+or_of : (a b : Bool) → (a || b) ≡ true → a ≡ false → b ≡ true
+or_of true b e f = absurd cc
+or_of false b e f = e
+
+creation_there : (id : Id) (acts : List Act) → creates id acts ≡ true → IsThere (creation id acts)
+creation_there id [] e = absurd cc
+creation_there id (Create job command ∷ acts) e = there_first (same job id) command (creation id acts) (λ f. creation_there id acts (or_of (same job id) (creates id acts) e f))
+creation_there id (_ ∷ acts) e = creation_there id acts e
+
+command_of_hand : (id : Id) (acts : List Act) (b c : Bool) (before : Option Command) → creates id acts ≡ b → (c ≡ true → IsThere before) → (b || c) ≡ true → IsThere (or_else (creation id acts) before)
+command_of_hand id acts true c before is h e = there_made (creation id acts) before (creation_there id acts is)
+command_of_hand id acts false c before is h e = there_else (creation id acts) before (h e)
+
+created_command : (id : Id) (p : List Entry) → is_created id p ≡ true → IsThere (command id p)
+created_command id [] e = absurd cc
+created_command id (Hand n names acts ∷ p) e = command_of_hand id acts (creates id acts) (is_created id p) (command id p) refl (λ g. created_command id p g) e
+created_command id (_ ∷ p) e = created_command id p e
+
+-- ---- the job whose child it is
+
+pub is_child_some : (c : ℕ) (o : Option ℕ) → is_child c o ≡ true → o ≡ Some c
+is_child_some c None e = absurd cc
+is_child_some c (Some d) e = ap (λ n. Some n) (eqb-true d c e)
+
+record IsParent (c : ℕ) (id : Id) (ids : List Id) (p : List Entry) : Type 0 where
+  here : IsIn id ids
+  runs : child id p ≡ Some c
+
+parent_first : (c : ℕ) (id job : Id) (ids : List Id) (p : List Entry) (b : Bool) (o : Option Id) → is_child c (child job p) ≡ b → (o ≡ Some id → IsParent c id ids p) → cond b (Some job) o ≡ Some id → IsParent c id (job ∷ ids) p
+parent_first c id job ids p true o is more e = let found : job ≡ id = cc in record { here = inl found; runs = subst (λ j. child j p ≡ Some c) found (is_child_some c (child job p) is) }
+parent_first c id job ids p false o is more e = let h = more e in record { here = inr h.here; runs = h.runs }
+
+parent_of : (c : ℕ) (id : Id) (ids : List Id) (p : List Entry) → parent_among ids c p ≡ Some id → IsParent c id ids p
+parent_of c id [] p e = absurd cc
+parent_of c id (job ∷ ids) p e = parent_first c id job ids p (is_child c (child job p)) (parent_among ids c p) refl (λ g. parent_of c id ids p g) e
+
+pub parent_runs : (c : ℕ) (id : Id) (p : List Entry) → parent c p ≡ Some id → child id p ≡ Some c
+parent_runs c id p e = (parent_of c id (set p) p e).runs
+
+pub parent_in : (c : ℕ) (id : Id) (p : List Entry) → parent c p ≡ Some id → IsIn id (set p)
+parent_in c id p e = (parent_of c id (set p) p e).here
+
+none_of : (c : ℕ) (id : Id) (ids : List Id) (p : List Entry) → parent_among ids c p ≡ None → IsIn id ids → child id p ≡ Some c → ⊥
+none_of c id [] p e h runs = h
+none_of c id (job ∷ ids) p e (inl is) runs =
+    let other = (neither (is_child c (child job p)) job (parent_among ids c p) e).0 in
+    let its : is_child c (child job p) ≡ true = ap (λ j. is_child c (child j p)) is ∙ ap (is_child c) runs ∙ eq-eqb c c refl in
+    let both : true ≡ false = sym its ∙ other in cc
+none_of c id (job ∷ ids) p e (inr h) runs = none_of c id ids p (neither (is_child c (child job p)) job (parent_among ids c p) e).1 h runs
+
+pub parent_none : (c : ℕ) (id : Id) (p : List Entry) → parent c p ≡ None → IsIn id (set p) → child id p ≡ Some c → ⊥
+parent_none c id p e here runs = none_of c id (set p) p e here runs
+
+-- ---- entries of plans
+
+taken : (b : Bool) (more other : Agenda) → T b → cond b more other ≡ more
+taken true more other o = refl
+taken false more other o = absurd o
+
+-- an entry of a plan takes from what is owed
+pub agenda_plan : (s : Start) (p : List Entry) (e : Entry) → IsOfPlan e → agenda s (e ∷ p) ≡ settle (e ∷ p) (rest e (agenda s p))
+agenda_plan s p e o = ap (settle (e ∷ p)) (taken (is_of_plan e) (rest e (agenda s p)) (unplanned s e p (agenda s p)) o)
+
+-- a plan without calls on the hooks
+abbrev pub CallsNone : List Entry → Plan → Type 0
+CallsNone p k = Always (λ q e j. is_hooks e ≡ false) p k
+
+calls_none_second : (id : Id) (level : Level) (second : Option Control) (p : List Entry) → CallsNone p (ask_second id level second Done)
+calls_none_second id level None p = tt
+calls_none_second id level (Some control) p = λ a. (refl, tt)
+
+pub calls_none_ask : (id : Id) (ask : Ask) (p : List Entry) → CallsNone p (ask_plan id (sends_of ask) Done)
+calls_none_ask id ask p = λ a. (refl, calls_none_second id (sends_of ask).level (sends_of ask).second _)
+
+-- a journal has its own turns
+pub same_turns : (p : List Entry) → SameTurns p p
+same_turns p = record { count = refl; early = refl; fault = refl; now = refl; rise = λ h. h; told = λ before. refl }
+
+-- an entry that is no turn leaves them
+pub turns_over : (e : Entry) (p : List Entry) → is_turn e ≡ false → StaysInTurn p (e ∷ p)
+turns_over (Turned t) p other = absurd cc
+turns_over (TurnFault code) p other = absurd cc
+turns_over (_) p other = λ p₀ h. record { count = h.count; early = h.early; fault = h.fault; now = h.now; rise = h.rise; told = h.told }
+
+no_turn : (e : Entry) → IsOfPlan e → is_turn e ≡ false
+no_turn (Turned t) o = absurd o
+no_turn (TurnFault code) o = absurd o
+no_turn (_) o = refl
+
+pub turns_plan : (e : Entry) (p₀ p : List Entry) → IsOfPlan e → SameTurns p₀ p → SameTurns p₀ (e ∷ p)
+turns_plan e p₀ p o h = turns_over e p (no_turn e o) p₀ h
+
+pub command_plan : (e : Entry) (id : Id) (p : List Entry) → IsOfPlan e → command id (e ∷ p) ≡ command id p
+command_plan (Hand n names acts) id p o = absurd o
+command_plan (_) id p o = refl
+
+-- ---- a plan that is owed leads on in the run
+
+-- what is known of a journal to which a plan led that was owed before these agendas
+pub record IsLed (s : Start) (more : Agenda) (k : Plan) (p : List Entry) (host hooks : Option (List Entry)) (k' : Plan) (p' : List Entry) (host' hooks' : Option (List Entry)) : Type 0 where
+  pub orderly : IsOrderly s p'
+  pub due : agenda s p' ≡ settle p' (plans k' more)
+  pub quits : is_quitting p' ≡ is_quitting p
+  pub follows : LeadsOn s p host hooks p' host' hooks'
+  pub quiet : CallsNone p k → CallsNone p' k' × StaysQuiet p p'
+  pub turns : StaysInTurn p p'
+  pub commands : (id : Id) → command id p' ≡ command id p
+
+admits_plans : (s : Start) (p : List Entry) (k : Plan) (more : Agenda) (e : Entry) → Follows p k e → Admits s p (settle p (plans k more)) e
+admits_plans s p Done more e d = absurd d
+admits_plans s p (k) more e d = d
+
+rest_plans : (p : List Entry) (k : Plan) (more : Agenda) (e : Entry) → Follows p k e → rest e (settle p (plans k more)) ≡ plans (next k e) more
+rest_plans p Done more e d = absurd d
+rest_plans p (k) more e d = refl
+
+fit_lawful : (p : List Entry) (k : Plan) (more : Agenda) → IsFit p (settle p (plans k more)) → Lawful p k
+fit_lawful p Done more f = record { each = tt; placed = tt }
+fit_lawful p (k) more f = f.0
+
+led_one : (s : Start) (more : Agenda) (k₀ : Plan) (p : List Entry) (host hooks : Option (List Entry)) (k : Plan) (q : List Entry) (host' hooks' : Option (List Entry)) (e : Entry) → Follows q k e → IsLed s more k₀ p host hooks k q host' hooks' → IsLed s more k₀ p host hooks (next k e) (e ∷ q) (tell_if (is_world q e) e host') (tell_if (is_hooks e) e hooks')
+led_one s more k₀ p host hooks k q host' hooks' e d h =
+    let kind = (lawful_now q k e d (fit_lawful q k more (subst (IsFit q) h.due h.orderly.fit))).of_plan in
+    let due : Due s q e = subst (λ (j : Agenda). Admits s q j e) (sym h.due) (admits_plans s q k more e d) in record {
+      orderly = orderly_more s e q due h.orderly;
+      due = agenda_plan s q e kind ∙ ap (λ (j : Agenda). settle (e ∷ q) (rest e j)) h.due ∙ ap (settle (e ∷ q)) (rest_plans q k more e d);
+      quits = quitting_over e q kind ∙ h.quits;
+      follows = λ p₀ world₀ hooks₀ l. Then e q host' hooks' (h.follows p₀ world₀ hooks₀ l) due;
+      quiet = λ none. (
+        always_next (λ r x i. is_hooks x ≡ false) q k e d (h.quiet none).0,
+        λ p₀ a. More e q ((h.quiet none).1 p₀ a) (always_now (λ r x i. is_hooks x ≡ false) q k e d (h.quiet none).0),
+      );
+      turns = λ p₀ t. turns_plan e p₀ q kind (h.turns p₀ t);
+      commands = λ id. command_plan e id q kind ∙ h.commands id;
+    }
+
+pub plans_lead : (s : Start) (more : Agenda) (k : Plan) (p : List Entry) (host hooks : Option (List Entry)) (n : ℕ) (k' : Plan) (p' : List Entry) (host' hooks' : Option (List Entry)) (n' : ℕ) → Led k p host hooks n k' p' host' hooks' n' → IsOrderly s p → agenda s p ≡ settle p (plans k more) → IsLed s more k p host hooks k' p' host' hooks'
+plans_lead s more k p host hooks n k' p' host' hooks' n' l o due = elim l as (λ k' p' host' hooks' n' _. IsLed s more k p host hooks k' p' host' hooks') [
+  | Here ↦ record { orderly = o; due = due; quits = refl; follows = λ p₀ world₀ hooks₀ l. l; quiet = λ none. (none, λ p₀ a. a); turns = λ p₀ t. t; commands = λ id. refl }
+  | OneMore e k₁ p₁ host₁ hooks₁ n₁ n₂ (l → h) d counts ↦ led_one s more k p host hooks k₁ p₁ host₁ hooks₁ e d h
+]
+
+-- ---- a plan that makes no job leaves the set
+
+-- the entries that such plans let come
+abbrev pub IsOfJob : Entry → Type 0
+IsOfJob (Made id) = ⊥
+IsOfJob (e) = IsOfPlan e
+
+abbrev pub MakesNone : List Entry → Plan → Type 0
+MakesNone p k = Always (λ q e j. IsOfJob e) p k
+
+job_fit : (id : Id) (e : Entry) (p : List Entry) → Fits id p e → IsOfJob e
+job_fit id (Made job) p s = s
+job_fit id (e) p s = plan_fit id e p s
+
+-- the plans of a job make none
+sound_makes_none : (id : Id) (p : List Entry) (k : Plan) → Sound id p k → MakesNone p k
+sound_makes_none id p k s = always_also (λ q. Unit {0}) (IsSound id) (λ q e j. IsOfJob e) (λ q e j u s. (job_fit id e q s.fits, tt)) p k tt s
+
+pub none_by_step : (id : Id) (command : Command) (p : List Entry) → MakesNone p (step_plan id command p)
+none_by_step id command p = sound_makes_none id p (step_plan id command p) (sound_step false id command p)
+
+none_by_second : (id : Id) (level : Level) (second : Option Control) (p : List Entry) → MakesNone p (ask_second id level second Done)
+none_by_second id level None p = tt
+none_by_second id level (Some control) p = λ a. (tt, tt)
+
+pub none_by_ask : (id : Id) (ask : Ask) (p : List Entry) → MakesNone p (ask_plan id (sends_of ask) Done)
+none_by_ask id ask p = λ a. (tt, none_by_second id (sends_of ask).level (sends_of ask).second _)
+
+pub none_by_end : (id : Id) (p : List Entry) → MakesNone p (end_plan id p)
+none_by_end id p = sound_makes_none id p (end_plan id p) (sound_end id p)
+
+-- ---- what the task of a job is found by
+
+-- a child has one parent
+pub one_parent : (c : ℕ) (id job : Id) (p : List Entry) → NamesItsOwn p → child id p ≡ Some c → child job p ≡ Some c → job ≡ id
+one_parent c id job p own its other =
+    let named = children_named p own in
+    let a = child_owner id c p named its in
+    let b = child_owner job c p named other in
+    let same : Some job ≡ Some id = sym b ∙ a in cc
+
+found_parent : (c : ℕ) (id : Id) (p : List Entry) (o : Option Id) → parent c p ≡ o → NamesItsOwn p → IsIn id (set p) → child id p ≡ Some c → o ≡ Some id
+found_parent c id p None is own here runs = absurd (parent_none c id p is here runs)
+found_parent c id p (Some job) is own here runs = ap (λ j. Some j) (one_parent c id job p own runs (parent_runs c job p is))
+
+pub parent_is : (c : ℕ) (id : Id) (p : List Entry) → NamesItsOwn p → IsIn id (set p) → child id p ≡ Some c → parent c p ≡ Some id
+parent_is c id p own here runs = found_parent c id p (parent c p) refl own here runs
+
+found_none : (c : ℕ) (p : List Entry) (o : Option Id) → parent c p ≡ o → ((id : Id) → IsIn id (set p) → child id p ≡ Some c → ⊥) → o ≡ None
+found_none c p None is never = refl
+found_none c p (Some job) is never = absurd (never job (parent_in c job p is) (parent_runs c job p is))
+
+pub parent_is_none : (c : ℕ) (p : List Entry) → ((id : Id) → IsIn id (set p) → child id p ≡ Some c → ⊥) → parent c p ≡ None
+parent_is_none c p never = found_none c p (parent c p) refl never
+
+-- ---- the command of a job that lawful acts create
+
+lawful_later : (n : ℕ) (before : List Act) (id : Id) (what : Command) (after : List Act) → AreLawful n (before ++ Create id what ∷ after) → n ≤ id.0
+lawful_later n [] id what after l = let is : id.0 ≡ n = l.0 in omega arith
+lawful_later n (Create job command ∷ before) id what after l = let later : above n job ≤ id.0 = lawful_later (above n job) before id what after l.1 in omega arith
+lawful_later n (_ ∷ before) id what after l = lawful_later n before id what after l
+
+pub creation_is : (n : ℕ) (before : List Act) (id : Id) (what : Command) (after : List Act) → AreLawful n (before ++ Create id what ∷ after) → creation id (before ++ Create id what ∷ after) ≡ Some what
+creation_is n [] id what after l = rw (eq-eqb id.0 id.0 refl) refl
+creation_is n (Create job command ∷ before) id what after l =
+    let later : above n job ≤ id.0 = lawful_later (above n job) before id what after l.1 in
+    rw (ne_eqb job.0 id.0 (λ e. absurd (omega arith))) (creation_is (above n job) before id what after l.1)
+creation_is n (_ ∷ before) id what after l = creation_is n before id what after l

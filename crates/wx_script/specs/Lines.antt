@@ -1,0 +1,64 @@
+-- What one line of a script says.
+use Rattle.std.specs.Prelude.{ℕ, Bool, true, false, ◌==◌, if◌then◌else◌, Option, None, Some, List, [], ◌∷◌, codes}
+use Rattle.wx_words.specs.Line.{words_of, ◌>>=◌}
+use Rattle.wx_words.specs.Combine.{Reader, read_as, read_rows, whole}
+use Rattle.wx_words.specs.Parts.{number, u32, list_of, text}
+use Rattle.wx_words.specs.ToEnd.{read_to_end}
+use Rattle.wx_journal.specs.Answers.{done, waited, verdict, readied}
+use Rattle.wx_journal.specs.Wishes.{wish}
+use Rattle.wx_journal.specs.Kinds.{ranked, turn}
+use Rattle.wx_journal.specs.declared.entry.TurnKind.{TurnKind}
+use Rattle.wx_journal.specs.declared.entry.TurnKind.TheVariants.{Last}
+use Rattle.wx_script.specs.Wishes.{script_act}
+use Rattle.wx_script.specs.declared.lines.Line.{Line}
+use Rattle.wx_script.specs.declared.lines.Line.TheVariants.{Nothing, Throttle, Size, ErrorSize, Send, Turn as Turned, Fault, Acts, Filter, Wishes, Poll, Hook, Spawn, Signal, Kill, Wait}
+
+-- what a script can say that a turn brings: all but a last turn
+abbrev pub can_bring : TurnKind → Bool
+can_bring Last = false
+can_bring (_) = true
+
+-- what a script can say
+abbrev pub is_scripted : Line → Bool
+is_scripted (Turned turn) = can_bring turn.kind
+is_scripted (_) = true
+
+abbrev pub if_scripted : Line → Option Line
+if_scripted said = if is_scripted said then Some said else None
+
+-- each setting, and how the rest is read
+abbrev pub set_rows : List (List ℕ × Reader Line)
+set_rows = (codes "throttle", read_as Throttle number.read) ∷ (codes "size", read_as Size u32.read) ∷ (codes "errors", read_as ErrorSize u32.read) ∷ []
+
+unfoldable pub read_set : Reader Line
+read_set ws = read_rows set_rows ws
+
+-- each first word of a line, and how the rest is read
+abbrev pub form_rows : List (List ℕ × Reader Line)
+form_rows =
+    (codes "action", read_as Acts (read_to_end script_act.read))
+    ∷ (codes "set", read_set)
+    ∷ (codes "send", read_as (λ p. Send p.1 p.0) ranked.read)
+    ∷ (codes "turn", read_as Turned turn.read)
+    ∷ (codes "turnfault", read_as Fault u32.read)
+    ∷ (codes "filter", read_as Filter verdict.read)
+    ∷ (codes "error", read_as Wishes wish.read)
+    ∷ (codes "poll", read_as Poll readied.read)
+    ∷ (codes "hook", read_as Hook (list_of text).read)
+    ∷ (codes "spawn", read_as Spawn done.read)
+    ∷ (codes "signal", read_as Signal done.read)
+    ∷ (codes "kill", read_as Kill done.read)
+    ∷ (codes "wait", read_as Wait waited.read)
+    ∷ []
+
+unfoldable pub read_form : Reader Line
+read_form ws = read_rows form_rows ws
+
+-- what the words of a line say, to their end
+abbrev pub said_in : List (List ℕ) → Option Line
+said_in ws = whole (read_form ws) >>= if_scripted
+
+-- an empty line and one that begins with # say nothing
+abbrev pub line_in : List ℕ → Option Line
+line_in [] = Some Nothing
+line_in (b ∷ bs) = if b == 35 then Some Nothing else said_in (words_of (b ∷ bs))

@@ -1,0 +1,60 @@
+-- A script as its lines, and the first bad line of what is none.
+use Rattle.std.specs.Prelude.{ℕ, ◌≡◌, ◌⊎◌, ◌+◌, ◌<◌, ◌==◌, ◌&&◌, nat_lt, nat_le, if◌then◌else◌, Option, None, Some, List, [], ◌∷◌, ◌++◌, length}
+use Rattle.wx_words.specs.Line.{parts, ◌>>=◌}
+use Rattle.wx_config.specs.Defaults.{default_config}
+use Rattle.wx_script.specs.declared.script.Script.{Script}
+use Rattle.wx_script.specs.declared.script.ScriptTurn.TheVariants.{Turn, Fault}
+use Rattle.wx_script.specs.HostCalls.{no_answers}
+use Rattle.wx_script.specs.Lines.{line_in}
+use Rattle.wx_script.specs.declared.lines.Line.{Line}
+use Rattle.wx_script.specs.declared.lines.Line.TheVariants.{Nothing, Throttle, Size, ErrorSize, Send, Turn as Turned, Fault as Failed, Acts, Filter, Wishes, Poll, Hook, Spawn, Signal, Kill, Wait}
+
+-- the script of no lines
+abbrev pub start : Script
+start = record { throttle = default_config.throttle; size = default_config.event_channel_size; error_size = default_config.error_channel_size; sends = []; turns = []; actions = []; filters = []; errors = []; polls = []; hooks = []; answers = no_answers; last = 0 }
+
+-- the script with what one more line says, where that can stand there
+abbrev pub accepts : Script → Line → Option Script
+accepts s Nothing = Some s
+accepts s (Throttle n) = if length s.sends == 0 && length s.turns == 0 then Some (record s { throttle = n }) else None
+accepts s (Size n) = if length s.sends == 0 && length s.turns == 0 && nat_le 1 n && nat_le n 65536 then Some (record s { size = n }) else None
+accepts s (ErrorSize n) = if length s.sends == 0 && length s.turns == 0 && nat_le 1 n && nat_le n 65536 then Some (record s { error_size = n }) else None
+accepts s (Send event priority) = if length s.turns == 0 && nat_lt (length s.sends) s.size then Some (record s { sends = s.sends ++ (event, priority) ∷ [] }) else None
+accepts s (Turned turn) = if nat_le s.last turn.at then Some (record s { turns = s.turns ++ Turn turn ∷ []; last = turn.at }) else None
+accepts s (Failed code) = Some (record s { turns = s.turns ++ Fault code ∷ [] })
+accepts s (Acts acts) = Some (record s { actions = s.actions ++ acts ∷ [] })
+accepts s (Filter answer) = Some (record s { filters = s.filters ++ answer ∷ [] })
+accepts s (Wishes wish) = Some (record s { errors = s.errors ++ wish ∷ [] })
+accepts s (Poll ready) = Some (record s { polls = s.polls ++ ready ∷ [] })
+accepts s (Hook words) = Some (record s { hooks = s.hooks ++ words ∷ [] })
+accepts s (Spawn answer) = Some (record s { answers = record s.answers { spawns = s.answers.spawns ++ answer ∷ [] } })
+accepts s (Signal answer) = Some (record s { answers = record s.answers { signals = s.answers.signals ++ answer ∷ [] } })
+accepts s (Kill answer) = Some (record s { answers = record s.answers { kills = s.answers.kills ++ answer ∷ [] } })
+accepts s (Wait answer) = Some (record s { answers = record s.answers { waits = s.answers.waits ++ answer ∷ [] } })
+
+-- the script with one more line
+abbrev pub step : Script → List ℕ → Option Script
+step s line = line_in line >>= accepts s
+
+-- what whole lines make of a script, one by one, where each can stand there
+abbrev pub begun_by : List (List ℕ) → Script → Option Script
+begun_by [] s = Some s
+begun_by (line ∷ lines) s = step s line >>= begun_by lines
+
+-- The bytes are this script: behind each line stands a line feed, and the lines make the script.
+pub record IsScriptOf (bytes : List ℕ) (s : Script) : Type 0 where
+  pub lines : List (List ℕ)
+  pub all : parts 10 bytes ≡ lines ++ [] ∷ []
+  pub made : begun_by lines start ≡ Some s
+
+-- Line n is the first bad one: the lines before it begin a script, and it can't stand behind them,
+-- or it has no line feed.
+pub record IsFirstBad (bytes : List ℕ) (n : ℕ) : Type 0 where
+  pub before : List (List ℕ)
+  pub line : List ℕ
+  pub later : List (List ℕ)
+  pub number : n ≡ length before + 1
+  pub all : parts 10 bytes ≡ before ++ line ∷ later
+  pub script : Script
+  pub begun : begun_by before start ≡ Some script
+  pub stuck : ((0 < length later) × (step script line ≡ None)) ⊎ ((later ≡ []) × (0 < length line))

@@ -1,0 +1,158 @@
+// What one line of a script says.
+ghost use Rattle.std.specs.Prelude.{◌≡◌, if◌then◌else◌, None, IfOk};
+ghost use Rattle.wx_words.specs.Line.{Reads};
+ghost use Rattle.wx_words.specs.Combine.{read_as};
+ghost use Rattle.wx_words.specs.Parts.{list_of, text};
+ghost use Rattle.wx_journal.specs.Answers.{readied};
+ghost use Rattle.wx_script.specs.declared.lines.Line.TheVariants.{Hook};
+ghost use Rattle.wx_script.specs.Lines.{can_bring, is_scripted, if_scripted, read_set, read_form, said_in, line_in};
+
+use crate::script::Wanted;
+use std::alloc::Global;
+use wx_error::RuntimeError;
+use wx_events::{Event, List, Memory, Priority, ProcessEnd, Spelled, Text, Words};
+use wx_journal::{Act, HostFault, Turn, TurnKind, Wish, read_verdict};
+use wx_words::{read_result, read_rows, read_to_end};
+
+/// What a line of a script says.
+#[derive(Drop, Debug)]
+pub enum Line {
+    /// Nothing, as an empty line and one that begins with `#`.
+    Nothing,
+    /// How long events are collected, in nanoseconds.
+    Throttle(u64),
+    /// How many events the queue holds.
+    Size(u32),
+    /// The size of the channel of errors in the settings.
+    ErrorSize(u32),
+    /// An event is sent before the run.
+    Send(Event, Priority),
+    /// The world gives a turn.
+    Turn(Turn),
+    /// The world has no turn to give, and this is the code of its fault.
+    Fault(u32),
+    /// The action handler asks for this in one call.
+    Acts(List<Act<Wanted>>),
+    /// The filter answers this.
+    Filter(Result<bool, RuntimeError>),
+    /// The error handler wishes this.
+    Wishes(Wish),
+    /// Whether a begun function is ready in one poll.
+    Poll(bool),
+    /// A spawn hook appends these words in one call.
+    Hook(List<Text>),
+    /// The host answers this to a spawn.
+    Spawn(Result<(), HostFault>),
+    /// The host answers this to a signal.
+    Signal(Result<(), HostFault>),
+    /// The host answers this to a kill.
+    Kill(Result<(), HostFault>),
+    /// The host answers this to a wait.
+    Wait(Result<ProcessEnd, HostFault>),
+}
+
+/// Whether a script can say that a turn brings this: all but a last turn.
+fn can_bring(kind: &TurnKind) -> bool
+    ensures { result ≡ can_bring kind.now }
+{
+    match kind {
+        TurnKind::Last => false,
+        _ => true,
+    }
+}
+
+/// Whether a script can say this.
+fn is_scripted(said: &Line) -> bool
+    ensures { result ≡ is_scripted said.now }
+{
+    match said {
+        Line::Turn(turn) => can_bring(&turn.kind),
+        _ => true,
+    }
+}
+
+/// Takes a setting, or loses the place.
+#[tactic(auto, unfolding(crate::specs::Lines::read_set))]
+fn take_set(alloc: Global, line: &mut Words) -> Result<Option<Line>, Memory>
+    ensures { IfOk result (λ said. Reads line.new said (read_set line.old)) }
+{
+    read_rows!(alloc, line;
+        b"throttle" (throttle) => Line::Throttle(throttle),
+        b"size" (size) => Line::Size(size),
+        b"errors" (size) => Line::ErrorSize(size),
+    )
+}
+
+/// Takes whether a begun function is ready, or loses the place.
+#[tactic(auto, unfolding(wx_journal::specs::Answers::readied))]
+fn take_ready(alloc: Global, line: &mut Words) -> Result<Option<bool>, Memory>
+    ensures { IfOk result (λ ready. Reads line.new ready (readied.read line.old)) }
+{
+    read_rows!(alloc, line;
+        b"ready" => true,
+        b"later" => false,
+    )
+}
+
+/// Takes the words that a spawn hook appends, or loses the place.
+fn take_words(alloc: Global, line: &mut Words) -> Result<Option<Line>, Memory>
+    ensures { IfOk result (λ said. Reads line.new said (read_as Hook (list_of text).read line.old)) }
+{
+    match List::read(alloc, line)? {
+        Some(words) => Ok(Some(Line::Hook(words))),
+        None => Ok(None),
+    }
+}
+
+/// Takes what the first word calls for, or loses the place.
+#[tactic(auto, using(wx_journal::specs::Acts::act_has_word), unfolding(crate::specs::Lines::read_form))]
+fn take_form(alloc: Global, line: &mut Words) -> Result<Option<Line>, Memory>
+    ensures { IfOk result (λ said. Reads line.new said (read_form line.old)) }
+{
+    read_rows!(alloc, line;
+        b"action" (acts = read_to_end) => Line::Acts(acts),
+        b"set" (said = take_set) => said,
+        b"send" (priority, event) => Line::Send(event, priority),
+        b"turn" (turn) => Line::Turn(turn),
+        b"turnfault" (code) => Line::Fault(code),
+        b"filter" (answer = read_verdict) => Line::Filter(answer),
+        b"error" (wish) => Line::Wishes(wish),
+        b"poll" (ready = take_ready) => Line::Poll(ready),
+        b"hook" (said = take_words) => said,
+        b"spawn" (answer = read_result) => Line::Spawn(answer),
+        b"signal" (answer = read_result) => Line::Signal(answer),
+        b"kill" (answer = read_result) => Line::Kill(answer),
+        b"wait" (answer = read_result) => Line::Wait(answer),
+    )
+}
+
+/// What is said, where it was said to the end of the line and a script can say it.
+fn if_scripted(is_done: bool, said: Line) -> Option<Line>
+    ensures { result ≡ (if is_done then if_scripted said else None) }
+{
+    if is_done && is_scripted(&said) {
+        return Some(said);
+    }
+    drop(said);
+    None
+}
+
+/// What the words of a line say.
+fn said_by(alloc: Global, words: &mut Words) -> Result<Option<Line>, Memory>
+    ensures { IfOk result (λ said. said ≡ said_in words.old) }
+{
+    match take_form(alloc, words)? {
+        None => Ok(None),
+        Some(said) => Ok(if_scripted(words.is_done(), said)),
+    }
+}
+
+/// What a line says, without its line feed.
+pub fn line_in(alloc: Global, line: &[u8]) -> Result<Option<Line>, Memory>
+    ensures { IfOk result (λ said. said ≡ line_in line.now) }
+{
+    if line.is_empty() || line[0] == 35 {
+        return Ok(Some(Line::Nothing));
+    }
+    said_by(alloc, &mut Words::new(line))
+}

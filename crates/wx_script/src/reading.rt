@@ -1,0 +1,195 @@
+// A script from its lines.
+ghost use Rattle.std.specs.Prelude.{◌≡◌, ◌==◌, ◌&&◌, true, [], ◌∷◌, ◌++◌, Some, None, Ok, Err, ℕ, length, IfOk, IfErr, MatchBool, MatchOption, MatchResult};
+ghost use Rattle.wx_script.specs.Follows.{IsScript};
+ghost use Rattle.wx_script.specs.declared.script.Script.{Script};
+ghost use Rattle.wx_script.specs.declared.lines.Line.TheVariants.{Size, ErrorSize, Send, Turn as Turned};
+ghost use Rattle.wx_script.specs.Scripts.{accepts, step, start, IsScriptOf, IsFirstBad};
+
+use crate::answers::Answers;
+use crate::lines::{Line, line_in};
+use crate::script::{Script, ScriptTurn};
+use std::alloc::Global;
+use wx_events::{Event, List, Memory, Priority, cut};
+use wx_journal::Turn;
+
+/// The number of the first bad line, counted from 1.
+#[derive(Clone, Copy, Debug, PartialEq, Eq)]
+pub struct BadLine(pub u64);
+
+/// The script of no lines.
+fn start(alloc: Global) -> Script
+    ensures { result ≡ start }
+{
+    Script {
+        throttle: 50_000_000,
+        size: 4096,
+        error_size: 64,
+        sends: List::new(alloc),
+        turns: List::new(alloc),
+        actions: List::new(alloc),
+        filters: List::new(alloc),
+        errors: List::new(alloc),
+        polls: List::new(alloc),
+        hooks: List::new(alloc),
+        answers: Answers::new(alloc),
+        last: 0,
+    }
+}
+
+/// Whether settings can still stand here.
+fn is_early(script: &Script) -> bool
+    ensures { result ≡ (length script.now.sends == 0 && length script.now.turns == 0) }
+{
+    script.sends.is_empty() && script.turns.is_empty()
+}
+
+/// Sets the size, where that can stand here.
+fn set_size(script: &mut Script, size: u32) -> bool
+    ensures { MatchBool result (accepts script.old (Size size) ≡ Some script.new) (accepts script.old (Size size) ≡ None) }
+{
+    let fits = is_early(script) && 1 <= size && size <= 65_536;
+    if fits {
+        script.size = size;
+    }
+    fits
+}
+
+/// Sets the size of the channel of errors, where that can stand here.
+fn set_error_size(script: &mut Script, size: u32) -> bool
+    ensures { MatchBool result (accepts script.old (ErrorSize size) ≡ Some script.new) (accepts script.old (ErrorSize size) ≡ None) }
+{
+    let fits = is_early(script) && 1 <= size && size <= 65_536;
+    if fits {
+        script.error_size = size;
+    }
+    fits
+}
+
+/// Adds an event that is sent before the run, where it can stand here.
+fn add_send(script: &mut Script, event: Event, priority: Priority) -> Result<bool, Memory>
+    ensures { IfOk result (λ fits. MatchBool fits (accepts script.old (Send event priority) ≡ Some script.new) (accepts script.old (Send event priority) ≡ None)) }
+{
+    let fits = script.turns.is_empty() && (script.sends.len() as u64) < script.size as u64;
+    if fits {
+        script.sends.push((event, priority))?;
+    }
+    Ok(fits)
+}
+
+/// Adds a turn, where it can stand here.
+fn add_turn(script: &mut Script, turn: Turn) -> Result<bool, Memory>
+    ensures { IfOk result (λ fits. MatchBool fits (accepts script.old (Turned turn) ≡ Some script.new) (accepts script.old (Turned turn) ≡ None)) }
+{
+    let fits = script.last <= turn.at;
+    if fits {
+        script.last = turn.at;
+        script.turns.push(ScriptTurn::Turn(turn))?;
+    }
+    Ok(fits)
+}
+
+/// Adds a value at the end of a list, where it can always stand.
+fn added<T: Drop>(list: &mut List<T>, value: T) -> Result<bool, Memory>
+    ensures { IfOk result (λ fits. (fits ≡ true) × (list.new ≡ list.old ++ value ∷ [])) }
+{
+    list.push(value)?;
+    Ok(true)
+}
+
+/// Adds what a line says, where it can stand here.
+fn add(script: &mut Script, said: Line) -> Result<bool, Memory>
+    ensures { IfOk result (λ fits. MatchBool fits (accepts script.old said ≡ Some script.new) (accepts script.old said ≡ None)) }
+{
+    match said {
+        Line::Nothing => Ok(true),
+        Line::Throttle(throttle) => {
+            let fits = is_early(script);
+            if fits {
+                script.throttle = throttle;
+            }
+            Ok(fits)
+        }
+        Line::Size(size) => Ok(set_size(script, size)),
+        Line::ErrorSize(size) => Ok(set_error_size(script, size)),
+        Line::Send(event, priority) => add_send(script, event, priority),
+        Line::Turn(turn) => add_turn(script, turn),
+        Line::Fault(code) => added(&mut script.turns, ScriptTurn::Fault(code)),
+        Line::Acts(acts) => added(&mut script.actions, acts),
+        Line::Filter(answer) => added(&mut script.filters, answer),
+        Line::Wishes(wish) => added(&mut script.errors, wish),
+        Line::Poll(ready) => added(&mut script.polls, ready),
+        Line::Hook(words) => added(&mut script.hooks, words),
+        Line::Spawn(answer) => added(&mut script.answers.spawns, answer),
+        Line::Signal(answer) => added(&mut script.answers.signals, answer),
+        Line::Kill(answer) => added(&mut script.answers.kills, answer),
+        Line::Wait(answer) => added(&mut script.answers.waits, answer),
+    }
+}
+
+/// Adds a line, where it can stand here.
+fn add_line(alloc: Global, script: &mut Script, line: &[u8]) -> Result<bool, Memory>
+    ensures { IfOk result (λ fits. MatchBool fits (step script.old line.now ≡ Some script.new) (step script.old line.now ≡ None)) }
+{
+    match line_in(alloc, line)? {
+        None => Ok(false),
+        Some(said) => add(script, said),
+    }
+}
+
+/// Adds the lines one by one to the script of none, and answers the first bad one.
+fn scan_into(alloc: Global, script: &mut Script, bytes: &[u8]) -> Result<Option<BadLine>, Memory>
+    requires { script.old ≡ start }
+    ensures { IfOk result (λ bad. MatchOption bad (IsScriptOf bytes.now script.new) (λ b. IsFirstBad bytes.now b.0)) }
+{
+    let mut rest = bytes;
+    let mut number = 1;
+    while let Some((line, after)) = cut(rest, 10) {
+        if !add_line(alloc, script, line)? {
+            return Ok(Some(BadLine(number)));
+        }
+        rest = after;
+        number += 1;
+    }
+    if rest.is_empty() {
+        Ok(None)
+    } else {
+        Ok(Some(BadLine(number)))
+    }
+}
+
+/// The script, where no line was bad.
+fn unless_bad<T: Drop>(script: T, bad: Option<BadLine>) -> Result<T, BadLine>
+    ensures { MatchOption bad (result ≡ Ok script) (λ b. result ≡ Err b) }
+{
+    match bad {
+        None => Ok(script),
+        Some(bad) => Err(bad),
+    }
+}
+
+/// Reads the lines one by one.
+fn scan(alloc: Global, bytes: &[u8]) -> Result<Result<Script, BadLine>, Memory>
+    ensures { IfOk result (λ r. MatchResult r (λ s. IsScriptOf bytes.now s) (λ bad. IsFirstBad bytes.now bad.0)) }
+{
+    let mut script = start(alloc);
+    match scan_into(alloc, &mut script, bytes) {
+        Ok(bad) => Ok(unless_bad(script, bad)),
+        Err(memory) => {
+            drop(script);
+            Err(memory)
+        }
+    }
+}
+
+/// The script that the bytes are, or its first bad line.
+///
+/// `Memory` comes where there was no memory for the script.
+#[tactic(auto, using(crate::proofs::ScriptLaws::lawful))]
+pub fn read_script(alloc: Global, bytes: &[u8]) -> Result<Result<Script, BadLine>, Memory>
+    ensures exact { IfOk result (λ r. MatchResult r (λ s. IsScriptOf bytes.now s) (λ bad. IsFirstBad bytes.now bad.0)) }
+    ensures lawful { IfOk result (λ r. IfOk r IsScript) }
+    ensures only { (s : Script) → IsScriptOf bytes.now s → IfOk result (λ r. r ≡ Ok s) }
+    ensures only_bad { (n : ℕ) → IsFirstBad bytes.now n → IfOk result (λ r. r ≡ Err (record { 0 = n })) }
+{
+    scan(alloc, bytes)
+}

@@ -1,0 +1,440 @@
+// Tests of reading scripts: what each has is counted by hand.
+use std::alloc::Global;
+use std::process::Abort;
+use wx_script::{Script, read_script};
+
+/// What the script of these bytes is, if it is one.
+fn script_in(alloc: Global, bytes: &[u8]) -> Option<Script> {
+    read_script(alloc, bytes).ok()?.ok()
+}
+
+/// How many sends, turns and actions the script of these bytes has, and its throttle, its size and the moment of its last turn.
+fn counts(alloc: Global, bytes: &[u8]) -> Option<(usize, usize, usize, u64, u32, u64)> {
+    let script = script_in(alloc, bytes)?;
+    Some((
+        script.sends.len(),
+        script.turns.len(),
+        script.actions.len(),
+        script.throttle,
+        script.size,
+        script.last,
+    ))
+}
+
+/// The number of the bad line of these bytes.
+fn bad_line(alloc: Global, bytes: &[u8]) -> Option<u64> {
+    match read_script(alloc, bytes) {
+        Ok(Err(bad)) => Some(bad.0),
+        _ => None,
+    }
+}
+
+/// Ends the test where this isn't so of the script of these bytes.
+fn expect_so(rt: &impl Abort, so: bool, bytes: &[u8]) {
+    assert!(rt; so, "at {bytes:?}");
+}
+
+/// The first line of each of these scripts is bad.
+fn each_is_bad(rt: &impl Abort, alloc: Global, table: &[&[u8]]) {
+    for bytes in table {
+        expect_so(rt, bad_line(alloc, bytes) == Some(1), bytes);
+    }
+}
+
+const SCRIPTS: [(&[u8], (usize, usize, usize, u64, u32, u64)); 5] = [
+    (b"", (0, 0, 0, 50_000_000, 4096, 0)),
+    (
+        b"# a script\nset size 64\n\nset size 2\nset throttle 7\nsend urgent 0\nsend low 0\naction quit quit\nturn 0 arrive normal 0\nturnfault 5\naction\nturn 10000000 work\nturn 10000000 arrive high 0\n",
+        (2, 4, 2, 7, 2, 10_000_000),
+    ),
+    (b"set size 65536\n", (0, 0, 0, 50_000_000, 65_536, 0)),
+    (
+        b"set throttle 18446744073709551615\nturn 18446744073709551615 work\n",
+        (0, 1, 0, u64::MAX, 4096, u64::MAX),
+    ),
+    (
+        b"action\nset size 1\nturnfault 4294967295\n",
+        (0, 1, 1, 50_000_000, 1, 0),
+    ),
+];
+
+#[test]
+fn reads_scripts(rt: HostRuntime) {
+    for (bytes, want) in &SCRIPTS {
+        expect_so(&rt, counts(rt.alloc(), bytes) == Some(*want), bytes);
+    }
+}
+
+/// How many acts the first action of the script of these bytes has, and how many answers to spawns, signals, kills and waits the
+/// script has.
+fn answer_counts(alloc: Global, bytes: &[u8]) -> Option<(usize, usize, usize, usize, usize)> {
+    let script = script_in(alloc, bytes)?;
+    let first = script.actions.as_slice().first();
+    Some((
+        first.map_or(0, |acts| acts.len()),
+        script.answers.spawns.len(),
+        script.answers.signals.len(),
+        script.answers.kills.len(),
+        script.answers.waits.len(),
+    ))
+}
+
+const JOBS: [(&[u8], (usize, usize, usize, usize, usize)); 9] = [
+    (
+        b"action create exec ---- 1 a ask 0 start quit\n",
+        (3, 0, 0, 0, 0),
+    ),
+    (
+        b"action ask 4294967295 stop create exec g-r- 2 a %20 create exec ---- 1 b\n",
+        (3, 0, 0, 0, 0),
+    ),
+    (
+        b"action ask 0 gracefulstop custom.-3 0 ask 0 tryrestart ask 0 trygracefulrestart quit 18446744073709551615 ask 0 continue ask 0 signal hangup ask 0 delete ask 0 nextending\n",
+        (7, 0, 0, 0, 0),
+    ),
+    (
+        b"action ask 0 restart ask 0 restartsignal user1 5 ask 0 stopdelete ask 0 deletenow ask 0 towait\n",
+        (5, 0, 0, 0, 0),
+    ),
+    (
+        b"spawn ok\nspawn fault 5\nkill ok\nspawn ok\n",
+        (0, 3, 0, 1, 0),
+    ),
+    (
+        b"signal fault 4294967295\nkill ok\nsignal ok\nturn 0 ask 0 signal suspend\nsignal fault 0\n",
+        (0, 0, 3, 1, 0),
+    ),
+    (
+        b"kill fault 4294967295\nwait success\nwait error.7\nwait fault 2\nwait signal.custom.64\n",
+        (0, 0, 0, 1, 4),
+    ),
+    (
+        b"turn 0 job 0\nspawn ok\nturn 0 ended 18446744073709551615\nturn 1 ask 3 stop\nwait continued\n",
+        (0, 1, 0, 0, 1),
+    ),
+    (
+        b"spawn ok\nset size 2\nkill ok\nsend low 0\nsignal ok\nwait success\nturn 0 work\n",
+        (0, 1, 1, 1, 1),
+    ),
+];
+
+#[test]
+fn reads_lines_about_jobs(rt: HostRuntime) {
+    for (bytes, want) in &JOBS {
+        expect_so(&rt, answer_counts(rt.alloc(), bytes) == Some(*want), bytes);
+    }
+}
+
+/// How many sends, turns and answers of the filter the script of these bytes has.
+fn filter_counts(alloc: Global, bytes: &[u8]) -> Option<(usize, usize, usize)> {
+    let script = script_in(alloc, bytes)?;
+    Some((script.sends.len(), script.turns.len(), script.filters.len()))
+}
+
+const FILTERS: [(&[u8], (usize, usize, usize)); 4] = [
+    (b"filter pass\nfilter reject\n", (0, 0, 2)),
+    (
+        b"filter fail exit\nfilter fail filterer glob bad%20rule\nfilter fail memory\n",
+        (0, 0, 3),
+    ),
+    (
+        b"send normal 2 process 7 signal quit\nfilter pass\nturn 0 arrive low 1 path /a%20b dir\n",
+        (1, 1, 1),
+    ),
+    (
+        b"turn 0 arrive urgent 3 kind create.file source os key ctrl.char.a\nfilter pass\n",
+        (0, 1, 1),
+    ),
+];
+
+#[test]
+fn reads_lines_about_filters(rt: HostRuntime) {
+    for (bytes, want) in &FILTERS {
+        expect_so(&rt, filter_counts(rt.alloc(), bytes) == Some(*want), bytes);
+    }
+}
+
+/// How many answers of the filter and wishes of the error handler the script of these bytes has, and the size of the channel of errors.
+fn error_counts(alloc: Global, bytes: &[u8]) -> Option<(usize, usize, u32)> {
+    let script = script_in(alloc, bytes)?;
+    Some((script.filters.len(), script.errors.len(), script.error_size))
+}
+
+const ERRORS: [(&[u8], (usize, usize, u32)); 5] = [
+    (b"", (0, 0, 64)),
+    (b"error none\nset errors 1\n", (0, 1, 1)),
+    (
+        b"set errors 9\nset size 3\nset errors 65536\nsend low 0\nerror elevate\n",
+        (0, 1, 65_536),
+    ),
+    (
+        b"error critical exit\nerror critical memory\nturn 0 work\nerror critical send low 1 process 4\n",
+        (0, 3, 64),
+    ),
+    (
+        b"filter fail nocommands\nerror critical elevated trysend a full low 0 some b\nerror critical init native event nopath 0\n",
+        (1, 2, 64),
+    ),
+];
+
+#[test]
+fn reads_lines_about_errors(rt: HostRuntime) {
+    for (bytes, want) in &ERRORS {
+        expect_so(&rt, error_counts(rt.alloc(), bytes) == Some(*want), bytes);
+    }
+}
+
+/// How many calls of hooks the script of these bytes has words for, and how many words and bytes of them the first has.
+fn hook_counts(alloc: Global, bytes: &[u8]) -> Option<(usize, usize, usize)> {
+    let script = script_in(alloc, bytes)?;
+    let first = script.hooks.as_slice().first();
+    let words = first.map_or(0, |words| words.len());
+    let size = first
+        .and_then(|words| words.first())
+        .map_or(0, |word| word.len());
+    Some((script.hooks.len(), words, size))
+}
+
+const HOOKS: [(&[u8], (usize, usize, usize)); 5] = [
+    (b"", (0, 0, 0)),
+    (b"hook 0\nhook 1 -v\n", (2, 0, 0)),
+    (b"hook 2 a%20b %\n", (1, 2, 3)),
+    (
+        b"send low 0\nhook 1 %\nturn 0 work\nhook 0\naction ask 0 sethook 4294967295 ask 0 unsethook\nhook 0\n",
+        (3, 1, 0),
+    ),
+    (
+        b"turn 0 ask 0 setspawn 0\nturn 0 ask 0 setchild 7\nturn 0 ask 0 clearspawn\nhook 3 x y z\n",
+        (1, 3, 1),
+    ),
+];
+
+#[test]
+fn reads_lines_about_hooks(rt: HostRuntime) {
+    for (bytes, want) in &HOOKS {
+        expect_so(&rt, hook_counts(rt.alloc(), bytes) == Some(*want), bytes);
+    }
+}
+
+const NO_HOOKS: [&[u8]; 16] = [
+    b"hook\n",
+    b"hook -v\n",
+    b"hook 1\n",
+    b"hook 1 -v -x\n",
+    b"hook 2 -v\n",
+    b"hook 01 -v\n",
+    b"hook 0 \n",
+    b"action ask 0 sethook\n",
+    b"action ask 0 sethook 4294967296\n",
+    b"action ask 0 unsethook 2\n",
+    b"action ask 0 setspawn x\n",
+    b"action ask 0 clearspawn 0\n",
+    b"turn 0 ask 0 setchild\n",
+    b"action create shell ---- sh 0 some -c a 0\n",
+    b"action create shell ---- sh quoted 0 -c a 0\n",
+    b"action create shell ---- sh quoted 0 some -c a\n",
+];
+
+#[test]
+fn refuses_lines_about_hooks(rt: HostRuntime) {
+    each_is_bad(&rt, rt.alloc(), &NO_HOOKS);
+}
+
+/// What the polls of the script of these bytes answer, if it is one.
+fn has_polls(alloc: Global, bytes: &[u8], want: &[bool]) -> bool {
+    match script_in(alloc, bytes) {
+        Some(script) => script.polls.as_slice() == want,
+        None => false,
+    }
+}
+
+const FUNCTIONS: [(&[u8], &[bool]); 5] = [
+    (b"", &[]),
+    (b"poll ready\n", &[true]),
+    (b"poll later\nset size 2\npoll ready\n", &[false, true]),
+    (
+        b"send low 0\npoll later\nturn 0 work\npoll later\naction ask 0 run 0 ask 0 runasync 4294967295\npoll ready\n",
+        &[false, false, true],
+    ),
+    (
+        b"turn 0 ask 0 seterror 4294967295\nturn 0 ask 0 unseterror\nturn 0 ask 0 runasync 7\npoll ready\n",
+        &[true],
+    ),
+];
+
+#[test]
+fn reads_lines_about_functions(rt: HostRuntime) {
+    for (bytes, want) in &FUNCTIONS {
+        expect_so(&rt, has_polls(rt.alloc(), bytes, want), bytes);
+    }
+}
+
+const NO_FUNCTIONS: [&[u8]; 18] = [
+    b"poll\n",
+    b"poll \n",
+    b"poll ok\n",
+    b"poll on\n",
+    b"poll Ready\n",
+    b"poll 1\n",
+    b"poll ready \n",
+    b"poll ready 0\n",
+    b"poll later ready\n",
+    b"polls ready\n",
+    b"action ask 0 run\n",
+    b"action ask 0 run 01\n",
+    b"action ask 0 runasync\n",
+    b"action ask 0 runasync 4294967296\n",
+    b"action ask 0 seterror\n",
+    b"action ask 0 seterror x\n",
+    b"action ask 0 unseterror 5\n",
+    b"turn 0 ask 0 run 1 2\n",
+];
+
+#[test]
+fn refuses_lines_about_functions(rt: HostRuntime) {
+    each_is_bad(&rt, rt.alloc(), &NO_FUNCTIONS);
+}
+
+const NO_JOBS: [&[u8]; 24] = [
+    b"action create\n",
+    b"action create 0 exec ---- 1 a\n",
+    b"action create exec ---- 0\n",
+    b"action create exec ---- 1 a b\n",
+    b"action create exec ---- 2 a\n",
+    b"action ask 0\n",
+    b"action ask start\n",
+    b"action ask 4294967296 start\n",
+    b"action ask 0 start 0\n",
+    b"action quit \n",
+    b"spawn\n",
+    b"spawn success\n",
+    b"spawn fault\n",
+    b"spawn fault 4294967296\n",
+    b"spawn ok ok\n",
+    b"kill error.7\n",
+    b"wait ok\n",
+    b"wait error.0\n",
+    b"wait fault x\n",
+    b"turn 0 job\n",
+    b"turn 0 job 4294967296\n",
+    b"turn 0 ended x\n",
+    b"turn 0 ask 0\n",
+    b"turn 0 ask 0 go\n",
+];
+
+#[test]
+fn refuses_lines_about_jobs(rt: HostRuntime) {
+    each_is_bad(&rt, rt.alloc(), &NO_JOBS);
+}
+
+const NO_SIGNALS: [&[u8]; 26] = [
+    b"signal\n",
+    b"signal maybe\n",
+    b"signal success\n",
+    b"signal terminate\n",
+    b"signal ok ok\n",
+    b"signal fault\n",
+    b"signal fault 4294967296\n",
+    b"signal fault -1\n",
+    b"turn 0 signal ok\n",
+    b"turn 0 ask 0 gracefulstop\n",
+    b"turn 0 ask 0 gracefulstop terminate\n",
+    b"turn 0 ask 0 gracefulstop 10 terminate\n",
+    b"turn 0 ask 0 gracefulstop terminate 010\n",
+    b"turn 0 ask 0 gracefulstop terminate 18446744073709551616\n",
+    b"turn 0 ask 0 gracefulstop term 10\n",
+    b"turn 0 ask 0 trygracefulrestart 10\n",
+    b"turn 0 ask 0 tryrestart terminate 10\n",
+    b"turn 0 ask 0 continue terminate 10\n",
+    b"turn 0 ask 0 signal 15\n",
+    b"turn 0 ask 0 signal custom\n",
+    b"action ask 0 restart 5\n",
+    b"action ask 0 restartsignal terminate\n",
+    b"action ask 0 delete 0\n",
+    b"action ask 0 delete now\n",
+    b"action ask 0 deletenow stop\n",
+    b"action ask 0 towait 5\n",
+];
+
+#[test]
+fn refuses_lines_about_signals_and_graces(rt: HostRuntime) {
+    each_is_bad(&rt, rt.alloc(), &NO_SIGNALS);
+}
+
+const BAD: [(&[u8], u64); 16] = [
+    (b"turn 0 work", 1),
+    (b"# c", 1),
+    (b"turn 0 work\n# c", 2),
+    (b"send low 0\n\nset size 1\n", 3),
+    (b"send low 0\nset throttle 1\nset\n", 2),
+    (b"set size 1\nsend low 0\nsend low 0\n", 3),
+    (b"turn 0 work\nset throttle 1\n", 2),
+    (b"turnfault 5\nset size 1\n", 2),
+    (b"send low 0\nset errors 1\n", 2),
+    (b"turn 0 work\nset errors 1\n", 2),
+    (b"turnfault 5\nset errors 1\n", 2),
+    (b"set errors 1\nset errors 65537\nset errors 2\n", 2),
+    (b"turnfault 5\nsend low 0\n", 2),
+    (b"turn 0 work\nsend low 0\n", 2),
+    (b"turn 5 work\nturnfault 1\nturn 4 work\n", 3),
+    (b"\n\n\nx\nturn 5 work\n", 4),
+];
+
+#[test]
+fn counts_lines_to_the_first_bad_one(rt: HostRuntime) {
+    for (bytes, want) in &BAD {
+        expect_so(&rt, bad_line(rt.alloc(), bytes) == Some(*want), bytes);
+    }
+}
+
+const NO_LINES: [&[u8]; 44] = [
+    b"set size 0\n",
+    b"set size 65537\n",
+    b"set size 4294967296\n",
+    b"set size\n",
+    b"set errors 0\n",
+    b"set errors 65537\n",
+    b"set errors 4294967296\n",
+    b"set errors\n",
+    b"set errors 1 1\n",
+    b"set other 1\n",
+    b"turn 5  work\n",
+    b"turn 05 work\n",
+    b"turn 18446744073709551616 work\n",
+    b"turn 0 last\n",
+    b"turn 0\n",
+    b" turn 0 work\n",
+    b"turn 0 work \n",
+    b"turn 0 work\r\n",
+    b"turn 0 arrive normal\n",
+    b"turn 0 arrive normal 1\n",
+    b"turn 0 arrive normal 0 unknown\n",
+    b"send normal 1 process\n",
+    b"send normal 2 unknown\n",
+    b"filter\n",
+    b"filter passes\n",
+    b"filter pass 0\n",
+    b"filter fail\n",
+    b"filter fail filterer glob\n",
+    b"error\n",
+    b"error pass\n",
+    b"error elevate 0\n",
+    b"error critical\n",
+    b"error critical external\n",
+    b"error critical elevated exit\n",
+    b"error critical deadonarrival\n",
+    b"send normal\n",
+    b"send middle 0\n",
+    b"send normal 00\n",
+    b"action stop\n",
+    b"action \n",
+    b"action quit stop\n",
+    b"turnfault 4294967296\n",
+    b"turnfault\n",
+    b" \n",
+];
+
+#[test]
+fn refuses_lines(rt: HostRuntime) {
+    each_is_bad(&rt, rt.alloc(), &NO_LINES);
+}

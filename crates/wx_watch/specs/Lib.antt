@@ -1,0 +1,4 @@
+pub mod NotifyFaults
+pub mod ScanFaults
+pub mod SourceErrors
+pub mod Watched
