@@ -1,17 +1,6 @@
 //! Replays each script in the folder that it runs in, and compares what is written with the journal beside the script.
 #![tactic(auto)]
 
-#[cfg(test)]
-mod action_tests;
-#[cfg(test)]
-mod boxed_tests;
-#[cfg(test)]
-mod engine_tests;
-#[cfg(test)]
-mod own_hooks_tests;
-#[cfg(test)]
-mod ticket_tests;
-
 use std::fs;
 use std::io::{self, Error, ErrorKind};
 use std::process::ExitCode;

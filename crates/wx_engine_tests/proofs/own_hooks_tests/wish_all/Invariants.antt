@@ -1,5 +1,5 @@
 use Rattle.std.proofs.Common.{◌≡◌}
-use Rattle.wx_examples.proofs.own_hooks_tests.wish_all.Given as goal
+use Rattle.wx_engine_tests.proofs.own_hooks_tests.wish_all.Given as goal
 
 abbrev pub invariant-loop-says : goal.invariant-loop-says
 invariant-loop-says l = l.hook.error ≡ l.fn.hook.error

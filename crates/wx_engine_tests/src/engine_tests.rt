@@ -2,33 +2,22 @@
 //
 // What is long, as a script, a world or an engine, is lent to a helper and dropped by generic code, which is quicker to
 // prove than to drop it where calls may fail.
-ghost use Rattle.std.specs.Prelude.{◌≡◌, ◌∷◌, [], ◌≤◌, IfOk};
-ghost use Rattle.wx_machine.specs.Start.{IsSize};
+ghost use Rattle.std.specs.Prelude.{◌≡◌, ◌∷◌, [], ◌≤◌};
 ghost use Rattle.wx_script.specs.Follows.{IsScript};
 
 use std::alloc::Global;
 use std::process::Abort;
 use std::test::Fail;
-use wx_action::{Hooks, Host, JobHooks, World, print_journal};
+use wx_action::{Hooks, Host, JobHooks, World};
 use wx_command::{SpawnOptions, Spawnable};
-use wx_config::Config;
 use wx_control::{Flag, Id};
 use wx_engine::{SendRefused, Watchexec};
 use wx_error::RuntimeError;
-use wx_events::{Event, List, Memory, Priority, ProcessEnd, Tag, Text, TextPath, cut};
+use wx_events::{Event, List, Memory, Priority, ProcessEnd, Tag, Text, cut};
 use wx_follow::{ScriptHooks, ScriptWorld};
-use wx_journal::{Journal, SpawnTag, TurnKind};
-use wx_script::{Script, read_script};
-
-/// The script of these lines.
-pub(crate) fn script_of(alloc: Global, lines: &[u8]) -> Result<Script, Fail>
-    ensures { IfOk result IsScript }
-{
-    match read_script(alloc, lines)? {
-        Ok(script) => Ok(script),
-        Err(_) => Err(Fail::new("no script")),
-    }
-}
+use wx_journal::{SpawnTag, TurnKind};
+use wx_script::Script;
+use wx_trial::{engine_with, root, run_text, script_of};
 
 /// Two turns with a fault between them, and one call that quits.
 const TURNS: &[u8] =
@@ -171,68 +160,6 @@ fn calls_on_children_go_well(rt: HostRuntime) -> Result<(), Fail> {
     let held = expect_calls(&rt, rt.alloc(), &mut world);
     drop(world);
     held
-}
-
-/// The topmost folder.
-pub(crate) fn root(alloc: Global) -> Result<TextPath, Memory>
-    ensures { IfOk result (λ folder. folder ≡ 47 ∷ []) }
-{
-    Ok(TextPath::new(Text::from_slice(alloc, b"/")?))
-}
-
-/// An engine with this throttle and a queue of this size.
-pub(crate) fn engine_with(alloc: Global, throttle: u64, size: u32) -> Result<Watchexec, Memory>
-    requires { IsSize size }
-{
-    let folder = root(alloc)?;
-    let mut config = Config::new(alloc)?;
-    config.throttle.replace(throttle);
-    config.event_channel_size = size;
-    Watchexec::with_config(alloc, config, folder)
-}
-
-/// The text of a run of this engine in this world.
-pub(crate) fn text_in<W: World, H: Hooks>(
-    alloc: Global,
-    engine: Watchexec,
-    world: &mut W,
-    hooks: &mut H,
-) -> Result<Text, Memory> {
-    match Journal::new(alloc) {
-        Ok(mut journal) => {
-            let answer = engine.main(alloc, world, hooks, &mut journal);
-            let text = print_journal(alloc, &journal, &answer);
-            drop(answer);
-            drop(journal);
-            text
-        }
-        Err(want) => {
-            drop(engine);
-            Err(want)
-        }
-    }
-}
-
-/// The text of a run of this engine, in a world that follows the script.
-pub(crate) fn run_text<H: Hooks>(
-    alloc: Global,
-    engine: Watchexec,
-    script: &Script,
-    hooks: &mut H,
-) -> Result<Text, Memory>
-    requires { IsScript script.now }
-{
-    match ScriptWorld::new(alloc, script) {
-        Ok(mut world) => {
-            let text = text_in(alloc, engine, &mut world, hooks);
-            drop(world);
-            text
-        }
-        Err(want) => {
-            drop(engine);
-            Err(want)
-        }
-    }
 }
 
 /// An urgent event arrives behind another one, and is handed first and at once.

@@ -1,9 +1,7 @@
 // Hooks that hold boxes, as a user makes them, and runs with them: their texts are worked out by hand.
-ghost use Rattle.std.specs.Prelude.{◌≡◌, false, Ok as Well, OnErr};
+ghost use Rattle.std.specs.Prelude.{◌≡◌, false, Ok as Well};
 ghost use Rattle.wx_script.specs.Follows.{IsScript};
 
-use crate::engine_tests::{root, run_text, script_of};
-use crate::own_hooks_tests::created;
 use std::alloc::Global;
 use std::process::Abort;
 use std::test::Fail;
@@ -18,6 +16,7 @@ use wx_events::{Copies, Event, List, Memory, Priority, Signal, Tag, Text, cut};
 use wx_job::{CommandState, JobTaskContext};
 use wx_journal::HostFault;
 use wx_script::Script;
+use wx_trial::{created, root, run_text, script_of};
 
 /// Rejects each event.
 #[derive(Drop)]

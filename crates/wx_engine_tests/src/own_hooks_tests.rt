@@ -2,17 +2,17 @@
 ghost use Rattle.std.specs.Prelude.{◌≡◌, ◌^◌, [], false, None, OnErr};
 ghost use Rattle.wx_script.specs.Follows.{IsScript};
 
-use crate::engine_tests::{engine_with, run_text, script_of};
 use std::alloc::Global;
 use std::test::Fail;
 use wx_action::{ActionHandler, ErrorHook, Hooks, JobHooks};
-use wx_command::{Command, Program, SpawnOptions, Spawnable};
+use wx_command::Spawnable;
 use wx_control::{Id, Job};
 use wx_error::{CriticalError, RuntimeError};
 use wx_events::{Copies, Event, List, Memory, Priority, Text, cut};
 use wx_job::{CommandState, JobTaskContext};
 use wx_journal::{Entry, HostFault, put_entry};
 use wx_script::Script;
+use wx_trial::{command_of, created, engine_with, run_text, script_of};
 
 /// What hooks do in a call.
 #[derive(Clone, Copy)]
@@ -183,47 +183,6 @@ fn wish(alloc: Global, says: Says, hook: &mut ErrorHook) -> Option<()>
             hook.critical(alloc, CriticalError::External(text)).ok()
         }
         Says::Exit => hook.critical(alloc, CriticalError::Exit).ok(),
-    }
-}
-
-/// A command that runs this program, with no argument.
-fn command_of(alloc: Global, prog: &[u8]) -> Result<Command, Memory> {
-    Ok(Command {
-        program: Program::Exec {
-            prog: Text::from_slice(alloc, prog)?,
-            args: List::new(alloc),
-        },
-        options: SpawnOptions::default(),
-    })
-}
-
-/// Whether the job runs this program, with no argument.
-fn runs(alloc: Global, job: &Job, prog: &[u8]) -> Result<bool, Memory> {
-    let want = command_of(alloc, prog)?;
-    let is = job.command() == &want;
-    drop(want);
-    Ok(is)
-}
-
-/// Creates a job that runs this program, and answers the handle on it, where the job has this id and this command.
-pub(crate) fn created(
-    alloc: Global,
-    id: Id,
-    prog: &[u8],
-    handler: &mut ActionHandler<'_>,
-) -> Option<Job>
-    ensures same { handler.new ≡ record handler.old { acts = handler.new.acts } }
-{
-    let command = command_of(alloc, prog).ok()?;
-    let Ok((made, job)) = handler.create_job(alloc, command) else {
-        return None;
-    };
-    let runs = runs(alloc, &job, prog).unwrap_or(false);
-    if made == id && job.id() == id && runs {
-        Some(job)
-    } else {
-        drop(job);
-        None
     }
 }
 

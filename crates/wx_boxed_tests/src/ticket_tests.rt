@@ -2,8 +2,6 @@
 ghost use Rattle.std.specs.Prelude.{◌≡◌, false};
 ghost use Rattle.wx_script.specs.Follows.{IsScript};
 
-use crate::engine_tests::{root, script_of, text_in};
-use crate::own_hooks_tests::created;
 use futures::Future;
 use futures::executor::{LocalPool, LocalSpawner};
 use futures::task::{Context, Poll};
@@ -18,6 +16,7 @@ use wx_events::{Copies, List, Memory, ProcessEnd, Signal, Text, cut};
 use wx_follow::ScriptWorld;
 use wx_journal::{HostFault, SpawnTag};
 use wx_script::Script;
+use wx_trial::{created, root, script_of, text_in};
 
 /// Awaits a ticket, and then raises a flag.
 #[derive(Drop)]

@@ -1,0 +1,9 @@
+//! Tests of `wx_engine`, `wx_action` and `wx_follow`, whose proofs are done without them.
+#![tactic(auto)]
+
+#[cfg(test)]
+mod action_tests;
+#[cfg(test)]
+mod engine_tests;
+#[cfg(test)]
+mod own_hooks_tests;
