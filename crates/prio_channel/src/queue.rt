@@ -1,5 +1,5 @@
 // The queue.
-ghost use Rattle.std.specs.Prelude.{IsNone, IsSome, IsOk, true, false, ◌≡◌, ◌==◌, ℕ, ◌+◌, ◌<◌, ◌≤◌, [], ◌∷◌, ◌++◌, length, IfOk, OnOk, OnErr, IfErr, Err, IfSome, IfNone};
+ghost use Rattle.std.specs.Prelude.{IsNone, IsOk, true, false, ◌≡◌, ◌==◌, ◌+◌, ◌<◌, ◌≤◌, [], ◌∷◌, ◌++◌, length, IfOk, OnOk, OnErr, IfErr, Err, IfSome, IfNone};
 ghost use Rattle.prio_channel.specs.Channel.{open_empty, HasRoom, IsFull, AllAtMost};
 ghost use Rattle.prio_channel.specs.SameBag.{SameBag, Takes};
 ghost use Rattle.prio_channel.specs.Refused.{Refuses};

@@ -23,7 +23,7 @@ use Rattle.wx_machine.proofs.SettleLaws.{settle_calm}
 use Rattle.wx_machine.specs.Kept.{StaysQuiet, More}
 use Rattle.wx_machine.specs.Leads.{FollowsAlone, Then}
 use Rattle.wx_machine.specs.Turns.{StaysInTurn}
-use Rattle.wx_action.specs.Serves.{Adds, Grows}
+use Rattle.wx_action.specs.Serves.{AddsAlone, Grows}
 use Rattle.wx_action.proofs.ServesLaws.{adds, adds_none}
 use Rattle.wx_machine.proofs.AllJobs.{turns_over}
 use Rattle.wx_action.specs.Stands.{Stands, IsOffered, end_room}
@@ -36,7 +36,7 @@ pub record Steps (s : Start) (w : Worker) (p p' : List Entry) : Type 0 where
   pub quiet : StaysQuiet p p'
   pub turns : StaysInTurn p p'
 
-pub steps_add : (s : Start) (w : Worker) (p p' : List Entry) → Steps s w p p' → Adds s p p'
+pub steps_add : (s : Start) (w : Worker) (p p' : List Entry) → Steps s w p p' → AddsAlone s p p'
 steps_add s w p p' d = adds s p p' d.follows d.quiet d.turns
 
 -- so it grows, where the room for the end is left
@@ -64,7 +64,7 @@ pub said_done : (s : Start) (w : Worker) (p p' : List Entry) (word : Word) (more
 said_done s w p p' word more stands due grown =
     let d : Due s p (Said word) = rw due refl in
     rw grown (record {
-      stands = stands_behind s w (Said word) p tt tt d stands;
+      stands = stands_behind s w (Said word) p refl tt d stands;
       follows = λ world hooks p₀ world₀ hooks₀ l. Then (Said word) p world hooks l d;
       quiet = λ p₀ a. More _ p a refl;
       turns = turns_over _ _ refl;

@@ -12,8 +12,8 @@ use Rattle.wx_journal.specs.Names.{next_job}
 use Rattle.wx_journal.specs.Told.{tell}
 use Rattle.wx_machine.specs.History.{lives, creation, or_else, command}
 use Rattle.wx_machine.specs.Table.{Plan, Done}
-use Rattle.wx_action.specs.declared.handler.Todo.{Todo}
-use Rattle.wx_action.specs.declared.worker_state.Held.{Held}
+use Rattle.wx_hooks.specs.declared.handler.Todo.{Todo}
+use Rattle.wx_hooks.specs.declared.held.Held.{Held}
 use Rattle.wx_action.specs.declared.worker_state.Worker.{Worker}
 use Rattle.wx_action.specs.declared.work_turn.Collected.{Collected}
 use Rattle.wx_action.specs.declared.work_turn.Collected.TheVariants as collected
@@ -26,14 +26,16 @@ use Rattle.wx_machine.specs.Due.{Agenda, agenda, Due, Hands, Open, Ends, plans, 
 use Rattle.wx_machine.specs.RunLaws.{NoneUrgent, urgent_in, NoneUrgentWaits}
 use Rattle.wx_machine.specs.Leads.{FollowsHooks, FollowsAlone, Then}
 use Rattle.wx_action.specs.Perform.{AreCommanded, OwesActs}
-use Rattle.wx_action.specs.Stands.{Stands, HeldStands, held_id, Collects, Works, without_hand}
-use Rattle.wx_action.specs.HeldJobs.{is_here}
-use Rattle.wx_action.specs.Todo.{AreTodo}
+use Rattle.wx_action.specs.Stands.{Stands, Collects, Works, without_hand}
+use Rattle.wx_hooks.specs.JobsStand.{HeldStands, held_id}
+use Rattle.wx_hooks.specs.HeldJobs.{is_here}
+use Rattle.wx_hooks.specs.Todo.{AreTodo}
 use Rattle.wx_machine.specs.Turns.{StaysInTurn}
 use Rattle.wx_machine.proofs.Orderly.{IsOrderly}
 use Rattle.wx_machine.proofs.RunLaws.{orderly_more, calm_led, hand_is, window_handed}
 use Rattle.wx_machine.proofs.AllJobs.{IsIn, command_kept, creation_is, turns_over}
-use Rattle.wx_action.proofs.StandsLemmas.{same_held, over_hand}
+use Rattle.wx_hooks.proofs.JobsLemmas.{same_held}
+use Rattle.wx_action.proofs.StandsLemmas.{over_hand}
 
 -- the entry of a batch that was due
 pub hand_due : (s : Start) (p : List Entry) (n : ℕ) (names : List ℕ) (acts : List Act) → agenda s p ≡ Hands → n ≡ (settings s p).action_handler → names ≡ window p → AreLawful (next_job p) acts → Due s p (Hand n names acts)
@@ -115,7 +117,7 @@ not_hands_ends : Ends ≡ Hands → ⊥
 not_hands_ends e = cc
 
 -- an agenda that is open owes no batch
-not_hands : (s : Start) (p : List Entry) → agenda s p ≡ Open → agenda s p ≡ Hands → ⊥
+pub not_hands : (s : Start) (p : List Entry) → agenda s p ≡ Open → agenda s p ≡ Hands → ⊥
 not_hands s p is e = not_hands_open (sym is ∙ e)
 
 -- one that is to end owes none either

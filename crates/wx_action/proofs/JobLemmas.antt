@@ -15,13 +15,13 @@ use Rattle.wx_journal.specs.Names.{NamesItsOwn, moment}
 use Rattle.wx_job.specs.declared.task.JobTask.{JobTask}
 use Rattle.wx_machine.specs.History.{lives, child, same, is_child, command}
 use Rattle.wx_machine.specs.Table.{Plan, Done, send_plan, step_by, step_plan, ask_plan}
-use Rattle.wx_machine.specs.Case.{IsCut, GaveUp, FollowsAlone as FollowsPlan, Leads as LeadsOn, Here as Stays}
+use Rattle.wx_machine.specs.Case.{IsCut, GaveUp, PlanFollowsAlone, PlanLeads, PlanHere}
 use Rattle.wx_machine.specs.Leaves.{LeavesOthers}
 use Rattle.wx_journal.specs.Written.{Written}
 use Rattle.wx_machine.specs.Seen.{Seen}
-use Rattle.wx_job.specs.Stands.{Stops, Before as AllAsBefore, Behind as BehindHook, Stands as TaskStands, SameJob, IsEnding, id_of, command_of, closed_of, gone_of, running_of, parked_count}
+use Rattle.wx_job.specs.Stands.{StepFails, AllAsBefore, BehindHook, TaskStands, SameJob, IsEnding, id_of, command_of, closed_of, gone_of, running_of, parked_count}
 use Rattle.wx_machine.proofs.Owners.{self, same-is}
-use Rattle.wx_action.specs.declared.worker_state.Held.{Held}
+use Rattle.wx_hooks.specs.declared.held.Held.{Held}
 use Rattle.wx_action.specs.declared.worker_state.Worker.{Worker}
 use Rattle.wx_machine.specs.Start.{Start}
 use Rattle.wx_machine.specs.Jobs.{set, living, parent}
@@ -34,12 +34,16 @@ use Rattle.wx_machine.specs.Turns.{StaysInTurn}
 use Rattle.wx_machine.proofs.RunLaws.{orderly_turn}
 use Rattle.wx_machine.proofs.AllJobs.{calls_none_ask, IsIn, is_child_some, none_by_ask, none_by_step, parent_is, parent_is_none}
 use Rattle.wx_action.proofs.TurnLaws.{at_end_of_none, other_over_end}
-use Rattle.wx_action.specs.HeldJobs.{is_of, runs_child, handle_id, task_of, with_task, parked_in, parked_at}
-use Rattle.wx_action.specs.Stands.{Stands, AtTurn, IsStepOf, HeldStands, held_id}
-use Rattle.wx_action.proofs.JobListLemmas.{placed, with_put, none_at, also, some_alive, held_some, task_held, id_held, none_held}
-use Rattle.wx_action.proofs.HeldLemmas.{alive_is}
-use Rattle.wx_action.proofs.StandsLemmas.{quiet, quiet_over, held_at, tasks_put, ids_put, stands_quiet}
-use Rattle.wx_action.proofs.PlanLemmas.{JobDone, jobs_stand, Changes, plan_done, same_done}
+use Rattle.wx_hooks.specs.HeldJobs.{is_of, runs_child, handle_id, task_of, with_task, parked_in, parked_at}
+use Rattle.wx_action.specs.Stands.{Stands, AtTurn, IsStepOf}
+use Rattle.wx_hooks.specs.JobsStand.{HeldStands, held_id}
+use Rattle.wx_hooks.proofs.JobListLemmas.{placed, with_put, none_at, also, some_alive, held_some, task_held, id_held, none_held}
+use Rattle.wx_action.proofs.ShownLemmas.{alive_is}
+use Rattle.wx_hooks.proofs.QuietLemmas.{same_rest}
+use Rattle.wx_action.proofs.StandsLemmas.{rest_over, stands_rest}
+use Rattle.wx_hooks.proofs.JobsLemmas.{held_at, tasks_put, ids_put}
+use Rattle.wx_action.proofs.PlanLemmas.{JobDone, jobs_stand, plan_done, same_done}
+use Rattle.wx_hooks.proofs.JobsLemmas.{Changes}
 
 -- ---- a job that is held
 
@@ -98,7 +102,7 @@ pub record AskDone (s : Start) (w' : Worker) (p p' : List Entry) : Type 0 where
   pub done : agenda s p' ≡ Open
 
 pub ask_done : (s : Start) (w w' : Worker) (id : Id) (task task' : JobTask) (ask : Ask) (p p' : List Entry) → Stands s w p → is_quitting p ≡ false → agenda s p ≡ ask_turn id ask p → lives id p ≡ true → Lent p w.jobs id task
-    → w' ≡ record w { jobs = w'.jobs } → w'.jobs ≡ with_task id w.jobs task' → SameJob task task' → TaskStands task' p' → LeavesOthers (id_of task) p p' → FollowsPlan (send_plan (id_of task) (sends_of ask) p) p Done p' → AskDone s w' p p'
+    → w' ≡ record w { jobs = w'.jobs } → w'.jobs ≡ with_task id w.jobs task' → SameJob task task' → TaskStands task' p' → LeavesOthers (id_of task) p p' → PlanFollowsAlone (send_plan (id_of task) (sends_of ask) p) p Done p' → AskDone s w' p p'
 ask_done s w w' id task task' ask p p' stands going due alive l fields jobs same stood leaves follows =
     let h = l.held in
     let change = changed p p' w.jobs w'.jobs id task task' l jobs same stood in
@@ -106,8 +110,8 @@ ask_done s w w' id task task' ask p p' stands going due alive l fields jobs same
     let owed : agenda s p ≡ plans (ask_plan id (sends_of ask) Done) Open = due ∙ ap (λ (b : Bool). cond b (plans (ask_plan id (sends_of ask) Done) Open) (Says Ignored Open)) alive in
     let plan_is : send_plan (id_of task) (sends_of ask) p ≡ ask_plan id (sends_of ask) Done = rw (id_is, alive) refl in
     let done : (world hooks : Option (List Entry)) → JobDone s w' (ask_plan id (sends_of ask) Done) Open p p' world world hooks hooks = λ world hooks.
-    plan_done s w w' w.jobs change.0 h (record h { task = task' }) p p p' (ask_plan id (sends_of ask) Done) Done Open world world hooks hooks 0 0 stands (quiet p) stands.orderly going owed (none_by_ask id ask p) (jobs_stand s w p stands) fields change.1 (rw l.task_is leaves)
-    (rw (← plan_is) (follows _ p world hooks 0 world hooks 0 Stays)) in
+    plan_done s w w' w.jobs change.0 h (record h { task = task' }) p p p' (ask_plan id (sends_of ask) Done) Done Open world world hooks hooks 0 0 stands (same_rest p) stands.orderly going owed (none_by_ask id ask p) (jobs_stand s w p stands) fields change.1 (rw l.task_is leaves)
+    (rw (← plan_is) (follows _ p world hooks 0 world hooks 0 PlanHere)) in
     let one = done None None in record {
       stands = one.stands;
       follows = λ world hooks. (done world hooks).follows;
@@ -130,7 +134,7 @@ step_owed s w at id p stands going due now alive =
 
 -- what is known behind a step that followed its plan so far: the task is open, so that is the plan which was owed
 step_at_plan : (s : Start) (w w' : Worker) (at : ℕ) (id : Id) (task task' : JobTask) (k' : Plan) (p p' : List Entry) (world world' hooks hooks' : Option (List Entry)) (m m' : ℕ) → Stands s w p → IsStepOf s id at p → Lent p w.jobs id task
-    → w' ≡ record w { jobs = w'.jobs } → w'.jobs ≡ with_task id w.jobs task' → SameJob task task' → TaskStands task' p' → LeavesOthers (id_of task) p p' → LeadsOn (step_by (closed_of task) (id_of task) (command_of task) p) p world hooks m k' p' world' hooks' m'
+    → w' ≡ record w { jobs = w'.jobs } → w'.jobs ≡ with_task id w.jobs task' → SameJob task task' → TaskStands task' p' → LeavesOthers (id_of task) p p' → PlanLeads (step_by (closed_of task) (id_of task) (command_of task) p) p world hooks m k' p' world' hooks' m'
     → JobDone s w' (step_plan (id_of task) (command_of task) p) (plans k' Open) p p' world world' hooks hooks'
 step_at_plan s w w' at id task task' k' p p' world world' hooks hooks' m m' stands step l fields jobs same stood leaves led =
     let h = l.held in
@@ -141,11 +145,11 @@ step_at_plan s w w' at id task task' k' p p' world world' hooks hooks' m m' stan
     let due : agenda s p ≡ plans (step_plan (held_id h) (command_of h.task) p) Open = step.due ∙ ap (λ (i : Id). plans (step_plan i step.what p) Open) (sym l.id_is) ∙ ap (λ (k : Command). plans (step_plan (held_id h) k p) Open) what in
     let owed : agenda s p ≡ plans (step_plan (id_of task) (command_of task) p) Open = rw (← l.task_is) due in
     let is_open : closed_of task ≡ false = ap closed_of (sym l.task_is) ∙ l.stood.is_open in
-    let step_led = subst (λ (b : Bool). LeadsOn (step_by b (id_of task) (command_of task) p) p world hooks m k' p' world' hooks' m') is_open led in
-    plan_done s w w' w.jobs change.0 h (record h { task = task' }) p p p' (step_plan (id_of task) (command_of task) p) k' Open world world' hooks hooks' m m' stands (quiet p) stands.orderly step.going owed (none_by_step (id_of task) (command_of task) p) (jobs_stand s w p stands) fields change.1 (rw l.task_is leaves) step_led
+    let step_led = subst (λ (b : Bool). PlanLeads (step_by b (id_of task) (command_of task) p) p world hooks m k' p' world' hooks' m') is_open led in
+    plan_done s w w' w.jobs change.0 h (record h { task = task' }) p p p' (step_plan (id_of task) (command_of task) p) k' Open world world' hooks hooks' m m' stands (same_rest p) stands.orderly step.going owed (none_by_step (id_of task) (command_of task) p) (jobs_stand s w p stands) fields change.1 (rw l.task_is leaves) step_led
 
 pub step_done : (s : Start) (w w' : Worker) (at : ℕ) (id : Id) (task task' : JobTask) (p p' : List Entry) (world world' hooks hooks' : Option (List Entry)) (m m' : ℕ) → Stands s w p → IsStepOf s id at p → Lent p w.jobs id task
-    → w' ≡ record w { jobs = w'.jobs } → w'.jobs ≡ with_task id w.jobs task' → SameJob task task' → TaskStands task' p' → LeavesOthers (id_of task) p p' → LeadsOn (step_by (closed_of task) (id_of task) (command_of task) p) p world hooks m Done p' world' hooks' m'
+    → w' ≡ record w { jobs = w'.jobs } → w'.jobs ≡ with_task id w.jobs task' → SameJob task task' → TaskStands task' p' → LeavesOthers (id_of task) p p' → PlanLeads (step_by (closed_of task) (id_of task) (command_of task) p) p world hooks m Done p' world' hooks' m'
     → JobDone s w' (step_plan (id_of task) (command_of task) p) Open p p' world world' hooks hooks'
 step_done s w w' at id task task' p p' world world' hooks hooks' m m' stands step l fields jobs same stood leaves led = step_at_plan s w w' at id task task' Done p p' world world' hooks hooks' m m' stands step l fields jobs same stood leaves led
 
@@ -170,7 +174,7 @@ step_gave s w w' at id task task' p p' a b hooks hooks' stands step l fields job
 
 pub step_stopped : {Host Hooks Fixed Held : Type 0} (seen : Host → Seen Fixed) (told : Hooks → Option (List Entry)) (s : Start) (w w' : Worker) (at : ℕ) (id : Id) (task task' : JobTask) (j j' : Written) (host host' : Host) (x x' : Hooks) → Stands s w j.past → IsStepOf s id at j.past → Lent j.past w.jobs id task
     → w' ≡ record w { jobs = w'.jobs } → w'.jobs ≡ with_task id w.jobs task' → SameJob task task' → TaskStands task' j'.past → LeavesOthers (id_of task) j.past j'.past
-    → Stops task j host x task' j' host' x' (GaveUp (step_by (closed_of task) (id_of task) (command_of task) j.past) j.past (seen host) (told x) j'.past (seen host') (told x') × Held)
+    → StepFails task j host x task' j' host' x' (GaveUp (step_by (closed_of task) (id_of task) (command_of task) j.past) j.past (seen host) (told x) j'.past (seen host') (told x') × Held)
     → StepStopped s w' j.past j'.past (seen host).shown.told (seen host').shown.told (told x) (told x')
 step_stopped seen told s w w' at id task task' j j' host host' x x' stands step l fields jobs same stood leaves (AllAsBefore undone hooks) = record {
   stands = same_lent s w w' id task task' j.past j'.past stands (ap (λ k. k.past) undone.journal) l fields jobs same stood;
@@ -292,6 +296,6 @@ end_kept s w w' at c id task task' p a one l fields items same task_stands =
     let owed = owes_step s at c (held_id h) (command_of h.task) a.before own here its alive stood.command_is in
     let step : IsStepOf s (held_id h) at (told at c a.before) = record { what = command_of h.task; alive = alive; runs = stood.command_is; due = owed; going = refl; now = refl } in
     subst (EndKept s w' id at) (sym a.last) (record {
-      stands = stands_quiet s w w' a.before (told at c a.before) a.stands (orderly_turn s (record { at = at; kind = Ended c }) a.before a.stands.orderly) (quiet_over (Turned (record { at = at; kind = Ended c })) a.before tt) fields ids (rw change.items tasks);
+      stands = stands_rest s w w' a.before (told at c a.before) a.stands (orderly_turn s (record { at = at; kind = Ended c }) a.before a.stands.orderly) (rest_over (Turned (record { at = at; kind = Ended c })) a.before tt) fields ids (rw change.items tasks);
       step = subst (λ (i : Id). IsStepOf s i at (told at c a.before)) l.id_is step;
     })

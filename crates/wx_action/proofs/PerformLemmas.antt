@@ -18,30 +18,34 @@ use Rattle.wx_journal.specs.declared.entry.Word.TheVariants.{Ignored}
 use Rattle.wx_journal.specs.Names.{ticket_count}
 use Rattle.wx_machine.specs.History.{same, lives, command, RunsOnly, SameHistory}
 use Rattle.wx_machine.specs.Table.{Plan, Done, adds, asks, ask_second, ask_plan, send_plan}
-use Rattle.wx_machine.specs.Case.{Admits as Lets, next, Leads as LeadsOn, Here as Stays, Then as Goes_on, FollowsAlone as FollowsPlan}
+use Rattle.wx_machine.specs.Case.{PlanAdmits, next, PlanLeads, PlanHere, PlanThen, PlanFollowsAlone}
 use Rattle.wx_machine.specs.Leaves.{LeavesOthers}
 use Rattle.wx_job.specs.declared.task.JobTask.{JobTask}
-use Rattle.wx_job.specs.Stands.{Stands as TaskStands, SameJob, id_of}
+use Rattle.wx_job.specs.Stands.{TaskStands, SameJob, id_of}
 use Rattle.wx_machine.proofs.Owners.{other-is}
-use Rattle.wx_action.specs.declared.handler.Todo.{Todo}
-use Rattle.wx_action.specs.declared.handler.Todo.TheVariants as todo
-use Rattle.wx_action.specs.declared.worker_state.Held.{Held}
+use Rattle.wx_hooks.specs.declared.handler.Todo.{Todo}
+use Rattle.wx_hooks.specs.declared.handler.Todo.TheVariants as todo
+use Rattle.wx_hooks.specs.declared.held.Held.{Held}
 use Rattle.wx_action.specs.declared.worker_state.Worker.{Worker}
 use Rattle.wx_machine.specs.Start.{Start}
 use Rattle.wx_machine.specs.Jobs.{set, act_plan, AreBelow}
 use Rattle.wx_machine.specs.Due.{Agenda, Open, settle, agenda, plans, rest, after_acts, is_quitting, Admits, Due}
-use Rattle.wx_action.specs.Todo.{IsNew, AreTodo}
+use Rattle.wx_hooks.specs.Todo.{IsNew, AreTodo}
 use Rattle.wx_action.specs.Perform.{AreCommanded, OwesActs}
 use Rattle.wx_machine.specs.Kept.{StaysQuiet, More}
 use Rattle.wx_machine.specs.Leads.{FollowsAlone, Then}
 use Rattle.wx_machine.specs.Turns.{StaysInTurn}
-use Rattle.wx_action.specs.HeldJobs.{with_task}
+use Rattle.wx_hooks.specs.HeldJobs.{with_task}
 use Rattle.wx_machine.proofs.Orderly.{IsOrderly}
 use Rattle.wx_machine.proofs.RunLaws.{orderly_more}
 use Rattle.wx_machine.proofs.AllJobs.{made_above, insert_last, none_by_ask, turns_over}
-use Rattle.wx_action.specs.Stands.{Stands, HeldStands, held_id}
-use Rattle.wx_action.proofs.StandsLemmas.{stands_quiet, stands_behind, same_held}
-use Rattle.wx_action.proofs.PlanLemmas.{jobs_stand, jobs_change, still_led}
+use Rattle.wx_action.specs.Stands.{Stands}
+use Rattle.wx_hooks.specs.JobsStand.{HeldStands, held_id}
+use Rattle.wx_action.proofs.StandsLemmas.{stands_rest, stands_behind}
+use Rattle.wx_hooks.proofs.JobsLemmas.{same_held}
+use Rattle.wx_action.proofs.PlanLemmas.{jobs_stand}
+use Rattle.wx_hooks.proofs.JobsLemmas.{jobs_change}
+use Rattle.wx_hooks.proofs.QuietLemmas.{still_led}
 use Rattle.wx_action.proofs.JobLemmas.{Lent, changed}
 
 commanded_same : (p p' : List Entry) (acts : List Act) → ((i : Id) → command i p' ≡ command i p) → AreCommanded p acts → AreCommanded p' acts
@@ -171,7 +175,7 @@ ignored_one s w id ask done rests more p p' owes stands gone grown =
     let owed : agenda s p ≡ settle p (plans (adds (Said Ignored) (act_plan (λ job. lives job p) f.acts)) Open) = f.due ∙ ap (λ (b : Bool). settle p (plans (cond b (ask_plan id (sends_of ask) (act_plan (λ job. lives job p) f.acts)) (adds (Said Ignored) (act_plan (λ job. lives job p) f.acts))) Open)) gone in
     let due : Due s p (Said Ignored) = subst (λ (a : Agenda). Admits s p a (Said Ignored)) (sym owed) (tt, refl) in
     rw grown (record {
-      stands = stands_behind s w (Said Ignored) p tt tt due stands;
+      stands = stands_behind s w (Said Ignored) p refl tt due stands;
       follows = λ world hooks p₀ world₀ hooks₀ l. Then (Said Ignored) p world hooks l due;
       quiet = λ p₀ a. More (Said Ignored) p a refl;
       turns = turns_over _ _ refl;
@@ -187,27 +191,27 @@ asked_all id level first (Some second) p = Asked (ticket_count p + 1) id level s
 abbrev AskedSo : Id → Level → Control → Option Control → List Entry → Plan → List Entry → Type 0
 AskedSo id level first second p k' p' = ((k' ≡ asks id level first (ask_second id level second Done)) × (p' ≡ p)) ⊎ (((k' ≡ ask_second id level second Done) × (p' ≡ Asked (ticket_count p) id level first ∷ p)) ⊎ ((k' ≡ Done) × (p' ≡ asked_all id level first second p)))
 
-asked_first : (id : Id) (level : Level) (first : Control) (second : Option Control) (p : List Entry) (k : Plan) (q : List Entry) (e : Entry) → Lets q k e → k ≡ asks id level first (ask_second id level second Done) → q ≡ p → AskedSo id level first second p (next k e) (e ∷ q)
+asked_first : (id : Id) (level : Level) (first : Control) (second : Option Control) (p : List Entry) (k : Plan) (q : List Entry) (e : Entry) → PlanAdmits q k e → k ≡ asks id level first (ask_second id level second Done) → q ≡ p → AskedSo id level first second p (next k e) (e ∷ q)
 asked_first id level first second p k q e d plan_is same =
-    let is : e ≡ Asked (ticket_count q) id level first = (subst (λ (j : Plan). Lets q j e) plan_is d).1 in
+    let is : e ≡ Asked (ticket_count q) id level first = (subst (λ (j : Plan). PlanAdmits q j e) plan_is d).1 in
     inr (inl (ap (λ (j : Plan). next j e) plan_is ∙ ap (λ (x : Entry). next (asks id level first (ask_second id level second Done)) x) is, ap (λ (x : Entry). x ∷ q) is ∙ ap (λ (r : List Entry). Asked (ticket_count r) id level first ∷ r) same))
 
-asked_then : (id : Id) (level : Level) (first : Control) (second : Option Control) (p : List Entry) (k : Plan) (q : List Entry) (e : Entry) → Lets q k e → k ≡ ask_second id level second Done → q ≡ Asked (ticket_count p) id level first ∷ p → AskedSo id level first second p (next k e) (e ∷ q)
+asked_then : (id : Id) (level : Level) (first : Control) (second : Option Control) (p : List Entry) (k : Plan) (q : List Entry) (e : Entry) → PlanAdmits q k e → k ≡ ask_second id level second Done → q ≡ Asked (ticket_count p) id level first ∷ p → AskedSo id level first second p (next k e) (e ∷ q)
 unfolding asked_all
-asked_then id level first None p k q e d plan_is same = absurd (subst (λ (j : Plan). Lets q j e) plan_is d)
+asked_then id level first None p k q e d plan_is same = absurd (subst (λ (j : Plan). PlanAdmits q j e) plan_is d)
 asked_then id level first (Some second) p k q e d plan_is same =
-    let is : e ≡ Asked (ticket_count q) id level second = (subst (λ (j : Plan). Lets q j e) plan_is d).1 in
+    let is : e ≡ Asked (ticket_count q) id level second = (subst (λ (j : Plan). PlanAdmits q j e) plan_is d).1 in
     inr (inr (ap (λ (j : Plan). next j e) plan_is ∙ ap (λ (x : Entry). next (asks id level second Done) x) is, ap (λ (x : Entry). x ∷ q) is ∙ ap (λ (r : List Entry). Asked (ticket_count r) id level second ∷ r) same))
 
-asked_more : (id : Id) (level : Level) (first : Control) (second : Option Control) (p : List Entry) (k : Plan) (q : List Entry) (e : Entry) → Lets q k e → AskedSo id level first second p k q → AskedSo id level first second p (next k e) (e ∷ q)
+asked_more : (id : Id) (level : Level) (first : Control) (second : Option Control) (p : List Entry) (k : Plan) (q : List Entry) (e : Entry) → PlanAdmits q k e → AskedSo id level first second p k q → AskedSo id level first second p (next k e) (e ∷ q)
 asked_more id level first second p k q e d (inl h) = asked_first id level first second p k q e d h.0 h.1
 asked_more id level first second p k q e d (inr (inl h)) = asked_then id level first second p k q e d h.0 h.1
-asked_more id level first second p k q e d (inr (inr h)) = absurd (subst (λ (j : Plan). Lets q j e) h.0 d)
+asked_more id level first second p k q e d (inr (inr h)) = absurd (subst (λ (j : Plan). PlanAdmits q j e) h.0 d)
 
-asked_so : (id : Id) (level : Level) (first : Control) (second : Option Control) (p : List Entry) (world hooks : Option (List Entry)) (n : ℕ) (k' : Plan) (p' : List Entry) (world' hooks' : Option (List Entry)) (n' : ℕ) → LeadsOn (asks id level first (ask_second id level second Done)) p world hooks n k' p' world' hooks' n' → AskedSo id level first second p k' p'
+asked_so : (id : Id) (level : Level) (first : Control) (second : Option Control) (p : List Entry) (world hooks : Option (List Entry)) (n : ℕ) (k' : Plan) (p' : List Entry) (world' hooks' : Option (List Entry)) (n' : ℕ) → PlanLeads (asks id level first (ask_second id level second Done)) p world hooks n k' p' world' hooks' n' → AskedSo id level first second p k' p'
 asked_so id level first second p world hooks n k' p' world' hooks' n' l = elim l as (λ k' p' world' hooks' n' _. AskedSo id level first second p k' p') [
-  | Stays ↦ inl (refl, refl)
-  | Goes_on e k₁ p₁ world₁ hooks₁ n₁ n₂ (l → h) d counts ↦ asked_more id level first second p k₁ p₁ e d h
+  | PlanHere ↦ inl (refl, refl)
+  | PlanThen e k₁ p₁ world₁ hooks₁ n₁ n₂ (l → h) d counts ↦ asked_more id level first second p k₁ p₁ e d h
 ]
 
 asked_done : (id : Id) (level : Level) (first : Control) (second : Option Control) (p p' : List Entry) → AskedSo id level first second p Done p' → p' ≡ asked_all id level first second p
@@ -262,7 +266,7 @@ asks_all s p id level first (Some second) k owed =
     asks_then s (asks id level second k) k p _ _ one (asks_one s (Asked (ticket_count p) id level first ∷ p) id level second k one.due)
 
 pub asked_one : (s : Start) (w w' : Worker) (id : Id) (task task' : JobTask) (ask : AnAsk) (done : Flag) (rests : List Todo) (more : Agenda) (p p' : List Entry) → OwesActs s p (todo.Ask id ask done ∷ rests) more → Stands s w p → lives id p ≡ true → Lent p w.jobs id task → w' ≡ record w { jobs = w'.jobs }
-    → w'.jobs ≡ with_task id w.jobs task' → SameJob task task' → TaskStands task' p' → LeavesOthers (id_of task) p p' → FollowsPlan (send_plan (id_of task) (sends_of ask) p) p Done p' → OneDone s w' rests more p p'
+    → w'.jobs ≡ with_task id w.jobs task' → SameJob task task' → TaskStands task' p' → LeavesOthers (id_of task) p p' → PlanFollowsAlone (send_plan (id_of task) (sends_of ask) p) p Done p' → OneDone s w' rests more p p'
 asked_one s w w' id task task' ask done rests more p p' owes stands alive l fields jobs same task_stands leaves follows =
     let f = first_ask s p id ask done rests owes.acts owes.is_todo owes.commanded owes.due in
     let sends = sends_of ask in
@@ -271,12 +275,12 @@ asked_one s w w' id task task' ask done rests more p p' owes stands alive l fiel
     let id_is : id_of task ≡ id = ap id_of (sym l.task_is) ∙ l.id_is in
     let owed : agenda s p ≡ settle p (plans (ask_plan id sends k) Open) = f.due ∙ ap (λ (b : Bool). settle p (plans (cond b (ask_plan id sends k) (adds (Said Ignored) k)) Open)) alive in
     let plan_is : send_plan (id_of task) sends p ≡ ask_plan id sends Done = rw (id_is, alive) refl in
-    let led : LeadsOn (ask_plan id sends Done) p None None 0 Done p' None None 0 = rw (← plan_is) (follows _ p None None 0 None None 0 Stays) in
+    let led : PlanLeads (ask_plan id sends Done) p None None 0 Done p' None None 0 = rw (← plan_is) (follows _ p None None 0 None None 0 PlanHere) in
     let grown = asked_done id sends.level sends.first sends.second p p' (asked_so id sends.level sends.first sends.second p None None 0 Done p' None None 0 led) in
     let ran = asks_all s p id sends.level sends.first sends.second k owed in
     let still = (still_led (ask_plan id sends Done) p None None 0 Done p' None None 0 (none_by_ask id ask p) led).still in
     let j = jobs_change p p' w.jobs w'.jobs change.0 l.held (record l.held { task = task' }) (jobs_stand s w p stands) still (rw l.task_is leaves) change.1 in
-    let stood : Stands s w' (asked_all id sends.level sends.first sends.second p) = subst (Stands s w') grown (stands_quiet s w w' p p' stands (subst (IsOrderly s) (sym grown) (ran.orderly stands.orderly)) still fields j.0 j.1) in
+    let stood : Stands s w' (asked_all id sends.level sends.first sends.second p) = subst (Stands s w') grown (stands_rest s w w' p p' stands (subst (IsOrderly s) (sym grown) (ran.orderly stands.orderly)) still fields j.0 j.1) in
     rw grown (record {
       stands = stood;
       follows = ran.follows;

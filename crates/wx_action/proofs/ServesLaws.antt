@@ -6,12 +6,12 @@ use Rattle.wx_machine.specs.Start.{Start}
 use Rattle.wx_machine.specs.Leads.{FollowsHooks, FollowsAlone}
 use Rattle.wx_machine.specs.Turns.{StaysInTurn}
 use Rattle.wx_machine.proofs.FaultLaws.{counts_hooks}
-use Rattle.wx_action.specs.Serves.{Adds, AddsHand}
+use Rattle.wx_action.specs.Serves.{AddsAlone, AddsHand}
 
-pub adds_none : (s : Start) (p : List Entry) → Adds s p p
+pub adds_none : (s : Start) (p : List Entry) → AddsAlone s p p
 adds_none s p = record { follows = λ world hooks p₀ world₀ hooks₀ l. l; quiet = λ p₀ q. q; turns = λ p₀ t. t; counts = λ n p₀ n₀ c. c }
 
-pub adds_then : (s : Start) (p q r : List Entry) → Adds s p q → Adds s q r → Adds s p r
+pub adds_then : (s : Start) (p q r : List Entry) → AddsAlone s p q → AddsAlone s q r → AddsAlone s p r
 adds_then s p q r a b = record {
   follows = λ world hooks p₀ world₀ hooks₀ l. b.follows world hooks p₀ world₀ hooks₀ (a.follows world hooks p₀ world₀ hooks₀ l);
   quiet = λ p₀ h. b.quiet p₀ (a.quiet p₀ h);
@@ -19,7 +19,7 @@ adds_then s p q r a b = record {
   counts = λ n p₀ n₀ c. b.counts n p₀ n₀ (a.counts n p₀ n₀ c);
 }
 
-pub adds : (s : Start) (p p' : List Entry) → FollowsAlone s p p' → StaysQuiet p p' → StaysInTurn p p' → Adds s p p'
+pub adds : (s : Start) (p p' : List Entry) → FollowsAlone s p p' → StaysQuiet p p' → StaysInTurn p p' → AddsAlone s p p'
 adds s p p' follows quiet turns = record { follows = follows; quiet = quiet; turns = turns; counts = λ n. counts_hooks s p p' None None n n (λ world. follows world None) (omega arith) }
 
 pub adds_hand : (s : Start) (p p' : List Entry) (hooks hooks' : Option (List Entry)) → FollowsHooks s p hooks p' hooks' → StaysInTurn p p' → AddsHand s p hooks p' hooks'

@@ -8,7 +8,7 @@ use Rattle.wx_machine.specs.Steady.{OnlyRoom}
 use Rattle.wx_machine.proofs.SteadyLemmas.{steady_none, steady_then}
 use Rattle.wx_machine.specs.Start.{Start}
 use Rattle.wx_action.specs.declared.worker_state.Worker.{Worker}
-use Rattle.wx_action.specs.Serves.{Adds, AddsHand, Serves, Grows, GrowsHand, GrowsWithin, Continues}
+use Rattle.wx_action.specs.Serves.{AddsAlone, AddsHand, Serves, Grows, GrowsHand, GrowsWithin, Continues}
 use Rattle.wx_action.specs.Stands.{Stands, end_room}
 
 -- only room was taken
@@ -20,7 +20,7 @@ serves_room s p p' a b hooks hooks' only past told = record {
   steady = only.steady;
 }
 
-pub serves_adds : {Fixed : Type 0} (s : Start) (p p' : List Entry) (a : Seen Fixed) (hooks : Option (List Entry)) → Adds s p p' → Serves s p a hooks p' a hooks
+pub serves_adds : {Fixed : Type 0} (s : Start) (p p' : List Entry) (a : Seen Fixed) (hooks : Option (List Entry)) → AddsAlone s p p' → Serves s p a hooks p' a hooks
 serves_adds s p p' a hooks h = record { follows = h.follows a.shown.told hooks; turns = h.turns; counts = h.counts a.shown.faults; steady = steady_none }
 
 pub serves_hand : {Fixed : Type 0} (s : Start) (p p' : List Entry) (a : Seen Fixed) (hooks hooks' : Option (List Entry)) → AddsHand s p hooks p' hooks' → Serves s p a hooks p' a hooks'
@@ -35,11 +35,11 @@ serves_then s p q r a b c hooks hooks' hooks'' h g = record {
 }
 
 -- entries are added, and room is taken
-pub serves_both : {Fixed : Type 0} (s : Start) (p q r : List Entry) (a b : Seen Fixed) (hooks hooks' : Option (List Entry)) → AddsHand s p hooks q hooks' → Adds s q r → OnlyRoom a b → Serves s p a hooks r b hooks'
+pub serves_both : {Fixed : Type 0} (s : Start) (p q r : List Entry) (a b : Seen Fixed) (hooks hooks' : Option (List Entry)) → AddsHand s p hooks q hooks' → AddsAlone s q r → OnlyRoom a b → Serves s p a hooks r b hooks'
 serves_both s p q r a b hooks hooks' h adds only = serves_then s p q r a b b hooks hooks' hooks' (serves_adds s q r b hooks' adds) (serves_then s p p q a b b hooks hooks hooks' (serves_hand s p q b hooks hooks' h) (serves_room s p p a b hooks hooks only refl refl))
 
 -- what hooks keep, where entries are added that are no calls on them
-pub keeps_adds : {K Fixed : Type 0} (seen : K → Hooked Fixed) (rule : Fixed → List Entry → Entry → Type 0) (stands : K → List Entry → Type 0) (x : K) (s : Start) (p p' : List Entry) → Adds s p p' → KeepsOn seen rule stands x p x p'
+pub keeps_adds : {K Fixed : Type 0} (seen : K → Hooked Fixed) (rule : Fixed → List Entry → Entry → Type 0) (stands : K → List Entry → Type 0) (x : K) (s : Start) (p p' : List Entry) → AddsAlone s p p' → KeepsOn seen rule stands x p x p'
 keeps_adds seen rule stands x s p p' adds = λ x₀ p₀ k. Past x p p' k (adds.quiet p Same)
 
 -- what grows where neither is called continues where both may be
@@ -108,7 +108,7 @@ continues_hand seen rule holds s n m u v w j k l a b x y z g room h =
 -- ---- where the world isn't called
 
 -- what is added where neither is called grows where hooks may be
-pub hand_adds : {K Fixed : Type 0} (seen : K → Hooked Fixed) (rule : Fixed → List Entry → Entry → Type 0) (holds : K → List Entry → Type 0) (s : Start) (p : List Entry) (x : K) (w' : Worker) (p' : List Entry) → Stands s w' p' → Adds s p p' → GrowsHand seen rule holds s p x w' p' x
+pub hand_adds : {K Fixed : Type 0} (seen : K → Hooked Fixed) (rule : Fixed → List Entry → Entry → Type 0) (holds : K → List Entry → Type 0) (s : Start) (p : List Entry) (x : K) (w' : Worker) (p' : List Entry) → Stands s w' p' → AddsAlone s p p' → GrowsHand seen rule holds s p x w' p' x
 hand_adds seen rule holds s p x w' p' stands adds = record {
   stands = stands;
   adds = record { follows = λ world. adds.follows world (seen x).told; turns = adds.turns; counts = adds.counts };

@@ -11,9 +11,9 @@ use Rattle.wx_journal.specs.declared.entry.TurnKind.TheVariants.{Ended}
 use Rattle.wx_journal.specs.Names.{moment, NamesItsOwn}
 use Rattle.wx_job.specs.declared.task.JobTask.{JobTask}
 use Rattle.wx_machine.specs.History.{child, is_child, names_end}
-use Rattle.wx_job.specs.Stands.{Stands as TaskStands}
+use Rattle.wx_job.specs.Stands.{TaskStands}
 use Rattle.wx_machine.specs.Told.{TellsNoEnd}
-use Rattle.wx_action.specs.declared.worker_state.Held.{Held}
+use Rattle.wx_hooks.specs.declared.held.Held.{Held}
 use Rattle.wx_action.specs.declared.worker_state.Worker.{Worker}
 use Rattle.wx_machine.specs.Start.{Start}
 use Rattle.wx_machine.specs.Due.{Hands, is_quitting, agenda, turn_agenda}
@@ -21,7 +21,8 @@ use Rattle.wx_machine.proofs.SettleLaws.{settle_calm}
 use Rattle.wx_machine.specs.RunLaws.{NoneUrgentWaits}
 use Rattle.wx_machine.specs.Leads.{Follows}
 use Rattle.wx_machine.specs.Jobs.{set, parent_among, parent}
-use Rattle.wx_action.specs.Stands.{HeldStands, held_id, Stands, AtTurn}
+use Rattle.wx_hooks.specs.JobsStand.{HeldStands, held_id}
+use Rattle.wx_action.specs.Stands.{Stands, AtTurn}
 use Rattle.wx_machine.proofs.RunLaws.{orderly_turn, calm_turn}
 use Rattle.wx_machine.proofs.AllJobs.{IsIn, parent_none, one_parent}
 
@@ -98,10 +99,10 @@ pub record IsDrawn (s : Start) (w : Worker) (at : ℕ) (kind : TurnKind) (p : Li
   pub stands : Stands s w p
 
 -- the turn tells no end of a child of the worker's jobs
-abbrev pub AreApart : Worker → ℕ → TurnKind → List Entry → Type 0
-AreApart w at kind p = AllByRecursion (IsApart (record { at = at; kind = kind }) p) w.jobs
+abbrev pub AreApartFromTurn : Worker → ℕ → TurnKind → List Entry → Type 0
+AreApartFromTurn w at kind p = AllByRecursion (IsApart (record { at = at; kind = kind }) p) w.jobs
 
-drawn : (s : Start) (w : Worker) (at : ℕ) (kind : TurnKind) (p : List Entry) (a : AtTurn s w at kind p) → AreApart w at kind a.before → IsDrawn s w at kind p
+drawn : (s : Start) (w : Worker) (at : ℕ) (kind : TurnKind) (p : List Entry) (a : AtTurn s w at kind p) → AreApartFromTurn w at kind a.before → IsDrawn s w at kind p
 drawn s w at kind p a other =
     let h = turned s w at kind p a in record {
       due = h.due;

@@ -21,11 +21,11 @@ use Rattle.wx_action.specs.declared.work_turn.Found.{Found}
 use Rattle.wx_action.specs.declared.work_turn.Found.TheVariants.{Hand, Kept}
 use Rattle.wx_action.specs.declared.work_turn.Found.TheVariants as outcome
 use Rattle.wx_journal.specs.declared.entry.Word.TheVariants.{Idle}
-use Rattle.wx_action.specs.Batch.{Waiting}
+use Rattle.wx_hooks.specs.Batch.{Waiting}
 use Rattle.wx_machine.specs.Start.{Start}
 use Rattle.wx_machine.specs.Journal.{settings, listed, is_urgent_in, is_urgent_named, is_unseen, is_unseen_in, passes_unseen, lets_pass, is_exit, is_close, closed, ending, wished, one_if, and_one, begun, without, bag, window, first, is_over, is_over_of}
 use Rattle.wx_machine.specs.Due.{agenda, Due, Open, Says, Takes as TakesNext, Filters, Shows as ShowsNext, Hands, work, after_pass, after_drop, after_show, after_filter}
-use Rattle.wx_action.specs.Handled.{lookup}
+use Rattle.wx_hooks.specs.Handled.{lookup}
 use Rattle.wx_machine.specs.Kept.{More, Keeps, Called}
 use Rattle.wx_machine.specs.Seen.{Hooked}
 use Rattle.wx_action.specs.Serves.{GrowsHand}
@@ -38,7 +38,7 @@ use Rattle.wx_machine.proofs.AllJobs.{turns_over}
 use Rattle.wx_action.proofs.ArriveLemmas.{Steps, said_done, said_then}
 use Rattle.wx_machine.proofs.Orderly.{IsGoing, IsOrderly}
 use Rattle.wx_machine.proofs.SettleLaws.{settle_calm}
-use Rattle.wx_action.proofs.StandsLemmas.{events-append, tasks_same, over_none}
+use Rattle.wx_action.proofs.StandsLemmas.{events-append, tasks_silent}
 
 -- a queue that is empty, where the bag isn't
 pub not_empty : (s : Start) (w : Worker) (p : List Entry) → Stands s w p → w.queue.items ≡ [] → (length (bag p) == 0) ≡ false → ⊥
@@ -87,7 +87,7 @@ take_done s w p p' at start x queue batch found stands due now takes most size s
           events_kept = rw (events, window_is) (events-append (lookup p) (window p) w.batch.events x.0.name x.0.event x.1 stands.events_kept t.is_listed);
           first_kept = sym first_is;
           jobs_kept = stands.jobs_kept;
-          tasks_kept = tasks_same p _ w.jobs (over_none (Take x.0.name) p tt) stands.tasks_kept;
+          tasks_kept = tasks_silent (Take x.0.name) p w.jobs refl stands.tasks_kept;
         };
         follows = λ world hooks p₀ world₀ hooks₀ l. Then (Take x.0.name) p world hooks l d;
         quiet = λ p₀ a. More _ p a refl;
@@ -145,7 +145,7 @@ to_show s w p p' at x queue stands due now takes most size same_closed seen grow
           events_kept = rw same stands.events_kept;
           first_kept = stands.first_kept ∙ sym first_is;
           jobs_kept = stands.jobs_kept;
-          tasks_kept = tasks_same p _ w.jobs (over_none (Take x.0.name) p tt) stands.tasks_kept;
+          tasks_kept = tasks_silent (Take x.0.name) p w.jobs refl stands.tasks_kept;
         };
         follows = λ world hooks p₀ world₀ hooks₀ l. Then (Take x.0.name) p world hooks l d;
         quiet = λ p₀ a. More _ p a refl;
@@ -216,7 +216,7 @@ filter_passed s w w' p p' at n name event priority answer found stands due now i
       events_kept = rw (events, window_is) (events-append (lookup p) (window p) w.batch.events name event priority stands.events_kept is_listed);
       first_kept = sym first_is;
       jobs_kept = stands.jobs_kept;
-      tasks_kept = tasks_same p _ w.jobs (over_none (Filter n name answer) p tt) stands.tasks_kept;
+      tasks_kept = tasks_silent (Filter n name answer) p w.jobs refl stands.tasks_kept;
     } in
     record {
       due = d;
@@ -251,7 +251,7 @@ filter_dropped s w w' p p' n name answer found stands due number passes is_dropp
       events_kept = rw same stands.events_kept;
       first_kept = stands.first_kept ∙ sym first_is;
       jobs_kept = stands.jobs_kept;
-      tasks_kept = tasks_same p _ w.jobs (over_none (Filter n name answer) p tt) stands.tasks_kept;
+      tasks_kept = tasks_silent (Filter n name answer) p w.jobs refl stands.tasks_kept;
     } in
     record {
       due = d;
@@ -287,7 +287,7 @@ show_done s w p p' n error wish queue stands due number items size shut grown =
         events_kept = stands.events_kept;
         first_kept = stands.first_kept;
         jobs_kept = stands.jobs_kept;
-        tasks_kept = tasks_same p _ w.jobs (over_none (Show n error wish) p tt) stands.tasks_kept;
+        tasks_kept = tasks_silent (Show n error wish) p w.jobs refl stands.tasks_kept;
       });
       after = ap (agenda s) grown ∙ after;
       newest = ap (λ q. wished q) grown;

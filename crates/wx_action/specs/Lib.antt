@@ -1,12 +1,3 @@
-pub mod Batch
-pub mod ErrorHooks
-pub mod Handled
-pub mod HeldJobs
-pub mod KeptHandler
-pub mod LentTask
 pub mod Perform
-pub mod Printed
-pub mod Stands
-pub mod Todo
-pub mod Given
 pub mod Serves
+pub mod Stands

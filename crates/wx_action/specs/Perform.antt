@@ -4,11 +4,11 @@ use Rattle.wx_journal.specs.declared.entry.Entry.{Entry}
 use Rattle.wx_journal.specs.Acts.{JournalAct as Act}
 use Rattle.wx_journal.specs.declared.entry.Act.TheVariants.{Create, Ask, Quit}
 use Rattle.wx_machine.specs.History.{lives, command}
-use Rattle.wx_action.specs.declared.handler.Todo.{Todo}
+use Rattle.wx_hooks.specs.declared.handler.Todo.{Todo}
 use Rattle.wx_machine.specs.Start.{Start}
 use Rattle.wx_machine.specs.Jobs.{act_plan}
 use Rattle.wx_machine.specs.Due.{Agenda, Open, settle, agenda, plans}
-use Rattle.wx_action.specs.Todo.{AreTodo}
+use Rattle.wx_hooks.specs.Todo.{AreTodo}
 
 -- the journal says of each job that these acts create that it runs what they say
 abbrev pub AreCommanded : List Entry → List Act → Type 0

@@ -1,5 +1,5 @@
 -- What a turn did to a journal, and what it told.
-use Rattle.std.specs.Prelude.{◌≡◌, ◌≤◌, ◌+◌, ◌⊎◌, ℕ, Option, Result, OnOk, OnErr, List, []}
+use Rattle.std.specs.Prelude.{◌≡◌, ◌≤◌, ◌+◌, ◌⊎◌, ℕ, Option, Result, OnOk, OnErr, List}
 use Rattle.wx_journal.specs.declared.entry.Entry.{Entry}
 use Rattle.wx_journal.specs.Written.{Written}
 use Rattle.wx_machine.specs.Seen.{Seen, Hooked}
@@ -11,16 +11,12 @@ use Rattle.wx_machine.specs.Start.{Start}
 use Rattle.wx_action.specs.Stands.{Stands, Ready, HasRoom, end_room}
 use Rattle.wx_machine.specs.Table.{Plan}
 use Rattle.wx_machine.specs.Case.{IsCut}
-use Rattle.wx_machine.specs.Due.{agenda, Open, Ends, Plans}
+use Rattle.wx_machine.specs.Due.{agenda, Open, Plans}
 use Rattle.wx_machine.specs.Leads.{Follows, FollowsHooks, FollowsAlone}
-use Rattle.wx_machine.specs.Answer.{Dying}
-use Rattle.wx_machine.specs.Jobs.{jobs}
-use Rattle.wx_machine.specs.Told.{TellsOn}
-use Rattle.wx_journal.specs.Told.{is_world}
 use Rattle.wx_machine.specs.Turns.{StaysInTurn}
 
 -- what calls add that are none on the world, nor on the hooks: entries that were due, none of them a turn, and no fault
-pub record Adds (s : Start) (p p' : List Entry) : Type 0 where
+pub record AddsAlone (s : Start) (p p' : List Entry) : Type 0 where
   pub follows : FollowsAlone s p p'
   pub quiet : StaysQuiet p p'
   pub turns : StaysInTurn p p'
@@ -44,14 +40,14 @@ pub record Serves {Fixed : Type 0} (s : Start) (p : List Entry) (a : Seen Fixed)
 -- where neither world nor hooks are called; as many jobs are held, and the room for their end is kept where it was there
 pub record Grows (s : Start) (w : Worker) (j : Written) (w' : Worker) (j' : Written) : Type 0 where
   pub stands : Stands s w' j'.past
-  pub adds : Adds s j.past j'.past
+  pub adds : AddsAlone s j.past j'.past
   pub end_kept : end_room w' ≡ end_room w
   pub room : end_room w ≤ j.spare → end_room w' ≤ j'.spare
 
 -- where jobs may be made, for which room is taken in the world too
 pub record Performs {Plan : Type 0} (s : Start) (p : List Entry) (a : Seen Plan) (w' : Worker) (j' : Written) (b : Seen Plan) : Type 0 where
   pub ready : Ready s w' j' b
-  pub adds : Adds s p j'.past
+  pub adds : AddsAlone s p j'.past
   pub rest : OnlyRoom a b
 
 -- where hooks may be called, which keep what each call promises
@@ -73,16 +69,6 @@ pub record Continues {K Fixed Plan : Type 0} (seen : K → Hooked Fixed) (rule :
   pub serves : Serves s j.past a (seen x).told j'.past b (seen x').told
   pub keeps : KeepsOn seen rule holds x j.past x' j'.past
   pub room : HasRoom w j.spare a.spare → HasRoom w' j'.spare b.spare
-
--- The end of all jobs: the entries on top are those of the end, each told by the world alone, and no job lives. Where the end was
--- due each was due. The world's plan, its place, and where it is in its turns stay, and each fault raised its count.
-pub record EndsJobs {Plan : Type 0} (s : Start) (p : List Entry) (a : Seen Plan) (p' : List Entry) (b : Seen Plan) : Type 0 where
-  pub dying : Dying p p'
-  pub none : jobs p' ≡ []
-  pub told : TellsOn is_world p a.shown.told p' b.shown.told
-  pub follows : agenda s p ≡ Ends → (hooks : Option (List Entry)) → Follows s p a.shown.told hooks p' b.shown.told hooks
-  pub kept : IsSteady a b
-  pub faults : CountsOn p a.shown.faults p' b.shown.faults
 
 -- ---- with the answer
 

@@ -1,5 +1,5 @@
 -- A worker stands for a journal.
-use Rattle.std.specs.Prelude.{◌≡◌, ◌≢◌, ◌≤◌, ◌⊎◌, ℕ, ◌+◌, ◌*◌, ◌==◌, Bool, true, false, None, Some, is_some, Result, Ok, Err, List, [], ◌∷◌, ◌++◌, length, map}
+use Rattle.std.specs.Prelude.{◌≡◌, ◌≤◌, ◌⊎◌, ℕ, ◌+◌, ◌*◌, ◌==◌, Bool, true, false, None, Some, is_some, Result, Ok, Err, List, [], ◌∷◌, ◌++◌, length, map}
 use Rattle.std.specs.List.{AllByRecursion}
 use Rattle.wx_events.specs.declared.priority.Priority.{Priority}
 use Rattle.prio_channel.specs.Channel.{Channel}
@@ -23,9 +23,7 @@ use Rattle.wx_command.specs.declared.command.Command.{Command}
 use Rattle.wx_machine.specs.History.{lives, command}
 use Rattle.wx_machine.specs.Seen.{Seen}
 use Rattle.wx_machine.specs.Table.{step_plan}
-use Rattle.wx_job.specs.Stands.{Stands as TaskStands, id_of, command_of, closed_of}
 use Rattle.wx_machine.specs.Jobs.{set}
-use Rattle.wx_action.specs.declared.worker_state.Held.{Held}
 use Rattle.wx_action.specs.declared.worker_state.Worker.{Worker}
 use Rattle.wx_action.specs.declared.work_turn.Collected.{Collected}
 use Rattle.wx_action.specs.declared.work_turn.Collected.TheVariants as collected
@@ -36,30 +34,9 @@ use Rattle.wx_action.specs.declared.work_turn.Worked.TheVariants as worked
 use Rattle.wx_machine.specs.Start.{Start}
 use Rattle.wx_machine.specs.Journal.{settings, passes_unseen, closed, named, bag, window, first, is_over}
 use Rattle.wx_machine.specs.Due.{Agenda, is_quitting, agenda, plans, Open, Shows, Hands, Ends}
-use Rattle.wx_action.specs.Handled.{AreEvents, lookup}
+use Rattle.wx_hooks.specs.Handled.{AreEvents, lookup}
+use Rattle.wx_hooks.specs.JobsStand.{HeldStands, held_id}
 use Rattle.wx_machine.proofs.Orderly.{IsOrderly}
-
--- what is held of a job: its task stands for it, runs what its creation says, and isn't closed, and the handle names both
-pub record HeldStands (p : List Entry) (h : Held) : Type 0 where
-  pub task_stands : TaskStands h.task p
-  pub command_is : command (id_of h.task) p ≡ Some (command_of h.task)
-  pub handle_is : h.handle.id ≡ id_of h.task
-  pub handle_command : h.handle.command ≡ command_of h.task
-  pub is_open : closed_of h.task ≡ false
-
-abbrev pub held_id : Held → Id
-held_id h = id_of h.task
-
--- no two of these are one
-abbrev pub AreApart : List Id → Type 0
-AreApart [] = Unit {0}
-AreApart (id ∷ ids) = AllByRecursion (λ job. job ≢ id) ids × AreApart ids
-
--- what is held is of the jobs that a handler sees, in order, and stands for the journal
-pub record JobsStand (p : List Entry) (held : List Held) : Type 0 where
-  pub ids_are : map held_id held ≡ set p
-  pub tasks_stand : AllByRecursion (HeldStands p) held
-  pub ids_apart : AreApart (map held_id held)
 
 -- the journal is orderly, and it keeps what this says, for this start
 pub record Stands (s : Start) (w : Worker) (p : List Entry) : Type 0 where

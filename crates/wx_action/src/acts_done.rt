@@ -1,7 +1,7 @@
 // What acts ask for is done.
 ghost use Rattle.std.specs.Prelude.{◌≡◌, ◌+◌, ◌≤◌, List, OnOk};
-ghost use Rattle.wx_action.specs.declared.handler.Todo.{Todo as ATodo};
-ghost use Rattle.wx_action.specs.declared.handler.Todo.TheVariants as todo;
+ghost use Rattle.wx_hooks.specs.declared.handler.Todo.{Todo as ATodo};
+ghost use Rattle.wx_hooks.specs.declared.handler.Todo.TheVariants as todo;
 ghost use Rattle.wx_action.specs.Serves.{Grows, Performs};
 ghost use Rattle.wx_machine.specs.Start.{Start};
 ghost use Rattle.wx_machine.specs.Due.{Agenda, agenda};
@@ -9,11 +9,11 @@ ghost use Rattle.wx_machine.specs.Steady.{OnlyRoom};
 ghost use Rattle.wx_action.specs.Perform.{OwesActs, IsFirst, Does};
 ghost use Rattle.wx_action.specs.Stands.{Stands, Ready, end_room};
 
-use crate::handler::Todo;
-use crate::worker_state::{Held, Worker};
+use crate::worker_state::Worker;
 use std::alloc::Global;
 use wx_control::{Ask, Flag, Id};
 use wx_events::Memory;
+use wx_hooks::{Held, Todo};
 use wx_job::Host;
 use wx_journal::{Entry, Journal, Word};
 

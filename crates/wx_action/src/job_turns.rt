@@ -3,17 +3,18 @@ ghost use Rattle.std.specs.Prelude.{◌≡◌, ℕ, ◌+◌, IfSome, IfNone, IfO
 ghost use Rattle.wx_journal.specs.declared.entry.TurnKind.TheVariants.{Ask as AsksTurn, Job as JobTurn, Ended as EndedTurn};
 ghost use Rattle.wx_journal.specs.declared.entry.Word.TheVariants.{Ignored};
 ghost use Rattle.wx_machine.specs.Steady.{HaveRoom};
-ghost use Rattle.wx_action.specs.Serves.{Grows, Continues, EndsJobs, Steps, Settles};
+ghost use Rattle.wx_action.specs.Serves.{Grows, Continues, Steps, Settles};
+ghost use Rattle.wx_hooks.specs.EndsJobs.{EndsJobs};
 ghost use Rattle.wx_machine.specs.Start.{Start};
-ghost use Rattle.wx_action.specs.HeldJobs.{parked_at};
+ghost use Rattle.wx_hooks.specs.HeldJobs.{parked_at};
 ghost use Rattle.wx_machine.specs.Due.{agenda, Says, Open};
 ghost use Rattle.wx_action.specs.Stands.{Stands, Ready, AtTurn, IsStepOf, end_room};
 
-use crate::outside::Hooks;
 use crate::worker_state::Worker;
 use std::alloc::Global;
 use wx_control::{Ask, Id};
 use wx_events::Memory;
+use wx_hooks::Hooks;
 use wx_job::Host;
 use wx_journal::Journal;
 

@@ -1,10 +1,8 @@
 // A Work turn: an event is taken, and the window is handed where it is due.
-ghost use Rattle.std.specs.Prelude.{◌≡◌, ◌∷◌, [], ◌++◌, ◌+◌, ◌<◌, ◌≤◌, ◌==◌, ◌||◌, nat_le, Some, true, false, if◌then◌else◌, length, List, Option, is_some, IfOk, IfErr, OnOk, OnErr};
+ghost use Rattle.std.specs.Prelude.{◌≡◌, ◌∷◌, [], ◌++◌, ◌+◌, ◌<◌, ◌≤◌, ◌==◌, ◌||◌, nat_le, Some, true, false, if◌then◌else◌, length, Option, is_some, IfOk, IfErr, OnOk, OnErr};
 ghost use Rattle.wx_journal.specs.declared.entry.Entry.{Entry};
 ghost use Rattle.wx_journal.specs.declared.entry.Entry.TheVariants.{Filter};
-ghost use Rattle.wx_journal.specs.Names.{moment};
 ghost use Rattle.wx_events.specs.Priority.{is_urgent};
-ghost use Rattle.wx_error.specs.declared.error.CriticalError.TheVariants.{Memory as WantOfMemory};
 ghost use Rattle.wx_job.specs.Calls.{AreRoomy};
 ghost use Rattle.wx_action.specs.Serves.{GrowsHand, GrowsWithin, Continues};
 ghost use Rattle.wx_machine.specs.Start.{Start};
@@ -16,18 +14,16 @@ ghost use Rattle.wx_machine.specs.RunLaws.{NoneUrgentWaits};
 ghost use Rattle.wx_action.specs.Stands.{Owes, OwesAt, AtWork, MayShow, Finds, Collects, IsDropped, IsJudged, LeavesRoom, Works, without_hand, end_room};
 
 use crate::acts_done::perform;
-use crate::batch::Batch;
-use crate::error_hook::ErrorHook;
-use crate::handler::{ActionHandler, Todo, is_quit};
-use crate::outside::Hooks;
 use crate::worker_state::Worker;
 use prio_channel::PrioQueue;
 use std::alloc::Global;
 use std::mem;
 use wx_error::{CriticalError, RuntimeError};
-use wx_events::{Copies, Event, Memory, Priority};
+use wx_events::{Copies, Memory, Priority};
+use wx_hooks::{ActionHandler, Batch, ErrorHook, Hooks, Todo, is_quit};
 use wx_job::Host;
 use wx_journal::{Act, Entry, Journal, Named, Wish, Word};
+use wx_machine::is_unseen;
 
 /// What a Work turn collected.
 #[derive(Clone, Copy, Debug, PartialEq, Eq)]
@@ -104,13 +100,6 @@ fn is_past(since: u64, time: u64, at: u64) -> bool
     ensures { result ≡ nat_le (since + time) at }
 {
     since <= at && time <= at - since
-}
-
-/// Whether an event passes without being shown to the filter.
-pub(crate) fn is_unseen(event: &Event, priority: Priority) -> bool
-    ensures { result ≡ is_unseen event.now priority }
-{
-    priority.is_urgent() || event.is_empty()
 }
 
 /// Whether a filter let an event pass.

@@ -1,11 +1,9 @@
 // What an engine keeps between turns.
-ghost use Rattle.std.specs.Prelude.{◌≡◌, ◌∷◌, [], ◌++◌, ◌+◌, ◌*◌, ◌^◌, ◌<◌, ◌≤◌, ◌==◌, false, length, List, IfOk, OnOk, OnErr};
+ghost use Rattle.std.specs.Prelude.{◌≡◌, ◌∷◌, [], ◌+◌, ◌*◌, ◌^◌, ◌<◌, ◌≤◌, false, length, List, IfOk, OnOk, OnErr};
 ghost use Rattle.wx_events.specs.declared.event.Event.{Event as AnEvent};
 ghost use Rattle.wx_events.specs.declared.priority.Priority.{Priority as APriority};
-ghost use Rattle.prio_channel.specs.SameBag.{SameBag};
 ghost use Rattle.wx_journal.specs.declared.entry.Entry.{Entry};
 ghost use Rattle.wx_journal.specs.declared.entry.Word.TheVariants.{Ignored};
-ghost use Rattle.wx_journal.specs.Names.{event_count};
 ghost use Rattle.wx_machine.specs.Steady.{OnlyRoom};
 ghost use Rattle.wx_machine.specs.Kept.{OnlyHooksRoom};
 ghost use Rattle.wx_action.specs.Serves.{Grows, Settles};
@@ -13,25 +11,14 @@ ghost use Rattle.wx_machine.specs.Start.{Start, IsSize};
 ghost use Rattle.wx_machine.specs.Journal.{closed, bag};
 ghost use Rattle.wx_machine.specs.Due.{agenda, Open, Sends, rest, Offers, Says, begin_of};
 ghost use Rattle.wx_action.specs.Stands.{Stands, Owes, IsOffered, end_room};
-ghost use Rattle.wx_action.specs.HeldJobs.{is_here, runs_child};
 
-use crate::batch::Batch;
-use crate::copied::with_copy;
-use crate::job_list::JobList;
 use prio_channel::{PrioQueue, TrySendError};
 use std::alloc::Global;
 use wx_config::Config;
-use wx_control::Job;
 use wx_events::{Event, Memory, Priority};
-use wx_job::{Host, JobHooks, JobTask};
+use wx_hooks::{Batch, JobList, with_copy};
+use wx_job::{Host, JobHooks};
 use wx_journal::{Entry, Journal, Named, Offered, Word};
-
-/// What is held of a job: a handle on it, for the action handler, and its task.
-#[derive(Drop, Debug)]
-pub struct Held {
-    pub handle: Job,
-    pub task: JobTask,
-}
 
 /// What an engine keeps between turns: its settings, the queue, how many events have a name, the window, the moment at
 /// which the window's first event was taken, in nanoseconds, and the jobs that a handler sees, by rising name.
@@ -43,25 +30,6 @@ pub struct Worker {
     pub batch: Batch,
     pub first: u64,
     pub jobs: JobList,
-}
-
-impl Held {
-    /// Whether the job isn't gone.
-    pub(crate) fn is_here(&self) -> bool
-        ensures { result ≡ is_here self.now }
-    {
-        !self.task.is_gone()
-    }
-
-    /// Whether this child runs.
-    pub(crate) fn runs(&self, child: u64) -> bool
-        ensures { result ≡ runs_child child self.now }
-    {
-        match self.task.running_child() {
-            Some(running) => running == child,
-            None => false,
-        }
-    }
 }
 
 /// The room for so many entries, besides what the end of so many jobs takes.

@@ -3,18 +3,20 @@ ghost use Rattle.std.specs.Prelude.{◌≡◌, ◌≤◌, ◌⊎◌, [], true, f
 ghost use Rattle.wx_command.specs.Spawnables.{spawnable_of};
 ghost use Rattle.wx_error.specs.declared.runtime.RuntimeError.TheVariants.{Memory as WantOfMemory};
 ghost use Rattle.wx_journal.specs.declared.wish.Wish.TheVariants.{Nothing};
+ghost use Rattle.wx_hooks.specs.ErrorHooks.{IsNewHook};
+ghost use Rattle.wx_hooks.specs.Handled.{IsNewHandler};
 ghost use Rattle.wx_boxed.specs.Boxed.{Held, IsUsual, MayAnswer, AreJudged};
 ghost use Rattle.wx_boxed.specs.BoxedLaws.{judged_over};
 
 use crate::interfaces::{OnAction, OnError, OnFault, OnJob, OnSpawn};
 use crate::told::Told;
 use std::alloc::Global;
-use wx_action::{ActionHandler, ErrorHook, Hooks, JobHooks};
 use wx_command::Spawnable;
 use wx_config::Filterer;
 use wx_control::Id;
 use wx_error::RuntimeError;
 use wx_events::{Copies, Event, List, Memory, Priority};
+use wx_hooks::{ActionHandler, ErrorHook, Hooks, JobHooks};
 use wx_job::JobTaskContext;
 use wx_journal::{Entry, HostFault};
 
@@ -271,8 +273,7 @@ fn twice(
 
 /// Shows an error to the handler of this number, where there is one.
 fn show_error(errors: &mut [Box<dyn OnError + Drop>], n: u32, hook: &mut ErrorHook)
-    requires wish { hook.old.wish ≡ Nothing }
-    requires open { hook.old.told ≡ false }
+    requires fresh { IsNewHook hook.old }
     ensures error { hook.new.error ≡ hook.old.error }
     ensures open { hook.new.told ≡ false }
     ensures usual { length errors.old ≤ n → hook.new.wish ≡ Nothing }
@@ -284,8 +285,7 @@ fn show_error(errors: &mut [Box<dyn OnError + Drop>], n: u32, hook: &mut ErrorHo
 
 /// Hands a batch to the handler of this number, where there is one.
 fn act(actions: &mut [Box<dyn OnAction + Drop>], n: u32, handler: &mut ActionHandler<'_>)
-    requires open { handler.old.handed ≡ false }
-    requires fresh { handler.old.acts ≡ [] }
+    requires fresh { IsNewHandler handler.old }
     ensures same { handler.new ≡ record handler.old { acts = handler.new.acts } }
     ensures usual { length actions.old ≤ n → handler.new.acts ≡ [] }
 {

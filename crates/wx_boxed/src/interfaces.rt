@@ -1,12 +1,13 @@
 // What a caller's boxes do in a run, besides filters.
-ghost use Rattle.std.specs.Prelude.{◌≡◌, [], false, OnErr};
+ghost use Rattle.std.specs.Prelude.{◌≡◌, false, OnErr};
 ghost use Rattle.wx_command.specs.Spawnables.{spawnable_of};
-ghost use Rattle.wx_journal.specs.declared.wish.Wish.TheVariants.{Nothing};
+ghost use Rattle.wx_hooks.specs.ErrorHooks.{IsNewHook};
+ghost use Rattle.wx_hooks.specs.Handled.{IsNewHandler};
 
-use wx_action::{ActionHandler, ErrorHook};
 use wx_command::Spawnable;
 use wx_control::Id;
 use wx_events::Memory;
+use wx_hooks::{ActionHandler, ErrorHook};
 use wx_job::JobTaskContext;
 use wx_journal::HostFault;
 
@@ -15,8 +16,7 @@ pub trait OnAction {
     /// Is handed a batch. The handler that is lent shows it and the jobs, and collects what is asked for. It doesn't call
     /// `ActionHandler::hand`.
     fn act(&mut self, handler: &mut ActionHandler<'_>)
-        requires open { handler.old.handed ≡ false }
-        requires fresh { handler.old.acts ≡ [] }
+        requires fresh { IsNewHandler handler.old }
         ensures same { handler.new ≡ record handler.old { acts = handler.new.acts } };
 }
 
@@ -24,8 +24,7 @@ pub trait OnAction {
 pub trait OnError {
     /// Is shown an error. The hook that is lent shows it, and collects what is wished. It doesn't call `ErrorHook::shown`.
     fn error(&mut self, hook: &mut ErrorHook)
-        requires wish { hook.old.wish ≡ Nothing }
-        requires open { hook.old.told ≡ false }
+        requires fresh { IsNewHook hook.old }
         ensures error { hook.new.error ≡ hook.old.error }
         ensures open { hook.new.told ≡ false };
 }

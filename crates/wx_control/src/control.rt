@@ -1,5 +1,4 @@
 // What one message asks of a job.
-ghost use Rattle.std.specs.Prelude.{◌≡◌};
 
 use std::alloc::Global;
 use wx_events::{Copies, Memory, Signal, Spelled, Text, Words};

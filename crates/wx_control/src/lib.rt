@@ -9,6 +9,7 @@ mod job;
 mod laws;
 mod level;
 mod mirror;
+mod senders;
 mod sink;
 mod three_lists;
 mod ticket;

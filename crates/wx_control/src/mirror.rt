@@ -1,5 +1,4 @@
 // Mirrors of whether a child runs.
-ghost use Rattle.std.specs.Prelude.{◌≡◌};
 
 use std::alloc::Global;
 use std::marker::Model;

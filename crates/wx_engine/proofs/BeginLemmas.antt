@@ -6,7 +6,7 @@ use Rattle.wx_events.specs.declared.event.Event.{Event}
 use Rattle.wx_events.specs.declared.priority.Priority.{Priority}
 use Rattle.wx_journal.specs.declared.entry.Entry.{Entry}
 use Rattle.wx_machine.specs.History.{lives}
-use Rattle.wx_action.specs.declared.worker_state.Held.{Held}
+use Rattle.wx_hooks.specs.declared.held.Held.{Held}
 use Rattle.wx_action.specs.declared.worker_state.Worker.{Worker}
 use Rattle.wx_machine.specs.Start.{Start}
 use Rattle.wx_machine.specs.Journal.{closed, bag}
@@ -15,10 +15,11 @@ use Rattle.wx_machine.specs.Due.{Sends, Hands, agenda, sends, begin_of, IsRun}
 use Rattle.wx_machine.specs.RunLaws.{NoneUrgentWaits}
 use Rattle.wx_machine.specs.Kept.{StaysQuiet, More}
 use Rattle.wx_machine.specs.Leads.{FollowsAlone, Then}
-use Rattle.wx_action.specs.Serves.{Adds}
+use Rattle.wx_action.specs.Serves.{AddsAlone}
 use Rattle.wx_machine.specs.Turns.{StaysInTurn}
 use Rattle.wx_machine.specs.Jobs.{set, jobs}
-use Rattle.wx_action.specs.Stands.{Stands, held_id, end_room}
+use Rattle.wx_action.specs.Stands.{Stands, end_room}
+use Rattle.wx_hooks.specs.JobsStand.{held_id}
 use Rattle.wx_machine.proofs.RunLaws.{none_waits, run_led}
 use Rattle.wx_machine.proofs.AllJobs.{turns_over}
 
@@ -48,10 +49,10 @@ sends_no_batch [] e = cc
 sends_no_batch (x ∷ xs) e = cc
 
 -- what is listed at the beginning is a run, in which no urgent event waits
-pub begun_run : (s : Start) (p p' : List Entry) → p ≡ [] → Adds s p p' → IsRun s p'
+pub begun_run : (s : Start) (p p' : List Entry) → p ≡ [] → AddsAlone s p p' → IsRun s p'
 begun_run s p p' empty adds = run_led s p None None p' None None (adds.follows None None) (rw empty tt)
 
-pub calm_begun : (s : Start) (p p' : List Entry) (xs : List (Event × Priority)) → p ≡ [] → Adds s p p' → agenda s p' ≡ sends xs → NoneUrgentWaits p'
+pub calm_begun : (s : Start) (p p' : List Entry) (xs : List (Event × Priority)) → p ≡ [] → AddsAlone s p p' → agenda s p' ≡ sends xs → NoneUrgentWaits p'
 calm_begun s p p' xs empty adds due = none_waits s p' (begun_run s p p' empty adds) (λ e. sends_no_batch xs (sym due ∙ e))
 
 -- the next event that was sent

@@ -10,7 +10,7 @@ use Rattle.wx_machine.specs.Case.{is_fault}
 use Rattle.wx_action.specs.declared.worker_state.Worker.{Worker}
 use Rattle.wx_machine.specs.Start.{Start}
 use Rattle.wx_machine.specs.Journal.{turn_count, early_count, turn_fault}
-use Rattle.wx_machine.specs.Due.{agenda, Open, Hands, Due}
+use Rattle.wx_machine.specs.Due.{agenda, Open, Due}
 use Rattle.wx_machine.specs.RunLaws.{NoneUrgentWaits, MomentsRise}
 use Rattle.wx_machine.specs.Faults.{CountsOn}
 use Rattle.wx_machine.proofs.FaultLaws.{counts_entry}
@@ -25,13 +25,6 @@ use Rattle.wx_engine.specs.Run.{ServesTurns}
 use Rattle.wx_machine.specs.Told.{is_last, TellsNoEnd}
 use Rattle.wx_action.proofs.TurnLaws.{at_turn, next_turn}
 use Rattle.wx_action.proofs.StandsLemmas.{stands_behind}
-
--- where a turn may come no window is to be handed
-not_both : Open ≡ Hands → ⊥
-not_both e = cc
-
-pub not_hands : (s : Start) (p : List Entry) → agenda s p ≡ Open → agenda s p ≡ Hands → ⊥
-not_hands s p is e = not_both (sym is ∙ e)
 
 -- ---- a turn that was drawn, or the fault of one
 
@@ -108,7 +101,7 @@ turn_stands s w t p p' stands grown none = (at_turn s w t.at t.kind p' none (nex
 
 -- and with the fault of one
 pub fault_stands : (s : Start) (w : Worker) (code : ℕ) (p p' : List Entry) → Stands s w p → agenda s p ≡ Open → p' ≡ TurnFault code ∷ p → Stands s w p'
-fault_stands s w code p p' stands open_is grown = rw grown (stands_behind s w (TurnFault code) p tt tt (rw open_is tt) stands)
+fault_stands s w code p p' stands open_is grown = rw grown (stands_behind s w (TurnFault code) p refl tt (rw open_is tt) stands)
 
 -- turns were served, and then one more
 pub turns_then : {Plan : Type 0} (s : Start) (p q r : List Entry) (a b c : Seen Plan) (hooks hooks' hooks'' : Option (List Entry)) → ServesTurns s p a hooks q b hooks' → Serves s q b hooks' r c hooks'' → ServesTurns s p a hooks r c hooks''

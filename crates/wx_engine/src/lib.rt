@@ -3,5 +3,6 @@
 
 mod running;
 mod watchexec;
+mod watchexec_main;
 
 pub use watchexec::{SendRefused, Watchexec};

@@ -1,32 +1,24 @@
 // A run of the engine.
-ghost use Rattle.std.specs.Prelude.{◌≡◌, ◌∷◌, ◌++◌, [], ◌+◌, ◌<◌, ◌≤◌, false, length, List, ℕ, Option, None, OnOk, OnErr, IfOk, IfErr, codes};
-ghost use Rattle.wx_journal.specs.declared.entry.Entry.{Entry as AnEntry};
-ghost use Rattle.wx_journal.specs.Names.{moment};
-ghost use Rattle.wx_journal.specs.Told.{is_world, is_hooks, is_turn, anywhere, tells, Obeys, Rose};
+ghost use Rattle.std.specs.Prelude.{◌≡◌, ◌∷◌, [], ◌+◌, ◌<◌, ◌≤◌, false, OnOk, OnErr, IfOk, IfErr, codes};
 ghost use Rattle.wx_machine.specs.Steady.{OnlyRoom};
-ghost use Rattle.wx_error.specs.declared.error.CriticalError.TheVariants.{Memory as WantOfMemory};
 ghost use Rattle.wx_machine.specs.Kept.{KeepsOn, Promised};
-ghost use Rattle.wx_action.specs.Serves.{Adds, Continues};
-ghost use Rattle.wx_machine.specs.Start.{Start, IsStart, IsSize};
-ghost use Rattle.wx_machine.specs.Journal.{turn_count, early_count, turn_fault};
+ghost use Rattle.wx_action.specs.Serves.{AddsAlone, Continues};
+ghost use Rattle.wx_machine.specs.Start.{Start, IsSize};
 ghost use Rattle.wx_machine.specs.Jobs.{jobs};
 ghost use Rattle.wx_machine.specs.Due.{agenda, begin_of, Open};
 ghost use Rattle.wx_machine.specs.Told.{is_last, TellsNoEnd};
-ghost use Rattle.wx_machine.specs.RunLaws.{IsBatched, AreBatches, NoneUrgentWaits, MomentsRise};
+ghost use Rattle.wx_machine.specs.RunLaws.{NoneUrgentWaits};
 ghost use Rattle.wx_machine.specs.Answer.{NoneIsToGo, BreaksOff, Answers};
-ghost use Rattle.wx_machine.specs.Faults.{Counted, CountsOn};
-ghost use Rattle.wx_machine.specs.Leads.{Follows};
 ghost use Rattle.wx_action.specs.Stands.{Stands, AtTurn, HasRoom, Works, end_room};
 ghost use Rattle.wx_engine.specs.Run.{HasCause, HasTurnCause, Stops, Rests, IsBetween, ServesTurns, Lists, HasLaws};
 
 use crate::watchexec::Watchexec;
 use std::alloc::Global;
-use wx_action::{
-    Hooks, Host, JobHooks, Worked, Worker, World, ask_turn, end_jobs, ended_turn, job_turn, worker,
-};
+use wx_action::{Worked, Worker, ask_turn, end_jobs, ended_turn, job_turn, worker};
 use wx_config::Config;
 use wx_error::CriticalError;
 use wx_events::{Copies, Memory, Text, TextPath};
+use wx_hooks::{Hooks, Host, JobHooks, World};
 use wx_journal::{Entry, Journal, TurnKind};
 
 /// The entry that a run begins with. It fails only for want of memory.
@@ -91,7 +83,7 @@ pub(crate) fn begin(
     ensures room { IfOk result (λ worker. end_room worker ≡ 0) }
     ensures calm { NoneUrgentWaits journal.new.past }
     ensures cut { OnErr result (NoneIsToGo (agenda start journal.new.past)) }
-    ensures adds { Adds start journal.old.past journal.new.past }
+    ensures adds { AddsAlone start journal.old.past journal.new.past }
 {
     let Watchexec {
         config,

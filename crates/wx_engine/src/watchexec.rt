@@ -1,31 +1,13 @@
 // The engine.
-ghost use Rattle.std.specs.Prelude.{◌≡◌, ◌∷◌, ◌++◌, [], ◌+◌, ◌≤◌, true, false, length, List, OnOk, OnErr, IfOk, IfErr, Err, None};
-ghost use Rattle.wx_events.specs.declared.event.Event.{Event as AnEvent};
-ghost use Rattle.wx_events.specs.declared.priority.Priority.{Priority as APriority};
-ghost use Rattle.wx_control.specs.declared.id.Id.{Id as AnId};
-ghost use Rattle.wx_journal.specs.Told.{is_world, is_hooks, is_turn, anywhere, tells, Obeys, Rose};
-ghost use Rattle.wx_machine.specs.History.{child};
-ghost use Rattle.wx_machine.specs.JobLaws.{IsReaping, AfterFaults};
-ghost use Rattle.wx_machine.specs.TicketLaws.{Throughout, AreInOnePlace, AreRaisedLast, WaitForGraces, WaitForFunctions, GracesNeedChildren};
+ghost use Rattle.std.specs.Prelude.{◌≡◌, ◌∷◌, ◌++◌, [], ◌+◌, true, length, List, OnOk, OnErr, IfOk, IfErr, Err};
 ghost use Rattle.wx_config.specs.Defaults.{default_config};
 ghost use Rattle.wx_machine.specs.Start.{Start, IsSize, IsStart, is_absolute};
-ghost use Rattle.wx_machine.specs.Journal.{turn_count, early_count};
-ghost use Rattle.wx_machine.specs.RunLaws.{IsBatched, AreBatches, NoneUrgentWaits, NoneUnseenIsShown, NoneIsShownClosed, MomentsRise, AreMadeOnce, AreServed};
-ghost use Rattle.wx_machine.specs.Answer.{Answers};
-ghost use Rattle.wx_machine.specs.Faults.{Counted};
 ghost use Rattle.wx_engine.specs.Sent.{Refuses};
-ghost use Rattle.wx_engine.specs.Run.{HasCause, Ran};
-ghost use Rattle.wx_engine.specs.Completes.{IsOkOrMemory, NoneEnds, AreGranted};
-ghost use Rattle.wx_engine.specs.Offers.{AreOffered};
 
-use crate::running::run;
 use std::alloc::Global;
 use std::marker::Model;
-use wx_action::{Hooks, Host, JobHooks, Outside, World};
 use wx_config::Config;
-use wx_error::CriticalError;
 use wx_events::{Event, List, Memory, Priority, TextPath};
-use wx_journal::Journal;
 
 /// Why an event was not sent.
 #[derive(Drop, Debug)]
@@ -98,84 +80,5 @@ impl Watchexec {
             Ok(()) => Ok(()),
             Err(_) => Err(SendRefused::Memory),
         }
-    }
-
-    /// Runs the engine: asks `world` for turns, serves each before the next, and writes all of it into `journal`, until an
-    /// action, the filter or the error handler asks for the end, or the last turn came. Ok comes where the end was due.
-    /// `IoError` about `turn` comes where the world had no turn to give, with the code of that fault. `Elevated`, and any
-    /// other error but `Exit`, comes directly after the error handler wished it: an error that it was shown, elevated
-    /// without help, or a critical error as it was handed in. `Memory` also comes for want of memory. `Exit` never comes.
-    /// Whatever the answer, each job that lives then ends, and the child that it runs is let go. The journal is a run, or
-    /// one that was broken off, with this end behind it. It lists the turns that were given and the calls that were made,
-    /// in order.
-    pub fn main<W: World, H: Hooks>(
-        self,
-        alloc: Global,
-        world: &mut W,
-        hooks: &mut H,
-        journal: &mut Journal,
-    ) -> Result<(), CriticalError>
-        requires { journal.old.past ≡ [] }
-
-        // The journal is a run that this answer may have, with its end done, and each error has its cause.
-        ensures ran { Ran self journal.new.past }
-        ensures answer { Answers self journal.new.past result }
-        ensures cause { IfErr result (λ error. HasCause self journal.new.past error (W.seen world.old).progress.turn_faults (W.seen world.new).progress.turn_faults) }
-        ensures completes { (Rose (W.seen world.old).progress.turn_faults (W.seen world.new).progress.turn_faults → ⊥) → NoneEnds journal.new.past → IsOkOrMemory result }
-        ensures granted { AreGranted result journal.new.past }
-
-        // It lists what was told: the turns, and the calls on world and hooks. At most one turn more came than were left, and
-        // it is a last one.
-        ensures world { (W.seen world.new).shown.told ≡ tells is_world journal.new.past (W.seen world.old).shown.told }
-        ensures hooks { (H.seen hooks.new).told ≡ tells (anywhere is_hooks) journal.new.past (H.seen hooks.old).told }
-        ensures turns { (W.seen world.new).progress.turns ≡ tells (anywhere is_turn) journal.new.past (W.seen world.old).progress.turns }
-        ensures count { turn_count journal.new.past ≤ (W.seen world.old).progress.left + 1 }
-        ensures one_more { early_count journal.new.past ≤ (W.seen world.old).progress.left }
-
-        // The count of failed calls on children rose with each. A job whose spawn failed is pending. A child that could
-        // not be sent a signal, killed or waited for runs, without a grace where this was at the end of one.
-        ensures host_faults { Counted [] (W.seen world.old).shown.faults journal.new.past (W.seen world.new).shown.faults }
-        ensures after_faults { AfterFaults journal.new.past }
-
-        // Each child of a job is reaped, and none runs.
-        ensures children { (id : AnId) → IsReaping id journal.new.past }
-        ensures none_runs { (id : AnId) → child id journal.new.past ≡ None }
-
-        // At each moment a ticket of a job that lives waits, is in hand, is parked or was raised, and just one of these. It
-        // is raised once at most, behind the other calls of its case.
-        ensures tickets { Throughout AreInOnePlace journal.new.past }
-        ensures raised_last { AreRaisedLast journal.new.past }
-
-        // A grace stands only while a child runs, and holds back the controls of the level Normal.
-        ensures graces { Throughout GracesNeedChildren journal.new.past }
-        ensures pressing { WaitForGraces journal.new.past }
-
-        // While a function that was begun isn't ready, its job picks no control, no grace of it ends, and no child of it is
-        // spawned, killed or waited for.
-        ensures functions { WaitForFunctions journal.new.past }
-
-        // The laws of runs.
-        ensures batched { IsBatched journal.new.past }
-        ensures batches { AreBatches self journal.new.past }
-        ensures never_lost { NoneUrgentWaits journal.new.past }
-        ensures moments { MomentsRise journal.new.past }
-        ensures shown { NoneUnseenIsShown journal.new.past }
-        ensures shown_open { NoneIsShownClosed journal.new.past }
-        ensures offers { AreOffered self journal.new.past }
-        ensures ids { AreMadeOnce journal.new.past }
-        ensures served { AreServed self journal.new.past }
-
-        // Where the hooks stood for the empty journal and are not short, each call passes their rule.
-        ensures rule { (H.seen hooks.new).short ≡ false → H.stands hooks.old [] → Obeys (H.rule (H.seen hooks.old).plan) [] journal.new.past }
-        ensures stands { (H.seen hooks.new).short ≡ false → H.stands hooks.old [] → H.stands hooks.new journal.new.past }
-        ensures short { (H.seen hooks.new).short ≡ false → (H.seen hooks.old).short ≡ false }
-
-        // What no call changes.
-        ensures world_plan { (W.seen world.new).plan ≡ (W.seen world.old).plan }
-        ensures world_place { (W.seen world.new).place ≡ (W.seen world.old).place }
-        ensures hooks_plan { (H.seen hooks.new).plan ≡ (H.seen hooks.old).plan }
-        ensures hooks_place { (H.seen hooks.new).place ≡ (H.seen hooks.old).place }
-    {
-        run(alloc, self, world, hooks, journal)
     }
 }

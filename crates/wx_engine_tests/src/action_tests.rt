@@ -3,11 +3,12 @@ ghost use Rattle.std.specs.Prelude.{◌≤◌, IfOk};
 
 use std::alloc::Global;
 use std::process::Abort;
-use wx_action::{IdCount, lost, print_journal};
 use wx_control::Id;
 use wx_error::{CriticalError, RuntimeError};
 use wx_events::{Event, List, Memory, Priority, Tag, Text};
+use wx_hooks::IdCount;
 use wx_journal::{Entry, Journal};
+use wx_print::{lost, print_journal};
 
 /// Takes the next id of this count, and holds it to be this one.
 fn expect_next(rt: &impl Abort, count: &mut IdCount, want: Option<Id>) {

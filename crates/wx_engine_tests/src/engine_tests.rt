@@ -2,19 +2,19 @@
 //
 // What is long, as a script, a world or an engine, is lent to a helper and dropped by generic code, which is quicker to
 // prove than to drop it where calls may fail.
-ghost use Rattle.std.specs.Prelude.{◌≡◌, ◌∷◌, [], ◌≤◌};
+ghost use Rattle.std.specs.Prelude.{◌≡◌, ◌≤◌};
 ghost use Rattle.wx_script.specs.Follows.{IsScript};
 
 use std::alloc::Global;
 use std::process::Abort;
 use std::test::Fail;
-use wx_action::{Hooks, Host, JobHooks, World};
 use wx_command::{SpawnOptions, Spawnable};
 use wx_control::{Flag, Id};
 use wx_engine::{SendRefused, Watchexec};
 use wx_error::RuntimeError;
 use wx_events::{Event, List, Memory, Priority, ProcessEnd, Tag, Text, cut};
 use wx_follow::{ScriptHooks, ScriptWorld};
+use wx_hooks::{Hooks, Host, JobHooks, World};
 use wx_journal::{SpawnTag, TurnKind};
 use wx_script::Script;
 use wx_trial::{engine_with, root, run_text, script_of};

@@ -4,11 +4,11 @@ ghost use Rattle.wx_script.specs.Follows.{IsScript};
 
 use std::alloc::Global;
 use std::test::Fail;
-use wx_action::{ActionHandler, ErrorHook, Hooks, JobHooks};
 use wx_command::Spawnable;
 use wx_control::{Id, Job};
 use wx_error::{CriticalError, RuntimeError};
 use wx_events::{Copies, Event, List, Memory, Priority, Text, cut};
+use wx_hooks::{ActionHandler, ErrorHook, Hooks, JobHooks};
 use wx_job::{CommandState, JobTaskContext};
 use wx_journal::{Entry, HostFault, put_entry};
 use wx_script::Script;

@@ -1,8 +1,7 @@
 // Hooks in memory, which follow a script.
-ghost use Rattle.std.specs.Prelude.{◌≡◌, ◌++◌, ◌∷◌, [], ◌+◌, min, length, get_or, Bool, true, false, Some, Ok as Well, List, IfOk, OnOk, OnErr, option_map};
+ghost use Rattle.std.specs.Prelude.{◌≡◌, ◌++◌, ◌∷◌, [], ◌+◌, true, false, Some, List, IfOk, OnOk, OnErr, option_map};
 ghost use Rattle.std.specs.List.{find};
 ghost use Rattle.wx_journal.specs.declared.entry.Act.TheVariants.{Ask as Asks};
-ghost use Rattle.wx_script.specs.Wishes.{ScriptAct as AnAct};
 ghost use Rattle.wx_journal.specs.declared.wish.Wish.TheVariants.{Nothing};
 ghost use Rattle.wx_journal.specs.Told.{anywhere, is_hooks};
 ghost use Rattle.wx_script.specs.Answered.{AreUsed};
@@ -12,11 +11,11 @@ ghost use Rattle.wx_script.specs.Follows.{wished_of};
 
 use crate::replies::{line, next, passed};
 use std::alloc::Global;
-use wx_action::{ActionHandler, CreateRefused, ErrorHook, Hooks, JobHooks};
 use wx_command::{Command, Spawnable};
 use wx_control::{Ask, Controls, Id, Job};
 use wx_error::RuntimeError;
 use wx_events::{Copies, Event, List, Memory, Priority, Text};
+use wx_hooks::{ActionHandler, CreateRefused, ErrorHook, Hooks, JobHooks};
 use wx_job::JobTaskContext;
 use wx_journal::{Act, Entry, HostFault, Journal, Wish};
 use wx_script::{Script, Wanted};

@@ -10,10 +10,10 @@ ghost use Rattle.wx_script.specs.Turns.{comes, risen, Rises, entry_of, Given, tu
 use crate::replies::next;
 use crate::supply::Supply;
 use std::alloc::Global;
-use wx_action::{Host, Outside, TurnFault, Turned, World};
 use wx_command::Spawnable;
 use wx_control::{Flag, Id};
 use wx_events::{Copies, List, Memory, ProcessEnd};
+use wx_hooks::{Host, Outside, TurnFault, Turned, World};
 use wx_journal::{Entry, HostFault, Journal, SpawnTag, Turn, TurnKind};
 use wx_script::{Answers, Script, ScriptTurn, Used};
 

@@ -6,12 +6,12 @@ use Rattle.wx_journal.specs.declared.entry.Entry.{Entry}
 use Rattle.wx_journal.specs.declared.entry.Entry.TheVariants.{Pick}
 use Rattle.wx_machine.specs.Seen.{Seen}
 use Rattle.wx_machine.specs.Table.{Plan, Done, Adds, adds}
-use Rattle.wx_machine.specs.Case.{Ran}
+use Rattle.wx_machine.specs.Case.{PlanRan}
 use Rattle.wx_machine.proofs.CaseLemmas.{ran-says, brings-adds}
 use Rattle.wx_job.specs.declared.task.JobTask.{JobTask}
 use Rattle.wx_job.specs.Calls.{HasDone}
 
-picks : {Fixed : Type 0} (id : Id) (t : ℕ) (plan : Plan) (p : List Entry) (b : Seen Fixed) (hooks : Option (List Entry)) (k₀ : Plan) (p₀ : List Entry) (a₀ : Seen Fixed) (hooks₀ : Option (List Entry)) → Ran k₀ p₀ a₀ hooks₀ (adds (Pick id t) plan) p b hooks → Ran k₀ p₀ a₀ hooks₀ plan (Pick id t ∷ p) b hooks
+picks : {Fixed : Type 0} (id : Id) (t : ℕ) (plan : Plan) (p : List Entry) (b : Seen Fixed) (hooks : Option (List Entry)) (k₀ : Plan) (p₀ : List Entry) (a₀ : Seen Fixed) (hooks₀ : Option (List Entry)) → PlanRan k₀ p₀ a₀ hooks₀ (adds (Pick id t) plan) p b hooks → PlanRan k₀ p₀ a₀ hooks₀ plan (Pick id t ∷ p) b hooks
 picks id t plan p b hooks k₀ p₀ a₀ hooks₀ r = ran-says k₀ p₀ a₀ hooks₀ (Pick id t) (Adds (Pick id t)) plan Done p b hooks refl refl refl refl r (brings-adds p (Pick id t))
 
 -- a control was picked, and then its case was done

@@ -16,7 +16,7 @@ use Rattle.wx_machine.specs.History.{lives, waits, child, kept, state, begun, gr
 use Rattle.wx_machine.specs.Table.{Done, Kit, kit, kit_after, adds, row, over, ended_in, ended, is_parking, unless_grace, pick_by, case, step_by}
 use Rattle.wx_machine.specs.Seen.{Seen}
 use Rattle.wx_machine.specs.Case.{GaveUp}
-use Rattle.wx_job.specs.Stands.{Stands, grace_of}
+use Rattle.wx_job.specs.Stands.{TaskStands, grace_of}
 use Rattle.wx_machine.specs.Held.{times, times_waiting, times_grace, IsInHand, HasInHand}
 use Rattle.wx_machine.proofs.Owners.{self}
 use Rattle.wx_machine.proofs.Times.{is_first, takes_it}
@@ -24,21 +24,21 @@ use Rattle.wx_machine.proofs.PlacedPlans.{MayPick, due}
 use Rattle.wx_machine.proofs.CutLaws.{Holds, holds_done, holds_adds, holds_wait, holds_row, holds_over, holds_ended_in, held_behind, holds_if}
 
 -- the ticket of a grace isn't parked, nor is one that waits
-grace_unparked : (k : JobTask) (p : List Entry) (g : Grace) → Stands k p → grace k.id p ≡ Some g → times g.ticket (parked k.id p) ≡ 0
+grace_unparked : (k : JobTask) (p : List Entry) (g : Grace) → TaskStands k p → grace k.id p ≡ Some g → times g.ticket (parked k.id p) ≡ 0
 grace_unparked k p g s is =
     let mine : grace_of k ≡ Some g = s.grace_kept ∙ is in
     let one : times_grace g.ticket (grace_of k) ≡ 1 = rw (mine, eq-eqb g.ticket g.ticket refl) refl in
     let most = s.held_once g.ticket in
     rw (← s.parked_kept) (omega (arith, most, one))
 
-waits_unparked : (k : JobTask) (p : List Entry) (t : ℕ) → Stands k p → 1 ≤ times_waiting t (waits k.id Urgent p) + times_waiting t (waits k.id High p) + times_waiting t (waits k.id Normal p) → times t (parked k.id p) ≡ 0
+waits_unparked : (k : JobTask) (p : List Entry) (t : ℕ) → TaskStands k p → 1 ≤ times_waiting t (waits k.id Urgent p) + times_waiting t (waits k.id High p) + times_waiting t (waits k.id Normal p) → times t (parked k.id p) ≡ 0
 waits_unparked k p t s waiting =
     let here = rw (← s.urgent_kept, ← s.high_kept, ← s.normal_kept) at waiting in
     let most = s.held_once t in
     rw (← s.parked_kept) (omega (arith, most, here))
 
 -- the case of a control that is picked
-holds_next : (k : JobTask) (by : Kit) (t : ℕ) (control : Control) (running : Option ℕ) (p : List Entry) → Stands k p → by.parked ≡ parked k.id p → first (waits k.id Urgent p) (waits k.id High p) (unless_grace (grace k.id p) (waits k.id Normal p)) ≡ Some (t, control) → Holds k.id t p (adds (Pick k.id t) (row k.id (kit_after control by) t control running))
+holds_next : (k : JobTask) (by : Kit) (t : ℕ) (control : Control) (running : Option ℕ) (p : List Entry) → TaskStands k p → by.parked ≡ parked k.id p → first (waits k.id Urgent p) (waits k.id High p) (unless_grace (grace k.id p) (waits k.id Normal p)) ≡ Some (t, control) → Holds k.id t p (adds (Pick k.id t) (row k.id (kit_after control by) t control running))
 holds_next k by t control running p s parked_is is =
     let id = k.id in
     let f = is_first t control (waits id Urgent p) (waits id High p) (waits id Normal p) (grace id p) is in
@@ -47,13 +47,13 @@ holds_next k by t control running p s parked_is is =
     holds_adds id t (Pick id t) (row id (kit_after control by) t control running) p (holds_row id t (kit_after control by) control running (Pick id t ∷ p) none (state id p) held)
 
 -- the case of the child's end, while this grace stands
-holds_ended : (k : JobTask) (by : Kit) (c : ℕ) (g : Grace) (p : List Entry) → Stands k p → by.parked ≡ parked k.id p → by.grace ≡ Some g → grace k.id p ≡ Some g → IsInHand k.id g.ticket p → Holds k.id g.ticket p (ended k.id by c)
+holds_ended : (k : JobTask) (by : Kit) (c : ℕ) (g : Grace) (p : List Entry) → TaskStands k p → by.parked ≡ parked k.id p → by.grace ≡ Some g → grace k.id p ≡ Some g → IsInHand k.id g.ticket p → Holds k.id g.ticket p (ended k.id by c)
 holds_ended k by c g p s parked_is grace_is is held =
     let none : times g.ticket by.parked ≡ 0 = rw parked_is (grace_unparked k p g s is) in
     rw grace_is (holds_wait k.id g.ticket by.handler c (ended_in k.id by g) Done (holds_ended_in k.id by g none) (λ q. holds_done k.id g.ticket q) p held)
 
 -- what is picked in a step that was given up
-gave_case : {Fixed : Type 0} (k : JobTask) (command : Command) (p : List Entry) (a : Seen Fixed) (hooks : Option (List Entry)) (p' : List Entry) (b : Seen Fixed) (hooks' : Option (List Entry)) (standing : Option Grace) (choice : Choice) → Stands k p → grace k.id p ≡ standing
+gave_case : {Fixed : Type 0} (k : JobTask) (command : Command) (p : List Entry) (a : Seen Fixed) (hooks : Option (List Entry)) (p' : List Entry) (b : Seen Fixed) (hooks' : Option (List Entry)) (standing : Option Grace) (choice : Choice) → TaskStands k p → grace k.id p ≡ standing
     → MayPick k.id p choice
     → GaveUp (cond (lives k.id p) (case k.id (kit k.id command p) (child k.id p) choice) Done) p a hooks p' b hooks' → HasInHand k.id standing choice p p'
 gave_case k command p a hooks p' b hooks' standing (Polled f) s is picked gave = tt
@@ -67,5 +67,5 @@ gave_case k command p a hooks p' b hooks' standing (Next t control) s is picked 
 gave_case k command p a hooks p' b hooks' standing Leave s is picked gave = tt
 gave_case k command p a hooks p' b hooks' standing Nothing s is picked gave = tt
 
-pub gave_in_hand : {Fixed : Type 0} (closed : Bool) (k : JobTask) (command : Command) (p : List Entry) (a : Seen Fixed) (hooks : Option (List Entry)) (p' : List Entry) (b : Seen Fixed) (hooks' : Option (List Entry)) → Stands k p → GaveUp (step_by closed k.id command p) p a hooks p' b hooks' → HasInHand k.id (grace k.id p) (pick_by closed k.id p) p p'
+pub gave_in_hand : {Fixed : Type 0} (closed : Bool) (k : JobTask) (command : Command) (p : List Entry) (a : Seen Fixed) (hooks : Option (List Entry)) (p' : List Entry) (b : Seen Fixed) (hooks' : Option (List Entry)) → TaskStands k p → GaveUp (step_by closed k.id command p) p a hooks p' b hooks' → HasInHand k.id (grace k.id p) (pick_by closed k.id p) p p'
 gave_in_hand closed k command p a hooks p' b hooks' s gave = gave_case k command p a hooks p' b hooks' (grace k.id p) (pick_by closed k.id p) s refl (due closed (begun k.id p) (child k.id p) (grace k.id p) (moment p) (kept k.id p) _) gave

@@ -2,6 +2,6 @@
 use Rattle.wx_machine.proofs.CaseLemmas.{leads}
 use Rattle.wx_job.proofs.StandsLemmas.{stands}
 use Rattle.wx_machine.proofs.KeptLemmas.{calls}
-use Rattle.wx_job.specs.Stands.{Before, Behind}
+use Rattle.wx_job.specs.Stands.{AllAsBefore, BehindHook}
 
-pub ruleset steps = (leads, stands, calls, Before, Behind)
+pub ruleset steps = (leads, stands, calls, AllAsBefore, BehindHook)

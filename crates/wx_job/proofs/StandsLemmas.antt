@@ -31,7 +31,7 @@ use Rattle.wx_job.specs.declared.grace.Standing.{Standing}
 use Rattle.wx_job.specs.Parkings.{Tickets}
 use Rattle.wx_machine.specs.Table.{Kit, leave, end_plan, is_parking, row, kit_after, spawns}
 use Rattle.wx_job.specs.Prepared.{twice, prepared, fresh_in}
-use Rattle.wx_job.specs.Stands.{Stands, id_of, kit_of, grace_of, begun_of, holds}
+use Rattle.wx_job.specs.Stands.{TaskStands, id_of, kit_of, grace_of, begun_of, holds}
 use Rattle.wx_machine.specs.Held.{once, times, times_waits, times_grace, times_begun}
 use Rattle.wx_machine.specs.States.{child_of}
 use Rattle.wx_machine.proofs.Owners.{self, either}
@@ -39,7 +39,7 @@ use Rattle.wx_machine.proofs.Frame.{is_silent, frame_silent}
 use Rattle.wx_machine.proofs.Times.{joined_times, times_append, unheld_without, parks-not, parks-one}
 
 -- what leaves the history of its job leaves a task
-pub stands_history : (k : JobTask) (p p' : List Entry) → SameHistory (id_of k) p p' → Stands k p → Stands k p'
+pub stands_history : (k : JobTask) (p p' : List Entry) → SameHistory (id_of k) p p' → TaskStands k p → TaskStands k p'
 stands_history k p p' h s = record {
   lives_kept = s.lives_kept ∙ sym h.lives_same;
   urgent_kept = s.urgent_kept ∙ sym (h.waits_same Urgent);
@@ -62,7 +62,7 @@ stands_history k p p' h s = record {
 }
 
 -- a task as it was made, behind the entry that made its job
-pub stands-made : (id : Id) (command : Command) (flag : Flag) (waiting : Waits) (mirror : Unit {0}) (parking : Tickets) (p : List Entry) → IsEmpty waiting → parking.tickets ≡ [] → RunsOnly id command p → Stands (record { id = id; command = command; flag = flag; waiting = waiting; state = Pending; previous = None; kept = false; gone = false; hook = None; handler = None; tag = spawning.Default; grace = None; begun = None; closed = false; mirror = mirror; parked = parking }) (Made id ∷ p)
+pub stands-made : (id : Id) (command : Command) (flag : Flag) (waiting : Waits) (mirror : Unit {0}) (parking : Tickets) (p : List Entry) → IsEmpty waiting → parking.tickets ≡ [] → RunsOnly id command p → TaskStands (record { id = id; command = command; flag = flag; waiting = waiting; state = Pending; previous = None; kept = false; gone = false; hook = None; handler = None; tag = spawning.Default; grace = None; begun = None; closed = false; mirror = mirror; parked = parking }) (Made id ∷ p)
 stands-made id command flag waiting mirror parking p empty none runs = record {
   lives_kept = rw (self id) refl;
   urgent_kept = rw (self id) empty.urgent;
@@ -85,11 +85,11 @@ stands-made id command flag waiting mirror parking p empty none runs = record {
 }
 
 -- entries that say nothing of a job
-pub stands-silent : (k : JobTask) (p : List Entry) (e : Entry) → is_silent e ≡ true → Stands k p → Stands k (e ∷ p)
+pub stands-silent : (k : JobTask) (p : List Entry) (e : Entry) → is_silent e ≡ true → TaskStands k p → TaskStands k (e ∷ p)
 stands-silent k p e silent s = stands_history k p _ (frame_silent (id_of k) e p silent) s
 
 -- the child that runs, by the journal
-child-is : (k : JobTask) (p : List Entry) (c : ℕ) → Stands k p → k.gone ≡ false → child_of k.state ≡ Some c → child k.id p ≡ Some c
+child-is : (k : JobTask) (p : List Entry) (c : ℕ) → TaskStands k p → k.gone ≡ false → child_of k.state ≡ Some c → child k.id p ≡ Some c
 child-is k p c s here runs = sym s.child_kept ∙ rw here runs
 
 finish-child : (c : ℕ) (status : ProcessEnd) (at : ℕ) (s : CommandState) → child_of s ≡ Some c → child_of (finish c status at s) ≡ None
@@ -97,7 +97,7 @@ finish-child c status at Pending e = cc
 finish-child c status at (Running d started) e = let is : d ≡ c = cc in rw (eq-eqb d c is) refl
 finish-child c status at (Finished before started finished) e = cc
 
-pub stands-wait-ok : (k : JobTask) (p : List Entry) (c : ℕ) (status : ProcessEnd) → Stands k p → k.gone ≡ false → child_of k.state ≡ Some c → Stands (record k { state = finish c status (moment p) k.state; kept = false; grace = None }) (Wait c (Ok status) ∷ p)
+pub stands-wait-ok : (k : JobTask) (p : List Entry) (c : ℕ) (status : ProcessEnd) → TaskStands k p → k.gone ≡ false → child_of k.state ≡ Some c → TaskStands (record k { state = finish c status (moment p) k.state; kept = false; grace = None }) (Wait c (Ok status) ∷ p)
 stands-wait-ok k p c status s here runs =
     let is : child k.id p ≡ Some c = child-is k p c s here runs in
     let found : (c == c) ≡ true = eq-eqb c c refl in
@@ -122,7 +122,7 @@ stands-wait-ok k p c status s here runs =
       runs_kept = s.runs_kept;
     }
 
-pub stands-wait-err : (k : JobTask) (p : List Entry) (c : ℕ) (fault : HostFault) → Stands k p → k.gone ≡ false → child_of k.state ≡ Some c → Stands (record k { kept = false }) (Wait c (Err fault) ∷ p)
+pub stands-wait-err : (k : JobTask) (p : List Entry) (c : ℕ) (fault : HostFault) → TaskStands k p → k.gone ≡ false → child_of k.state ≡ Some c → TaskStands (record k { kept = false }) (Wait c (Err fault) ∷ p)
 stands-wait-err k p c fault s here runs =
     let is : child k.id p ≡ Some c = child-is k p c s here runs in
     let found : (c == c) ≡ true = eq-eqb c c refl in
@@ -147,7 +147,7 @@ stands-wait-err k p c fault s here runs =
       runs_kept = s.runs_kept;
     }
 
-pub stands-spawn-ok : (k : JobTask) (p : List Entry) (c : ℕ) (tag : SpawnTag) (what : Spawnable) (a : Unit {0}) (before : CommandState) → Stands k p → k.gone ≡ false → before ≡ before_spawn k.id p → Stands (record k { state = Running c (moment p); previous = Some before; kept = false }) (Spawn c k.id tag what (Ok a) ∷ p)
+pub stands-spawn-ok : (k : JobTask) (p : List Entry) (c : ℕ) (tag : SpawnTag) (what : Spawnable) (a : Unit {0}) (before : CommandState) → TaskStands k p → k.gone ≡ false → before ≡ before_spawn k.id p → TaskStands (record k { state = Running c (moment p); previous = Some before; kept = false }) (Spawn c k.id tag what (Ok a) ∷ p)
 stands-spawn-ok k p c tag what a before s here is = record {
   lives_kept = s.lives_kept;
   urgent_kept = s.urgent_kept;
@@ -169,7 +169,7 @@ stands-spawn-ok k p c tag what a before s here is = record {
   runs_kept = s.runs_kept;
 }
 
-pub stands-spawn-err : (k : JobTask) (p : List Entry) (c : ℕ) (tag : SpawnTag) (what : Spawnable) (fault : HostFault) (before : CommandState) → Stands k p → k.gone ≡ false → child_of k.state ≡ None → before ≡ before_spawn k.id p → Stands (record k { state = Pending; previous = Some before }) (Spawn c k.id tag what (Err fault) ∷ p)
+pub stands-spawn-err : (k : JobTask) (p : List Entry) (c : ℕ) (tag : SpawnTag) (what : Spawnable) (fault : HostFault) (before : CommandState) → TaskStands k p → k.gone ≡ false → child_of k.state ≡ None → before ≡ before_spawn k.id p → TaskStands (record k { state = Pending; previous = Some before }) (Spawn c k.id tag what (Err fault) ∷ p)
 stands-spawn-err k p c tag what fault before s here none is = record {
   lives_kept = s.lives_kept;
   urgent_kept = s.urgent_kept;
@@ -191,7 +191,7 @@ stands-spawn-err k p c tag what fault before s here none is = record {
   runs_kept = s.runs_kept;
 }
 
-pub stands-hook : (k : JobTask) (p : List Entry) (n : ℕ) (a : Result Spawnable Memory) → Stands k p → k.gone ≡ false → child_of k.state ≡ None → Stands (record k { state = Pending; previous = Some k.state }) (Hook k.id n a ∷ p)
+pub stands-hook : (k : JobTask) (p : List Entry) (n : ℕ) (a : Result Spawnable Memory) → TaskStands k p → k.gone ≡ false → child_of k.state ≡ None → TaskStands (record k { state = Pending; previous = Some k.state }) (Hook k.id n a ∷ p)
 stands-hook k p n a s here none = record {
   lives_kept = s.lives_kept;
   urgent_kept = s.urgent_kept;
@@ -245,13 +245,13 @@ new_once t u before after false is none le e = omega (arith, le, e)
 new_none : (t u before after : ℕ) → t < u → before ≡ 0 → after ≡ before + once (t == u) → after ≡ 0
 new_none t u before after lt none e = let other : (t == u) ≡ false = ne_eqb t u (λ is. omega (arith, lt, is)) in (let e' : after ≡ before + once false = (rw other at e) in omega (arith, none, e'))
 
-pub stands-asked : (k k' : JobTask) (p : List Entry) (t : ℕ) (level : Level) (control : Control) → Stands k p → k.gone ≡ false → t ≡ ticket_count p → waiting_count k.waiting + 1 ≤ k.parked.spare → k'.waiting ≡ record (joined level (t, control) k.waiting) { spare = k'.waiting.spare } → k' ≡ record k { waiting = k'.waiting } → Stands k' (Asked t k.id level control ∷ p)
+pub stands-asked : (k k' : JobTask) (p : List Entry) (t : ℕ) (level : Level) (control : Control) → TaskStands k p → k.gone ≡ false → t ≡ ticket_count p → waiting_count k.waiting + 1 ≤ k.parked.spare → k'.waiting ≡ record (joined level (t, control) k.waiting) { spare = k'.waiting.spare } → k' ≡ record k { waiting = k'.waiting } → TaskStands k' (Asked t k.id level control ∷ p)
 stands-asked k k' p t level control s here named room joins fields =
     let alive : lives k.id p ≡ true = sym s.lives_kept ∙ rw here refl in
     let ws = joined_waits k.waiting k.id p t level control alive (s.urgent_kept, s.high_kept, s.normal_kept) in
     let more : (u : ℕ) → times_waits u k'.waiting ≡ times_waits u k.waiting + once (t == u) = λ u. rw joins (joined_held k.waiting t u level control) in
     let count : waiting_count k'.waiting ≡ waiting_count k.waiting + 1 = rw joins (joined_count k.waiting t level control) in
-    let stood : Stands (record k { waiting = k'.waiting }) (Asked t k.id level control ∷ p) = record {
+    let stood : TaskStands (record k { waiting = k'.waiting }) (Asked t k.id level control ∷ p) = record {
       lives_kept = s.lives_kept;
       urgent_kept = rw joins ws.0;
       high_kept = rw joins ws.1;
@@ -337,7 +337,7 @@ headed_count w w' t High control is = rw is (omega arith)
 headed_count w w' t Normal control is = rw is (omega arith)
 
 -- a control is picked: its ticket is in hand, or parked
-picked_stands : (b : Bool) (k : JobTask) (waiting : Waits) (parking : Tickets) (p : List Entry) (x : Picked) → Stands k p → k.waiting ≡ record (headed x.level (picked x) waiting) { spare = k.waiting.spare } → first_level b k.waiting ≡ Some x.level → parking.tickets ≡ parks (Some x.control) x.ticket k.state k.parked.tickets → waiting_count waiting ≤ parking.spare → ((u : ℕ) → times u parking.tickets ≤ times u k.parked.tickets + once (x.ticket == u)) → Stands (record k { waiting = waiting; parked = parking; hook = set_hook (Some x.control) k.hook; handler = set_handler (Some x.control) k.handler; tag = set_tag (Some x.control) k.tag }) (Pick k.id x.ticket ∷ p)
+picked_stands : (b : Bool) (k : JobTask) (waiting : Waits) (parking : Tickets) (p : List Entry) (x : Picked) → TaskStands k p → k.waiting ≡ record (headed x.level (picked x) waiting) { spare = k.waiting.spare } → first_level b k.waiting ≡ Some x.level → parking.tickets ≡ parks (Some x.control) x.ticket k.state k.parked.tickets → waiting_count waiting ≤ parking.spare → ((u : ℕ) → times u parking.tickets ≤ times u k.parked.tickets + once (x.ticket == u)) → TaskStands (record k { waiting = waiting; parked = parking; hook = set_hook (Some x.control) k.hook; handler = set_handler (Some x.control) k.handler; tag = set_tag (Some x.control) k.tag }) (Pick k.id x.ticket ∷ p)
 picked_stands b k waiting parking p x s heads level parks_it room held =
     let were : AreWaiting k.waiting k.id p = (s.urgent_kept, s.high_kept, s.normal_kept) in
     let ws = headed_waits b k.waiting waiting k.id p x.ticket x.level x.control heads level were in
@@ -363,14 +363,14 @@ picked_stands b k waiting parking p x s heads level parks_it room held =
       runs_kept = s.runs_kept;
     }
 
-pub stands-picked : (b : Bool) (k k' : JobTask) (p : List Entry) (x : Picked) → Stands k p → k.waiting ≡ record (headed x.level (picked x) k'.waiting) { spare = k.waiting.spare } → first_level b k.waiting ≡ Some x.level → is_parking x.control k.state ≡ false → k' ≡ record k { waiting = k'.waiting; hook = set_hook (Some x.control) k.hook; handler = set_handler (Some x.control) k.handler; tag = set_tag (Some x.control) k.tag } → Stands k' (Pick k.id x.ticket ∷ p)
+pub stands-picked : (b : Bool) (k k' : JobTask) (p : List Entry) (x : Picked) → TaskStands k p → k.waiting ≡ record (headed x.level (picked x) k'.waiting) { spare = k.waiting.spare } → first_level b k.waiting ≡ Some x.level → is_parking x.control k.state ≡ false → k' ≡ record k { waiting = k'.waiting; hook = set_hook (Some x.control) k.hook; handler = set_handler (Some x.control) k.handler; tag = set_tag (Some x.control) k.tag } → TaskStands k' (Pick k.id x.ticket ∷ p)
 stands-picked b k k' p x s heads level in_hand fields =
     let count = headed_count k.waiting k'.waiting x.ticket x.level x.control heads in
     let room = s.parked_room in
     let stood = picked_stands b k k'.waiting k.parked p x s heads level (sym (parks-not x.control x.ticket k.state k.parked.tickets in_hand)) (omega (arith, count, room)) (λ u. omega arith) in
     rw fields stood
 
-pub stands-parked : (b : Bool) (k k' : JobTask) (p : List Entry) (x : Picked) → Stands k p → k.waiting ≡ record (headed x.level (picked x) k'.waiting) { spare = k.waiting.spare } → first_level b k.waiting ≡ Some x.level → is_parking x.control k.state ≡ true → k'.parked.tickets ≡ k.parked.tickets ++ x.ticket ∷ [] → k.parked.spare ≤ k'.parked.spare + 1 → k' ≡ record k { waiting = k'.waiting; parked = k'.parked; hook = set_hook (Some x.control) k.hook; handler = set_handler (Some x.control) k.handler; tag = set_tag (Some x.control) k.tag } → Stands k' (Pick k.id x.ticket ∷ p)
+pub stands-parked : (b : Bool) (k k' : JobTask) (p : List Entry) (x : Picked) → TaskStands k p → k.waiting ≡ record (headed x.level (picked x) k'.waiting) { spare = k.waiting.spare } → first_level b k.waiting ≡ Some x.level → is_parking x.control k.state ≡ true → k'.parked.tickets ≡ k.parked.tickets ++ x.ticket ∷ [] → k.parked.spare ≤ k'.parked.spare + 1 → k' ≡ record k { waiting = k'.waiting; parked = k'.parked; hook = set_hook (Some x.control) k.hook; handler = set_handler (Some x.control) k.handler; tag = set_tag (Some x.control) k.tag } → TaskStands k' (Pick k.id x.ticket ∷ p)
 stands-parked b k k' p x s heads level parking joins spare fields =
     let count = headed_count k.waiting k'.waiting x.ticket x.level x.control heads in
     let room = s.parked_room in
@@ -389,7 +389,7 @@ pub same_control : (k : JobTask) (x : Picked) (b : Bool) (t : ℕ) (control : Co
 same_control k x b t control is found chosen = ap (λ (y : ℕ × Control). y.1) (same_pick k x b t control is found chosen)
 
 -- the ticket that was picked isn't held any more, where it isn't parked
-pub picked-unheld : (k k' : JobTask) (p : List Entry) (x : Picked) → Stands k p → k.waiting ≡ record (headed x.level (picked x) k'.waiting) { spare = k.waiting.spare } → k'.parked.tickets ≡ k.parked.tickets → grace_of k' ≡ grace_of k → begun_of k' ≡ begun_of k → holds x.ticket k' ≡ 0
+pub picked-unheld : (k k' : JobTask) (p : List Entry) (x : Picked) → TaskStands k p → k.waiting ≡ record (headed x.level (picked x) k'.waiting) { spare = k.waiting.spare } → k'.parked.tickets ≡ k.parked.tickets → grace_of k' ≡ grace_of k → begun_of k' ≡ begun_of k → holds x.ticket k' ≡ 0
 picked-unheld k k' p x s heads parked_is grace_is begun_is =
     let h = s.held_once x.ticket in
     let a : times_waits x.ticket k.waiting ≡ times_waits x.ticket k'.waiting + 1 = headed_held k.waiting k'.waiting x.ticket x.ticket x.level x.control heads ∙ rw (eq-eqb x.ticket x.ticket refl) refl in
@@ -407,7 +407,7 @@ row-is k k' x t control fields parked_is found =
 
 -- ---- tickets that are raised
 
-pub stands-raise : (k : JobTask) (p : List Entry) (t : ℕ) → Stands k p → holds t k ≡ 0 → Stands k (Raise t ∷ p)
+pub stands-raise : (k : JobTask) (p : List Entry) (t : ℕ) → TaskStands k p → holds t k ≡ 0 → TaskStands k (Raise t ∷ p)
 stands-raise k p t s none =
     let gone : times t k.parked.tickets ≡ 0 = omega (arith, none) in
     record {
@@ -431,12 +431,12 @@ stands-raise k p t s none =
       runs_kept = s.runs_kept;
     }
 
-pub stands-raised : (k k' : JobTask) (p : List Entry) (t : ℕ) → Stands k p → k.parked.tickets ≡ t ∷ k'.parked.tickets → k.parked.spare ≤ k'.parked.spare → k' ≡ record k { parked = k'.parked } → Stands k' (Raise t ∷ p)
+pub stands-raised : (k k' : JobTask) (p : List Entry) (t : ℕ) → TaskStands k p → k.parked.tickets ≡ t ∷ k'.parked.tickets → k.parked.spare ≤ k'.parked.spare → k' ≡ record k { parked = k'.parked } → TaskStands k' (Raise t ∷ p)
 stands-raised k k' p t s taken spare fields =
     let room = s.parked_room in
     let was : k'.parked.tickets ≡ without_ticket t k.parked.tickets = rw (taken, eq-eqb t t refl) refl in
     let held : (u : ℕ) → times u k.parked.tickets ≡ once (t == u) + times u k'.parked.tickets = λ u. rw taken refl in
-    let stood : Stands (record k { parked = k'.parked }) (Raise t ∷ p) = record {
+    let stood : TaskStands (record k { parked = k'.parked }) (Raise t ∷ p) = record {
       lives_kept = s.lives_kept;
       urgent_kept = s.urgent_kept;
       high_kept = s.high_kept;
@@ -480,7 +480,7 @@ begun_once t u before after true is none le e = let zero_before = none (eqb-true
 begun_once t u before after false is none le e = omega (arith, le, e)
 
 -- the task with this grace and this function, at a longer journal that says nothing else of it
-held_stands : (k : JobTask) (standing : Option Standing) (function : Option Begun) (p p' : List Entry) → Stands k p → SameButHeld k.id p p' → option_map (λ (s : Standing). s.grace) standing ≡ grace k.id p' → option_map (λ (b : Begun). b.function) function ≡ begun k.id p' → ((u : ℕ) → holds u (record k { grace = standing; begun = function }) ≤ 1) → ((u : ℕ) → ticket_count p' ≤ u → holds u (record k { grace = standing; begun = function }) ≡ 0) → Stands (record k { grace = standing; begun = function }) p'
+held_stands : (k : JobTask) (standing : Option Standing) (function : Option Begun) (p p' : List Entry) → TaskStands k p → SameButHeld k.id p p' → option_map (λ (s : Standing). s.grace) standing ≡ grace k.id p' → option_map (λ (b : Begun). b.function) function ≡ begun k.id p' → ((u : ℕ) → holds u (record k { grace = standing; begun = function }) ≤ 1) → ((u : ℕ) → ticket_count p' ≤ u → holds u (record k { grace = standing; begun = function }) ≡ 0) → TaskStands (record k { grace = standing; begun = function }) p'
 held_stands k standing function p p' s h grace_is begun_is once_each named = record {
   lives_kept = s.lives_kept ∙ sym h.lives_same;
   urgent_kept = s.urgent_kept ∙ sym (h.waits_same Urgent);
@@ -507,14 +507,14 @@ signal_same id p c number (Ok a) = record { lives_same = refl; waits_same = λ l
 signal_same id p c number (Err a) = record { lives_same = refl; waits_same = λ l. refl; child_same = refl; kept_same = refl; state_same = refl; previous_same = refl; hook_same = refl; handler_same = refl; tag_same = refl; parked_same = refl; command_same = refl }
 
 -- a signal was sent: where the picked control begins no grace the one that stands stays
-pub stands-signal : (k : JobTask) (p : List Entry) (c : ℕ) (number : ℤ) (a : Result (Unit {0}) HostFault) → Stands k p → begins_by (just_picked k.id p) (moment p) (grace_of k) ≡ grace_of k → Stands k (Signal c number a ∷ p)
+pub stands-signal : (k : JobTask) (p : List Entry) (c : ℕ) (number : ℤ) (a : Result (Unit {0}) HostFault) → TaskStands k p → begins_by (just_picked k.id p) (moment p) (grace_of k) ≡ grace_of k → TaskStands k (Signal c number a ∷ p)
 stands-signal k p c number (Ok a) s is =
     let stays : grace_of k ≡ begins_by (just_picked k.id p) (moment p) (grace k.id p) = rw (← s.grace_kept) (sym is) in
     held_stands k k.grace k.begun p (Signal c number (Ok a) ∷ p) s (signal_same k.id p c number (Ok a)) (either (λ g. grace_of k ≡ g) (is_child c (child k.id p)) (begins_by (just_picked k.id p) (moment p) (grace k.id p)) (grace k.id p) stays s.grace_kept) s.begun_kept s.held_once s.held_named
 stands-signal k p c number (Err a) s is = held_stands k k.grace k.begun p (Signal c number (Err a) ∷ p) s (signal_same k.id p c number (Err a)) s.grace_kept s.begun_kept s.held_once s.held_named
 
 -- a signal was sent, and the grace that the picked control begins stands
-pub stands-grace : (k : JobTask) (p : List Entry) (c : ℕ) (number : ℤ) (a : Unit {0}) (standing : Standing) → Stands k p → k.gone ≡ false → child_of k.state ≡ Some c → begins_by (just_picked k.id p) (moment p) (grace_of k) ≡ Some standing.grace → holds standing.grace.ticket k ≡ 0 → standing.grace.ticket < ticket_count p → Stands (record k { grace = Some standing }) (Signal c number (Ok a) ∷ p)
+pub stands-grace : (k : JobTask) (p : List Entry) (c : ℕ) (number : ℤ) (a : Unit {0}) (standing : Standing) → TaskStands k p → k.gone ≡ false → child_of k.state ≡ Some c → begins_by (just_picked k.id p) (moment p) (grace_of k) ≡ Some standing.grace → holds standing.grace.ticket k ≡ 0 → standing.grace.ticket < ticket_count p → TaskStands (record k { grace = Some standing }) (Signal c number (Ok a) ∷ p)
 stands-grace k p c number a standing s here runs begins unheld named =
     let is : child k.id p ≡ Some c = child-is k p c s here runs in
     let its : Some standing.grace ≡ begins_by (just_picked k.id p) (moment p) (grace k.id p) = rw (← s.grace_kept) (sym begins) in
@@ -522,11 +522,11 @@ stands-grace k p c number a standing s here runs begins unheld named =
     (λ u. begun_once standing.grace.ticket u (holds u k) _ (standing.grace.ticket == u) refl (λ same. rw (← same) unheld) (s.held_once u) (omega arith))
     (λ u le. new_none standing.grace.ticket u (times_waits u k.waiting + times u k.parked.tickets + times_begun u (begun_of k)) _ (omega (arith, named, le)) (let h = s.held_named u le in omega (arith, h)) (omega arith))
 
-pub stands-over : (k : JobTask) (p : List Entry) → Stands k p → Stands (record k { grace = None }) (GraceOver k.id ∷ p)
+pub stands-over : (k : JobTask) (p : List Entry) → TaskStands k p → TaskStands (record k { grace = None }) (GraceOver k.id ∷ p)
 stands-over k p s = held_stands k None k.begun p (GraceOver k.id ∷ p) s (record { lives_same = refl; waits_same = λ l. refl; child_same = refl; kept_same = refl; state_same = refl; previous_same = refl; hook_same = refl; handler_same = refl; tag_same = refl; parked_same = refl; command_same = refl }) (rw (self k.id) refl) s.begun_kept (λ u. (let h = s.held_once u in omega (arith, h))) (λ u le. (let h = s.held_named u le in omega (arith, h)))
 
 -- a function was begun, which holds the ticket of the control that was just picked
-pub stands-function : (k : JobTask) (p : List Entry) (b : Begun) → Stands k p → just_picked k.id p ≡ Some (b.function.ticket, AsyncFunc b.function.n) → begun_of k ≡ None → holds b.function.ticket k ≡ 0 → b.function.ticket < ticket_count p → Stands (record k { begun = Some b }) (WasBegun k.id b.function.n ∷ p)
+pub stands-function : (k : JobTask) (p : List Entry) (b : Begun) → TaskStands k p → just_picked k.id p ≡ Some (b.function.ticket, AsyncFunc b.function.n) → begun_of k ≡ None → holds b.function.ticket k ≡ 0 → b.function.ticket < ticket_count p → TaskStands (record k { begun = Some b }) (WasBegun k.id b.function.n ∷ p)
 stands-function k p b s just none unheld named =
     held_stands k k.grace (Some b) p (WasBegun k.id b.function.n ∷ p) s
     (record { lives_same = refl; waits_same = λ l. refl; child_same = refl; kept_same = refl; state_same = refl; previous_same = refl; hook_same = refl; handler_same = refl; tag_same = refl; parked_same = refl; command_same = refl })
@@ -538,24 +538,24 @@ stands-function k p b s just none unheld named =
 poll_same : (id : Id) (p : List Entry) (n : ℕ) → SameButHeld id p (Poll id n true ∷ p)
 poll_same id p n = record { lives_same = refl; waits_same = λ l. refl; child_same = refl; kept_same = refl; state_same = refl; previous_same = refl; hook_same = refl; handler_same = refl; tag_same = refl; parked_same = refl; command_same = refl }
 
-pub stands-ready : (k : JobTask) (p : List Entry) (n : ℕ) (ready : Bool) → ready ≡ true → Stands k p → Stands (record k { begun = None }) (Poll k.id n ready ∷ p)
+pub stands-ready : (k : JobTask) (p : List Entry) (n : ℕ) (ready : Bool) → ready ≡ true → TaskStands k p → TaskStands (record k { begun = None }) (Poll k.id n ready ∷ p)
 stands-ready k p n true is s = held_stands k k.grace None p (Poll k.id n true ∷ p) s (poll_same k.id p n) s.grace_kept (rw (self k.id) refl) (λ u. (let h = s.held_once u in omega (arith, h))) (λ u le. (let h = s.held_named u le in omega (arith, h)))
 stands-ready k p n false is s = absurd cc
 
 -- it isn't ready
-pub stands-later : (k : JobTask) (p : List Entry) (n : ℕ) (ready : Bool) → ready ≡ false → Stands k p → Stands k (Poll k.id n ready ∷ p)
+pub stands-later : (k : JobTask) (p : List Entry) (n : ℕ) (ready : Bool) → ready ≡ false → TaskStands k p → TaskStands k (Poll k.id n ready ∷ p)
 stands-later k p n true is s = absurd cc
 stands-later k p n false is s = held_stands k k.grace k.begun p (Poll k.id n false ∷ p) s (record { lives_same = refl; waits_same = λ l. refl; child_same = refl; kept_same = refl; state_same = refl; previous_same = refl; hook_same = refl; handler_same = refl; tag_same = refl; parked_same = refl; command_same = refl }) s.grace_kept s.begun_kept s.held_once s.held_named
 
 -- the ticket of a function that is ready isn't held any more
-pub ready-unheld : (k : JobTask) (p : List Entry) (f : Function) → Stands k p → begun_of k ≡ Some f → holds f.ticket (record k { begun = None }) ≡ 0
+pub ready-unheld : (k : JobTask) (p : List Entry) (f : Function) → TaskStands k p → begun_of k ≡ Some f → holds f.ticket (record k { begun = None }) ≡ 0
 ready-unheld k p f s is =
     let most = s.held_once f.ticket in
     let one : times_begun f.ticket (begun_of k) ≡ 1 = rw (is, eq-eqb f.ticket f.ticket refl) refl in
     omega (arith, most, one)
 
 -- that there are no more handles stands in no journal
-pub stands-closed : (k : JobTask) (p : List Entry) → Stands k p → Stands (record k { closed = true }) p
+pub stands-closed : (k : JobTask) (p : List Entry) → TaskStands k p → TaskStands (record k { closed = true }) p
 stands-closed k p s = record {
   lives_kept = s.lives_kept;
   urgent_kept = s.urgent_kept;
@@ -578,7 +578,7 @@ stands-closed k p s = record {
 }
 
 -- what the end of a job owes, by what the task keeps
-pub end-is : (k : JobTask) (p : List Entry) (c : Option ℕ) → Stands k p → k.gone ≡ false → c ≡ child_of k.state → end_plan k.id p ≡ leave k.id c
+pub end-is : (k : JobTask) (p : List Entry) (c : Option ℕ) → TaskStands k p → k.gone ≡ false → c ≡ child_of k.state → end_plan k.id p ≡ leave k.id c
 end-is k p c s here is = let alive : lives k.id p ≡ true = sym s.lives_kept ∙ rw here refl in let runs : child k.id p ≡ child_of k.state = sym s.child_kept ∙ rw here refl in rw (alive, runs, is) refl
 
 -- what a control spawns, where it spawns

@@ -63,7 +63,7 @@ abbrev pub holds : ℕ → JobTask → ℕ
 holds ticket k = times_waits ticket k.waiting + times ticket (parked_of k) + times_grace ticket (grace_of k) + times_begun ticket (begun_of k)
 
 -- the task keeps what the journal says of its job, has room to park what waits, and holds no ticket twice, and none that isn't named yet
-pub record Stands (k : JobTask) (p : List Entry) : Type 0 where
+pub record TaskStands (k : JobTask) (p : List Entry) : Type 0 where
   pub lives_kept : not k.gone ≡ lives k.id p
   pub urgent_kept : k.waiting.urgent ≡ waits k.id Urgent p
   pub high_kept : k.waiting.high ≡ waits k.id High p
@@ -109,9 +109,9 @@ pub record Undone {Host : Type 0} (k : JobTask) (j : Written) (h : Host) (k' : J
 
 -- A step that answers want of memory: nothing was done, also to the hooks, or the case was given up behind a call of a hook,
 -- and the state is Pending.
-pub data Stops {Host Hooks : Type 0} (k : JobTask) (j : Written) (h : Host) (x : Hooks) (k' : JobTask) (j' : Written) (h' : Host) (x' : Hooks) (GaveUp : Type 0) : Type 0 where
-  Before : Undone k j h k' j' h' → x' ≡ x → Stops k j h x k' j' h' x' GaveUp
-  Behind : k'.state ≡ Pending → GaveUp → Stops k j h x k' j' h' x' GaveUp
+pub data StepFails {Host Hooks : Type 0} (k : JobTask) (j : Written) (h : Host) (x : Hooks) (k' : JobTask) (j' : Written) (h' : Host) (x' : Hooks) (GaveUp : Type 0) : Type 0 where
+  AllAsBefore : Undone k j h k' j' h' → x' ≡ x → StepFails k j h x k' j' h' x' GaveUp
+  BehindHook : k'.state ≡ Pending → GaveUp → StepFails k j h x k' j' h' x' GaveUp
 
 -- all that a task keeps is the same, but for the room for controls and for parked tickets
 pub record SameTask (k k' : JobTask) : Type 0 where
@@ -131,7 +131,7 @@ with_close k = record k { closed = true }
 pub record IsEnding (k : JobTask) (c at : ℕ) (p : List Entry) : Type 0 where
   pub before : List Entry
   pub last : p ≡ Turned (record { at = at; kind = Ended c }) ∷ before
-  pub stands : Stands k before
+  pub stands : TaskStands k before
 
 -- what its cases go by
 abbrev pub kit_of : JobTask → Kit

@@ -7,11 +7,11 @@ ghost use Rattle.wx_journal.specs.Told.{tell};
 ghost use Rattle.wx_machine.specs.declared.state.CommandState.TheVariants.{Pending};
 ghost use Rattle.wx_machine.specs.History.{finish, before_spawn, just_picked, begins_by};
 ghost use Rattle.wx_machine.specs.Table.{Plan, Done, Words, Signals, Kills, Waits, adds, shows, tries, reap, waiters, spawn, fresh};
-ghost use Rattle.wx_machine.specs.Case.{FollowsHost, FollowsHooks, Follows, GivesUp, HookedOnly, words_of, newest_code};
+ghost use Rattle.wx_machine.specs.Case.{PlanFollowsHost, PlanFollowsHooks, PlanFollows, PlanGivesUp, HookedOnly, words_of, newest_code};
 ghost use Rattle.wx_machine.specs.Kept.{Quiet};
 ghost use Rattle.wx_job.specs.Calls.{IsReady, IsReadyAt, IsInHand, AreRoomy, HasCalled, HasWaited, HasServed};
 ghost use Rattle.wx_machine.specs.Steady.{AreSpare, Spends};
-ghost use Rattle.wx_job.specs.Stands.{Stands, kit_of, grace_of, holds};
+ghost use Rattle.wx_job.specs.Stands.{TaskStands, kit_of, grace_of, holds};
 ghost use Rattle.wx_machine.specs.States.{child_of};
 
 use crate::grace::Standing;
@@ -34,11 +34,11 @@ impl JobTask {
         host: &mut H,
         journal: &mut Journal,
     )
-        requires stands { Stands self.now journal.old.past }
+        requires stands { TaskStands self.now journal.old.past }
         requires unheld { holds ticket self.now ≡ 0 }
         requires room { AreSpare 1 journal.old (H.seen host.old) }
-        ensures stands { Stands self.now journal.new.past }
-        ensures follows { (k : Plan) → FollowsHost (adds (Entry.Raise ticket) k) journal.old.past (H.seen host.old) k journal.new.past (H.seen host.new) }
+        ensures stands { TaskStands self.now journal.new.past }
+        ensures follows { (k : Plan) → PlanFollowsHost (adds (Entry.Raise ticket) k) journal.old.past (H.seen host.old) k journal.new.past (H.seen host.new) }
         ensures before { before_spawn self.now.id journal.new.past ≡ self.now.state }
         ensures quiet { Quiet journal.old.past journal.new.past }
         ensures spends { Spends 1 journal.old (H.seen host.old) journal.new (H.seen host.new) }
@@ -49,11 +49,11 @@ impl JobTask {
 
     /// Raises each parked ticket, in order.
     pub(crate) fn raise_parked<H: Host>(&mut self, host: &mut H, journal: &mut Journal)
-        requires stands { Stands self.old journal.old.past }
+        requires stands { TaskStands self.old journal.old.past }
         requires before { before_spawn self.old.id journal.old.past ≡ self.old.state }
         requires room { AreSpare (length self.old.parked.tickets) journal.old (H.seen host.old) }
-        ensures stands { Stands self.new journal.new.past }
-        ensures follows { (k : Plan) → FollowsHost (waiters self.old.parked.tickets k) journal.old.past (H.seen host.old) k journal.new.past (H.seen host.new) }
+        ensures stands { TaskStands self.new journal.new.past }
+        ensures follows { (k : Plan) → PlanFollowsHost (waiters self.old.parked.tickets k) journal.old.past (H.seen host.old) k journal.new.past (H.seen host.new) }
         ensures fields { self.new ≡ record self.old { parked = self.new.parked } }
         ensures none { self.new.parked.tickets ≡ [] }
         ensures held { (t : ℕ) → holds t self.new ≤ holds t self.old }
@@ -69,10 +69,10 @@ impl JobTask {
 
     /// Shows the fault that the journal's newest entry holds to the error handler, where one is set.
     fn show<K: JobHooks>(&self, fault: HostFault, hooks: &mut K, journal: &mut Journal)
-        requires stands { Stands self.now journal.old.past }
+        requires stands { TaskStands self.now journal.old.past }
         requires newest { newest_code journal.old.past ≡ fault.0 }
         requires room { AreRoomy 1 1 journal.old (K.seen hooks.old) }
-        ensures follows { (k : Plan) → FollowsHooks (shows self.now.id self.now.handler k) journal.old.past (K.seen hooks.old).told k journal.new.past (K.seen hooks.new).told }
+        ensures follows { (k : Plan) → PlanFollowsHooks (shows self.now.id self.now.handler k) journal.old.past (K.seen hooks.old).told k journal.new.past (K.seen hooks.new).told }
         ensures called { HasCalled K.seen K.rule K.stands 1 1 journal.old hooks.old self.now journal.new hooks.new }
     {
         let Some(n) = self.handler else {
@@ -98,7 +98,7 @@ impl JobTask {
     )
         requires begins { begins_by (just_picked self.now.id journal.old.past) (moment journal.old.past) (grace_of self.now) ≡ grace_of self.now }
         requires ready { IsReady self.now 2 1 journal.old (H.seen host.old) (K.seen hooks.old) }
-        ensures follows { (k : Plan) → Follows (tries self.now.id self.now.handler (Signals child number) k k) journal.old.past (H.seen host.old) (K.seen hooks.old).told k journal.new.past (H.seen host.new) (K.seen hooks.new).told }
+        ensures follows { (k : Plan) → PlanFollows (tries self.now.id self.now.handler (Signals child number) k k) journal.old.past (H.seen host.old) (K.seen hooks.old).told k journal.new.past (H.seen host.new) (K.seen hooks.new).told }
         ensures served { HasServed K.seen K.rule K.stands 2 1 journal.old (H.seen host.old) hooks.old self.now journal.new (H.seen host.new) hooks.new }
     {
         let answer = host.signal(child, number);
@@ -127,8 +127,8 @@ impl JobTask {
         requires begins { begins_by (just_picked self.old.id journal.old.past) (moment journal.old.past) (grace_of self.old) ≡ Some standing.grace }
         requires in_hand { IsInHand standing.grace.ticket self.old journal.old.past }
         requires ready { IsReady self.old 2 1 journal.old (H.seen host.old) (K.seen hooks.old) }
-        ensures begun { IfNone result ((k : Plan) (f : Plan) → Follows (tries self.old.id self.old.handler (Signals child number) k f) journal.old.past (H.seen host.old) (K.seen hooks.old).told k journal.new.past (H.seen host.new) (K.seen hooks.new).told) }
-        ensures failed { IfSome result (λ back. (k : Plan) (f : Plan) → Follows (tries self.old.id self.old.handler (Signals child number) k f) journal.old.past (H.seen host.old) (K.seen hooks.old).told f journal.new.past (H.seen host.new) (K.seen hooks.new).told) }
+        ensures begun { IfNone result ((k : Plan) (f : Plan) → PlanFollows (tries self.old.id self.old.handler (Signals child number) k f) journal.old.past (H.seen host.old) (K.seen hooks.old).told k journal.new.past (H.seen host.new) (K.seen hooks.new).told) }
+        ensures failed { IfSome result (λ back. (k : Plan) (f : Plan) → PlanFollows (tries self.old.id self.old.handler (Signals child number) k f) journal.old.past (H.seen host.old) (K.seen hooks.old).told f journal.new.past (H.seen host.new) (K.seen hooks.new).told) }
         ensures back { IfSome result (λ back. (back ≡ standing) × (self.new ≡ self.old)) }
         ensures fields { self.new ≡ record self.old { grace = self.new.grace } }
         ensures served { HasServed K.seen K.rule K.stands 2 1 journal.old (H.seen host.old) hooks.old self.new journal.new (H.seen host.new) hooks.new }
@@ -156,8 +156,8 @@ impl JobTask {
         journal: &mut Journal,
     ) -> Result<(), HostFault>
         requires ready { IsReady self.now 2 1 journal.old (H.seen host.old) (K.seen hooks.old) }
-        ensures ok { OnOk result ((k : Plan) (f : Plan) → Follows (tries self.now.id self.now.handler (Kills child) k f) journal.old.past (H.seen host.old) (K.seen hooks.old).told k journal.new.past (H.seen host.new) (K.seen hooks.new).told) }
-        ensures err { OnErr result ((k : Plan) (f : Plan) → Follows (tries self.now.id self.now.handler (Kills child) k f) journal.old.past (H.seen host.old) (K.seen hooks.old).told f journal.new.past (H.seen host.new) (K.seen hooks.new).told) }
+        ensures ok { OnOk result ((k : Plan) (f : Plan) → PlanFollows (tries self.now.id self.now.handler (Kills child) k f) journal.old.past (H.seen host.old) (K.seen hooks.old).told k journal.new.past (H.seen host.new) (K.seen hooks.new).told) }
+        ensures err { OnErr result ((k : Plan) (f : Plan) → PlanFollows (tries self.now.id self.now.handler (Kills child) k f) journal.old.past (H.seen host.old) (K.seen hooks.old).told f journal.new.past (H.seen host.new) (K.seen hooks.new).told) }
         ensures served { HasServed K.seen K.rule K.stands 2 1 journal.old (H.seen host.old) hooks.old self.now journal.new (H.seen host.new) hooks.new }
     {
         let answer = host.kill(child);
@@ -180,8 +180,8 @@ impl JobTask {
     ) -> Result<Option<Standing>, HostFault>
         requires runs { child_of self.old.state ≡ Some child }
         requires ready { IsReadyAt at self.old 2 1 journal.old (H.seen host.old) (K.seen hooks.old) }
-        ensures ok { OnOk result ((k : Plan) (f : Plan) → Follows (tries self.old.id self.old.handler (Waits child) k f) journal.old.past (H.seen host.old) (K.seen hooks.old).told k journal.new.past (H.seen host.new) (K.seen hooks.new).told) }
-        ensures err { OnErr result ((k : Plan) (f : Plan) → Follows (tries self.old.id self.old.handler (Waits child) k f) journal.old.past (H.seen host.old) (K.seen hooks.old).told f journal.new.past (H.seen host.new) (K.seen hooks.new).told) }
+        ensures ok { OnOk result ((k : Plan) (f : Plan) → PlanFollows (tries self.old.id self.old.handler (Waits child) k f) journal.old.past (H.seen host.old) (K.seen hooks.old).told k journal.new.past (H.seen host.new) (K.seen hooks.new).told) }
+        ensures err { OnErr result ((k : Plan) (f : Plan) → PlanFollows (tries self.old.id self.old.handler (Waits child) k f) journal.old.past (H.seen host.old) (K.seen hooks.old).told f journal.new.past (H.seen host.new) (K.seen hooks.new).told) }
         ensures waited { HasWaited result self.old self.new }
         ensures stays { OnErr result (self.new.grace ≡ self.old.grace) }
         ensures before { OnOk result (before_spawn self.new.id journal.new.past ≡ self.new.state) }
@@ -217,8 +217,8 @@ impl JobTask {
         requires unheld { holds ticket self.old ≡ 0 }
         requires runs { child_of self.old.state ≡ Some child }
         requires ready { IsReadyAt at self.old 5 2 journal.old (H.seen host.old) (K.seen hooks.old) }
-        ensures ok { OnOk result ((k : Plan) → Follows (reap self.old.id self.old.handler child ticket k) journal.old.past (H.seen host.old) (K.seen hooks.old).told k journal.new.past (H.seen host.new) (K.seen hooks.new).told) }
-        ensures err { OnErr result ((k : Plan) → Follows (reap self.old.id self.old.handler child ticket k) journal.old.past (H.seen host.old) (K.seen hooks.old).told Done journal.new.past (H.seen host.new) (K.seen hooks.new).told) }
+        ensures ok { OnOk result ((k : Plan) → PlanFollows (reap self.old.id self.old.handler child ticket k) journal.old.past (H.seen host.old) (K.seen hooks.old).told k journal.new.past (H.seen host.new) (K.seen hooks.new).told) }
+        ensures err { OnErr result ((k : Plan) → PlanFollows (reap self.old.id self.old.handler child ticket k) journal.old.past (H.seen host.old) (K.seen hooks.old).told Done journal.new.past (H.seen host.new) (K.seen hooks.new).told) }
         ensures waited { HasWaited result self.old self.new }
         ensures before { before_spawn self.new.id journal.new.past ≡ self.new.state }
         ensures served { HasServed K.seen K.rule K.stands 5 2 journal.old (H.seen host.old) hooks.old self.new journal.new (H.seen host.new) hooks.new }
@@ -252,7 +252,7 @@ impl JobTask {
         requires listed { listed ≡ what }
         requires before { before ≡ before_spawn self.old.id journal.old.past }
         requires ready { IsReadyAt at self.old 2 1 journal.old (H.seen host.old) (K.seen hooks.old) }
-        ensures follows { (words : Words) → words_of journal.old.past words ≡ what → (k : Plan) → Follows (spawn self.old.id self.old.handler self.old.tag words k) journal.old.past (H.seen host.old) (K.seen hooks.old).told k journal.new.past (H.seen host.new) (K.seen hooks.new).told }
+        ensures follows { (words : Words) → words_of journal.old.past words ≡ what → (k : Plan) → PlanFollows (spawn self.old.id self.old.handler self.old.tag words k) journal.old.past (H.seen host.old) (K.seen hooks.old).told k journal.new.past (H.seen host.new) (K.seen hooks.new).told }
         ensures fields { self.new ≡ record self.old { state = self.new.state; previous = self.new.previous; kept = self.new.kept } }
         ensures served { HasServed K.seen K.rule K.stands 2 1 journal.old (H.seen host.old) hooks.old self.new journal.new (H.seen host.new) hooks.new }
     {
@@ -288,7 +288,7 @@ impl JobTask {
         hooks: &mut K,
         journal: &mut Journal,
     ) -> Result<(Spawnable, Spawnable), Memory>
-        requires stands { Stands self.old journal.old.past }
+        requires stands { TaskStands self.old journal.old.past }
         requires runs { child_of self.old.state ≡ None }
         requires here { self.old.gone ≡ false }
         requires what { what ≡ spawnable_of self.old.command }
@@ -334,8 +334,8 @@ impl JobTask {
         requires what { (what ≡ spawnable_of self.old.command) × (listed ≡ what) }
         requires before { before_spawn self.old.id journal.old.past ≡ self.old.state }
         requires ready { IsReadyAt at self.old 3 2 journal.old (H.seen host.old) (K.seen hooks.old) }
-        ensures ok { OnOk result ((k : Plan) → Follows (fresh self.old.id (kit_of self.old) k) journal.old.past (H.seen host.old) (K.seen hooks.old).told k journal.new.past (H.seen host.new) (K.seen hooks.new).told) }
-        ensures err { OnErr result ((k : Plan) → GivesUp (fresh self.old.id (kit_of self.old) k) journal.old.past (H.seen host.old) (K.seen hooks.old).told journal.new.past (H.seen host.new) (K.seen hooks.new).told) }
+        ensures ok { OnOk result ((k : Plan) → PlanFollows (fresh self.old.id (kit_of self.old) k) journal.old.past (H.seen host.old) (K.seen hooks.old).told k journal.new.past (H.seen host.new) (K.seen hooks.new).told) }
+        ensures err { OnErr result ((k : Plan) → PlanGivesUp (fresh self.old.id (kit_of self.old) k) journal.old.past (H.seen host.old) (K.seen hooks.old).told journal.new.past (H.seen host.new) (K.seen hooks.new).told) }
         ensures pending { OnErr result (self.new.state ≡ Pending) }
         ensures fields { self.new ≡ record self.old { state = self.new.state; previous = self.new.previous; kept = self.new.kept } }
         ensures served { HasServed K.seen K.rule K.stands 3 2 journal.old (H.seen host.old) hooks.old self.new journal.new (H.seen host.new) hooks.new }

@@ -4,14 +4,13 @@ ghost use Rattle.wx_control.specs.declared.control.Control.TheVariants.{Stop, De
 ghost use Rattle.wx_control.specs.Waits.{picked, first_of};
 ghost use Rattle.wx_journal.specs.declared.entry.Entry.{Entry};
 ghost use Rattle.wx_journal.specs.Names.{moment};
-ghost use Rattle.wx_machine.specs.declared.state.CommandState.TheVariants.{Pending};
 ghost use Rattle.wx_machine.specs.History.{before_spawn, just_picked, begins_by, set_hook, set_handler, set_tag};
 ghost use Rattle.wx_machine.specs.Table.{Done, adds, raises, reap, waiters, kit_after, row, graceful, signalled, over, ended_in, ended, polled, number_of, spawns, deletes, is_restart, is_spawning, is_deletion, is_parking, case};
 ghost use Rattle.wx_job.specs.Prepared.{twice, prepared, fresh_or, fresh_in};
-ghost use Rattle.wx_machine.specs.Case.{FollowsHost, FollowsHooks, Follows, GivesUp};
+ghost use Rattle.wx_machine.specs.Case.{PlanFollowsHost, PlanFollowsHooks, PlanFollows, PlanGivesUp};
 ghost use Rattle.wx_job.specs.Calls.{IsReady, IsReadyAt, IsInHand, AreRoomy, HasCalled, HasServed, HasDone};
 ghost use Rattle.wx_machine.specs.Steady.{AreSpare, Spends};
-ghost use Rattle.wx_job.specs.Stands.{Stands, Stops, SameJob, kit_of, grace_of, begun_of, holds, choice_of};
+ghost use Rattle.wx_job.specs.Stands.{TaskStands, StepFails, SameJob, kit_of, grace_of, begun_of, holds, choice_of};
 ghost use Rattle.wx_machine.specs.States.{child_of};
 
 use crate::context::JobTaskContext;
@@ -24,7 +23,7 @@ use wx_command::Spawnable;
 use wx_control::{Control, Flag, Picked};
 use wx_events::{Memory, Signal};
 use wx_journal::{Entry, Journal, SpawnTag, Word};
-use wx_machine::{Choice, CommandState, Function, Grace};
+use wx_machine::{Choice, CommandState, Function, Grace, child_of};
 
 #[tactic(auto, using(crate::proofs::Sets::steps))]
 impl JobTask {
@@ -68,7 +67,7 @@ impl JobTask {
     )
         requires unheld { holds ticket self.old ≡ 0 }
         requires ready { IsReadyAt at self.old (7 + length self.old.parked.tickets) 2 journal.old (H.seen host.old) (K.seen hooks.old) }
-        ensures follows { Follows (row self.old.id (kit_of self.old) ticket Stop (child_of self.old.state)) journal.old.past (H.seen host.old) (K.seen hooks.old).told Done journal.new.past (H.seen host.new) (K.seen hooks.new).told }
+        ensures follows { PlanFollows (row self.old.id (kit_of self.old) ticket Stop (child_of self.old.state)) journal.old.past (H.seen host.old) (K.seen hooks.old).told Done journal.new.past (H.seen host.new) (K.seen hooks.new).told }
         ensures fields { self.new ≡ record self.old { state = self.new.state; kept = self.new.kept; grace = self.new.grace; parked = self.new.parked } }
         ensures served { HasServed K.seen K.rule K.stands (7 + length self.old.parked.tickets) 2 journal.old (H.seen host.old) hooks.old self.new journal.new (H.seen host.new) hooks.new }
     {
@@ -98,7 +97,7 @@ impl JobTask {
         requires in_hand { IsInHand picked.ticket self.old journal.old.past }
         requires begins { begins_by (just_picked self.old.id journal.old.past) (moment journal.old.past) (grace_of self.old) ≡ Some (record { ends = ends; ticket = picked.ticket; restarts = restarts }) }
         requires ready { IsReady self.old 3 1 journal.old (H.seen host.old) (K.seen hooks.old) }
-        ensures follows { Follows (graceful self.old.id self.old.handler signal picked.ticket (child_of self.old.state)) journal.old.past (H.seen host.old) (K.seen hooks.old).told Done journal.new.past (H.seen host.new) (K.seen hooks.new).told }
+        ensures follows { PlanFollows (graceful self.old.id self.old.handler signal picked.ticket (child_of self.old.state)) journal.old.past (H.seen host.old) (K.seen hooks.old).told Done journal.new.past (H.seen host.new) (K.seen hooks.new).told }
         ensures fields { self.new ≡ record self.old { grace = self.new.grace } }
         ensures served { HasServed K.seen K.rule K.stands 3 1 journal.old (H.seen host.old) hooks.old self.new journal.new (H.seen host.new) hooks.new }
     {
@@ -191,7 +190,7 @@ impl JobTask {
         requires unheld { holds picked.now.ticket self.old ≡ 0 }
         requires begins { begins_by (just_picked self.old.id journal.old.past) (moment journal.old.past) (grace_of self.old) ≡ grace_of self.old }
         requires ready { IsReady self.old 3 1 journal.old (H.seen host.old) (K.seen hooks.old) }
-        ensures follows { Follows (signalled self.old.id self.old.handler signal picked.now.ticket (child_of self.old.state)) journal.old.past (H.seen host.old) (K.seen hooks.old).told Done journal.new.past (H.seen host.new) (K.seen hooks.new).told }
+        ensures follows { PlanFollows (signalled self.old.id self.old.handler signal picked.now.ticket (child_of self.old.state)) journal.old.past (H.seen host.old) (K.seen hooks.old).told Done journal.new.past (H.seen host.new) (K.seen hooks.new).told }
         ensures fields { self.new ≡ self.old }
         ensures served { HasServed K.seen K.rule K.stands 3 1 journal.old (H.seen host.old) hooks.old self.new journal.new (H.seen host.new) hooks.new }
     {
@@ -203,12 +202,12 @@ impl JobTask {
 
     /// The case of Delete: the ticket is raised, and the job ends.
     fn delete<H: Host>(&mut self, picked: &Picked, host: &mut H, journal: &mut Journal)
-        requires stands { Stands self.old journal.old.past }
+        requires stands { TaskStands self.old journal.old.past }
         requires here { self.old.gone ≡ false }
         requires unheld { holds picked.now.ticket self.old ≡ 0 }
         requires room { AreSpare 3 journal.old (H.seen host.old) }
-        ensures stands { Stands self.new journal.new.past }
-        ensures follows { FollowsHost (row self.old.id (kit_of self.old) picked.now.ticket Delete (child_of self.old.state)) journal.old.past (H.seen host.old) Done journal.new.past (H.seen host.new) }
+        ensures stands { TaskStands self.new journal.new.past }
+        ensures follows { PlanFollowsHost (row self.old.id (kit_of self.old) picked.now.ticket Delete (child_of self.old.state)) journal.old.past (H.seen host.old) Done journal.new.past (H.seen host.new) }
         ensures fields { self.new ≡ record self.old { waiting = self.new.waiting; kept = false; gone = true; grace = None; begun = None; parked = self.new.parked } }
         ensures spends { Spends 3 journal.old (H.seen host.old) journal.new (H.seen host.new) }
     {
@@ -332,7 +331,7 @@ impl JobTask {
     )
         requires unheld { holds picked.now.ticket self.now ≡ 0 }
         requires ready { IsReady self.now 2 1 journal.old (H.seen host.old) (K.seen hooks.old) }
-        ensures follows { Follows (adds (Entry.Run self.now.id n) (raises picked.now.ticket)) journal.old.past (H.seen host.old) (K.seen hooks.old).told Done journal.new.past (H.seen host.new) (K.seen hooks.new).told }
+        ensures follows { PlanFollows (adds (Entry.Run self.now.id n) (raises picked.now.ticket)) journal.old.past (H.seen host.old) (K.seen hooks.old).told Done journal.new.past (H.seen host.new) (K.seen hooks.new).told }
         ensures served { HasServed K.seen K.rule K.stands 2 1 journal.old (H.seen host.old) hooks.old self.now journal.new (H.seen host.new) hooks.new }
     {
         let job = self.id;
@@ -349,13 +348,13 @@ impl JobTask {
         hooks: &mut K,
         journal: &mut Journal,
     )
-        requires stands { Stands self.old journal.old.past }
+        requires stands { TaskStands self.old journal.old.past }
         requires here { self.old.gone ≡ false }
         requires just { just_picked self.old.id journal.old.past ≡ Some (picked.ticket, AsyncFunc n) }
         requires in_hand { IsInHand picked.ticket self.old journal.old.past }
         requires none { begun_of self.old ≡ None }
         requires room { AreRoomy 1 1 journal.old (K.seen hooks.old) }
-        ensures follows { FollowsHooks (adds (Entry.Begun self.old.id n) Done) journal.old.past (K.seen hooks.old).told Done journal.new.past (K.seen hooks.new).told }
+        ensures follows { PlanFollowsHooks (adds (Entry.Begun self.old.id n) Done) journal.old.past (K.seen hooks.old).told Done journal.new.past (K.seen hooks.new).told }
         ensures fields { self.new ≡ record self.old { begun = self.new.begun } }
         ensures called { HasCalled K.seen K.rule K.stands 1 1 journal.old hooks.old self.new journal.new hooks.new }
     {
@@ -381,7 +380,7 @@ impl JobTask {
     )
         requires begun { begun_of self.old ≡ Some function }
         requires ready { IsReady self.old 2 1 journal.old (H.seen host.old) (K.seen hooks.old) }
-        ensures follows { Follows (polled self.old.id function) journal.old.past (H.seen host.old) (K.seen hooks.old).told Done journal.new.past (H.seen host.new) (K.seen hooks.new).told }
+        ensures follows { PlanFollows (polled self.old.id function) journal.old.past (H.seen host.old) (K.seen hooks.old).told Done journal.new.past (H.seen host.new) (K.seen hooks.new).told }
         ensures fields { self.new ≡ record self.old { begun = self.new.begun } }
         ensures served { HasServed K.seen K.rule K.stands 2 1 journal.old (H.seen host.old) hooks.old self.new journal.new (H.seen host.new) hooks.new }
     {
@@ -464,11 +463,11 @@ impl JobTask {
     /// Takes the control that is picked out of those that wait. It sets or clears the spawn hook, the error handler
     /// and what spawns. There is none to do where its ticket is parked.
     fn pick(&mut self, ticket: u64, control: Control, journal: &mut Journal) -> Option<Picked>
-        requires stands { Stands self.old journal.old.past }
+        requires stands { TaskStands self.old journal.old.past }
         requires here { self.old.gone ≡ false }
         requires chosen { first_of (is_some (grace_of self.old)) self.old.waiting ≡ Some (ticket, control) }
         requires journal_room { 1 ≤ journal.old.spare }
-        ensures stands { Stands self.new journal.new.past }
+        ensures stands { TaskStands self.new journal.new.past }
         ensures picked { IfSome result (λ x. (picked x ≡ (ticket, control)) × (is_parking control self.old.state ≡ false)) }
         ensures parks { IfNone result (is_parking control self.old.state ≡ true) }
         ensures unheld { IfSome result (λ x. holds ticket self.new ≡ 0) }
@@ -542,7 +541,7 @@ impl JobTask {
         requires here { is_parking control self.old.state ≡ false }
         requires alone { spawns control (child_of self.old.state) ≡ false }
         requires ready { IsReadyAt at self.old (9 + length self.old.parked.tickets) 4 journal.old (H.seen host.old) (K.seen hooks.old) }
-        ensures follows { Follows (row self.old.id (kit_of self.old) picked.ticket control (child_of self.old.state)) journal.old.past (H.seen host.old) (K.seen hooks.old).told Done journal.new.past (H.seen host.new) (K.seen hooks.new).told }
+        ensures follows { PlanFollows (row self.old.id (kit_of self.old) picked.ticket control (child_of self.old.state)) journal.old.past (H.seen host.old) (K.seen hooks.old).told Done journal.new.past (H.seen host.new) (K.seen hooks.new).told }
         ensures gone { self.new.gone ≡ deletes control }
         ensures job { SameJob self.old self.new }
         ensures served { HasServed K.seen K.rule K.stands (9 + length self.old.parked.tickets) 4 journal.old (H.seen host.old) hooks.old self.new journal.new (H.seen host.new) hooks.new }
@@ -615,8 +614,8 @@ impl JobTask {
     ) -> Result<(), Memory>
         requires chosen { choice ≡ choice_of self.old at }
         requires ready { IsReadyAt at self.old (10 + length self.old.parked.tickets) 4 journal.old (H.seen host.old) (K.seen hooks.old) }
-        ensures ok { OnOk result (Follows (case self.old.id (kit_of self.old) (child_of self.old.state) choice) journal.old.past (H.seen host.old) (K.seen hooks.old).told Done journal.new.past (H.seen host.new) (K.seen hooks.new).told) }
-        ensures err { OnErr result (Stops self.old journal.old host.old hooks.old self.new journal.new host.new hooks.new (GivesUp (case self.old.id (kit_of self.old) (child_of self.old.state) choice) journal.old.past (H.seen host.old) (K.seen hooks.old).told journal.new.past (H.seen host.new) (K.seen hooks.new).told)) }
+        ensures ok { OnOk result (PlanFollows (case self.old.id (kit_of self.old) (child_of self.old.state) choice) journal.old.past (H.seen host.old) (K.seen hooks.old).told Done journal.new.past (H.seen host.new) (K.seen hooks.new).told) }
+        ensures err { OnErr result (StepFails self.old journal.old host.old hooks.old self.new journal.new host.new hooks.new (PlanGivesUp (case self.old.id (kit_of self.old) (child_of self.old.state) choice) journal.old.past (H.seen host.old) (K.seen hooks.old).told journal.new.past (H.seen host.new) (K.seen hooks.new).told)) }
         ensures memory { OnErr result (is_spawning choice (child_of self.old.state) (grace_of self.old) ≡ true) }
         ensures gone { self.new.gone ≡ is_deletion choice }
         ensures job { SameJob self.old self.new }
@@ -735,15 +734,5 @@ fn tag_after(control: Control, before: SpawnTag) -> SpawnTag
         Control::SetSpawnChildFn(n) => SpawnTag::Child(n),
         Control::ClearSpawnFn => SpawnTag::Default,
         _ => before,
-    }
-}
-
-/// The child of a state.
-pub(crate) fn child_of(state: CommandState) -> Option<u64>
-    ensures { result ≡ child_of state }
-{
-    match state {
-        CommandState::Running { child, .. } => Some(child),
-        CommandState::Pending | CommandState::Finished { .. } => None,
     }
 }

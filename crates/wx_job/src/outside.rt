@@ -1,12 +1,12 @@
 // The traits of the outside that jobs use: what runs their children, and what they call.
-ghost use Rattle.std.specs.Prelude.{◌≡◌, ◌∷◌, [], ◌≤◌, ◌+◌, OnOk, OnErr, is_err, List, ℕ, Bool, true, false, Option, None};
+ghost use Rattle.std.specs.Prelude.{◌≡◌, ◌∷◌, ◌≤◌, OnOk, OnErr, is_err, List, false};
 ghost use Rattle.wx_command.specs.Spawnables.{spawnable_of};
 ghost use Rattle.wx_journal.specs.declared.entry.Entry.{Entry, Entry as AnEntry};
 ghost use Rattle.wx_journal.specs.Names.{NamesItsOwn};
-ghost use Rattle.wx_journal.specs.Told.{tell, is_hooks};
+ghost use Rattle.wx_journal.specs.Told.{is_hooks};
 ghost use Rattle.wx_machine.specs.History.{RunsOnly};
 ghost use Rattle.wx_machine.specs.Seen.{Seen, Hooked};
-ghost use Rattle.wx_machine.specs.Kept.{Keeps, OnlyHooksRoom, left_by};
+ghost use Rattle.wx_machine.specs.Kept.{TellsHooks, Keeps, OnlyHooksRoom, left_by};
 ghost use Rattle.wx_machine.specs.Steady.{OnlyRoom, Tells};
 
 use crate::context::JobTaskContext;
@@ -99,29 +99,25 @@ pub trait JobHooks {
     /// Calls the function of this number.
     fn run(&mut self, job: Id, n: u32, cx: &JobTaskContext<'_>)
         requires { 1 ≤ (seen self.old).spare }
-        ensures told { (seen self.new).told ≡ tell (Entry.Run job n) (seen self.old).told }
-        ensures spare { (seen self.old).spare ≤ (seen self.new).spare + 1 }
+        ensures told { TellsHooks (Entry.Run job n) (seen self.old) (seen self.new) }
         ensures keeps { (p : List AnEntry) → Keeps seen rule stands self.old p (Entry.Run job n) self.new };
 
     /// Begins the function of this number, which is then polled until it is ready.
     fn begin(&mut self, job: Id, n: u32, cx: &JobTaskContext<'_>)
         requires { 1 ≤ (seen self.old).spare }
-        ensures told { (seen self.new).told ≡ tell (Entry.Begun job n) (seen self.old).told }
-        ensures spare { (seen self.old).spare ≤ (seen self.new).spare + 1 }
+        ensures told { TellsHooks (Entry.Begun job n) (seen self.old) (seen self.new) }
         ensures keeps { (p : List AnEntry) → Keeps seen rule stands self.old p (Entry.Begun job n) self.new };
 
     /// Polls the begun function of this number: whether it is ready.
     fn poll(&mut self, job: Id, n: u32) -> bool
         requires { 1 ≤ (seen self.old).spare }
-        ensures told { (seen self.new).told ≡ tell (Entry.Poll job n result) (seen self.old).told }
-        ensures spare { (seen self.old).spare ≤ (seen self.new).spare + 1 }
+        ensures told { TellsHooks (Entry.Poll job n result) (seen self.old) (seen self.new) }
         ensures keeps { (p : List AnEntry) → Keeps seen rule stands self.old p (Entry.Poll job n result) self.new };
 
     /// Shows the fault of a call on the child of a job to the error handler of this number.
     fn job_error(&mut self, job: Id, n: u32, fault: HostFault)
         requires { 1 ≤ (seen self.old).spare }
-        ensures told { (seen self.new).told ≡ tell (Entry.JobError job n fault.0) (seen self.old).told }
-        ensures spare { (seen self.old).spare ≤ (seen self.new).spare + 1 }
+        ensures told { TellsHooks (Entry.JobError job n fault.0) (seen self.old) (seen self.new) }
         ensures keeps { (p : List AnEntry) → Keeps seen rule stands self.old p (Entry.JobError job n fault.0) self.new };
 
     /// Lets the spawn hook of this number change what a job is about to spawn, which is what its command spawns. Where
@@ -136,8 +132,7 @@ pub trait JobHooks {
         requires room { 1 ≤ (seen self.old).spare }
         requires given { what.old ≡ spawnable_of cx.now.command.now }
         ensures same { OnErr result (what.new ≡ what.old) }
-        ensures told { (seen self.new).told ≡ tell (Entry.Hook job n (left_by result what.new)) (seen self.old).told }
-        ensures spare { (seen self.old).spare ≤ (seen self.new).spare + 1 }
+        ensures told { TellsHooks (Entry.Hook job n (left_by result what.new)) (seen self.old) (seen self.new) }
         ensures keeps { (p : List AnEntry) → RunsOnly job cx.now.command.now p → Keeps seen rule stands self.old p (Entry.Hook job n (left_by result what.new)) self.new };
 
     /// What is no call on it leaves what it stands for.

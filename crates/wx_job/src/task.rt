@@ -7,16 +7,15 @@ ghost use Rattle.wx_journal.specs.Names.{moment, NamesItsOwn};
 ghost use Rattle.wx_machine.specs.History.{state, previous, grace, parked, RunsOnly};
 ghost use Rattle.wx_machine.specs.Table.{Plan, Done, asks, send_plan, pick_by, answer_of, deletes, step_by, leave, end_plan};
 ghost use Rattle.wx_job.specs.Calls.{MayWait, HasStepped};
-ghost use Rattle.wx_machine.specs.Case.{Ran, FollowsHost, FollowsAlone, Follows, GaveUp, GivesUp};
+ghost use Rattle.wx_machine.specs.Case.{PlanRan, PlanFollowsHost, PlanFollowsAlone, PlanFollows, GaveUp, PlanGivesUp};
 ghost use Rattle.wx_machine.specs.Faults.{Counted};
 ghost use Rattle.wx_machine.specs.Steady.{AreSpare, Spends, HaveRoom, UseRoom};
 ghost use Rattle.wx_machine.specs.Kept.{KeepsOn, Promised};
 ghost use Rattle.wx_machine.specs.Leaves.{LeavesLaws};
-ghost use Rattle.wx_job.specs.Stands.{Stands, Stops, SameJob, SameTask, IsEnding, IsTicketOf, id_of, command_of, flag_of, closed_of, gone_of, running_of, begun_of, parked_count, with_end, with_close};
+ghost use Rattle.wx_job.specs.Stands.{TaskStands, StepFails, SameJob, SameTask, IsEnding, IsTicketOf, id_of, command_of, flag_of, closed_of, gone_of, running_of, parked_count, with_end, with_close};
 ghost use Rattle.wx_machine.specs.Held.{HasInHand};
 ghost use Rattle.wx_machine.specs.States.{child_of};
 
-use crate::case::child_of;
 use crate::function::Begun;
 use crate::grace::Standing;
 use crate::outside::{Host, JobHooks};
@@ -26,7 +25,7 @@ use wx_command::{Command, SharedCommand};
 use wx_control::{Ask, Control, Flag, Id, Job, Level, Mirror, ThreeLists, Ticket};
 use wx_events::{Copies, Memory};
 use wx_journal::{Entry, Journal, SpawnTag};
-use wx_machine::{Choice, CommandState, Stepped};
+use wx_machine::{Choice, CommandState, Stepped, child_of};
 
 /// A job, with the child that it drives. It stands for its job in a journal where it keeps what the journal says of it.
 #[derive(Drop, Debug)]
@@ -64,7 +63,7 @@ pub struct JobTask {
 pub fn start_job(alloc: Global, id: Id, command: Command) -> Result<(Job, JobTask), Memory>
     ensures handle { IfOk result (λ made. (made.0.id ≡ id) × (made.0.command ≡ command) × (made.0.gone ≡ flag_of made.1)) }
     ensures task { IfOk result (λ made. (id_of made.1 ≡ id) × (command_of made.1 ≡ command) × (gone_of made.1 ≡ false) × (closed_of made.1 ≡ false)) }
-    ensures stands { IfOk result (λ made. (p : List Entry) → RunsOnly id command p → Stands made.1 (Made id ∷ p)) }
+    ensures stands { IfOk result (λ made. (p : List Entry) → RunsOnly id command p → TaskStands made.1 (Made id ∷ p)) }
 {
     let command = SharedCommand::new(alloc, command)?;
     let flag = Flag::new(alloc, false)?;
@@ -119,12 +118,12 @@ impl JobTask {
         last: Option<Flag>,
         journal: &mut Journal,
     ) -> Result<Ticket, Memory>
-        requires stands { Stands self.old journal.old.past }
-        ensures stands { Stands self.new journal.new.past }
+        requires stands { TaskStands self.old journal.old.past }
+        ensures stands { TaskStands self.new journal.new.past }
         ensures job { SameJob self.old self.new }
         ensures gone { gone_of self.new ≡ gone_of self.old }
         ensures ticket { IfOk result (λ ticket. IsTicketOf self.old last ticket) }
-        ensures leads { OnOk result (FollowsAlone (send_plan (id_of self.old) (sends_of ask) journal.old.past) journal.old.past Done journal.new.past) }
+        ensures leads { OnOk result (PlanFollowsAlone (send_plan (id_of self.old) (sends_of ask) journal.old.past) journal.old.past Done journal.new.past) }
         ensures refused { OnErr result (SameTask self.old self.new × journal.new.past ≡ journal.old.past) }
         ensures leaves { LeavesLaws (id_of self.old) journal.old.past journal.new.past }
         ensures journal_room { journal.old.spare ≤ journal.new.spare + 2 }
@@ -144,15 +143,15 @@ impl JobTask {
         hooks: &mut K,
         journal: &mut Journal,
     ) -> Result<Stepped, Memory>
-        requires stands { Stands self.old journal.old.past }
+        requires stands { TaskStands self.old journal.old.past }
         requires at { moment journal.old.past ≡ at }
         requires room { AreSpare (16 + parked_count self.old) journal.old (H.seen host.old) }
         requires hooks_room { 16 ≤ (K.seen hooks.old).spare }
-        ensures stands { Stands self.new journal.new.past }
+        ensures stands { TaskStands self.new journal.new.past }
         ensures job { SameJob self.old self.new }
-        ensures leads { OnOk result (Ran (step_by (closed_of self.old) (id_of self.old) (command_of self.old) journal.old.past) journal.old.past (H.seen host.old) (K.seen hooks.old).told Done journal.new.past (H.seen host.new) (K.seen hooks.new).told) }
+        ensures leads { OnOk result (PlanRan (step_by (closed_of self.old) (id_of self.old) (command_of self.old) journal.old.past) journal.old.past (H.seen host.old) (K.seen hooks.old).told Done journal.new.past (H.seen host.new) (K.seen hooks.new).told) }
         ensures steps { HasStepped result self.old journal.old.past self.new journal.new.past }
-        ensures err { OnErr result (Stops self.old journal.old host.old hooks.old self.new journal.new host.new hooks.new (GaveUp (step_by (closed_of self.old) (id_of self.old) (command_of self.old) journal.old.past) journal.old.past (H.seen host.old) (K.seen hooks.old).told journal.new.past (H.seen host.new) (K.seen hooks.new).told × HasInHand (id_of self.old) (grace (id_of self.old) journal.old.past) (pick_by (closed_of self.old) (id_of self.old) journal.old.past) journal.old.past journal.new.past)) }
+        ensures err { OnErr result (StepFails self.old journal.old host.old hooks.old self.new journal.new host.new hooks.new (GaveUp (step_by (closed_of self.old) (id_of self.old) (command_of self.old) journal.old.past) journal.old.past (H.seen host.old) (K.seen hooks.old).told journal.new.past (H.seen host.new) (K.seen hooks.new).told × HasInHand (id_of self.old) (grace (id_of self.old) journal.old.past) (pick_by (closed_of self.old) (id_of self.old) journal.old.past) journal.old.past journal.new.past)) }
         ensures leaves { LeavesLaws (id_of self.old) journal.old.past journal.new.past }
         ensures keeps { KeepsOn K.seen K.rule K.stands hooks.old journal.old.past hooks.new journal.new.past }
         ensures promised { NamesItsOwn journal.old.past → Promised K.seen K.rule K.stands hooks.old journal.old.past hooks.new journal.new.past }
@@ -167,7 +166,7 @@ impl JobTask {
     pub fn keep_end(&mut self, child: u64, at: u64, journal: &Journal)
         requires stands { IsEnding self.old child at journal.now.past }
         requires runs { running_of self.old ≡ Some child }
-        ensures stands { Stands self.new journal.now.past }
+        ensures stands { TaskStands self.new journal.now.past }
         ensures fields { self.new ≡ with_end self.old }
     {
         let _ = &journal;
@@ -189,11 +188,11 @@ impl JobTask {
         requires runs { running_of self.old ≡ Some child }
         requires room { AreSpare (16 + parked_count self.old) journal.old (H.seen host.old) }
         requires hooks_room { 16 ≤ (K.seen hooks.old).spare }
-        ensures stands { Stands self.new journal.new.past }
+        ensures stands { TaskStands self.new journal.new.past }
         ensures job { SameJob self.old self.new }
-        ensures leads { OnOk result (Ran (step_by (closed_of self.old) (id_of self.old) (command_of self.old) journal.old.past) journal.old.past (H.seen host.old) (K.seen hooks.old).told Done journal.new.past (H.seen host.new) (K.seen hooks.new).told) }
+        ensures leads { OnOk result (PlanRan (step_by (closed_of self.old) (id_of self.old) (command_of self.old) journal.old.past) journal.old.past (H.seen host.old) (K.seen hooks.old).told Done journal.new.past (H.seen host.new) (K.seen hooks.new).told) }
         ensures steps { HasStepped result self.old journal.old.past self.new journal.new.past }
-        ensures err { OnErr result (Stops (with_end self.old) journal.old host.old hooks.old self.new journal.new host.new hooks.new (GaveUp (step_by (closed_of self.old) (id_of self.old) (command_of self.old) journal.old.past) journal.old.past (H.seen host.old) (K.seen hooks.old).told journal.new.past (H.seen host.new) (K.seen hooks.new).told × HasInHand (id_of self.old) (grace (id_of self.old) journal.old.past) (pick_by (closed_of self.old) (id_of self.old) journal.old.past) journal.old.past journal.new.past)) }
+        ensures err { OnErr result (StepFails (with_end self.old) journal.old host.old hooks.old self.new journal.new host.new hooks.new (GaveUp (step_by (closed_of self.old) (id_of self.old) (command_of self.old) journal.old.past) journal.old.past (H.seen host.old) (K.seen hooks.old).told journal.new.past (H.seen host.new) (K.seen hooks.new).told × HasInHand (id_of self.old) (grace (id_of self.old) journal.old.past) (pick_by (closed_of self.old) (id_of self.old) journal.old.past) journal.old.past journal.new.past)) }
         ensures leaves { LeavesLaws (id_of self.old) journal.old.past journal.new.past }
         ensures keeps { KeepsOn K.seen K.rule K.stands hooks.old journal.old.past hooks.new journal.new.past }
         ensures promised { NamesItsOwn journal.old.past → Promised K.seen K.rule K.stands hooks.old journal.old.past hooks.new journal.new.past }
@@ -208,18 +207,18 @@ impl JobTask {
     /// There are no more handles of the job: a later step that finds nothing to pick, and no grace that stands, ends it.
     pub fn close(&mut self)
         ensures task { self.new ≡ with_close self.old }
-        ensures stands { (p : List Entry) → Stands self.old p → Stands self.new p }
+        ensures stands { (p : List Entry) → TaskStands self.old p → TaskStands self.new p }
     {
         self.closed = true;
     }
 
     /// The end of the job: a running child is let go, and the job is gone. A job that is gone stays as it is.
     pub fn end<H: Host>(&mut self, host: &mut H, journal: &mut Journal)
-        requires stands { Stands self.old journal.old.past }
+        requires stands { TaskStands self.old journal.old.past }
         requires room { AreSpare 2 journal.old (H.seen host.old) }
-        ensures stands { Stands self.new journal.new.past }
+        ensures stands { TaskStands self.new journal.new.past }
         ensures job { SameJob self.old self.new }
-        ensures leads { (hooks : Option (List Entry)) → Ran (end_plan (id_of self.old) journal.old.past) journal.old.past (H.seen host.old) hooks Done journal.new.past (H.seen host.new) hooks }
+        ensures leads { (hooks : Option (List Entry)) → PlanRan (end_plan (id_of self.old) journal.old.past) journal.old.past (H.seen host.old) hooks Done journal.new.past (H.seen host.new) hooks }
         ensures gone { gone_of self.new ≡ true }
         ensures leaves { LeavesLaws (id_of self.old) journal.old.past journal.new.past }
         ensures spends { Spends 2 journal.old (H.seen host.old) journal.new (H.seen host.new) }
@@ -232,14 +231,14 @@ impl JobTask {
 
     /// How far the command is.
     pub fn state(&self) -> &CommandState
-        ensures { (p : List Entry) → Stands self.now p → result.now ≡ state (id_of self.now) p }
+        ensures { (p : List Entry) → TaskStands self.now p → result.now ≡ state (id_of self.now) p }
     {
         &self.state
     }
 
     /// How far the command was before the last spawn, where there was one.
     pub fn previous(&self) -> Option<&CommandState>
-        ensures { (p : List Entry) → Stands self.now p → option_map (λ s. s.now) result ≡ previous (id_of self.now) p }
+        ensures { (p : List Entry) → TaskStands self.now p → option_map (λ s. s.now) result ≡ previous (id_of self.now) p }
     {
         self.previous.as_ref()
     }
@@ -265,14 +264,14 @@ impl JobTask {
     /// How many tickets are parked until the child ends.
     pub fn parked(&self) -> u64
         ensures count { result ≡ parked_count self.now }
-        ensures kept { (p : List Entry) → Stands self.now p → result ≡ length (parked (id_of self.now) p) }
+        ensures kept { (p : List Entry) → TaskStands self.now p → result ≡ length (parked (id_of self.now) p) }
     {
         self.parked.len()
     }
 
     /// The moment at which the grace that stands is over, in nanoseconds.
     pub fn grace_end(&self) -> Option<u128>
-        ensures { (p : List Entry) → Stands self.now p → result ≡ option_map (λ g. g.ends) (grace (id_of self.now) p) }
+        ensures { (p : List Entry) → TaskStands self.now p → result ≡ option_map (λ g. g.ends) (grace (id_of self.now) p) }
     {
         match &self.grace {
             Some(standing) => Some(standing.grace.ends),
@@ -288,12 +287,12 @@ impl JobTask {
         last: Option<Flag>,
         journal: &mut Journal,
     ) -> Result<Ticket, Memory>
-        requires stands { Stands self.old journal.old.past }
-        ensures stands { Stands self.new journal.new.past }
+        requires stands { TaskStands self.old journal.old.past }
+        ensures stands { TaskStands self.new journal.new.past }
         ensures job { SameJob self.old self.new }
         ensures gone { gone_of self.new ≡ gone_of self.old }
         ensures ticket { IfOk result (λ ticket. IsTicketOf self.old last ticket) }
-        ensures leads { OnOk result (FollowsAlone (send_plan (id_of self.old) (sends_of ask) journal.old.past) journal.old.past Done journal.new.past) }
+        ensures leads { OnOk result (PlanFollowsAlone (send_plan (id_of self.old) (sends_of ask) journal.old.past) journal.old.past Done journal.new.past) }
         ensures refused { OnErr result (SameTask self.old self.new × journal.new.past ≡ journal.old.past) }
         ensures journal_room { journal.old.spare ≤ journal.new.spare + 2 }
     {
@@ -321,8 +320,8 @@ impl JobTask {
     /// Takes room for two controls more to wait, and for all that wait then to be parked. It fails only for want of
     /// memory.
     fn make_room(&mut self, journal: &mut Journal) -> Result<(), Memory>
-        requires stands { Stands self.old journal.old.past }
-        ensures stands { Stands self.new journal.new.past }
+        requires stands { TaskStands self.old journal.old.past }
+        ensures stands { TaskStands self.new journal.new.past }
         ensures task { SameTask self.old self.new }
         ensures past { journal.new.past ≡ journal.old.past }
         ensures room { OnOk result (MayWait 2 self.new journal.new) }
@@ -346,11 +345,11 @@ impl JobTask {
 
     /// A control waits at a level.
     fn ask(&mut self, control: Control, level: Level, done: Flag, journal: &mut Journal)
-        requires stands { Stands self.old journal.old.past }
+        requires stands { TaskStands self.old journal.old.past }
         requires here { self.old.gone ≡ false }
         requires room { MayWait 1 self.old journal.old }
-        ensures stands { Stands self.new journal.new.past }
-        ensures follows { (k : Plan) → FollowsAlone (asks self.old.id level control k) journal.old.past k journal.new.past }
+        ensures stands { TaskStands self.new journal.new.past }
+        ensures follows { (k : Plan) → PlanFollowsAlone (asks self.old.id level control k) journal.old.past k journal.new.past }
         ensures fields { self.new ≡ record self.old { waiting = self.new.waiting } }
         ensures room { (n : ℕ) → MayWait (n + 1) self.old journal.old → MayWait n self.new journal.new }
         ensures journal_room { journal.old.spare ≤ journal.new.spare + 1 }
@@ -372,12 +371,12 @@ impl JobTask {
         host: &mut H,
         journal: &mut Journal,
     )
-        requires stands { Stands self.old journal.old.past }
+        requires stands { TaskStands self.old journal.old.past }
         requires runs { child_of self.old.state ≡ child }
         requires here { self.old.gone ≡ false }
         requires room { AreSpare 2 journal.old (H.seen host.old) }
-        ensures stands { Stands self.new journal.new.past }
-        ensures follows { FollowsHost (leave self.old.id child) journal.old.past (H.seen host.old) Done journal.new.past (H.seen host.new) }
+        ensures stands { TaskStands self.new journal.new.past }
+        ensures follows { PlanFollowsHost (leave self.old.id child) journal.old.past (H.seen host.old) Done journal.new.past (H.seen host.new) }
         ensures fields { self.new ≡ record self.old { waiting = self.new.waiting; kept = false; gone = true; grace = None; begun = None; parked = self.new.parked } }
         ensures spends { Spends 2 journal.old (H.seen host.old) journal.new (H.seen host.new) }
     {
@@ -405,14 +404,14 @@ impl JobTask {
         hooks: &mut K,
         journal: &mut Journal,
     ) -> Result<Stepped, Memory>
-        requires stands { Stands self.old journal.old.past }
+        requires stands { TaskStands self.old journal.old.past }
         requires at { moment journal.old.past ≡ at }
         requires room { HaveRoom (10 + parked_count self.old) 4 journal.old (H.seen host.old) (K.seen hooks.old) }
-        ensures stands { Stands self.new journal.new.past }
+        ensures stands { TaskStands self.new journal.new.past }
         ensures job { SameJob self.old self.new }
-        ensures leads { OnOk result (Follows (step_by (closed_of self.old) (id_of self.old) (command_of self.old) journal.old.past) journal.old.past (H.seen host.old) (K.seen hooks.old).told Done journal.new.past (H.seen host.new) (K.seen hooks.new).told) }
+        ensures leads { OnOk result (PlanFollows (step_by (closed_of self.old) (id_of self.old) (command_of self.old) journal.old.past) journal.old.past (H.seen host.old) (K.seen hooks.old).told Done journal.new.past (H.seen host.new) (K.seen hooks.new).told) }
         ensures steps { HasStepped result self.old journal.old.past self.new journal.new.past }
-        ensures err { OnErr result (Stops self.old journal.old host.old hooks.old self.new journal.new host.new hooks.new (GivesUp (step_by (closed_of self.old) (id_of self.old) (command_of self.old) journal.old.past) journal.old.past (H.seen host.old) (K.seen hooks.old).told journal.new.past (H.seen host.new) (K.seen hooks.new).told)) }
+        ensures err { OnErr result (StepFails self.old journal.old host.old hooks.old self.new journal.new host.new hooks.new (PlanGivesUp (step_by (closed_of self.old) (id_of self.old) (command_of self.old) journal.old.past) journal.old.past (H.seen host.old) (K.seen hooks.old).told journal.new.past (H.seen host.new) (K.seen hooks.new).told)) }
         ensures keeps { KeepsOn K.seen K.rule K.stands hooks.old journal.old.past hooks.new journal.new.past }
         ensures uses { UseRoom (10 + parked_count self.old) 4 journal.old (H.seen host.old) (K.seen hooks.old) journal.new (H.seen host.new) (K.seen hooks.new) }
     {

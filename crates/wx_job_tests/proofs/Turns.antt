@@ -11,31 +11,31 @@ use Rattle.wx_journal.specs.declared.entry.TurnKind.TheVariants as turn
 use Rattle.wx_job.specs.declared.task.JobTask.{JobTask}
 use Rattle.wx_machine.specs.History.{command, RunsOnly}
 use Rattle.wx_machine.specs.Leaves.{LeavesOthers}
-use Rattle.wx_job.specs.Stands.{Stands, IsEnding, id_of}
+use Rattle.wx_job.specs.Stands.{TaskStands, IsEnding, id_of}
 use Rattle.wx_job_tests.specs.Two.{AreTwo}
 use Rattle.wx_machine.proofs.Owners.{self, other-is}
 use Rattle.wx_machine.proofs.Frame.{frame_turn}
 use Rattle.wx_job.proofs.StandsLemmas.{stands_history}
 
 -- the turn of a job says nothing of any
-pub stands_turn : (k : JobTask) (p : List Entry) (at : ℕ) (id : Id) → Stands k p → Stands k (Turned (record { at = at; kind = turn.Job id }) ∷ p)
+pub stands_turn : (k : JobTask) (p : List Entry) (at : ℕ) (id : Id) → TaskStands k p → TaskStands k (Turned (record { at = at; kind = turn.Job id }) ∷ p)
 stands_turn k p at id s = stands_history k p _ (frame_turn (id_of k) at id p) s
 
 -- the turn that tells the end of a child
-pub is_ending : (k : JobTask) (p : List Entry) (c at : ℕ) → Stands k p → IsEnding k c at (Turned (record { at = at; kind = turn.Ended c }) ∷ p)
+pub is_ending : (k : JobTask) (p : List Entry) (c at : ℕ) → TaskStands k p → IsEnding k c at (Turned (record { at = at; kind = turn.Ended c }) ∷ p)
 is_ending k p c at s = record { before = p; last = refl; stands = s }
 
-pub stands_left : (k : JobTask) (id : Id) (p p' : List Entry) → LeavesOthers id p p' → id_of k ≢ id → Stands k p → Stands k p'
+pub stands_left : (k : JobTask) (id : Id) (p p' : List Entry) → LeavesOthers id p p' → id_of k ≢ id → TaskStands k p → TaskStands k p'
 stands_left k id p p' l ne s = stands_history k p p' (l.others (id_of k) ne) s
 
 -- another job is made
-pub stands_made : (k : JobTask) (id : Id) (p : List Entry) → id_of k ≢ id → Stands k p → Stands k (Made id ∷ p)
+pub stands_made : (k : JobTask) (id : Id) (p : List Entry) → id_of k ≢ id → TaskStands k p → TaskStands k (Made id ∷ p)
 stands_made k id p ne s =
     let other = other-is (id_of k) id ne in
     stands_history k p (Made id ∷ p) (record { lives_same = rw other refl; waits_same = λ l. rw other refl; child_same = rw other refl; kept_same = rw other refl; state_same = rw other refl; previous_same = rw other refl; hook_same = rw other refl; handler_same = rw other refl; begun_same = rw other refl; tag_same = rw other refl; grace_same = rw other refl; parked_same = rw other refl; tickets_later = omega arith; command_same = refl }) s
 
 -- another job is created and made
-pub stands_created : (k : JobTask) (id : Id) (what : Command) (n : ℕ) (names : List ℕ) (acts : List Act) (p : List Entry) → acts ≡ Create id what ∷ [] → id_of k ≢ id → Stands k p → Stands k (Made id ∷ Hand n names acts ∷ p)
+pub stands_created : (k : JobTask) (id : Id) (what : Command) (n : ℕ) (names : List ℕ) (acts : List Act) (p : List Entry) → acts ≡ Create id what ∷ [] → id_of k ≢ id → TaskStands k p → TaskStands k (Made id ∷ Hand n names acts ∷ p)
 stands_created k id what n names acts p one ne s =
     let other = other-is (id_of k) id ne in
     let kept : command (id_of k) (Hand n names (Create id what ∷ []) ∷ p) ≡ command (id_of k) p = rw other refl in
@@ -52,7 +52,7 @@ pub names_created : (id : Id) (what : Command) (n : ℕ) (names : List ℕ) (act
 names_created id what n names acts p none one own = rw (none, one) (rw (self id) refl, (tt, own))
 
 -- one of two jobs did something, which left the other alone
-pub two_left : (a a' b : JobTask) (p p' : List Entry) → Stands a' p' → id_of a' ≡ id_of a → (NamesItsOwn p → NamesItsOwn p') → (NamesItsOwn p → (k : JobTask) → id_of k ≢ id_of a → Stands k p → Stands k p') → AreTwo a b p → AreTwo a' b p'
+pub two_left : (a a' b : JobTask) (p p' : List Entry) → TaskStands a' p' → id_of a' ≡ id_of a → (NamesItsOwn p → NamesItsOwn p') → (NamesItsOwn p → (k : JobTask) → id_of k ≢ id_of a → TaskStands k p → TaskStands k p') → AreTwo a b p → AreTwo a' b p'
 two_left a a' b p p' s id names others two = record { first = s; second = others two.names b two.apart two.second; names = names two.names; apart = rw id two.apart; back = rw id two.back }
 
 -- the same two the other way round

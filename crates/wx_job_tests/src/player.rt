@@ -1,6 +1,6 @@
 // One job in a world of its own, which is driven by moves that stand in a text.
 ghost use Rattle.std.specs.Prelude.{IfOk};
-ghost use Rattle.wx_job.specs.Stands.{Stands};
+ghost use Rattle.wx_job.specs.Stands.{TaskStands};
 
 use crate::test_world::{
     TestHost, World, ask, end_child, end_job, lines_of, make_first, make_job, new_world, step,
@@ -83,7 +83,7 @@ pub(crate) struct One {
     pub(crate) tickets: Vec<Given>,
     pub(crate) task: JobTask,
     pub(crate) world: World,
-    ghost stands: { Stands task world.journal.past },
+    ghost stands: { TaskStands task world.journal.past },
 }
 
 /// Job 0 as it was made, with this host.
@@ -102,7 +102,7 @@ pub(crate) fn made_job(alloc: Global, host: TestHost) -> Result<One, Memory> {
 
 /// The job that was made in this world. What is long is dropped by generic code here, which is quicker to prove.
 fn one_of(alloc: Global, made: Result<(Job, JobTask), Memory>, world: World) -> Result<One, Memory>
-    requires { IfOk made (λ x. Stands x.1 world.journal.past) }
+    requires { IfOk made (λ x. TaskStands x.1 world.journal.past) }
 {
     match made {
         Ok((handle, task)) => Ok(One {

@@ -3,7 +3,7 @@ ghost use Rattle.std.specs.Prelude.{◌≡◌, ◌≢◌, ◌≤◌, ◌+◌, �
 ghost use Rattle.wx_journal.specs.Names.{NamesItsOwn, moment};
 ghost use Rattle.wx_journal.specs.Told.{Counts};
 ghost use Rattle.wx_job.specs.declared.task.JobTask.{JobTask as the-JobTask};
-ghost use Rattle.wx_job.specs.Stands.{Stands, id_of, running_of, parked_count};
+ghost use Rattle.wx_job.specs.Stands.{TaskStands, id_of, parked_count};
 
 use std::alloc::Global;
 use wx_command::{Command, Program, SpawnOptions, Spawnable};
@@ -288,9 +288,9 @@ pub(crate) fn make_job(
     world: &mut World,
 ) -> Result<(Job, JobTask), Memory>
     ensures id { IfOk result (λ made. id_of made.1 ≡ id) }
-    ensures stands { IfOk result (λ made. Stands made.1 world.new.journal.past) }
+    ensures stands { IfOk result (λ made. TaskStands made.1 world.new.journal.past) }
     ensures names { NamesItsOwn world.old.journal.past → NamesItsOwn world.new.journal.past }
-    ensures others { NamesItsOwn world.old.journal.past → (k : the-JobTask) → id_of k ≢ id → Stands k world.old.journal.past → Stands k world.new.journal.past }
+    ensures others { NamesItsOwn world.old.journal.past → (k : the-JobTask) → id_of k ≢ id → TaskStands k world.old.journal.past → TaskStands k world.new.journal.past }
 {
     world.journal.reserve(2)?;
     let command = command_of(alloc, prog)?;
@@ -309,7 +309,7 @@ pub(crate) fn make_job(
 /// created.
 pub(crate) fn make_first(alloc: Global, id: Id, world: &mut World) -> Result<(Job, JobTask), Memory>
     requires empty { world.old.journal.past ≡ [] }
-    ensures stands { IfOk result (λ made. Stands made.1 world.new.journal.past) }
+    ensures stands { IfOk result (λ made. TaskStands made.1 world.new.journal.past) }
 {
     world.journal.reserve(1)?;
     let command = command_of(alloc, b"a")?;
@@ -325,11 +325,11 @@ pub(crate) fn ask(
     wish: Ask,
     world: &mut World,
 ) -> Result<Ticket, Memory>
-    requires stands { Stands task.old world.old.journal.past }
-    ensures stands { Stands task.new world.new.journal.past }
+    requires stands { TaskStands task.old world.old.journal.past }
+    ensures stands { TaskStands task.new world.new.journal.past }
     ensures id { id_of task.new ≡ id_of task.old }
     ensures names { NamesItsOwn world.old.journal.past → NamesItsOwn world.new.journal.past }
-    ensures others { NamesItsOwn world.old.journal.past → (k : the-JobTask) → id_of k ≢ id_of task.old → Stands k world.old.journal.past → Stands k world.new.journal.past }
+    ensures others { NamesItsOwn world.old.journal.past → (k : the-JobTask) → id_of k ≢ id_of task.old → TaskStands k world.old.journal.past → TaskStands k world.new.journal.past }
 {
     task.send(alloc, wish, None, &mut world.journal)
 }
@@ -353,14 +353,14 @@ fn step_now(
     at: u64,
     world: &mut World,
 ) -> Result<Stepped, Memory>
-    requires stands { Stands task.old world.old.journal.past }
+    requires stands { TaskStands task.old world.old.journal.past }
     requires at { moment world.old.journal.past ≡ at }
     requires journal_room { 16 + parked_count task.old ≤ world.old.journal.spare }
     requires host_room { 16 + parked_count task.old ≤ world.old.host.told.spare }
-    ensures stands { Stands task.new world.new.journal.past }
+    ensures stands { TaskStands task.new world.new.journal.past }
     ensures id { id_of task.new ≡ id_of task.old }
     ensures names { NamesItsOwn world.old.journal.past → NamesItsOwn world.new.journal.past }
-    ensures others { NamesItsOwn world.old.journal.past → (k : the-JobTask) → id_of k ≢ id_of task.old → Stands k world.old.journal.past → Stands k world.new.journal.past }
+    ensures others { NamesItsOwn world.old.journal.past → (k : the-JobTask) → id_of k ≢ id_of task.old → TaskStands k world.old.journal.past → TaskStands k world.new.journal.past }
 {
     let World {
         host,
@@ -379,11 +379,11 @@ pub(crate) fn step(
     at: u64,
     world: &mut World,
 ) -> Result<Stepped, Memory>
-    requires stands { Stands task.old world.old.journal.past }
-    ensures stands { Stands task.new world.new.journal.past }
+    requires stands { TaskStands task.old world.old.journal.past }
+    ensures stands { TaskStands task.new world.new.journal.past }
     ensures id { id_of task.new ≡ id_of task.old }
     ensures names { NamesItsOwn world.old.journal.past → NamesItsOwn world.new.journal.past }
-    ensures others { NamesItsOwn world.old.journal.past → (k : the-JobTask) → id_of k ≢ id_of task.old → Stands k world.old.journal.past → Stands k world.new.journal.past }
+    ensures others { NamesItsOwn world.old.journal.past → (k : the-JobTask) → id_of k ≢ id_of task.old → TaskStands k world.old.journal.past → TaskStands k world.new.journal.past }
 {
     make_room(task, world)?;
     let kind = TurnKind::Job(id);
@@ -399,8 +399,8 @@ pub(crate) fn end_child(
     at: u64,
     world: &mut World,
 ) -> Result<Stepped, Memory>
-    requires stands { Stands task.old world.old.journal.past }
-    ensures stands { Stands task.new world.new.journal.past }
+    requires stands { TaskStands task.old world.old.journal.past }
+    ensures stands { TaskStands task.new world.new.journal.past }
     ensures id { id_of task.new ≡ id_of task.old }
 {
     let Some(child) = task.running_child() else {
@@ -421,11 +421,11 @@ pub(crate) fn end_child(
 
 /// The end of the job.
 pub(crate) fn end_job(task: &mut JobTask, world: &mut World) -> Result<(), Memory>
-    requires stands { Stands task.old world.old.journal.past }
-    ensures stands { Stands task.new world.new.journal.past }
+    requires stands { TaskStands task.old world.old.journal.past }
+    ensures stands { TaskStands task.new world.new.journal.past }
     ensures id { id_of task.new ≡ id_of task.old }
     ensures names { NamesItsOwn world.old.journal.past → NamesItsOwn world.new.journal.past }
-    ensures others { NamesItsOwn world.old.journal.past → (k : the-JobTask) → id_of k ≢ id_of task.old → Stands k world.old.journal.past → Stands k world.new.journal.past }
+    ensures others { NamesItsOwn world.old.journal.past → (k : the-JobTask) → id_of k ≢ id_of task.old → TaskStands k world.old.journal.past → TaskStands k world.new.journal.past }
 {
     world.journal.reserve(2)?;
     world.host.reserve(2)?;

@@ -4,7 +4,7 @@
 // ready` or `poll later` for what a later poll answers, `close`, or `end`. What is seen of the job behind them is held to a text.
 ghost use Rattle.std.specs.Prelude.{◌≡◌, ◌≢◌, ◌≤◌, []};
 ghost use Rattle.wx_journal.specs.Names.{NamesItsOwn};
-ghost use Rattle.wx_job.specs.Stands.{Stands, id_of};
+ghost use Rattle.wx_job.specs.Stands.{TaskStands, id_of};
 ghost use Rattle.wx_job_tests.specs.Two.{AreTwo};
 
 use crate::player::{Move, One, expect_at, host, is_journal, job_with, one_job};
@@ -503,8 +503,8 @@ fn play_both(
 
 /// Holds the two jobs and the journal to what they should be when both were played.
 fn expect_both(rt: &impl Abort, alloc: Global, a: &mut JobTask, b: &mut JobTask, world: &mut World)
-    requires stands { Stands a.old world.old.journal.past }
-    requires other { Stands b.old world.old.journal.past }
+    requires stands { TaskStands a.old world.old.journal.past }
+    requires other { TaskStands b.old world.old.journal.past }
     requires names { NamesItsOwn world.old.journal.past }
     requires apart { id_of b.old ≢ id_of a.old }
     requires back { id_of a.old ≢ id_of b.old }
@@ -573,8 +573,8 @@ fn expect_sent(
     journal: &mut Journal,
     counts: (u64, u64),
 )
-    requires { Stands task.old journal.old.past }
-    ensures { Stands task.new journal.new.past }
+    requires { TaskStands task.old journal.old.past }
+    ensures { TaskStands task.new journal.new.past }
 {
     let ticket = task.send(alloc, with.0, with.1, journal);
     let ticket = ticket.expect(rt, "a ticket");
@@ -585,7 +585,7 @@ fn expect_sent(
 
 /// Asks for a stop over a flag of the caller, and for a restart over one of the job's own.
 fn expect_asked(rt: &impl Abort, alloc: Global, task: &mut JobTask, journal: &mut Journal)
-    requires { Stands task.old journal.old.past }
+    requires { TaskStands task.old journal.old.past }
 {
     let flag = Flag::new(alloc, false).expect(rt, "a flag");
     let stop = (Ask::One(Control::Stop), Some(flag));

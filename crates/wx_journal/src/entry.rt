@@ -1,5 +1,5 @@
 // The entries of a journal.
-ghost use Rattle.std.specs.Prelude.{◌≡◌, IfOk};
+ghost use Rattle.std.specs.Prelude.{◌≡◌};
 
 use crate::child::{HostFault, SpawnTag};
 use crate::wish::Wish;

@@ -19,7 +19,7 @@ use Rattle.wx_journal.specs.Names.{creates, is_created, above, next_job, NamesIt
 use Rattle.wx_journal.specs.Told.{tell_if, is_world, is_hooks, is_turn}
 use Rattle.wx_machine.specs.History.{same, lives, child, is_child, creation, or_else, command}
 use Rattle.wx_machine.specs.Table.{Plan, Done, step_plan, ask_second, ask_plan, end_plan}
-use Rattle.wx_machine.specs.Case.{Admits as Follows, is_of_plan, next, Leads as Led, Here, Then as OneMore}
+use Rattle.wx_machine.specs.Case.{PlanAdmits, is_of_plan, next, PlanLeads, PlanHere, PlanThen}
 use Rattle.wx_machine.proofs.Owners.{either, same-is, children_named, child_owner}
 use Rattle.wx_machine.proofs.Always.{Always, always_now, always_next, always_also}
 use Rattle.wx_machine.proofs.Sound.{Fits, IsSound, Sound, sound_step, sound_end}
@@ -28,7 +28,7 @@ use Rattle.wx_machine.specs.Jobs.{insert, set, jobs, parent_among, parent, AreLa
 use Rattle.wx_machine.specs.Due.{Agenda, plans, rest, unplanned, is_quitting, settle, agenda, Admits, Due}
 use Rattle.wx_machine.specs.RunLaws.{was_made, AreMadeOnce}
 use Rattle.wx_machine.specs.Kept.{StaysQuiet, More}
-use Rattle.wx_machine.specs.Leads.{Follows as LeadsOn, Then}
+use Rattle.wx_machine.specs.Leads.{Follows, Then}
 use Rattle.wx_machine.specs.Turns.{SameTurns, StaysInTurn}
 use Rattle.wx_machine.proofs.PlanLaws.{lawful_now, plan_fit}
 use Rattle.wx_machine.proofs.Lawful.{IsOfPlan, MadeInOrder, Lawful}
@@ -312,16 +312,16 @@ pub record IsLed (s : Start) (more : Agenda) (k : Plan) (p : List Entry) (host h
   pub orderly : IsOrderly s p'
   pub due : agenda s p' ≡ settle p' (plans k' more)
   pub quits : is_quitting p' ≡ is_quitting p
-  pub follows : LeadsOn s p host hooks p' host' hooks'
+  pub follows : Follows s p host hooks p' host' hooks'
   pub quiet : CallsNone p k → CallsNone p' k' × StaysQuiet p p'
   pub turns : StaysInTurn p p'
   pub commands : (id : Id) → command id p' ≡ command id p
 
-admits_plans : (s : Start) (p : List Entry) (k : Plan) (more : Agenda) (e : Entry) → Follows p k e → Admits s p (settle p (plans k more)) e
+admits_plans : (s : Start) (p : List Entry) (k : Plan) (more : Agenda) (e : Entry) → PlanAdmits p k e → Admits s p (settle p (plans k more)) e
 admits_plans s p Done more e d = absurd d
 admits_plans s p (k) more e d = d
 
-rest_plans : (p : List Entry) (k : Plan) (more : Agenda) (e : Entry) → Follows p k e → rest e (settle p (plans k more)) ≡ plans (next k e) more
+rest_plans : (p : List Entry) (k : Plan) (more : Agenda) (e : Entry) → PlanAdmits p k e → rest e (settle p (plans k more)) ≡ plans (next k e) more
 rest_plans p Done more e d = absurd d
 rest_plans p (k) more e d = refl
 
@@ -329,7 +329,7 @@ fit_lawful : (p : List Entry) (k : Plan) (more : Agenda) → IsFit p (settle p (
 fit_lawful p Done more f = record { each = tt; placed = tt }
 fit_lawful p (k) more f = f.0
 
-led_one : (s : Start) (more : Agenda) (k₀ : Plan) (p : List Entry) (host hooks : Option (List Entry)) (k : Plan) (q : List Entry) (host' hooks' : Option (List Entry)) (e : Entry) → Follows q k e → IsLed s more k₀ p host hooks k q host' hooks' → IsLed s more k₀ p host hooks (next k e) (e ∷ q) (tell_if (is_world q e) e host') (tell_if (is_hooks e) e hooks')
+led_one : (s : Start) (more : Agenda) (k₀ : Plan) (p : List Entry) (host hooks : Option (List Entry)) (k : Plan) (q : List Entry) (host' hooks' : Option (List Entry)) (e : Entry) → PlanAdmits q k e → IsLed s more k₀ p host hooks k q host' hooks' → IsLed s more k₀ p host hooks (next k e) (e ∷ q) (tell_if (is_world q e) e host') (tell_if (is_hooks e) e hooks')
 led_one s more k₀ p host hooks k q host' hooks' e d h =
     let kind = (lawful_now q k e d (fit_lawful q k more (subst (IsFit q) h.due h.orderly.fit))).of_plan in
     let due : Due s q e = subst (λ (j : Agenda). Admits s q j e) (sym h.due) (admits_plans s q k more e d) in record {
@@ -345,10 +345,10 @@ led_one s more k₀ p host hooks k q host' hooks' e d h =
       commands = λ id. command_plan e id q kind ∙ h.commands id;
     }
 
-pub plans_lead : (s : Start) (more : Agenda) (k : Plan) (p : List Entry) (host hooks : Option (List Entry)) (n : ℕ) (k' : Plan) (p' : List Entry) (host' hooks' : Option (List Entry)) (n' : ℕ) → Led k p host hooks n k' p' host' hooks' n' → IsOrderly s p → agenda s p ≡ settle p (plans k more) → IsLed s more k p host hooks k' p' host' hooks'
+pub plans_lead : (s : Start) (more : Agenda) (k : Plan) (p : List Entry) (host hooks : Option (List Entry)) (n : ℕ) (k' : Plan) (p' : List Entry) (host' hooks' : Option (List Entry)) (n' : ℕ) → PlanLeads k p host hooks n k' p' host' hooks' n' → IsOrderly s p → agenda s p ≡ settle p (plans k more) → IsLed s more k p host hooks k' p' host' hooks'
 plans_lead s more k p host hooks n k' p' host' hooks' n' l o due = elim l as (λ k' p' host' hooks' n' _. IsLed s more k p host hooks k' p' host' hooks') [
-  | Here ↦ record { orderly = o; due = due; quits = refl; follows = λ p₀ world₀ hooks₀ l. l; quiet = λ none. (none, λ p₀ a. a); turns = λ p₀ t. t; commands = λ id. refl }
-  | OneMore e k₁ p₁ host₁ hooks₁ n₁ n₂ (l → h) d counts ↦ led_one s more k p host hooks k₁ p₁ host₁ hooks₁ e d h
+  | PlanHere ↦ record { orderly = o; due = due; quits = refl; follows = λ p₀ world₀ hooks₀ l. l; quiet = λ none. (none, λ p₀ a. a); turns = λ p₀ t. t; commands = λ id. refl }
+  | PlanThen e k₁ p₁ host₁ hooks₁ n₁ n₂ (l → h) d counts ↦ led_one s more k p host hooks k₁ p₁ host₁ hooks₁ e d h
 ]
 
 -- ---- a plan that makes no job leaves the set

@@ -3,14 +3,14 @@ use Rattle.std.proofs.Common.{◌≡◌, Bool, true, false, cond, List, ◌∷�
 use Rattle.std.specs.Bool.{MatchBool}
 use Rattle.wx_journal.specs.declared.entry.Entry.{Entry}
 use Rattle.wx_machine.specs.Table.{Plan, Done, GivenUp, Owes}
-use Rattle.wx_machine.specs.Case.{Answer, entry, Admits, fails, next}
+use Rattle.wx_machine.specs.Case.{CallAnswer, entry, PlanAdmits, fails, next}
 
 -- Each entry that a plan brings behind these is such, and so are those that come then. What is asked of an entry may speak
 -- of the journal before it and of what is owed behind it.
 abbrev pub Always : (List Entry → Entry → Plan → Type 0) → List Entry → Plan → Type 0
 Always P p Done = Unit {0}
 Always P p GivenUp = Unit {0}
-Always P p (Owes call k f) = (a : Answer call) → P p (entry p call a) (next (Owes call k f) (entry p call a)) × MatchBool (fails (entry p call a)) (Always P (entry p call a ∷ p) f) (Always P (entry p call a ∷ p) k)
+Always P p (Owes call k f) = (a : CallAnswer call) → P p (entry p call a) (next (Owes call k f) (entry p call a)) × MatchBool (fails (entry p call a)) (Always P (entry p call a ∷ p) f) (Always P (entry p call a ∷ p) k)
 
 -- whatever is answered
 pub both : {A B : Type 0} (b : Bool) → A → B → MatchBool b A B
@@ -26,12 +26,12 @@ rest_is P p true k f h = h
 rest_is P p false k f h = h
 
 -- the entry that comes is such, and so is what is left
-pub always_now : (P : List Entry → Entry → Plan → Type 0) (p : List Entry) (k : Plan) (e : Entry) → Admits p k e → Always P p k → P p e (next k e)
+pub always_now : (P : List Entry → Entry → Plan → Type 0) (p : List Entry) (k : Plan) (e : Entry) → PlanAdmits p k e → Always P p k → P p e (next k e)
 always_now P p Done e d h = absurd d
 always_now P p GivenUp e d h = absurd d
 always_now P p (Owes call k f) e d h = rw d.1 (h d.0).0
 
-pub always_next : (P : List Entry → Entry → Plan → Type 0) (p : List Entry) (k : Plan) (e : Entry) → Admits p k e → Always P p k → Always P (e ∷ p) (next k e)
+pub always_next : (P : List Entry → Entry → Plan → Type 0) (p : List Entry) (k : Plan) (e : Entry) → PlanAdmits p k e → Always P p k → Always P (e ∷ p) (next k e)
 always_next P p Done e d h = absurd d
 always_next P p GivenUp e d h = absurd d
 always_next P p (Owes call k f) e d h = rw d.1 (rest_is P (entry p call d.0 ∷ p) (fails (entry p call d.0)) k f (h d.0).1)

@@ -13,9 +13,9 @@ use Rattle.wx_journal.specs.declared.entry.Entry.TheVariants.{GraceOver, Dropped
 use Rattle.wx_machine.specs.declared.grace.Grace.{Grace}
 use Rattle.wx_machine.specs.declared.state.CommandState.{CommandState}
 use Rattle.wx_machine.specs.History.{grace, in_hand}
-use Rattle.wx_machine.specs.Table.{Words, Given, Left, Call, Adds, Spawns, Signals, Kills, Waits, Shows, Plan, Done, Owes, Kit, adds, raises, shows, tries, reap, waiters, raise_grace, number_of, signalled, graceful, restart, spawn, fresh_by, fresh, leave, row, fresh_over, over, ended_in, is_parking}
+use Rattle.wx_machine.specs.Table.{Words, Given, Left, Call, Adds, Spawns, Signals, Kills, Waits, ShowsFault, Plan, Done, Owes, Kit, adds, raises, shows, tries, reap, waiters, raise_grace, number_of, signalled, graceful, restart, spawn, fresh_by, fresh, leave, row, fresh_over, over, ended_in, is_parking}
 use Rattle.wx_machine.specs.Seen.{Seen}
-use Rattle.wx_machine.specs.Case.{Answer, entry, fails, SpawnsLeft, IsCut, Leads, Here, Then, GaveUp}
+use Rattle.wx_machine.specs.Case.{CallAnswer, entry, fails, SpawnsLeft, IsCut, PlanLeads, PlanHere, PlanThen, GaveUp}
 use Rattle.wx_machine.specs.Held.{once, times, IsInHand}
 use Rattle.wx_machine.proofs.Owners.{either}
 use Rattle.wx_machine.proofs.Always.{Always, both, always_now, always_next}
@@ -39,10 +39,10 @@ uncut_if true k f whole whole' cut = whole' cut
 uncut_if false k f whole whole' cut = whole cut
 
 -- an entry behind which the plan isn't cut, whatever is answered
-always_owes : (id : Id) (t : ℕ) (call : Call) (k f : Plan) (p : List Entry) → ((a : Answer call) → Holds id t (entry p call a ∷ p) k) → ((a : Answer call) → Holds id t (entry p call a ∷ p) f) → Always (HeldAtCut id t) p (Owes call k f)
+always_owes : (id : Id) (t : ℕ) (call : Call) (k f : Plan) (p : List Entry) → ((a : CallAnswer call) → Holds id t (entry p call a ∷ p) k) → ((a : CallAnswer call) → Holds id t (entry p call a ∷ p) f) → Always (HeldAtCut id t) p (Owes call k f)
 always_owes id t call k f p ok bad = λ a. (λ cut. absurd (uncut_if (fails (entry p call a)) k f (ok a).uncut (bad a).uncut cut), both (fails (entry p call a)) (bad a).always (ok a).always)
 
-holds_owes : (id : Id) (t : ℕ) (call : Call) (k f : Plan) (p : List Entry) → (IsCut (Owes call k f) → ⊥) → ((a : Answer call) → Holds id t (entry p call a ∷ p) k) → ((a : Answer call) → Holds id t (entry p call a ∷ p) f) → Holds id t p (Owes call k f)
+holds_owes : (id : Id) (t : ℕ) (call : Call) (k f : Plan) (p : List Entry) → (IsCut (Owes call k f) → ⊥) → ((a : CallAnswer call) → Holds id t (entry p call a ∷ p) k) → ((a : CallAnswer call) → Holds id t (entry p call a ∷ p) f) → Holds id t p (Owes call k f)
 holds_owes id t call k f p uncut ok bad = record { uncut = uncut; always = always_owes id t call k f p ok bad }
 
 pub holds_done : (id : Id) (t : ℕ) (p : List Entry) → Holds id t p Done
@@ -77,7 +77,7 @@ holds_last id t (u ∷ us) p = holds_adds id t (Raise u) (waiters us Done) p (ho
 -- a fault is shown, where an error handler is set
 holds_shows : (id : Id) (t : ℕ) (handler : Option ℕ) (k : Plan) (p : List Entry) → ((q : List Entry) → Holds id t q k) → Holds id t p (shows id handler k)
 holds_shows id t None k p rest = rest p
-holds_shows id t (Some n) k p rest = holds_owes id t (Shows id n) k Done p (λ cut. cut) (λ a. rest _) (λ a. holds_done id t _)
+holds_shows id t (Some n) k p rest = holds_owes id t (ShowsFault id n) k Done p (λ cut. cut) (λ a. rest _) (λ a. holds_done id t _)
 
 holds_spawn : (id : Id) (t u : ℕ) (handler : Option ℕ) (tag : SpawnTag) (words : Words) (p : List Entry) → Always (HeldAtCut id t) p (spawn id handler tag words (raises u))
 holds_spawn id t u handler tag words p = always_owes id t (Spawns id tag words) (raises u) (shows id handler (raises u)) p (λ a. holds_raises id t u _) (λ a. holds_shows id t handler (raises u) _ (λ q. holds_raises id t u q))
@@ -90,7 +90,7 @@ holds_fresh : (id : Id) (t u : ℕ) (by : Kit) → HoldsOn id t (fresh id by (ra
 holds_fresh id t u by = holds_fresh_by id t u by.command by.handler by.tag by.hook
 
 -- a call on a child that isn't a spawn
-holds_tries : (id : Id) (t : ℕ) (handler : Option ℕ) (call : Call) (k failed : Plan) (p : List Entry) → (SpawnsLeft call → ⊥) → ((a : Answer call) → Holds id t (entry p call a ∷ p) k) → ((q : List Entry) → Holds id t q failed) → Holds id t p (tries id handler call k failed)
+holds_tries : (id : Id) (t : ℕ) (handler : Option ℕ) (call : Call) (k failed : Plan) (p : List Entry) → (SpawnsLeft call → ⊥) → ((a : CallAnswer call) → Holds id t (entry p call a ∷ p) k) → ((q : List Entry) → Holds id t q failed) → Holds id t p (tries id handler call k failed)
 holds_tries id t handler call k failed p uncut ok bad = holds_owes id t call k (shows id handler failed) p uncut ok (λ a. holds_shows id t handler failed _ bad)
 
 pub holds_wait : (id : Id) (t : ℕ) (handler : Option ℕ) (c : ℕ) (k failed : Plan) → HoldsOn id t k → ((q : List Entry) → Holds id t q failed) → HoldsOn id t (tries id handler (Waits c) k failed)
@@ -163,10 +163,10 @@ holds_ended_in id by g none p held =
 
 -- ---- what led to a cut
 
-at_cut : (id : Id) (t : ℕ) (k : Plan) (p : List Entry) (host hooks : Option (List Entry)) (n : ℕ) (k' : Plan) (p' : List Entry) (host' hooks' : Option (List Entry)) (n' : ℕ) → Leads k p host hooks n k' p' host' hooks' n' → Holds id t p k → Always (HeldAtCut id t) p' k' × (IsCut k' → IsInHand id t p')
+at_cut : (id : Id) (t : ℕ) (k : Plan) (p : List Entry) (host hooks : Option (List Entry)) (n : ℕ) (k' : Plan) (p' : List Entry) (host' hooks' : Option (List Entry)) (n' : ℕ) → PlanLeads k p host hooks n k' p' host' hooks' n' → Holds id t p k → Always (HeldAtCut id t) p' k' × (IsCut k' → IsInHand id t p')
 at_cut id t k p host hooks n k' p' host' hooks' n' l s = elim l as (λ k' p' host' hooks' n' _. Always (HeldAtCut id t) p' k' × (IsCut k' → IsInHand id t p')) [
-  | Here ↦ (s.always, λ cut. absurd (s.uncut cut))
-  | Then e k₁ p₁ host₁ hooks₁ n₁ n₂ (l → h) d counts ↦ (always_next (HeldAtCut id t) p₁ k₁ e d h.0, always_now (HeldAtCut id t) p₁ k₁ e d h.0)
+  | PlanHere ↦ (s.always, λ cut. absurd (s.uncut cut))
+  | PlanThen e k₁ p₁ host₁ hooks₁ n₁ n₂ (l → h) d counts ↦ (always_next (HeldAtCut id t) p₁ k₁ e d h.0, always_now (HeldAtCut id t) p₁ k₁ e d h.0)
 ]
 
 -- a plan that holds a ticket left it in hand where it was given up

@@ -11,7 +11,7 @@ use Rattle.wx_journal.specs.Told.{tell_if, is_world, is_hooks, anywhere}
 use Rattle.wx_machine.specs.History.{same, lives, child, unless, command}
 use Rattle.wx_machine.specs.TicketLaws.{IsPlaced}
 use Rattle.wx_machine.specs.Table.{Plan, Done, adds, drop_plan, end_plan}
-use Rattle.wx_machine.specs.Case.{Admits as Follows, next, Leads as Led, Here, Then as OneMore}
+use Rattle.wx_machine.specs.Case.{PlanAdmits, next, PlanLeads, PlanHere, PlanThen}
 use Rattle.wx_machine.proofs.Owners.{self}
 use Rattle.wx_machine.specs.Told.{TellsOn}
 use Rattle.wx_machine.specs.Start.{Start}
@@ -21,7 +21,7 @@ use Rattle.wx_machine.specs.Due.{Agenda, Ends, settle, agenda, Admits, Due, rest
 use Rattle.wx_machine.specs.Answer.{Dying, Alive, Dies}
 use Rattle.wx_machine.specs.RunLaws.{IsBatched, AreBatches, NoneUrgentWaits, NoneUnseenIsShown, NoneIsShownClosed, AreMadeOnce, AreServed}
 use Rattle.wx_machine.specs.Kept.{StaysQuiet, More}
-use Rattle.wx_machine.specs.Leads.{Follows as LeadsOn, Then}
+use Rattle.wx_machine.specs.Leads.{Follows, Then}
 use Rattle.wx_machine.specs.Turns.{SameTurns, StaysInTurn}
 use Rattle.wx_machine.proofs.PlanLaws.{of_end, end_is_plan, end_placed, names_end}
 use Rattle.wx_machine.proofs.Lawful.{IsOfEnd}
@@ -117,10 +117,10 @@ dying_turns s q p l = (dying_keeps s q p l).turns q (same_turns q)
 
 -- ---- the end of a run that was not broken off
 
-end_due : (s : Start) (p : List Entry) (e : Entry) → agenda s p ≡ Ends → Follows p (end p) e → Due s p e
+end_due : (s : Start) (p : List Entry) (e : Entry) → agenda s p ≡ Ends → PlanAdmits p (end p) e → Due s p e
 end_due s p e due d = subst (λ (k : Agenda). Admits s p k e) (sym due) d
 
-ends_on : (s : Start) (p : List Entry) (e : Entry) → agenda s p ≡ Ends → Follows p (end p) e → agenda s (e ∷ p) ≡ Ends
+ends_on : (s : Start) (p : List Entry) (e : Entry) → agenda s p ≡ Ends → PlanAdmits p (end p) e → agenda s (e ∷ p) ≡ Ends
 ends_on s p e due d = agenda_plan s p e (end_is_plan e (of_end p e d)) ∙ ap (λ (k : Agenda). settle (e ∷ p) (rest e k)) due
 
 pub dying_ends : (s : Start) (q p : List Entry) → Dying q p → agenda s q ≡ Ends → agenda s p ≡ Ends
@@ -147,18 +147,18 @@ record TellsBoth (p : List Entry) (host hooks : Option (List Entry)) (p' : List 
   of_world : TellsOn is_world p host p' host'
   of_hooks : TellsOn (anywhere is_hooks) p hooks p' hooks'
 
-tells_both : (k : Plan) (p : List Entry) (host hooks : Option (List Entry)) (n : ℕ) (k' : Plan) (p' : List Entry) (host' hooks' : Option (List Entry)) (n' : ℕ) → Led k p host hooks n k' p' host' hooks' n' → TellsBoth p host hooks p' host' hooks'
+tells_both : (k : Plan) (p : List Entry) (host hooks : Option (List Entry)) (n : ℕ) (k' : Plan) (p' : List Entry) (host' hooks' : Option (List Entry)) (n' : ℕ) → PlanLeads k p host hooks n k' p' host' hooks' n' → TellsBoth p host hooks p' host' hooks'
 tells_both k p host hooks n k' p' host' hooks' n' l = elim l as (λ k' p' host' hooks' n' _. TellsBoth p host hooks p' host' hooks') [
-  | Here ↦ record { of_world = λ before is. is; of_hooks = λ before is. is }
-  | OneMore e k₁ p₁ host₁ hooks₁ n₁ n₂ (l → h) d counts ↦
+  | PlanHere ↦ record { of_world = λ before is. is; of_hooks = λ before is. is }
+  | PlanThen e k₁ p₁ host₁ hooks₁ n₁ n₂ (l → h) d counts ↦
       record { of_world = λ before is. ap (tell_if (is_world p₁ e) e) (h.of_world before is); of_hooks = λ before is. ap (tell_if (is_hooks e) e) (h.of_hooks before is) }
 ]
 
 -- what is told while a plan is followed
-pub world_told : (k : Plan) (p : List Entry) (host hooks : Option (List Entry)) (n : ℕ) (k' : Plan) (p' : List Entry) (host' hooks' : Option (List Entry)) (n' : ℕ) → Led k p host hooks n k' p' host' hooks' n' → TellsOn is_world p host p' host'
+pub world_told : (k : Plan) (p : List Entry) (host hooks : Option (List Entry)) (n : ℕ) (k' : Plan) (p' : List Entry) (host' hooks' : Option (List Entry)) (n' : ℕ) → PlanLeads k p host hooks n k' p' host' hooks' n' → TellsOn is_world p host p' host'
 world_told k p host hooks n k' p' host' hooks' n' l = (tells_both k p host hooks n k' p' host' hooks' n' l).of_world
 
-pub hooks_told : (k : Plan) (p : List Entry) (host hooks : Option (List Entry)) (n : ℕ) (k' : Plan) (p' : List Entry) (host' hooks' : Option (List Entry)) (n' : ℕ) → Led k p host hooks n k' p' host' hooks' n' → TellsOn (anywhere is_hooks) p hooks p' hooks'
+pub hooks_told : (k : Plan) (p : List Entry) (host hooks : Option (List Entry)) (n : ℕ) (k' : Plan) (p' : List Entry) (host' hooks' : Option (List Entry)) (n' : ℕ) → PlanLeads k p host hooks n k' p' host' hooks' n' → TellsOn (anywhere is_hooks) p hooks p' hooks'
 hooks_told k p host hooks n k' p' host' hooks' n' l = (tells_both k p host hooks n k' p' host' hooks' n' l).of_hooks
 
 -- the first job that lives has ended
@@ -167,7 +167,7 @@ pub record HasEnded (id : Id) (p : List Entry) (host hooks : Option (List Entry)
   pub dead : lives id p' ≡ false
   pub world_told : TellsOn is_world p host p' host'
   pub hooks_told : TellsOn (anywhere is_hooks) p hooks p' hooks'
-  pub follows : (s : Start) → agenda s p ≡ Ends → LeadsOn s p host hooks p' host' hooks'
+  pub follows : (s : Start) → agenda s p ≡ Ends → Follows s p host hooks p' host' hooks'
 
 -- what is left of the end of a job: nothing where it is gone, else its end from here
 abbrev Owes : Id → List Id → List Entry → Plan → Type 0
@@ -185,19 +185,19 @@ owes_first : (id : Id) (ids : List Id) (p : List Entry) → jobs p ≡ id ∷ id
 owes_first id ids p first alive = subst (Owes id ids p) (sym (end_plan_is id p alive)) (owes_drop id ids p (child id p) refl first alive)
 
 -- such a plan is that of the end
-owed_end : (id : Id) (ids : List Id) (p : List Entry) (k : Plan) (e : Entry) → Owes id ids p k → Follows p k e → Follows p (end p) e
+owed_end : (id : Id) (ids : List Id) (p : List Entry) (k : Plan) (e : Entry) → Owes id ids p k → PlanAdmits p k e → PlanAdmits p (end p) e
 owed_end id ids p Done e o d = absurd d
-owed_end id ids p (k) e o d = subst (λ (j : Plan). Follows p j e) (o.2 ∙ sym (ap (λ js. first_end js p) o.0)) d
+owed_end id ids p (k) e o d = subst (λ (j : Plan). PlanAdmits p j e) (o.2 ∙ sym (ap (λ js. first_end js p) o.0)) d
 
-next_drop : (id : Id) (ids : List Id) (p : List Entry) (running : Option ℕ) (e : Entry) → child id p ≡ running → jobs p ≡ id ∷ ids → lives id p ≡ true → Follows p (drop_plan running (adds (Gone id) Done)) e → Owes id ids (e ∷ p) (next (drop_plan running (adds (Gone id) Done)) e)
+next_drop : (id : Id) (ids : List Id) (p : List Entry) (running : Option ℕ) (e : Entry) → child id p ≡ running → jobs p ≡ id ∷ ids → lives id p ≡ true → PlanAdmits p (drop_plan running (adds (Gone id) Done)) e → Owes id ids (e ∷ p) (next (drop_plan running (adds (Gone id) Done)) e)
 next_drop id ids p None e runs first alive d = rw d.1 (rw (self id) refl)
 next_drop id ids p (Some c) e runs first alive d = rw d.1 (first, alive, rw (alive, runs, eq-eqb c c refl) refl)
 
-next_owed : (id : Id) (ids : List Id) (p : List Entry) (k : Plan) (e : Entry) → Owes id ids p k → Follows p k e → Owes id ids (e ∷ p) (next k e)
+next_owed : (id : Id) (ids : List Id) (p : List Entry) (k : Plan) (e : Entry) → Owes id ids p k → PlanAdmits p k e → Owes id ids (e ∷ p) (next k e)
 next_owed id ids p Done e o d = absurd d
 next_owed id ids p (k) e o d =
     let is : k ≡ drop_plan (child id p) (adds (Gone id) Done) = o.2 ∙ end_plan_is id p o.1 in
-    subst (λ (j : Plan). Owes id ids (e ∷ p) (next j e)) (sym is) (next_drop id ids p (child id p) e refl o.0 o.1 (subst (λ (j : Plan). Follows p j e) is d))
+    subst (λ (j : Plan). Owes id ids (e ∷ p) (next j e)) (sym is) (next_drop id ids p (child id p) e refl o.0 o.1 (subst (λ (j : Plan). PlanAdmits p j e) is d))
 
 -- on the way to the end of a job
 record IsOnTheWay (id : Id) (ids : List Id) (p : List Entry) (host hooks : Option (List Entry)) (k : Plan) (p' : List Entry) (host' hooks' : Option (List Entry)) : Type 0 where
@@ -205,11 +205,11 @@ record IsOnTheWay (id : Id) (ids : List Id) (p : List Entry) (host hooks : Optio
   owes : Owes id ids p' k
   world_told : TellsOn is_world p host p' host'
   hooks_told : TellsOn (anywhere is_hooks) p hooks p' hooks'
-  follows : (s : Start) → agenda s p ≡ Ends → LeadsOn s p host hooks p' host' hooks'
+  follows : (s : Start) → agenda s p ≡ Ends → Follows s p host hooks p' host' hooks'
 
-way_on : (id : Id) (ids : List Id) (p : List Entry) (host hooks : Option (List Entry)) (k : Plan) (q : List Entry) (host' hooks' : Option (List Entry)) (e : Entry) → Follows q k e → IsOnTheWay id ids p host hooks k q host' hooks' → IsOnTheWay id ids p host hooks (next k e) (e ∷ q) (tell_if (is_world q e) e host') (tell_if (is_hooks e) e hooks')
+way_on : (id : Id) (ids : List Id) (p : List Entry) (host hooks : Option (List Entry)) (k : Plan) (q : List Entry) (host' hooks' : Option (List Entry)) (e : Entry) → PlanAdmits q k e → IsOnTheWay id ids p host hooks k q host' hooks' → IsOnTheWay id ids p host hooks (next k e) (e ∷ q) (tell_if (is_world q e) e host') (tell_if (is_hooks e) e hooks')
 way_on id ids p host hooks k q host' hooks' e d h =
-    let of : Follows q (end q) e = owed_end id ids q k e h.owes d in record {
+    let of : PlanAdmits q (end q) e = owed_end id ids q k e h.owes d in record {
       dying = Dies e q h.dying of;
       owes = next_owed id ids q k e h.owes d;
       world_told = λ before is. ap (tell_if (is_world q e) e) (h.world_told before is);
@@ -217,13 +217,13 @@ way_on id ids p host hooks k q host' hooks' e d h =
       follows = λ s due p₀ world₀ hooks₀ l. Then e q host' hooks' (h.follows s due p₀ world₀ hooks₀ l) (end_due s q e (dying_ends s p q h.dying due) of);
     }
 
-way : (id : Id) (ids : List Id) (p : List Entry) (host hooks : Option (List Entry)) (n : ℕ) (k' : Plan) (p' : List Entry) (host' hooks' : Option (List Entry)) (n' : ℕ) → Led (end_plan id p) p host hooks n k' p' host' hooks' n' → jobs p ≡ id ∷ ids → lives id p ≡ true → IsOnTheWay id ids p host hooks k' p' host' hooks'
+way : (id : Id) (ids : List Id) (p : List Entry) (host hooks : Option (List Entry)) (n : ℕ) (k' : Plan) (p' : List Entry) (host' hooks' : Option (List Entry)) (n' : ℕ) → PlanLeads (end_plan id p) p host hooks n k' p' host' hooks' n' → jobs p ≡ id ∷ ids → lives id p ≡ true → IsOnTheWay id ids p host hooks k' p' host' hooks'
 way id ids p host hooks n k' p' host' hooks' n' l first alive = elim l as (λ k' p' host' hooks' n' _. IsOnTheWay id ids p host hooks k' p' host' hooks') [
-  | Here ↦ record { dying = Alive; owes = owes_first id ids p first alive; world_told = λ before is. is; hooks_told = λ before is. is; follows = λ s due p₀ world₀ hooks₀ l. l }
-  | OneMore e k₁ p₁ host₁ hooks₁ n₁ n₂ (l → h) d counts ↦ way_on id ids p host hooks k₁ p₁ host₁ hooks₁ e d h
+  | PlanHere ↦ record { dying = Alive; owes = owes_first id ids p first alive; world_told = λ before is. is; hooks_told = λ before is. is; follows = λ s due p₀ world₀ hooks₀ l. l }
+  | PlanThen e k₁ p₁ host₁ hooks₁ n₁ n₂ (l → h) d counts ↦ way_on id ids p host hooks k₁ p₁ host₁ hooks₁ e d h
 ]
 
-pub end_leads : (id : Id) (ids : List Id) (p : List Entry) (host hooks : Option (List Entry)) (n : ℕ) (p' : List Entry) (host' hooks' : Option (List Entry)) (n' : ℕ) → jobs p ≡ id ∷ ids → Led (end_plan id p) p host hooks n Done p' host' hooks' n' → HasEnded id p host hooks p' host' hooks'
+pub end_leads : (id : Id) (ids : List Id) (p : List Entry) (host hooks : Option (List Entry)) (n : ℕ) (p' : List Entry) (host' hooks' : Option (List Entry)) (n' : ℕ) → jobs p ≡ id ∷ ids → PlanLeads (end_plan id p) p host hooks n Done p' host' hooks' n' → HasEnded id p host hooks p' host' hooks'
 end_leads id ids p host hooks n p' host' hooks' n' first l =
     let here : IsIn id (jobs p) = subst (IsIn id) (sym first) (inl refl) in
     let h = way id ids p host hooks n Done p' host' hooks' n' l first (of_filter (λ job. lives job p) id (set p) here).1 in record {
@@ -260,7 +260,7 @@ still_gone s q p (id ∷ ids) l gone = ((dying_keeps s q p l).gone id gone.0, st
 -- ---- no child runs whose job is gone
 
 -- the end of a run that was broken off keeps this
-none_one : (p : List Entry) (e : Entry) → IsOfEnd e → Follows p (end p) e → GoneRunNone p → GoneRunNone (e ∷ p)
+none_one : (p : List Entry) (e : Entry) → IsOfEnd e → PlanAdmits p (end p) e → GoneRunNone p → GoneRunNone (e ∷ p)
 none_one p (Dropped c) o d h id e = ap (unless c) (h id e)
 none_one p (Gone job) o d h id e = gone_gone p job id (same job id) refl e (free_end p (Gone job) d) (h id)
 none_one p (_) o d h id e = absurd o

@@ -5,9 +5,9 @@ use Rattle.wx_machine.proofs.CaseLemmas.{ran-none}
 use Rattle.wx_journal.specs.Names.{NamesItsOwn}
 use Rattle.wx_journal.specs.Told.{tell_if, is_hooks, Obeys, Same as NoneMore, More as OneMore}
 use Rattle.wx_machine.specs.Table.{Plan}
-use Rattle.wx_machine.specs.Case.{Leads, Here, Then, FollowsHost}
+use Rattle.wx_machine.specs.Case.{PlanLeads, PlanHere, PlanThen, PlanFollowsHost}
 use Rattle.wx_machine.specs.Seen.{Seen, Hooked}
-use Rattle.wx_machine.specs.Kept.{Keeps, OnlyHooksRoom, Quiet, Same, More, Kept, Still, Past, Roomy, Called, Promised}
+use Rattle.wx_machine.specs.Kept.{Keeps, Quiet, Same, More, Kept, Still, Past, Roomy, Called, Promised}
 
 -- ---- quiet stretches
 
@@ -21,13 +21,13 @@ heard_more : (e : Entry) (p p' : List Entry) (hooks : Option (List Entry)) (mine
 heard_more e p p' hooks true is h = record { told = e ∷ h.told; is_told = rw h.is_told refl; quiet = λ none. absurd cc }
 heard_more e p p' hooks false is h = record { told = h.told; is_told = h.is_told; quiet = λ none. More e p' (h.quiet none) is }
 
-heard : (k : Plan) (p : List Entry) (host : Option (List Entry)) (n : ℕ) (k' : Plan) (p' : List Entry) (host' hooks' : Option (List Entry)) (n' : ℕ) → Leads k p host (Some []) n k' p' host' hooks' n' → Heard p p' hooks'
+heard : (k : Plan) (p : List Entry) (host : Option (List Entry)) (n : ℕ) (k' : Plan) (p' : List Entry) (host' hooks' : Option (List Entry)) (n' : ℕ) → PlanLeads k p host (Some []) n k' p' host' hooks' n' → Heard p p' hooks'
 heard k p host n k' p' host' hooks' n' l = elim l as (λ k' p' host' hooks' n' _. Heard p p' hooks') [
-  | Here ↦ record { told = []; is_told = refl; quiet = λ none. Same }
-  | Then e k₁ p₁ host₁ hooks₁ n₁ n₂ (l → h) d counts ↦ heard_more e p p₁ hooks₁ (is_hooks e) refl h
+  | PlanHere ↦ record { told = []; is_told = refl; quiet = λ none. Same }
+  | PlanThen e k₁ p₁ host₁ hooks₁ n₁ n₂ (l → h) d counts ↦ heard_more e p p₁ hooks₁ (is_hooks e) refl h
 ]
 
-pub quiet_led : (k : Plan) (p : List Entry) (host : Option (List Entry)) (n : ℕ) (k' : Plan) (p' : List Entry) (host' : Option (List Entry)) (n' : ℕ) → Leads k p host (Some []) n k' p' host' (Some []) n' → Quiet p p'
+pub quiet_led : (k : Plan) (p : List Entry) (host : Option (List Entry)) (n : ℕ) (k' : Plan) (p' : List Entry) (host' : Option (List Entry)) (n' : ℕ) → PlanLeads k p host (Some []) n k' p' host' (Some []) n' → Quiet p p'
 quiet_led k p host n k' p' host' n' l = let h = heard k p host n k' p' host' (Some []) n' l in h.quiet (cc h.is_told)
 
 -- ---- room
@@ -41,7 +41,7 @@ pub kept-one : {K Fixed : Type 0} (seen : K → Hooked Fixed) (rule : Fixed → 
 kept-one seen rule stands x₀ p₀ x e p other k = Past x p (e ∷ p) k (More e p Same other)
 
 -- where only the host was called
-pub quiet-followed : {Fixed : Type 0} (k : Plan) (p : List Entry) (a : Seen Fixed) (k' : Plan) (p' : List Entry) (b : Seen Fixed) → FollowsHost k p a k' p' b → Quiet p p'
+pub quiet-followed : {Fixed : Type 0} (k : Plan) (p : List Entry) (a : Seen Fixed) (k' : Plan) (p' : List Entry) (b : Seen Fixed) → PlanFollowsHost k p a k' p' b → Quiet p p'
 quiet-followed k p a k' p' b led = quiet_led k p _ _ k' p' _ _ (led k p a (Some []) (Some []) (ran-none k p a (Some []))).led
 
 pub quiet_then : (p q r : List Entry) → Quiet p q → Quiet q r → Quiet p r

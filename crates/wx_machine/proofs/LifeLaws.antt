@@ -7,7 +7,7 @@ use Rattle.wx_journal.specs.declared.entry.Entry.{Entry}
 use Rattle.wx_journal.specs.declared.entry.Entry.TheVariants.{Made, Spawn, Wait, Dropped, Gone}
 use Rattle.wx_machine.specs.History.{child, unless, owner}
 use Rattle.wx_machine.specs.Table.{step_by, send_plan, end_plan}
-use Rattle.wx_machine.specs.JobLaws.{unreaped, IsReaping, NamesChildren, is_owner, is_about, Lived, Begins, Others, Asks, Steps, GivesUp, Ends}
+use Rattle.wx_machine.specs.JobLaws.{unreaped, IsReaping, NamesChildren, is_owner, is_about, Lived, LifeBegins, LifeGoesOn, LifeAsks, LifeSteps, LifeGivesUp, LifeEnds}
 use Rattle.wx_machine.proofs.Owners.{self, child_owner, unreaped_owner}
 use Rattle.wx_machine.proofs.Frame.{not_child}
 use Rattle.wx_machine.proofs.StepLaws.{Left, step_of, send_of, end_of, left_done, left_gave}
@@ -41,12 +41,12 @@ good_left id p p' left h = record { children = left.children h.children; reaping
 
 life : (id : Id) (command : Command) (p : List Entry) → Lived id command p → IsGood id p
 life id command p l = elim l as (λ p _. IsGood id p) [
-  | Begins p named ↦ record { children = named; reaping = record { each = λ e. (let both : true ≡ false = sym (self id) ∙ e in absurd cc); last = λ alive. rw (self id) refl; none = λ dead. rw (self id) refl } }
-  | Others e p (l → h) named other ↦ record { children = named; reaping = other_reaping id e p named other h.reaping }
-  | Asks ask p p' host hooks host' hooks' n n' (l → h) way ↦ good_left id p p' (left_done id (send_plan id (sends_of ask) p) p host hooks n p' host' hooks' n' (send_of id ask p) way) h
-  | Steps closed p p' host hooks host' hooks' n n' (l → h) way ↦ good_left id p p' (left_done id (step_by closed id command p) p host hooks n p' host' hooks' n' (step_of closed id command p) way) h
-  | GivesUp closed rest p p' host hooks host' hooks' n n' (l → h) way cut ↦ good_left id p p' (left_gave id (step_by closed id command p) p host hooks n rest p' host' hooks' n' (step_of closed id command p) cut way) h
-  | Ends p p' host hooks host' hooks' n n' (l → h) way ↦ good_left id p p' (left_done id (end_plan id p) p host hooks n p' host' hooks' n' (end_of id p) way) h
+  | LifeBegins p named ↦ record { children = named; reaping = record { each = λ e. (let both : true ≡ false = sym (self id) ∙ e in absurd cc); last = λ alive. rw (self id) refl; none = λ dead. rw (self id) refl } }
+  | LifeGoesOn e p (l → h) named other ↦ record { children = named; reaping = other_reaping id e p named other h.reaping }
+  | LifeAsks ask p p' host hooks host' hooks' n n' (l → h) way ↦ good_left id p p' (left_done id (send_plan id (sends_of ask) p) p host hooks n p' host' hooks' n' (send_of id ask p) way) h
+  | LifeSteps closed p p' host hooks host' hooks' n n' (l → h) way ↦ good_left id p p' (left_done id (step_by closed id command p) p host hooks n p' host' hooks' n' (step_of closed id command p) way) h
+  | LifeGivesUp closed rest p p' host hooks host' hooks' n n' (l → h) way cut ↦ good_left id p p' (left_gave id (step_by closed id command p) p host hooks n rest p' host' hooks' n' (step_of closed id command p) cut way) h
+  | LifeEnds p p' host hooks host' hooks' n n' (l → h) way ↦ good_left id p p' (left_done id (end_plan id p) p host hooks n p' host' hooks' n' (end_of id p) way) h
 ]
 
 pub children_are_reaped : (id : Id) (command : Command) (p : List Entry) → Lived id command p → IsReaping id p
@@ -54,4 +54,4 @@ children_are_reaped id command p l = (life id command p l).reaping
 
 -- the life of a job alone, whose journal has no other entries: it begins there, and every whole step goes on with it
 pub lived_alone : (id : Id) (command : Command) → Lived id command (Made id ∷ [])
-lived_alone id command = Begins [] tt
+lived_alone id command = LifeBegins [] tt

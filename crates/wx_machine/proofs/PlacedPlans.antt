@@ -25,7 +25,7 @@ use Rattle.wx_machine.specs.States.{is_finished}
 use Rattle.wx_machine.specs.History.{lives, waits, child, is_child, kept, state, grace, begun, begun_with, just_picked, picked_control, handler, parked, in_hand}
 use Rattle.wx_machine.specs.Held.{times}
 use Rattle.wx_machine.specs.Table.{Plan, Done, Kit, kit, kit_after, adds, asks, raises, shows, waiters, number_of, signalled, graceful, fresh, row, is_parking, fresh_over, over, ended_in, ended_by, ended, polled, choose, choose_last, choose_control, choose_end, choose_grace, choose_child, unless_grace, pick_by, case, step_by, ask_second, ask_plan, send_plan, end_plan, leave}
-use Rattle.wx_machine.specs.Case.{Leads, Here, Then}
+use Rattle.wx_machine.specs.Case.{PlanLeads, PlanHere, PlanThen}
 use Rattle.wx_machine.specs.TicketLaws.{IsPlaced}
 use Rattle.wx_machine.proofs.Owners.{self, either}
 use Rattle.wx_machine.proofs.Times.{unheld_without, parks-not, takes_it, IsFirst, is_first}
@@ -282,8 +282,8 @@ pub record PlacedOn (k : Plan) (p : List Entry) : Type 0 where
   pub placed : IsPlaced p
   pub always : Always Placing p k
 
-pub placed_leads : (k : Plan) (p : List Entry) (host hooks : Option (List Entry)) (n : ℕ) (k' : Plan) (p' : List Entry) (host' hooks' : Option (List Entry)) (n' : ℕ) → Leads k p host hooks n k' p' host' hooks' n' → IsPlaced p → Always Placing p k → PlacedOn k' p'
+pub placed_leads : (k : Plan) (p : List Entry) (host hooks : Option (List Entry)) (n : ℕ) (k' : Plan) (p' : List Entry) (host' hooks' : Option (List Entry)) (n' : ℕ) → PlanLeads k p host hooks n k' p' host' hooks' n' → IsPlaced p → Always Placing p k → PlacedOn k' p'
 placed_leads k p host hooks n k' p' host' hooks' n' l h s = elim l as (λ k' p' host' hooks' n' _. PlacedOn k' p') [
-  | Here ↦ record { placed = h; always = s }
-  | Then e k₁ p₁ host₁ hooks₁ n₁ n₂ (l → on) d counts ↦ record { placed = always_now Placing p₁ k₁ e d on.always; always = always_next Placing p₁ k₁ e d on.always }
+  | PlanHere ↦ record { placed = h; always = s }
+  | PlanThen e k₁ p₁ host₁ hooks₁ n₁ n₂ (l → on) d counts ↦ record { placed = always_now Placing p₁ k₁ e d on.always; always = always_next Placing p₁ k₁ e d on.always }
 ]

@@ -17,7 +17,7 @@ use Rattle.wx_journal.specs.declared.entry.Word.TheVariants.{Ignored}
 use Rattle.wx_journal.specs.Names.{Names, NamesItsOwn, creates, is_created, next_job, ticket_count}
 use Rattle.wx_machine.specs.History.{same, lives, child}
 use Rattle.wx_machine.specs.Table.{Plan, Done, adds, asks, step_plan, ask_second, ask_plan, drop_plan, end_plan}
-use Rattle.wx_machine.specs.Case.{Admits as Follows, is_planned, next}
+use Rattle.wx_machine.specs.Case.{PlanAdmits, is_planned, next}
 use Rattle.wx_machine.specs.TicketLaws.{IsPlaced}
 use Rattle.wx_machine.proofs.Owners.{either}
 use Rattle.wx_machine.proofs.Always.{Always, always_now, always_next, always_also}
@@ -29,13 +29,13 @@ use Rattle.wx_machine.proofs.PlacedPlans.{placed_step, placed_asks, placed_ask}
 use Rattle.wx_machine.specs.Jobs.{AreLawful, act_plan, jobs, first_end, end}
 use Rattle.wx_machine.proofs.Lawful.{IsOfPlan, IsOfEnd, IsFree, LetsGo, InOrder, IsLawful, Lawful}
 
-pub lawful_now : (p : List Entry) (k : Plan) (e : Entry) → Follows p k e → Lawful p k → IsLawful p e (next k e)
+pub lawful_now : (p : List Entry) (k : Plan) (e : Entry) → PlanAdmits p k e → Lawful p k → IsLawful p e (next k e)
 lawful_now p k e d l = always_now IsLawful p k e d l.each
 
-pub placed_now : (p : List Entry) (k : Plan) (e : Entry) → Follows p k e → Lawful p k → IsPlaced (e ∷ p)
+pub placed_now : (p : List Entry) (k : Plan) (e : Entry) → PlanAdmits p k e → Lawful p k → IsPlaced (e ∷ p)
 placed_now p k e d l = always_now Placing p k e d l.placed
 
-pub lawful_next : (p : List Entry) (k : Plan) (e : Entry) → Follows p k e → Lawful p k → Lawful (e ∷ p) (next k e)
+pub lawful_next : (p : List Entry) (k : Plan) (e : Entry) → PlanAdmits p k e → Lawful p k → Lawful (e ∷ p) (next k e)
 lawful_next p k e d l = record { each = always_next IsLawful p k e d l.each; placed = always_next Placing p k e d l.placed }
 
 -- ---- the plans of a job
@@ -130,16 +130,16 @@ lawful_acts acts p h l placed = record { each = each_acts (λ id. lives id p) ac
 
 -- ---- the end
 
-of_drop : (p : List Entry) (id : Id) (b : Bool) (running : Option ℕ) (e : Entry) → Follows p (cond b (drop_plan running (adds (Gone id) Done)) Done) e → IsOfEnd e
+of_drop : (p : List Entry) (id : Id) (b : Bool) (running : Option ℕ) (e : Entry) → PlanAdmits p (cond b (drop_plan running (adds (Gone id) Done)) Done) e → IsOfEnd e
 of_drop p id true None e d = subst IsOfEnd (sym d.1) tt
 of_drop p id true (Some c) e d = subst IsOfEnd (sym d.1) tt
 of_drop p id false running e d = absurd d
 
-of_first_end : (ids : List Id) (p : List Entry) (e : Entry) → Follows p (first_end ids p) e → IsOfEnd e
+of_first_end : (ids : List Id) (p : List Entry) (e : Entry) → PlanAdmits p (first_end ids p) e → IsOfEnd e
 of_first_end [] p e d = absurd d
 of_first_end (id ∷ ids) p e d = of_drop p id (lives id p) (child id p) e d
 
-pub of_end : (p : List Entry) (e : Entry) → Follows p (end p) e → IsOfEnd e
+pub of_end : (p : List Entry) (e : Entry) → PlanAdmits p (end p) e → IsOfEnd e
 of_end p e d = of_first_end (jobs p) p e d
 
 pub end_is_plan : (e : Entry) → IsOfEnd e → IsOfPlan e
@@ -156,9 +156,9 @@ pub end_in_order : (e : Entry) (p : List Entry) → IsOfEnd e → InOrder p e
 end_in_order (Made job) p o = absurd o
 end_in_order (_) p o = tt
 
-names_first_end : (ids : List Id) (p : List Entry) (e : Entry) → NamesItsOwn p → Follows p (first_end ids p) e → Names p e
+names_first_end : (ids : List Id) (p : List Entry) (e : Entry) → NamesItsOwn p → PlanAdmits p (first_end ids p) e → Names p e
 names_first_end [] p e own d = absurd d
 names_first_end (id ∷ ids) p e own d = (always_now (IsSound id) p (end_plan id p) e d (sound_end id p)).names own
 
-pub names_end : (p : List Entry) (e : Entry) → NamesItsOwn p → Follows p (end p) e → Names p e
+pub names_end : (p : List Entry) (e : Entry) → NamesItsOwn p → PlanAdmits p (end p) e → Names p e
 names_end p e own d = names_first_end (jobs p) p e own d

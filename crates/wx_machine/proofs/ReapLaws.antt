@@ -8,7 +8,7 @@ use Rattle.wx_journal.specs.Sorts.{sort}
 use Rattle.wx_journal.specs.Names.{NamesItsOwn}
 use Rattle.wx_machine.specs.History.{same, lives, child, unless, reaped_child, still_running, is_child}
 use Rattle.wx_machine.specs.Table.{Plan, Done, adds, drop_plan}
-use Rattle.wx_machine.specs.Case.{Admits as Follows, next}
+use Rattle.wx_machine.specs.Case.{PlanAdmits, next}
 use Rattle.wx_machine.specs.JobLaws.{unreaped, AreReaped, IsReaping, AfterFaults}
 use Rattle.wx_machine.proofs.Owners.{self, same-is}
 use Rattle.wx_machine.proofs.Sound.{RunsIn, Goes, goes_gone, gone_child, after_fault}
@@ -45,17 +45,17 @@ goes_next s id Done more p e g d = absurd g
 goes_next s id (k) more p e g d = goes_gone id p k e d g
 
 -- behind an end that let the child of the first job go
-dropped_by_plan : (p : List Entry) (id : Id) (b : Bool) (running : Option ℕ) (c : ℕ) → Follows p (cond b (drop_plan running (adds (Gone id) Done)) Done) (Dropped c) → running ≡ Some c
+dropped_by_plan : (p : List Entry) (id : Id) (b : Bool) (running : Option ℕ) (c : ℕ) → PlanAdmits p (cond b (drop_plan running (adds (Gone id) Done)) Done) (Dropped c) → running ≡ Some c
 dropped_by_plan p id true None c d = absurd cc
 dropped_by_plan p id true (Some x) c d = cc
 dropped_by_plan p id false running c d = absurd d
 
-gone_by_plan : (p : List Entry) (id : Id) (b : Bool) (running : Option ℕ) (e : Entry) → running ≡ None → Follows p (cond b (drop_plan running (adds (Gone id) Done)) Done) e → e ≡ Gone id
+gone_by_plan : (p : List Entry) (id : Id) (b : Bool) (running : Option ℕ) (e : Entry) → running ≡ None → PlanAdmits p (cond b (drop_plan running (adds (Gone id) Done)) Done) e → e ≡ Gone id
 gone_by_plan p id true None e none d = d.1
 gone_by_plan p id true (Some x) e none d = absurd cc
 gone_by_plan p id false running e none d = absurd d
 
-end_next : (p : List Entry) (ids : List Id) (c : ℕ) (id : Id) (e : Entry) → NamesItsOwn p → child id p ≡ Some c → Follows p (first_end ids p) (Dropped c) → Follows (Dropped c ∷ p) (first_end ids (Dropped c ∷ p)) e → e ≡ Gone id
+end_next : (p : List Entry) (ids : List Id) (c : ℕ) (id : Id) (e : Entry) → NamesItsOwn p → child id p ≡ Some c → PlanAdmits p (first_end ids p) (Dropped c) → PlanAdmits (Dropped c ∷ p) (first_end ids (Dropped c ∷ p)) e → e ≡ Gone id
 end_next p [] c id e own its dropped d = absurd d
 end_next p (job ∷ ids) c id e own its dropped d =
     let runs = dropped_by_plan p job (lives job p) (child job p) c dropped in

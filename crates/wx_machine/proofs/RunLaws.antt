@@ -30,7 +30,7 @@ use Rattle.wx_journal.specs.Told.{is_hand}
 use Rattle.wx_machine.specs.History.{same, lives, child, unless, ended_child, still_running}
 use Rattle.wx_machine.specs.TicketLaws.{IsPlaced}
 use Rattle.wx_machine.specs.Table.{Plan, Done, adds, drop_plan, step_plan, ask_plan}
-use Rattle.wx_machine.specs.Case.{Admits as Lets, next}
+use Rattle.wx_machine.specs.Case.{PlanAdmits, next}
 use Rattle.wx_machine.proofs.Owners.{either, same-is}
 use Rattle.wx_machine.proofs.Places.{placed_none, placed_silent}
 use Rattle.wx_machine.specs.Start.{Start}
@@ -313,16 +313,16 @@ free_turn p (Turned t) i = tt
 free_turn p (TurnFault code) i = tt
 free_turn p (_) i = absurd i
 
-free_by_drop : (p : List Entry) (id : Id) (b : Bool) (running : Option ℕ) (e : Entry) → child id p ≡ running → Lets p (cond b (drop_plan running (adds (Gone id) Done)) Done) e → IsFree p e
+free_by_drop : (p : List Entry) (id : Id) (b : Bool) (running : Option ℕ) (e : Entry) → child id p ≡ running → PlanAdmits p (cond b (drop_plan running (adds (Gone id) Done)) Done) e → IsFree p e
 free_by_drop p id true None e is d = subst (IsFree p) (sym d.1) is
 free_by_drop p id true (Some c) e is d = subst (IsFree p) (sym d.1) (id, is)
 free_by_drop p id false running e is d = absurd d
 
-free_by_end : (p : List Entry) (ids : List Id) (e : Entry) → Lets p (first_end ids p) e → IsFree p e
+free_by_end : (p : List Entry) (ids : List Id) (e : Entry) → PlanAdmits p (first_end ids p) e → IsFree p e
 free_by_end p [] e d = absurd d
 free_by_end p (id ∷ ids) e d = free_by_drop p id (lives id p) (child id p) e refl d
 
-pub free_end : (p : List Entry) (e : Entry) → Lets p (end p) e → IsFree p e
+pub free_end : (p : List Entry) (e : Entry) → PlanAdmits p (end p) e → IsFree p e
 free_end p e d = free_by_end p (jobs p) e d
 
 -- what an agenda that admits an entry says of it

@@ -27,8 +27,8 @@ use Rattle.wx_machine.specs.declared.function.Function.{Function}
 use Rattle.wx_machine.specs.declared.grace.Grace.{Grace}
 use Rattle.wx_events.specs.declared.process.Signal.{Signal as ASignal}
 use Rattle.wx_machine.specs.History.{same, lives, waits, child, kept, begun, grace, unless, reaped_child, still_running, asked_of, SameHistory}
-use Rattle.wx_machine.specs.Table.{Words, Given, Left, Call, Adds, Spawns, Signals, Waits, Shows, Plan, Done, GivenUp, Owes, Kit, kit, kit_after, adds, asks, raises, shows, tries, reap, waiters, raise_grace, number_of, signalled, graceful, restart, spawn, fresh_by, fresh, row, fresh_over, over, ended_in, ended_by, polled, pick_by, case, step_by, ask_second, ask_plan, send_plan, end_plan, leave}
-use Rattle.wx_machine.specs.Case.{Answer, entry, Admits, is_fault, next, IsCut, Leads, Here, Then}
+use Rattle.wx_machine.specs.Table.{Words, Given, Left, Call, Adds, Spawns, Signals, Waits, ShowsFault, Plan, Done, GivenUp, Owes, Kit, kit, kit_after, adds, asks, raises, shows, tries, reap, waiters, raise_grace, number_of, signalled, graceful, restart, spawn, fresh_by, fresh, row, fresh_over, over, ended_in, ended_by, polled, pick_by, case, step_by, ask_second, ask_plan, send_plan, end_plan, leave}
+use Rattle.wx_machine.specs.Case.{CallAnswer, entry, PlanAdmits, is_fault, next, IsCut, PlanLeads, PlanHere, PlanThen}
 use Rattle.wx_machine.specs.Faults.{fault_count, Counted}
 use Rattle.wx_machine.specs.JobLaws.{unreaped, Runs, AreReaped, AfterFaults, NamesChildren, NamesTickets}
 use Rattle.wx_machine.proofs.Owners.{self, either, children_named, owner_below, child_owner}
@@ -142,7 +142,7 @@ sound_waiters id (t ∷ ts) k p none alive asked rest = sound_raise id t (waiter
 -- a fault is shown, where an error handler is set
 sound_shows : (id : Id) (handler : Option ℕ) (k : Plan) (p : List Entry) → lives id p ≡ true → SoundOn id p k → Sound id p (shows id handler k)
 sound_shows id None k p alive rest = rest p alive (λ u h. h)
-sound_shows id (Some n) k p alive rest = λ a. (record { alive = alive; fits = refl; names = λ own. tt; closes = tt }, rest (entry p (Shows id n) a ∷ p) alive (λ u h. h))
+sound_shows id (Some n) k p alive rest = λ a. (record { alive = alive; fits = refl; names = λ own. tt; closes = tt }, rest (entry p (ShowsFault id n) a ∷ p) alive (λ u h. h))
 
 -- a child is spawned where none runs
 sound_spawn : (id : Id) (handler : Option ℕ) (tag : SpawnTag) (words : Words) (t : ℕ) (p : List Entry) → child id p ≡ None → lives id p ≡ true → IsAsked id t p → Sound id p (spawn id handler tag words (raises t))
@@ -346,11 +346,11 @@ after_fault (Wait c (Err fault)) p r h = (r, (λ id runs over. over_without id p
 after_fault (_) p r h = h
 
 -- where the job is gone next, nothing else comes
-gone_by : (p : List Entry) (call : Call) (a : Answer call) (e : Entry) → call ≡ Adds e → entry p call a ≡ e
+gone_by : (p : List Entry) (call : Call) (a : CallAnswer call) (e : Entry) → call ≡ Adds e → entry p call a ≡ e
 gone_by p (Adds x) a e is = cc
 gone_by p (_) a e is = absurd cc
 
-pub goes_gone : (id : Id) (p : List Entry) (k : Plan) (e : Entry) → Admits p k e → Goes id k → e ≡ Gone id
+pub goes_gone : (id : Id) (p : List Entry) (k : Plan) (e : Entry) → PlanAdmits p k e → Goes id k → e ≡ Gone id
 goes_gone id p Done e d g = absurd g
 goes_gone id p GivenUp e d g = absurd g
 goes_gone id p (Owes call k f) e d g = d.1 ∙ gone_by p call d.0 (Gone id) g
@@ -367,10 +367,10 @@ lives_on : {b : Bool} {A : Type 0} → b ≡ true → b ≡ false → A
 lives_on alive dead = let both : true ≡ false = sym alive ∙ dead in absurd cc
 
 -- the last one, before another entry than that the job is gone
-last_before : (id : Id) (k : Plan) (e : Entry) (p : List Entry) → Admits p k e → (e ≡ Gone id → ⊥) → Reaping id k p → lives id p ≡ true → unreaped id p ≡ child id p
+last_before : (id : Id) (k : Plan) (e : Entry) (p : List Entry) → PlanAdmits p k e → (e ≡ Gone id → ⊥) → Reaping id k p → lives id p ≡ true → unreaped id p ≡ child id p
 last_before id k e p d other r alive = r.last alive (λ g. other (goes_gone id p k e d g))
 
-reaps_on : (id : Id) (k : Plan) (e : Entry) (k' : Plan) (p : List Entry) → Admits p k e → IsSound id p e k' → Reaping id k p → Reaping id k' (e ∷ p)
+reaps_on : (id : Id) (k : Plan) (e : Entry) (k' : Plan) (p : List Entry) → PlanAdmits p k e → IsSound id p e k' → Reaping id k p → Reaping id k' (e ∷ p)
 reaps_on id k (Made job) k' p d s r = absurd s.fits
 reaps_on id k (Spawn c job tag what (Ok a)) k' p d s r =
     let before = last_before id k (Spawn c job tag what (Ok a)) p d (λ is. cc) r s.alive in
@@ -395,10 +395,10 @@ pub record Followed (id : Id) (k : Plan) (p : List Entry) (k' : Plan) (p' : List
   pub tickets : NamesTickets p → NamesTickets p'
   pub others : NamesChildren p → NamesTickets p → (i : Id) → i ≢ id → SameHistory i p p'
 
-pub follow : (id : Id) (k : Plan) (p : List Entry) (host hooks : Option (List Entry)) (n : ℕ) (k' : Plan) (p' : List Entry) (host' hooks' : Option (List Entry)) (n' : ℕ) → Leads k p host hooks n k' p' host' hooks' n' → Sound id p k → Followed id k p k' p'
+pub follow : (id : Id) (k : Plan) (p : List Entry) (host hooks : Option (List Entry)) (n : ℕ) (k' : Plan) (p' : List Entry) (host' hooks' : Option (List Entry)) (n' : ℕ) → PlanLeads k p host hooks n k' p' host' hooks' n' → Sound id p k → Followed id k p k' p'
 follow id k p host hooks n k' p' host' hooks' n' l s = elim l as (λ k' p' host' hooks' n' _. Followed id k p k' p') [
-  | Here ↦ record { sound = s; children = λ h. h; reaps = λ r. r; failing = λ r. r; own = λ h. h; tickets = λ h. h; others = λ named tickets i ne. same_history i p }
-  | Then e k₁ p₁ host₁ hooks₁ n₁ n₂ (l → h) d counts ↦
+  | PlanHere ↦ record { sound = s; children = λ h. h; reaps = λ r. r; failing = λ r. r; own = λ h. h; tickets = λ h. h; others = λ named tickets i ne. same_history i p }
+  | PlanThen e k₁ p₁ host₁ hooks₁ n₁ n₂ (l → h) d counts ↦
       let o = always_now (IsSound id) p₁ k₁ e d h.sound in record {
         sound = always_next (IsSound id) p₁ k₁ e d h.sound;
         children = λ named. children_fit id e p₁ o.fits (h.children named);
@@ -424,11 +424,11 @@ counted_more : (n mid new : ℕ) (a b : ℕ) (bad : Bool) → Counts bad mid new
 counted_more n mid new a b true counts h = let le = counts.later in let rose = counts.rose refl in (omega (arith, h.0), omega (arith, h.1))
 counted_more n mid new a b false counts h = let le = counts.later in (omega (arith, h.0), omega (arith, h.1))
 
-leads_counts : (k : Plan) (p : List Entry) (host hooks : Option (List Entry)) (n : ℕ) (k' : Plan) (p' : List Entry) (host' hooks' : Option (List Entry)) (n' : ℕ) → Leads k p host hooks n k' p' host' hooks' n' → (n ≤ n') × (min (n + (fault_count p' - fault_count p)) (2 ^ 64 - 1) ≤ n')
+leads_counts : (k : Plan) (p : List Entry) (host hooks : Option (List Entry)) (n : ℕ) (k' : Plan) (p' : List Entry) (host' hooks' : Option (List Entry)) (n' : ℕ) → PlanLeads k p host hooks n k' p' host' hooks' n' → (n ≤ n') × (min (n + (fault_count p' - fault_count p)) (2 ^ 64 - 1) ≤ n')
 leads_counts k p host hooks n k' p' host' hooks' n' l = elim l as (λ k' p' host' hooks' n' _. (n ≤ n') × (min (n + (fault_count p' - fault_count p)) (2 ^ 64 - 1) ≤ n')) [
-  | Here ↦ (omega arith, omega arith)
-  | Then e k₁ p₁ host₁ hooks₁ n₁ n₂ (l → h) d counts ↦ counted_more n n₁ n₂ (fault_count p) (fault_count p₁) (is_fault e) counts h
+  | PlanHere ↦ (omega arith, omega arith)
+  | PlanThen e k₁ p₁ host₁ hooks₁ n₁ n₂ (l → h) d counts ↦ counted_more n n₁ n₂ (fault_count p) (fault_count p₁) (is_fault e) counts h
 ]
 
-pub leads_counted : (k : Plan) (p : List Entry) (host hooks : Option (List Entry)) (n : ℕ) (k' : Plan) (p' : List Entry) (host' hooks' : Option (List Entry)) (n' : ℕ) → Leads k p host hooks n k' p' host' hooks' n' → Counted p n p' n'
+pub leads_counted : (k : Plan) (p : List Entry) (host hooks : Option (List Entry)) (n : ℕ) (k' : Plan) (p' : List Entry) (host' hooks' : Option (List Entry)) (n' : ℕ) → PlanLeads k p host hooks n k' p' host' hooks' n' → Counted p n p' n'
 leads_counted k p host hooks n k' p' host' hooks' n' l = let h = leads_counts k p host hooks n k' p' host' hooks' n' l in record { later = h.0; rose = h.1 }

@@ -8,7 +8,7 @@ use Rattle.wx_control.specs.Asks.{sends_of}
 use Rattle.wx_journal.specs.declared.entry.Entry.{Entry}
 use Rattle.wx_machine.specs.Seen.{Seen}
 use Rattle.wx_machine.specs.Table.{Plan, Done, step_by, end_plan, send_plan}
-use Rattle.wx_machine.specs.Case.{Leads, Here, Ran, IsCut, GaveUp, FollowsHost, FollowsAlone}
+use Rattle.wx_machine.specs.Case.{PlanLeads, PlanHere, PlanRan, IsCut, GaveUp, PlanFollowsHost, PlanFollowsAlone}
 use Rattle.wx_machine.specs.Faults.{Counted}
 use Rattle.wx_machine.specs.JobLaws.{NamesChildren}
 use Rattle.wx_machine.specs.Leaves.{LeavesLaws}
@@ -42,7 +42,7 @@ pub record Left (id : Id) (p p' : List Entry) : Type 0 where
   pub children : NamesChildren p → NamesChildren p'
 
 -- what led to a plan by which the job isn't gone next
-left_led : (id : Id) (k : Plan) (p : List Entry) (host hooks : Option (List Entry)) (n : ℕ) (k' : Plan) (p' : List Entry) (host' hooks' : Option (List Entry)) (n' : ℕ) → IsPlanOf id p k → (Goes id k' → ⊥) → Leads k p host hooks n k' p' host' hooks' n' → Left id p p'
+left_led : (id : Id) (k : Plan) (p : List Entry) (host hooks : Option (List Entry)) (n : ℕ) (k' : Plan) (p' : List Entry) (host' hooks' : Option (List Entry)) (n' : ℕ) → IsPlanOf id p k → (Goes id k' → ⊥) → PlanLeads k p host hooks n k' p' host' hooks' n' → Left id p p'
 left_led id k p host hooks n k' p' host' hooks' n' of stays l =
     let f = follow id k p host hooks n k' p' host' hooks' n' l of.sound in record {
       leaves = record {
@@ -54,11 +54,11 @@ left_led id k p host hooks n k' p' host' hooks' n' of stays l =
       children = f.children;
     }
 
-pub left_done : (id : Id) (k : Plan) (p : List Entry) (host hooks : Option (List Entry)) (n : ℕ) (p' : List Entry) (host' hooks' : Option (List Entry)) (n' : ℕ) → IsPlanOf id p k → Leads k p host hooks n Done p' host' hooks' n' → Left id p p'
+pub left_done : (id : Id) (k : Plan) (p : List Entry) (host hooks : Option (List Entry)) (n : ℕ) (p' : List Entry) (host' hooks' : Option (List Entry)) (n' : ℕ) → IsPlanOf id p k → PlanLeads k p host hooks n Done p' host' hooks' n' → Left id p p'
 left_done id k p host hooks n p' host' hooks' n' of l = left_led id k p host hooks n Done p' host' hooks' n' of (λ goes. goes) l
 
 -- what led to a place where the case was given up
-pub left_gave : (id : Id) (k : Plan) (p : List Entry) (host hooks : Option (List Entry)) (n : ℕ) (rest : Plan) (p' : List Entry) (host' hooks' : Option (List Entry)) (n' : ℕ) → IsPlanOf id p k → IsCut rest → Leads k p host hooks n rest p' host' hooks' n' → Left id p p'
+pub left_gave : (id : Id) (k : Plan) (p : List Entry) (host hooks : Option (List Entry)) (n : ℕ) (rest : Plan) (p' : List Entry) (host' hooks' : Option (List Entry)) (n' : ℕ) → IsPlanOf id p k → IsCut rest → PlanLeads k p host hooks n rest p' host' hooks' n' → Left id p p'
 left_gave id k p host hooks n rest p' host' hooks' n' of cut l = left_led id k p host hooks n rest p' host' hooks' n' of (cut_goes id rest cut) l
 
 pub left_same : (id : Id) (p : List Entry) → Left id p p
@@ -73,7 +73,7 @@ pub record Stepped (id : Id) (p : List Entry) (n : ℕ) (p' : List Entry) (n' : 
   pub left : Left id p p'
   pub counted : Counted p n p' n'
 
-pub stepped_ran : {Fixed : Type 0} (id : Id) (k : Plan) (p : List Entry) (a : Seen Fixed) (hooks : Option (List Entry)) (p' : List Entry) (b : Seen Fixed) (hooks' : Option (List Entry)) → IsPlanOf id p k → Ran k p a hooks Done p' b hooks' → Stepped id p a.shown.faults p' b.shown.faults
+pub stepped_ran : {Fixed : Type 0} (id : Id) (k : Plan) (p : List Entry) (a : Seen Fixed) (hooks : Option (List Entry)) (p' : List Entry) (b : Seen Fixed) (hooks' : Option (List Entry)) → IsPlanOf id p k → PlanRan k p a hooks Done p' b hooks' → Stepped id p a.shown.faults p' b.shown.faults
 stepped_ran id k p a hooks p' b hooks' of r = record { left = left_done id k p _ _ _ p' _ _ _ of r.led; counted = leads_counted k p _ _ _ Done p' _ _ _ r.led }
 
 pub stepped_gave : {Fixed : Type 0} (id : Id) (k : Plan) (p : List Entry) (a : Seen Fixed) (hooks : Option (List Entry)) (p' : List Entry) (b : Seen Fixed) (hooks' : Option (List Entry)) → IsPlanOf id p k → GaveUp k p a hooks p' b hooks' → Stepped id p a.shown.faults p' b.shown.faults
@@ -81,10 +81,10 @@ stepped_gave id k p a hooks p' b hooks' of g = record { left = left_gave id k p 
 
 -- ---- the end of a job, and asks
 
-pub end_left : {Fixed : Type 0} (id : Id) (p : List Entry) (a : Seen Fixed) (k : Plan) (p' : List Entry) (b : Seen Fixed) → end_plan id p ≡ k → FollowsHost k p a Done p' b → Left id p p'
+pub end_left : {Fixed : Type 0} (id : Id) (p : List Entry) (a : Seen Fixed) (k : Plan) (p' : List Entry) (b : Seen Fixed) → end_plan id p ≡ k → PlanFollowsHost k p a Done p' b → Left id p p'
 end_left id p a k p' b is led = left_done id k p _ _ _ p' _ _ _ (rw is at (end_of id p)) (led k p a None None (ran-none k p a None)).led
 
 -- whatever is answered
-pub send_left : {A E : Type 0} (Same : Type 0) (r : Result A E) (id : Id) (ask : Ask) (p p' : List Entry) → OnOk r (FollowsAlone (send_plan id (sends_of ask) p) p Done p') → OnErr r (Same × p' ≡ p) → Left id p p'
-send_left Same (Ok a) id ask p p' ok err = left_done id (send_plan id (sends_of ask) p) p None None 0 p' None None 0 (send_of id ask p) (ok _ p None None 0 None None 0 Here)
+pub send_left : {A E : Type 0} (Same : Type 0) (r : Result A E) (id : Id) (ask : Ask) (p p' : List Entry) → OnOk r (PlanFollowsAlone (send_plan id (sends_of ask) p) p Done p') → OnErr r (Same × p' ≡ p) → Left id p p'
+send_left Same (Ok a) id ask p p' ok err = left_done id (send_plan id (sends_of ask) p) p None None 0 p' None None 0 (send_of id ask p) (ok _ p None None 0 None None 0 PlanHere)
 send_left Same (Err a) id ask p p' ok err = rw err.1 (left_same id p)

@@ -1,7 +1,7 @@
 -- What an answer of the engine says of its journal.
 use Rattle.std.specs.Prelude.{◌≡◌, ℕ, ◌⊎◌, None, Some, Ok, Err, List, [], ◌∷◌, codes}
 use Rattle.wx_journal.specs.declared.entry.Entry.{Entry}
-use Rattle.wx_machine.specs.Case.{Admits as Follows}
+use Rattle.wx_machine.specs.Case.{PlanAdmits}
 use Rattle.wx_error.specs.declared.error.CriticalError.TheVariants.{IoError, Memory}
 use Rattle.wx_machine.specs.Start.{Start}
 use Rattle.wx_error.specs.declared.error.CriticalError.{CriticalError}
@@ -19,7 +19,7 @@ pub record IsComplete (s : Start) (p : List Entry) : Type 0 where
 -- the second journal is the first with entries of the end on top
 pub data Dying (q : List Entry) : List Entry → Type 0 where
   Alive : Dying q q
-  Dies : (e : Entry) (p : List Entry) → Dying q p → Follows p (end p) e → Dying q (e ∷ p)
+  Dies : (e : Entry) (p : List Entry) → Dying q p → PlanAdmits p (end p) e → Dying q (e ∷ p)
 
 -- a run that was cut at such a place, also at its end, and then the end of its jobs
 pub record IsBroken (place : List Entry → Type 0) (s : Start) (p : List Entry) : Type 0 where

@@ -12,19 +12,19 @@ use Rattle.wx_journal.specs.Names.{ticket_count, child_count}
 use Rattle.wx_journal.specs.Told.{tell, tell_if, is_world, is_hooks, Counts}
 use Rattle.wx_machine.specs.Seen.{Seen}
 use Rattle.wx_machine.specs.Steady.{IsSteady}
-use Rattle.wx_machine.specs.Table.{Words, Given, Left, Call, Adds, Spawns, Signals, Kills, Waits, Asks, Hooks, Polls, Shows, Plan, Done, GivenUp, Owes}
+use Rattle.wx_machine.specs.Table.{Words, Given, Left, Call, Adds, Spawns, Signals, Kills, Waits, Asks, Hooks, Polls, ShowsFault, Plan, Done, GivenUp, Owes}
 
 -- what may be answered
-abbrev pub Answer : Call → Type 0
-Answer (Adds e) = Unit {0}
-Answer (Spawns id tag words) = Result (Unit {0}) HostFault
-Answer (Signals c number) = Result (Unit {0}) HostFault
-Answer (Kills c) = Result (Unit {0}) HostFault
-Answer (Waits c) = Result ProcessEnd HostFault
-Answer (Asks id level control) = Unit {0}
-Answer (Hooks id n) = Result Spawnable Memory
-Answer (Polls id n) = Bool
-Answer (Shows id n) = Unit {0}
+abbrev pub CallAnswer : Call → Type 0
+CallAnswer (Adds e) = Unit {0}
+CallAnswer (Spawns id tag words) = Result (Unit {0}) HostFault
+CallAnswer (Signals c number) = Result (Unit {0}) HostFault
+CallAnswer (Kills c) = Result (Unit {0}) HostFault
+CallAnswer (Waits c) = Result ProcessEnd HostFault
+CallAnswer (Asks id level control) = Unit {0}
+CallAnswer (Hooks id n) = Result Spawnable Memory
+CallAnswer (Polls id n) = Bool
+CallAnswer (ShowsFault id n) = Unit {0}
 
 -- what the newest entry left to be spawned: nothing, where it is no hook that answered
 abbrev pub left : List Entry → Spawnable
@@ -44,7 +44,7 @@ newest_code (Wait c (Err fault) ∷ p) = fault.0
 newest_code (_) = 0
 
 -- the entry behind these, with this answer
-abbrev pub entry : List Entry → (call : Call) → Answer call → Entry
+abbrev pub entry : List Entry → (call : Call) → CallAnswer call → Entry
 entry p (Adds e) a = e
 entry p (Spawns id tag words) a = Spawn (child_count p) id tag (words_of p words) a
 entry p (Signals c number) a = Signal c number a
@@ -53,13 +53,13 @@ entry p (Waits c) a = Wait c a
 entry p (Asks id level control) a = Asked (ticket_count p) id level control
 entry p (Hooks id n) a = Hook id n a
 entry p (Polls id n) a = Poll id n a
-entry p (Shows id n) a = JobError id n (newest_code p)
+entry p (ShowsFault id n) a = JobError id n (newest_code p)
 
 -- the entries that a plan lets come next behind these
-abbrev pub Admits : List Entry → Plan → Entry → Type 0
-Admits p Done e = ⊥
-Admits p GivenUp e = ⊥
-Admits p (Owes call k f) e = (a : Answer call) × (e ≡ entry p call a)
+abbrev pub PlanAdmits : List Entry → Plan → Entry → Type 0
+PlanAdmits p Done e = ⊥
+PlanAdmits p GivenUp e = ⊥
+PlanAdmits p (Owes call k f) e = (a : CallAnswer call) × (e ≡ entry p call a)
 
 -- the entries of plans are of a job, or say a word
 abbrev pub is_planned : Subject → Bool
@@ -97,7 +97,7 @@ SpawnsLeft (Waits c) = ⊥
 SpawnsLeft (Asks id level control) = ⊥
 SpawnsLeft (Hooks id n) = ⊥
 SpawnsLeft (Polls id n) = ⊥
-SpawnsLeft (Shows id n) = ⊥
+SpawnsLeft (ShowsFault id n) = ⊥
 
 -- the plans at which want of memory may give a case up: behind a hook that had no memory, and between a hook and the spawn
 abbrev pub IsCut : Plan → Type 0
@@ -108,40 +108,40 @@ IsCut (Owes call k f) = SpawnsLeft call
 -- From one plan and journal to what is left of it and a longer journal, with what host and hooks were told and how often
 -- a call on a child failed: each entry on top was owed first, was told by just the one that it is a call on, and where it
 -- holds a fault the count rose.
-pub data Leads (k : Plan) (p : List Entry) (host hooks : Option (List Entry)) (faults : ℕ) : Plan → List Entry → Option (List Entry) → Option (List Entry) → ℕ → Type 0 where
-  Here : Leads k p host hooks faults k p host hooks faults
-  Then : (e : Entry) (k' : Plan) (p' : List Entry) (host' hooks' : Option (List Entry)) (faults' faults'' : ℕ) → Leads k p host hooks faults k' p' host' hooks' faults' → Admits p' k' e → Counts (is_fault e) faults' faults'' → Leads k p host hooks faults (next k' e) (e ∷ p') (tell_if (is_world p' e) e host') (tell_if (is_hooks e) e hooks') faults''
+pub data PlanLeads (k : Plan) (p : List Entry) (host hooks : Option (List Entry)) (faults : ℕ) : Plan → List Entry → Option (List Entry) → Option (List Entry) → ℕ → Type 0 where
+  PlanHere : PlanLeads k p host hooks faults k p host hooks faults
+  PlanThen : (e : Entry) (k' : Plan) (p' : List Entry) (host' hooks' : Option (List Entry)) (faults' faults'' : ℕ) → PlanLeads k p host hooks faults k' p' host' hooks' faults' → PlanAdmits p' k' e → Counts (is_fault e) faults' faults'' → PlanLeads k p host hooks faults (next k' e) (e ∷ p') (tell_if (is_world p' e) e host') (tell_if (is_hooks e) e hooks') faults''
 
 -- the same over what is seen of the host, of which the rest stayed as it was
-pub record Ran {Fixed : Type 0} (k : Plan) (p : List Entry) (a : Seen Fixed) (hooks : Option (List Entry)) (k' : Plan) (p' : List Entry) (b : Seen Fixed) (hooks' : Option (List Entry)) : Type 0 where
-  pub led : Leads k p a.shown.told hooks a.shown.faults k' p' b.shown.told hooks' b.shown.faults
+pub record PlanRan {Fixed : Type 0} (k : Plan) (p : List Entry) (a : Seen Fixed) (hooks : Option (List Entry)) (k' : Plan) (p' : List Entry) (b : Seen Fixed) (hooks' : Option (List Entry)) : Type 0 where
+  pub led : PlanLeads k p a.shown.told hooks a.shown.faults k' p' b.shown.told hooks' b.shown.faults
   pub steady : IsSteady a b
 
 -- whatever ran to the one runs on to the other, where the hooks aren't called
-abbrev pub FollowsHost : {Fixed : Type 0} → Plan → List Entry → Seen Fixed → Plan → List Entry → Seen Fixed → Type 0
-FollowsHost {Fixed} k p a k' p' b = (k₀ : Plan) (p₀ : List Entry) (a₀ : Seen Fixed) (hooks₀ hooks : Option (List Entry)) → Ran k₀ p₀ a₀ hooks₀ k p a hooks → Ran k₀ p₀ a₀ hooks₀ k' p' b hooks
+abbrev pub PlanFollowsHost : {Fixed : Type 0} → Plan → List Entry → Seen Fixed → Plan → List Entry → Seen Fixed → Type 0
+PlanFollowsHost {Fixed} k p a k' p' b = (k₀ : Plan) (p₀ : List Entry) (a₀ : Seen Fixed) (hooks₀ hooks : Option (List Entry)) → PlanRan k₀ p₀ a₀ hooks₀ k p a hooks → PlanRan k₀ p₀ a₀ hooks₀ k' p' b hooks
 
 -- the same where the host isn't called either
-abbrev pub FollowsAlone : Plan → List Entry → Plan → List Entry → Type 0
-FollowsAlone k p k' p' = (k₀ : Plan) (p₀ : List Entry) (host₀ hooks₀ : Option (List Entry)) (faults₀ : ℕ) (host hooks : Option (List Entry)) (faults : ℕ) → Leads k₀ p₀ host₀ hooks₀ faults₀ k p host hooks faults → Leads k₀ p₀ host₀ hooks₀ faults₀ k' p' host hooks faults
+abbrev pub PlanFollowsAlone : Plan → List Entry → Plan → List Entry → Type 0
+PlanFollowsAlone k p k' p' = (k₀ : Plan) (p₀ : List Entry) (host₀ hooks₀ : Option (List Entry)) (faults₀ : ℕ) (host hooks : Option (List Entry)) (faults : ℕ) → PlanLeads k₀ p₀ host₀ hooks₀ faults₀ k p host hooks faults → PlanLeads k₀ p₀ host₀ hooks₀ faults₀ k' p' host hooks faults
 
 -- the same where the hooks alone are called
-pub record FollowsHooks (k : Plan) (p : List Entry) (hooks : Option (List Entry)) (k' : Plan) (p' : List Entry) (hooks' : Option (List Entry)) : Type 0 where
-  pub on : (k₀ : Plan) (p₀ : List Entry) (host₀ hooks₀ : Option (List Entry)) (faults₀ : ℕ) (host : Option (List Entry)) (faults : ℕ) → Leads k₀ p₀ host₀ hooks₀ faults₀ k p host hooks faults → Leads k₀ p₀ host₀ hooks₀ faults₀ k' p' host hooks' faults
+pub record PlanFollowsHooks (k : Plan) (p : List Entry) (hooks : Option (List Entry)) (k' : Plan) (p' : List Entry) (hooks' : Option (List Entry)) : Type 0 where
+  pub on : (k₀ : Plan) (p₀ : List Entry) (host₀ hooks₀ : Option (List Entry)) (faults₀ : ℕ) (host : Option (List Entry)) (faults : ℕ) → PlanLeads k₀ p₀ host₀ hooks₀ faults₀ k p host hooks faults → PlanLeads k₀ p₀ host₀ hooks₀ faults₀ k' p' host hooks' faults
 
 -- the same where both may be called
-abbrev pub Follows : {Fixed : Type 0} → Plan → List Entry → Seen Fixed → Option (List Entry) → Plan → List Entry → Seen Fixed → Option (List Entry) → Type 0
-Follows {Fixed} k p a hooks k' p' b hooks' = (k₀ : Plan) (p₀ : List Entry) (a₀ : Seen Fixed) (hooks₀ : Option (List Entry)) → Ran k₀ p₀ a₀ hooks₀ k p a hooks → Ran k₀ p₀ a₀ hooks₀ k' p' b hooks'
+abbrev pub PlanFollows : {Fixed : Type 0} → Plan → List Entry → Seen Fixed → Option (List Entry) → Plan → List Entry → Seen Fixed → Option (List Entry) → Type 0
+PlanFollows {Fixed} k p a hooks k' p' b hooks' = (k₀ : Plan) (p₀ : List Entry) (a₀ : Seen Fixed) (hooks₀ : Option (List Entry)) → PlanRan k₀ p₀ a₀ hooks₀ k p a hooks → PlanRan k₀ p₀ a₀ hooks₀ k' p' b hooks'
 
 -- from one plan and journal to a place where want of memory gave the case up
 pub record GaveUp {Fixed : Type 0} (k : Plan) (p : List Entry) (a : Seen Fixed) (hooks : Option (List Entry)) (p' : List Entry) (b : Seen Fixed) (hooks' : Option (List Entry)) : Type 0 where
   pub rest : Plan
   pub cut : IsCut rest
-  pub ran : Ran k p a hooks rest p' b hooks'
+  pub ran : PlanRan k p a hooks rest p' b hooks'
 
 -- whatever ran to the one runs on to such a place
-abbrev pub GivesUp : {Fixed : Type 0} → Plan → List Entry → Seen Fixed → Option (List Entry) → List Entry → Seen Fixed → Option (List Entry) → Type 0
-GivesUp {Fixed} k p a hooks p' b hooks' = (k₀ : Plan) (p₀ : List Entry) (a₀ : Seen Fixed) (hooks₀ : Option (List Entry)) → Ran k₀ p₀ a₀ hooks₀ k p a hooks → GaveUp k₀ p₀ a₀ hooks₀ p' b hooks'
+abbrev pub PlanGivesUp : {Fixed : Type 0} → Plan → List Entry → Seen Fixed → Option (List Entry) → List Entry → Seen Fixed → Option (List Entry) → Type 0
+PlanGivesUp {Fixed} k p a hooks p' b hooks' = (k₀ : Plan) (p₀ : List Entry) (a₀ : Seen Fixed) (hooks₀ : Option (List Entry)) → PlanRan k₀ p₀ a₀ hooks₀ k p a hooks → GaveUp k₀ p₀ a₀ hooks₀ p' b hooks'
 
 -- The call of a hook after which the case is given up: it had no memory, or what it left could not be copied.
 pub record HookedOnly (id : Id) (n : ℕ) (p : List Entry) (hooks : Option (List Entry)) (p' : List Entry) (hooks' : Option (List Entry)) : Type 0 where

@@ -26,7 +26,7 @@ use Rattle.wx_control.specs.declared.ask.Ask.{Ask as AnAsk}
 use Rattle.wx_control.specs.Asks.{sends_of}
 use Rattle.wx_machine.specs.History.{lives}
 use Rattle.wx_machine.specs.Table.{Plan, Done, step_plan, ask_plan}
-use Rattle.wx_machine.specs.Case.{Admits as Follows, is_of_plan, next}
+use Rattle.wx_machine.specs.Case.{PlanAdmits, is_of_plan, next}
 use Rattle.wx_machine.specs.Start.{Start}
 use Rattle.wx_machine.specs.Jobs.{living, parent, AreLawful, act_plan, end}
 use Rattle.wx_machine.specs.Journal.{settings, is_urgent_named, passes_unseen, lets_pass, closed, ending, named, bag, offered, window, is_over}
@@ -206,8 +206,8 @@ Admits s p Takes e = (name : ℕ) × (e ≡ Take name) × IsGreatest name (bag p
 Admits s p (Filters name) e = (answer : Result Bool RuntimeError) × (e ≡ Filter (settings s p).filterer name answer)
 Admits s p (Shows error) e = (wish : Wish) × (e ≡ Show (settings s p).error_handler error wish)
 Admits s p Hands e = (acts : List Act) × (e ≡ Hand (settings s p).action_handler (window p) acts) × AreLawful (next_job p) acts
-Admits s p (Plans k more) e = Follows p k e
-Admits s p Ends e = Follows p (end p) e
+Admits s p (Plans k more) e = PlanAdmits p k e
+Admits s p Ends e = PlanAdmits p (end p) e
 Admits s p Breaks e = ⊥
 
 -- the entries that may come next

@@ -11,7 +11,7 @@ use Rattle.wx_journal.specs.Names.{ticket_count, child_count}
 use Rattle.wx_machine.specs.declared.state.CommandState.TheVariants.{Pending}
 use Rattle.wx_machine.specs.History.{same, lives, child, state, grace, reaped_child, still_running, owner}
 use Rattle.wx_machine.specs.Table.{Plan, Done, step_by, send_plan, end_plan}
-use Rattle.wx_machine.specs.Case.{Leads, IsCut}
+use Rattle.wx_machine.specs.Case.{PlanLeads, IsCut}
 
 -- the child that was spawned and not reaped: no Wait of it answered ok
 abbrev pub unreaped : Id → List Entry → Option ℕ
@@ -95,12 +95,12 @@ NamesTickets (_ ∷ p) = NamesTickets p
 -- The life of a job since it was last made: then come asks, whole steps, steps that were given up, and its end, each by its
 -- plan, and between them entries that are not about it. Nothing is asked of other names than those of children.
 pub data Lived (id : Id) (command : Command) : List Entry → Type 0 where
-  Begins : (p : List Entry) → NamesChildren p → Lived id command (Made id ∷ p)
-  Others : (e : Entry) (p : List Entry) → Lived id command p → NamesChildren (e ∷ p) → is_about id p e ≡ false → Lived id command (e ∷ p)
-  Asks : (ask : Ask) (p p' : List Entry) (host hooks host' hooks' : Option (List Entry)) (n n' : ℕ) → Lived id command p → Leads (send_plan id (sends_of ask) p) p host hooks n Done p' host' hooks' n' → Lived id command p'
-  Steps : (closed : Bool) (p p' : List Entry) (host hooks host' hooks' : Option (List Entry)) (n n' : ℕ) → Lived id command p → Leads (step_by closed id command p) p host hooks n Done p' host' hooks' n' → Lived id command p'
-  GivesUp : (closed : Bool) (rest : Plan) (p p' : List Entry) (host hooks host' hooks' : Option (List Entry)) (n n' : ℕ) → Lived id command p → Leads (step_by closed id command p) p host hooks n rest p' host' hooks' n' → IsCut rest → Lived id command p'
-  Ends : (p p' : List Entry) (host hooks host' hooks' : Option (List Entry)) (n n' : ℕ) → Lived id command p → Leads (end_plan id p) p host hooks n Done p' host' hooks' n' → Lived id command p'
+  LifeBegins : (p : List Entry) → NamesChildren p → Lived id command (Made id ∷ p)
+  LifeGoesOn : (e : Entry) (p : List Entry) → Lived id command p → NamesChildren (e ∷ p) → is_about id p e ≡ false → Lived id command (e ∷ p)
+  LifeAsks : (ask : Ask) (p p' : List Entry) (host hooks host' hooks' : Option (List Entry)) (n n' : ℕ) → Lived id command p → PlanLeads (send_plan id (sends_of ask) p) p host hooks n Done p' host' hooks' n' → Lived id command p'
+  LifeSteps : (closed : Bool) (p p' : List Entry) (host hooks host' hooks' : Option (List Entry)) (n n' : ℕ) → Lived id command p → PlanLeads (step_by closed id command p) p host hooks n Done p' host' hooks' n' → Lived id command p'
+  LifeGivesUp : (closed : Bool) (rest : Plan) (p p' : List Entry) (host hooks host' hooks' : Option (List Entry)) (n n' : ℕ) → Lived id command p → PlanLeads (step_by closed id command p) p host hooks n rest p' host' hooks' n' → IsCut rest → Lived id command p'
+  LifeEnds : (p p' : List Entry) (host hooks host' hooks' : Option (List Entry)) (n n' : ℕ) → Lived id command p → PlanLeads (end_plan id p) p host hooks n Done p' host' hooks' n' → Lived id command p'
 
 -- in the life of a job, since it was last made, each child is reaped before the next spawn, save a last one, and no child
 -- runs after its end

@@ -1,16 +1,21 @@
 -- What hooks keep over the calls on them.
-use Rattle.std.specs.Prelude.{◌≡◌, ◌≤◌, false, Result, Ok, Err, List, ◌∷◌}
+use Rattle.std.specs.Prelude.{◌≡◌, ◌≤◌, ◌+◌, false, Result, Ok, Err, List, ◌∷◌}
 use Rattle.wx_words.specs.declared.list.Memory.{Memory}
 use Rattle.wx_command.specs.declared.spawnable.Spawnable.{Spawnable}
 use Rattle.wx_journal.specs.declared.entry.Entry.{Entry}
 use Rattle.wx_journal.specs.Names.{NamesItsOwn}
-use Rattle.wx_journal.specs.Told.{is_hooks, Obeys}
+use Rattle.wx_journal.specs.Told.{tell, is_hooks, Obeys}
 use Rattle.wx_machine.specs.Seen.{Hooked}
 
 -- what a spawn hook that answered this left to be spawned
 abbrev pub left_by : Result (Unit {0}) Memory → Spawnable → Result Spawnable Memory
 left_by (Ok u) what = Ok what
 left_by (Err memory) what = Err memory
+
+-- a call was told as this entry, in room that was taken before
+pub record TellsHooks {Fixed : Type 0} (e : Entry) (x x' : Hooked Fixed) : Type 0 where
+  pub told : x'.told ≡ tell e x.told
+  pub room : x.spare ≤ x'.spare + 1
 
 -- What each call on hooks promises, told as this entry behind these: plan and place stay; and where they are not short
 -- afterwards they were not before, and, where the entries name their own and they stood for them, this one passes the rule,

@@ -48,7 +48,7 @@ pub data Call : Type 0 where
   -- the begun function of this number is polled
   Polls : Id → ℕ → Call
   -- the fault that the newest entry holds is shown to the error handler of this number
-  Shows : Id → ℕ → Call
+  ShowsFault : Id → ℕ → Call
 
 -- The entries that are still to come. Each has behind it what comes then, first where it holds no fault and then where it
 -- does. A hook that had no memory counts as a fault here, and so does a poll of a function that isn't ready.
@@ -73,7 +73,7 @@ raises ticket = adds (Raise ticket) Done
 -- a fault is shown to the error handler, where one is set
 abbrev pub shows : Id → Option ℕ → Plan → Plan
 shows id None k = k
-shows id (Some n) k = Owes (Shows id n) k Done
+shows id (Some n) k = Owes (ShowsFault id n) k Done
 
 -- a call on a child, and what comes then; where it fails the fault is shown, and then comes the other
 abbrev pub tries : Id → Option ℕ → Call → Plan → Plan → Plan

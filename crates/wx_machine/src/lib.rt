@@ -7,9 +7,11 @@ mod function;
 mod grace;
 mod laws;
 mod state;
+mod unseen;
 
 pub use choice::{Choice, Stepped};
 pub use function::Function;
 pub use grace::Grace;
 pub use laws::children_are_reaped;
-pub use state::CommandState;
+pub use state::{CommandState, child_of};
+pub use unseen::is_unseen;

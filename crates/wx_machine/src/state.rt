@@ -1,6 +1,6 @@
 // How far the command of a job is.
 ghost use Rattle.std.specs.Prelude.{◌≡◌};
-ghost use Rattle.wx_machine.specs.States.{is_pending, is_running, is_finished};
+ghost use Rattle.wx_machine.specs.States.{is_pending, is_running, is_finished, child_of};
 
 use wx_events::ProcessEnd;
 
@@ -42,5 +42,15 @@ impl CommandState {
         ensures { result ≡ is_finished self.now }
     {
         matches!(self, CommandState::Finished { .. })
+    }
+}
+
+/// The child that runs, where one does.
+pub fn child_of(state: CommandState) -> Option<u64>
+    ensures { result ≡ child_of state }
+{
+    match state {
+        CommandState::Running { child, .. } => Some(child),
+        CommandState::Pending | CommandState::Finished { .. } => None,
     }
 }

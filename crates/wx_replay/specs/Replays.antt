@@ -5,10 +5,10 @@ use Rattle.wx_journal.specs.declared.entry.Entry.{Entry}
 use Rattle.wx_journal.specs.Told.{Rose}
 use Rattle.wx_error.specs.declared.error.CriticalError.TheVariants.{IoError, Memory as NoMemory}
 use Rattle.wx_machine.specs.Answer.{Answers}
-use Rattle.wx_action.specs.Printed.{printed}
+use Rattle.wx_print.specs.Printed.{printed}
 use Rattle.wx_journal.specs.Lines.{Answer, JournalFits, AnswerFits}
 use Rattle.wx_script.specs.declared.script.Script.{Script}
-use Rattle.wx_script.specs.Follows.{start_of, Follows}
+use Rattle.wx_script.specs.Follows.{start_of, FollowsScript}
 use Rattle.wx_bytes.specs.Causes.{AddsFront}
 use Rattle.wx_script.specs.Scripts.{IsScriptOf, IsFirstBad}
 use Rattle.wx_replay.specs.declared.status.Status.{Status}
@@ -44,7 +44,7 @@ pub record IsReplay (s : Script) (text : List ℕ) (status : Status) : Type 0 wh
   pub journal : List Entry
   pub answer : Answer
   pub answers : Answers (start_of s) journal answer
-  pub follows : Follows s journal
+  pub follows : FollowsScript s journal
   pub fits : JournalFits journal × AnswerFits answer
   pub text_is : text ≡ printed journal answer
   pub only : (other : List Entry) (said : Answer) → JournalFits other → AnswerFits said → text ≡ printed other said → (other ≡ journal) × (said ≡ answer)

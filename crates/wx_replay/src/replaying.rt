@@ -9,7 +9,6 @@ ghost use Rattle.wx_replay.specs.Replays.{status_of, IsShown, IsReplay, ReplaysR
 
 use crate::status::Status;
 use std::alloc::Global;
-use wx_action::print_journal;
 use wx_bytes::{LIMIT, Sink, Source, Unread, read_all, write_all};
 use wx_config::Config;
 use wx_engine::Watchexec;
@@ -17,6 +16,7 @@ use wx_error::CriticalError;
 use wx_events::{Copies, Memory, Text, TextPath};
 use wx_follow::{ScriptHooks, ScriptWorld};
 use wx_journal::Journal;
+use wx_print::print_journal;
 use wx_script::{Script, read_script};
 
 /// The settings that a script states.

@@ -3,7 +3,7 @@ use Rattle.std.proofs.Common.{◌≡◌, ℕ, Bool, true, false, cond, if◌then
 use Rattle.std.proofs.lemmas.List.{append-nil}
 use Rattle.std.specs.List.{list_all}
 use Rattle.wx_journal.specs.declared.entry.Entry.{Entry}
-use Rattle.wx_journal.specs.declared.entry.Entry.TheVariants.{Filter, Show, Hand, Poll, Hook, Spawn, Signal, Kill, Wait}
+use Rattle.wx_journal.specs.declared.entry.Entry.TheVariants.{Filter, Show, Hand, Poll, Hook, Spawn}
 use Rattle.wx_journal.specs.declared.entry.Turn.{Turn as Timed}
 use Rattle.wx_journal.specs.Told.{tell_if, tells, anywhere, is_world, is_hooks, is_turn, Obeys, Same, More}
 use Rattle.wx_script.specs.declared.script.Script.{Script}
@@ -135,11 +135,8 @@ obeys_hooked lines rule due _ (More e p before passes) = (now (is_hooks e) refl,
     now false is = hooked_over lines p e is
 
 calls_among : (k : HostCall) → AreAmong (calls k) is_world
-calls_among k p (Spawn child job tag what answer) other = absurd cc
-calls_among k p (Signal child number answer) other = absurd cc
-calls_among k p (Kill child answer) other = absurd cc
-calls_among k p (Wait child answer) other = absurd cc
-calls_among k p (_) other = refl
+calls_among k p (Spawn child job tag what answer) other = search
+calls_among k p (_) other = search
 
 -- a world that answers what the script says, told the calls of this run
 pub follows_answers : (s : Script) (plan : Given) (told p : List Entry)

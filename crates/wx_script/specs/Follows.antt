@@ -41,7 +41,7 @@ FollowsTurns s p = FollowsGiven s.turns s.last p
 -- the run follows the script: in its turns, in what is asked for in each call of the action handler, in what the error
 -- handler wishes, in the words that spawn hooks append, and in what the calls of the filter, the polls of begun functions and
 -- the calls on the host are answered
-pub record Follows (s : Script) (p : List Entry) : Type 0 where
+pub record FollowsScript (s : Script) (p : List Entry) : Type 0 where
   pub turns : FollowsTurns s p
   pub acts : AreAnswered hands s.actions p
   pub filtered : AreAnswered filters s.filters p

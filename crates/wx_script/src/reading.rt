@@ -1,5 +1,5 @@
 // A script from its lines.
-ghost use Rattle.std.specs.Prelude.{◌≡◌, ◌==◌, ◌&&◌, true, [], ◌∷◌, ◌++◌, Some, None, Ok, Err, ℕ, length, IfOk, IfErr, MatchBool, MatchOption, MatchResult};
+ghost use Rattle.std.specs.Prelude.{◌≡◌, ◌==◌, ◌&&◌, true, [], ◌∷◌, ◌++◌, Some, None, Ok, Err, ℕ, length, IfOk, MatchBool, MatchOption, MatchResult};
 ghost use Rattle.wx_script.specs.Follows.{IsScript};
 ghost use Rattle.wx_script.specs.declared.script.Script.{Script};
 ghost use Rattle.wx_script.specs.declared.lines.Line.TheVariants.{Size, ErrorSize, Send, Turn as Turned};

@@ -7,14 +7,15 @@ ghost use Rattle.wx_script.specs.Follows.{IsScript};
 
 use std::alloc::Global;
 use std::test::Fail;
-use wx_action::{ActionHandler, Hooks, World, print_journal};
 use wx_command::{Command, Program, SpawnOptions};
 use wx_config::Config;
 use wx_control::{Id, Job};
 use wx_engine::Watchexec;
 use wx_events::{List, Memory, Text, TextPath};
 use wx_follow::ScriptWorld;
+use wx_hooks::{ActionHandler, Hooks, World};
 use wx_journal::Journal;
+use wx_print::print_journal;
 use wx_script::{Script, read_script};
 
 /// The script of these lines.

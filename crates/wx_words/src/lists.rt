@@ -1,9 +1,9 @@
 // Lists as words.
-ghost use Rattle.std.specs.Prelude.{◌≡◌, ℕ, ◌+◌, [], ◌∷◌, ◌++◌, List, Option, Some, None, OnOk, IfOk};
+ghost use Rattle.std.specs.Prelude.{◌≡◌, ◌+◌, ◌++◌, List, Option, Some, None, OnOk, IfOk};
 ghost use Rattle.std.specs.List.{flat_map, AllByRecursion};
-ghost use Rattle.wx_words.specs.Line.{spaced, joined, Reads};
+ghost use Rattle.wx_words.specs.Line.{spaced, Reads};
 ghost use Rattle.wx_words.specs.ToEnd.{HasWord, read_to_end};
-ghost use Rattle.wx_words.specs.Lists.{ListFits, list_words, read_items, read_list};
+ghost use Rattle.wx_words.specs.Lists.{read_items, read_list};
 
 use crate::cursor::Words;
 use crate::list::{List, Memory};

@@ -1,10 +1,7 @@
 // Numbers as words.
-ghost use Rattle.std.specs.Prelude.{◌≡◌, ℕ, ◌+◌, ◌<◌, ◌≤◌, ◌^◌, [], ◌∷◌, ◌++◌, List, Option, Some, None, OnOk, IfOk, decimal};
-ghost use Rattle.wx_words.specs.Line.{spaced, joined, Reads};
-ghost use Rattle.wx_words.specs.Texts.{text_in};
-ghost use Rattle.wx_words.specs.NumberLaws.{number_form, u32_form};
-ghost use Rattle.wx_words.specs.Numbers.{number_in, read_number, read_u32, with_digits};
-ghost use Rattle.wx_words.specs.CleanLaws.{number_words_clean, u32_clean};
+ghost use Rattle.std.specs.Prelude.{◌≡◌, ◌+◌, ◌<◌, [], Option, Some, None};
+ghost use Rattle.wx_words.specs.Line.{Reads};
+ghost use Rattle.wx_words.specs.Numbers.{number_in, read_u32, with_digits};
 
 use crate::cursor::Words;
 use crate::list::Memory;

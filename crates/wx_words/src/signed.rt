@@ -1,10 +1,10 @@
 // Signed numbers as words.
 ghost use Rattle.std.specs.Prelude.{◌≡◌, FitsSigned};
-ghost use Rattle.std.specs.Int.{w32, w64};
+ghost use Rattle.std.specs.Int.{w64};
 ghost use Rattle.wx_words.specs.Texts.{text_in};
 ghost use Rattle.wx_words.specs.Line.{Reads};
 ghost use Rattle.wx_words.specs.Signed.{signed_in, signed_words, read_i64, read_i32};
-ghost use Rattle.wx_words.specs.SignedLaws.{i64_form, i32_form, i64_clean, i32_clean};
+ghost use Rattle.wx_words.specs.SignedLaws.{i64_form, i64_clean};
 
 use crate::cursor::Words;
 use crate::list::Memory;

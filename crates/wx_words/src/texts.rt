@@ -1,6 +1,5 @@
 // Texts as words.
-ghost use Rattle.std.specs.Prelude.{◌≡◌, ℕ, ◌+◌, ◌*◌, ◌<◌, ◌≤◌, ◌^◌, ◌++◌, List, Option, Some, None, OnOk, IfOk, IfSome, IfNone, length, true};
-ghost use Rattle.wx_words.specs.Line.{spaced, joined};
+ghost use Rattle.std.specs.Prelude.{◌≡◌, ◌+◌, ◌*◌, ◌<◌, ◌++◌, Option, Some, None, OnOk, IfOk, IfSome, IfNone, length, true};
 ghost use Rattle.wx_words.specs.CleanLaws.{text_words_clean};
 ghost use Rattle.wx_words.specs.TextLaws.{text_form};
 ghost use Rattle.wx_words.specs.Texts.{AllBytes, escaped_byte, escaped, text_words, hex_in, unescaped, text_in, read_text, is_plain, onto};

@@ -1,16 +1,16 @@
 use Rattle.std.proofs.Common.{◌≡◌, ◌*◌, true, false, List, ◌∷◌, arith, refl, ap, sym, subst, ◌∙◌}
 use Rattle.wx_job.specs.declared.task.JobTask.{JobTask}
 use Rattle.wx_machine.specs.History.{lives}
-use Rattle.wx_job.specs.Stands.{Stands as TaskStands}
-use Rattle.wx_action.specs.declared.handler.Todo.{Todo}
-use Rattle.wx_action.specs.declared.handler.Todo.TheVariants as todo
+use Rattle.wx_job.specs.Stands.{TaskStands}
+use Rattle.wx_hooks.specs.declared.handler.Todo.{Todo}
+use Rattle.wx_hooks.specs.declared.handler.Todo.TheVariants as todo
 use Rattle.wx_machine.specs.Due.{Agenda}
-use Rattle.wx_action.specs.HeldJobs.{with_task}
+use Rattle.wx_hooks.specs.HeldJobs.{with_task}
 use Rattle.wx_action.specs.Perform.{OwesActs}
 use Rattle.wx_action.proofs.ServesLaws.{adds}
 use Rattle.wx_action.proofs.ArriveLemmas.{grows_none}
-use Rattle.wx_action.proofs.HeldLemmas.{alive_is}
-use Rattle.wx_action.proofs.JobListLemmas.{length_with}
+use Rattle.wx_action.proofs.ShownLemmas.{alive_is}
+use Rattle.wx_hooks.proofs.JobListLemmas.{length_with}
 use Rattle.wx_action.proofs.JobLemmas.{lent, same_lent}
 use Rattle.wx_action.proofs.PerformLemmas.{OneDone, ignored_one, asked_one}
 use Rattle.wx_action.proofs.acts_done.ask_or_ignore.Goals as goal

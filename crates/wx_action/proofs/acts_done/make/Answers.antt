@@ -1,6 +1,6 @@
 use Rattle.std.proofs.Common.{◌≡◌, ◌+◌, ◌*◌, List, ◌∷◌, length, length-append, arith, refl, ap, ◌∙◌}
-use Rattle.wx_action.specs.declared.handler.Todo.{Todo}
-use Rattle.wx_action.specs.declared.handler.Todo.TheVariants as todo
+use Rattle.wx_hooks.specs.declared.handler.Todo.{Todo}
+use Rattle.wx_hooks.specs.declared.handler.Todo.TheVariants as todo
 use Rattle.wx_machine.specs.Due.{Agenda}
 use Rattle.wx_action.specs.Perform.{OwesActs}
 use Rattle.wx_action.proofs.ServesLaws.{adds_none, adds}

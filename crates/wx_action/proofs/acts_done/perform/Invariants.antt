@@ -1,6 +1,6 @@
 use Rattle.wx_machine.specs.Steady.{OnlyRoom}
 use Rattle.wx_machine.specs.Due.{Agenda}
-use Rattle.wx_action.specs.Serves.{Adds}
+use Rattle.wx_action.specs.Serves.{AddsAlone}
 use Rattle.wx_action.specs.Perform.{OwesActs}
 use Rattle.wx_action.specs.Stands.{Stands, HasRoom}
 use Rattle.wx_action.proofs.acts_done.perform.Given as goal
@@ -12,7 +12,7 @@ abbrev pub invariant-loop-one : goal.invariant-loop-one
 invariant-loop-one g l = record {
   owes : (more : Agenda) → OwesActs g.start l.initial.journal.past l.initial.one-iterator.rest.items more → OwesActs g.start l.journal.past l.one-iterator.rest.items more;
   stands : Stands g.start l.worker l.journal.past;
-  adds : Adds g.start l.initial.journal.past l.journal.past;
+  adds : AddsAlone g.start l.initial.journal.past l.journal.past;
   rest : OnlyRoom (g.W.Outside.seen l.initial.host) (g.W.Outside.seen l.host);
   room : HasRoom l.worker l.journal.spare (g.W.Outside.seen l.host).spare;
 }

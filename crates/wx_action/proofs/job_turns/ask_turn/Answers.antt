@@ -2,13 +2,13 @@ use Rattle.std.proofs.Common.{◌≡◌, ◌*◌, true, false, arith, refl, ap, 
 use Rattle.wx_journal.specs.declared.entry.TurnKind.TheVariants.{Ask}
 use Rattle.wx_job.specs.declared.task.JobTask.{JobTask}
 use Rattle.wx_machine.specs.History.{lives}
-use Rattle.wx_job.specs.Stands.{Stands as TaskStands}
+use Rattle.wx_job.specs.Stands.{TaskStands}
 use Rattle.wx_action.proofs.TurnLaws.{at_turn}
-use Rattle.wx_action.specs.HeldJobs.{with_task}
+use Rattle.wx_hooks.specs.HeldJobs.{with_task}
 use Rattle.wx_action.proofs.ServesLaws.{adds}
 use Rattle.wx_action.proofs.ArriveLemmas.{grows_none}
-use Rattle.wx_action.proofs.HeldLemmas.{alive_is}
-use Rattle.wx_action.proofs.JobListLemmas.{length_with}
+use Rattle.wx_action.proofs.ShownLemmas.{alive_is}
+use Rattle.wx_hooks.proofs.JobListLemmas.{length_with}
 use Rattle.wx_action.proofs.JobLemmas.{AskDone, ask_done, lent, same_lent}
 use Rattle.wx_action.proofs.job_turns.ask_turn.Goals as goal
 

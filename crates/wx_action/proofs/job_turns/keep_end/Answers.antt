@@ -1,6 +1,6 @@
 use Rattle.std.proofs.Common.{◌*◌, refl, ap, sym, ◌∙◌}
 use Rattle.wx_job.specs.Stands.{id_of, command_of, flag_of, closed_of}
-use Rattle.wx_action.proofs.JobListLemmas.{length_with}
+use Rattle.wx_hooks.proofs.JobListLemmas.{length_with}
 use Rattle.wx_action.proofs.JobLemmas.{lent, none_ended, one_ends, can_end, end_kept}
 use Rattle.wx_action.proofs.job_turns.keep_end.Goals as goal
 

@@ -1,13 +1,13 @@
 use Rattle.std.proofs.Common.{rules, ◌*◌, arith, refl, ap, subst}
 use Rattle.wx_job.specs.declared.task.JobTask.{JobTask}
 use Rattle.wx_machine.specs.Table.{step_plan}
-use Rattle.wx_job.specs.Stands.{Stands as TaskStands, id_of, command_of}
+use Rattle.wx_job.specs.Stands.{TaskStands, id_of, command_of}
 use Rattle.wx_machine.specs.Due.{Open}
-use Rattle.wx_action.specs.HeldJobs.{with_task}
+use Rattle.wx_hooks.specs.HeldJobs.{with_task}
 use Rattle.wx_action.specs.Stands.{HasRoom}
 use Rattle.wx_machine.proofs.FaultLaws.{counts_on}
 use Rattle.wx_action.proofs.PlanLemmas.{JobDone}
-use Rattle.wx_action.proofs.JobListLemmas.{length_with}
+use Rattle.wx_hooks.proofs.JobListLemmas.{length_with}
 use Rattle.wx_action.proofs.HandLemmas.{on_err}
 use Rattle.wx_action.proofs.JobLemmas.{lent, parked_lent, alive_held, step_done, StepStopped, step_stopped}
 use Rattle.wx_action.proofs.job_turns.step_of.Goals.{After-step}

@@ -7,7 +7,7 @@ use Rattle.wx_machine.proofs.RunLaws.{window_to_hand}
 use Rattle.wx_machine.specs.Kept.{Called, KeepsOn}
 use Rattle.wx_machine.specs.Leads.{FollowsHooks}
 use Rattle.wx_action.proofs.ServesLaws.{adds_hand}
-use Rattle.wx_action.proofs.HeldLemmas.{shown}
+use Rattle.wx_action.proofs.ShownLemmas.{shown}
 use Rattle.wx_action.proofs.HandLemmas.{Handed, handed, hand_due, hand_follows, turns_hand}
 use Rattle.wx_action.proofs.work_turn.hand_batch.Goals as goal
 
@@ -45,7 +45,7 @@ returns-clause-owes g c = (done g c).owes
 follows : (g : _) (c : goal.After-leave_gone g) → FollowsHooks g.start c.args.journal.now.past (g.H.JobHooks.seen c.args.hooks.now).told c.push.new.self.past (g.H.JobHooks.seen c.action.new.self).told
 follows g c =
     hand_follows g.start c.args.journal.now.past c.push.new.self.past c.args.worker.now.config.action_handler c.action.new.handler.names c.action.new.handler.acts _ _ (is_due g c)
-    (rw (c.into_parts-names.ensures.names, c.into_parts-names.ensures.acts) at c.push.ensures.past) c.action.ensures.told
+    (rw (c.into_parts-names.ensures.names, c.into_parts-names.ensures.acts) at c.push.ensures.past) c.action.ensures.told.told
 
 keeps : (g : _) (c : goal.After-leave_gone g) → KeepsOn (λ h. g.H.JobHooks.seen h) (λ plan. g.H.JobHooks.rule plan) (λ h. g.H.JobHooks.stands h) c.args.hooks.now c.args.journal.now.past c.action.new.self c.push.new.self.past
 keeps g c =

@@ -1,7 +1,7 @@
 use Rattle.std.proofs.Common.{◌≡◌, false, length, drop}
 use Rattle.wx_machine.specs.Journal.{closed, bag}
 use Rattle.wx_machine.specs.Due.{agenda, sends}
-use Rattle.wx_action.specs.Serves.{Adds}
+use Rattle.wx_action.specs.Serves.{AddsAlone}
 use Rattle.wx_action.specs.Stands.{Stands, end_room}
 use Rattle.wx_machine.specs.Start.{IsStart}
 use Rattle.wx_engine.proofs.running.begin.Given as goal
@@ -18,5 +18,5 @@ invariant-loop-item g l = record {
   due : agenda g.start l.journal.past ≡ sends (drop l.item-index l.item-items);
   count : length (bag l.journal.past) ≡ l.item-index;
   takes : closed l.journal.past ≡ false;
-  adds : Adds g.start l.fn.journal.past l.journal.past;
+  adds : AddsAlone g.start l.fn.journal.past l.journal.past;
 }

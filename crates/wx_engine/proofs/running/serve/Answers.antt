@@ -4,7 +4,7 @@ use Rattle.wx_machine.proofs.SteadyLemmas.{only_none}
 use Rattle.wx_action.proofs.TurnLaws.{at_turn, calm_after}
 use Rattle.wx_action.proofs.Serving.{hooks_none, continues_room, continues_grows}
 use Rattle.wx_action.proofs.BreakLemmas.{breaks_want, breaks_left, calm_left}
-use Rattle.wx_engine.proofs.TurnLemmas.{not_hands}
+use Rattle.wx_action.proofs.HandLemmas.{not_hands}
 use Rattle.wx_engine.proofs.running.serve.Goals as goal
 
 pub arrive-requires : goal.arrive-requires

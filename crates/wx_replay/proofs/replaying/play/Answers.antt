@@ -2,7 +2,7 @@ use Rattle.std.proofs.lemmas.Result.{IfOk-weaker}
 use Rattle.std.proofs.Common.{◌∙◌, sym, ap, Some, List}
 use Rattle.wx_journal.specs.declared.entry.Entry.{Entry}
 use Rattle.wx_journal.specs.Told.{tells, is_turn, is_world, anywhere}
-use Rattle.wx_action.proofs.OneSpelling.{one_spelling}
+use Rattle.wx_print.proofs.OneSpelling.{one_spelling}
 use Rattle.wx_script.specs.FollowLaws.{follows_turns, follows_answers, wished_follows}
 use Rattle.wx_script.specs.Turns.{turns_of}
 use Rattle.wx_replay.specs.Replays.{IsReplay, IsWritten}

@@ -16,10 +16,10 @@ pub returns-then-lets_pass-clause-within : goal.returns-then-lets_pass-clause-wi
 returns-then-lets_pass-clause-within g c = record {
   grows =
       called_grows _ _ _ g.start c.args.journal.now.past c.push.new.self.past c.args.hooks.now c.check_event-answer.new.self c.join.new.self _ refl
-      (filter_follows g.start c.args.journal.now.past c.push.new.self.past _ _ _ _ _ (passed g c).due c.push.ensures.past c.check_event-answer.ensures.told) c.push.ensures.past (c.check_event-answer.ensures.keeps c.args.journal.now.past c.requires.1.1.0) (passed g c).stands;
+      (filter_follows g.start c.args.journal.now.past c.push.new.self.past _ _ _ _ _ (passed g c).due c.push.ensures.past c.check_event-answer.ensures.told.told) c.push.ensures.past (c.check_event-answer.ensures.keeps c.args.journal.now.past c.requires.1.1.0) (passed g c).stands;
   end_kept = ap (λ w. end_room w) c.join.ensures.same;
   in_journal = omega (arith, c.push.ensures.room);
-  in_hooks = c.check_event-answer.ensures.spare;
+  in_hooks = c.check_event-answer.ensures.told.room;
 }
 
 pub returns-then-lets_pass-clause-judged : goal.returns-then-lets_pass-clause-judged
@@ -37,10 +37,10 @@ returns-clause-within g c =
     let at = (goal.at.returns-clause-within g c).After-reject in record {
       grows =
           called_grows _ _ _ g.start c.args.journal.now.past c.reject.new.journal.past c.args.hooks.now c.check_event-answer.new.self _ _ refl
-          (filter_follows g.start c.args.journal.now.past c.reject.new.journal.past _ _ _ _ _ (dropped g at).due c.reject.ensures.past c.check_event-answer.ensures.told) c.reject.ensures.past (c.check_event-answer.ensures.keeps c.args.journal.now.past c.requires.1.1.0) (dropped g at).stands;
+          (filter_follows g.start c.args.journal.now.past c.reject.new.journal.past _ _ _ _ _ (dropped g at).due c.reject.ensures.past c.check_event-answer.ensures.told.told) c.reject.ensures.past (c.check_event-answer.ensures.keeps c.args.journal.now.past c.requires.1.1.0) (dropped g at).stands;
       end_kept = ap (λ w. end_room w) c.reject.ensures.same;
       in_journal = omega (arith, c.reject.ensures.room);
-      in_hooks = c.check_event-answer.ensures.spare;
+      in_hooks = c.check_event-answer.ensures.told.room;
     }
 
 pub returns-clause-judged : goal.returns-clause-judged

@@ -9,10 +9,10 @@ within : (g : _) (c : After-close_where g) → GrowsWithin (λ h. g.H.JobHooks.s
 within g c = record {
   grows =
       show_grows _ _ _ g.start c.args.self.now c.args.journal.now.past c.push.new.self.past c.args.hooks.now c.error.new.self c.args.self.now.config.error_handler c.args.error c.in_ok-hook.hook.error c.into_parts-error.result.0 c.error.new.hook.wish c.into_parts-error.result.1 c.close_where.new.queue
-      c.requires.1.0.stands c.requires.1.0.due refl (ap (λ h. h.error) c.in_ok-hook.ensures) (c.into_parts-error.ensures.error ∙ c.error.ensures.error) c.into_parts-error.ensures.wish c.close_where.ensures.items c.close_where.ensures.size (rw c.is_close-closes.ensures at c.close_where.ensures.closed) c.push.ensures.past c.error.ensures.told (c.error.ensures.keeps c.args.journal.now.past);
+      c.requires.1.0.stands c.requires.1.0.due refl (ap (λ h. h.error) c.in_ok-hook.ensures) (c.into_parts-error.ensures.error ∙ c.error.ensures.error) c.into_parts-error.ensures.wish c.close_where.ensures.items c.close_where.ensures.size (rw c.is_close-closes.ensures at c.close_where.ensures.closed) c.push.ensures.past c.error.ensures.told.told (c.error.ensures.keeps c.args.journal.now.past);
   end_kept = refl;
   in_journal = omega (arith, c.push.ensures.room);
-  in_hooks = c.error.ensures.spare;
+  in_hooks = c.error.ensures.told.room;
 }
 
 pub returns-in_err-hook-clause-within : goal.returns-in_err-hook-clause-within

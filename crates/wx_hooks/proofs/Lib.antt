@@ -1,0 +1,7 @@
+pub mod EndLemmas
+pub mod HandlerLemmas
+pub mod HeldLemmas
+pub mod JobListLemmas
+pub mod JobsLemmas
+pub mod QuietLemmas
+pub mod QuitLemmas

@@ -1,0 +1,10 @@
+pub mod Batch
+pub mod EndsJobs
+pub mod ErrorHooks
+pub mod Given
+pub mod Handled
+pub mod HeldJobs
+pub mod JobsStand
+pub mod KeptHandler
+pub mod LentTask
+pub mod Todo

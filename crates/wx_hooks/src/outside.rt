@@ -1,0 +1,70 @@
+// The traits of the outside: what the engine asks of its world, and of the hooks that its user hands in.
+ghost use Rattle.std.specs.Prelude.{◌≡◌, ◌≤◌, ◌<◌, IfOk, true, false, Some, List};
+ghost use Rattle.wx_journal.specs.declared.entry.Entry.{Entry, Entry as AnEntry};
+ghost use Rattle.wx_machine.specs.Kept.{TellsHooks, Keeps};
+ghost use Rattle.wx_machine.specs.Journal.{listed};
+ghost use Rattle.wx_hooks.specs.ErrorHooks.{IsNewHook};
+ghost use Rattle.wx_hooks.specs.Handled.{IsNewHandler};
+ghost use Rattle.wx_hooks.specs.Given.{gives_last, GivesTurn};
+
+use crate::error_hook::ErrorHook;
+use crate::handler::ActionHandler;
+use wx_error::RuntimeError;
+use wx_events::{Event, Priority};
+use wx_job::{Host, JobHooks};
+use wx_journal::{Entry, Turn};
+
+/// The world has no turn to give: the code of the fault.
+#[derive(Clone, Copy, Debug, PartialEq, Eq)]
+pub struct TurnFault(pub u32);
+
+/// A turn that the world gave.
+#[derive(Drop, Debug)]
+pub struct Turned {
+    pub turn: Turn,
+}
+
+/// What gives the turns of a run.
+pub trait World: Host {
+    /// The next turn, or the fault for which there is none. It is the last turn exactly where no turn is left; else
+    /// fewer turns are left. Moments never go back. A fault comes only where the count of turn faults rose.
+    fn turn(&mut self) -> Result<Turned, TurnFault>
+        requires { 1 ≤ (Self.seen self.old).spare }
+        ensures gives { GivesTurn result (Self.seen self.old) (Self.seen self.new) }
+        ensures last { gives_last result ≡ true → (Self.seen self.old).progress.left ≡ 0 }
+        ensures ends { (Self.seen self.old).progress.left ≡ 0 → gives_last result ≡ true }
+        ensures falls { gives_last result ≡ false → (Self.seen self.new).progress.left < (Self.seen self.old).progress.left }
+        ensures later { IfOk result (λ given. (Self.seen self.old).progress.moment ≤ given.turn.at) };
+}
+
+/// What the engine calls.
+pub trait Hooks: JobHooks {
+    /// Shows an event, which has this name and this priority, to the filter of this number. It answers whether the event
+    /// passes, or why that isn't known. The error `Exit` asks for the end of the run.
+    fn check_event(
+        &mut self,
+        n: u32,
+        name: u64,
+        event: &Event,
+        priority: Priority,
+    ) -> Result<bool, RuntimeError>
+        requires room { 1 ≤ (Self.seen self.old).spare }
+        ensures told { TellsHooks (Entry.Filter n name result) (Self.seen self.old) (Self.seen self.new) }
+        ensures keeps { (p : List AnEntry) → listed name p ≡ Some (event.now, priority) → Keeps Self.seen Self.rule Self.stands self.old p (Entry.Filter n name result) self.new };
+
+    /// Shows an error to the error handler of this number. The hook collects what is wished.
+    fn error(&mut self, n: u32, hook: &mut ErrorHook)
+        requires room { 1 ≤ (Self.seen self.old).spare }
+        requires fresh { IsNewHook hook.old }
+        ensures error { hook.new.error ≡ hook.old.error }
+        ensures told { TellsHooks (Entry.Show n hook.old.error hook.new.wish) (Self.seen self.old) (Self.seen self.new) }
+        ensures keeps { (p : List AnEntry) → Keeps Self.seen Self.rule Self.stands self.old p (Entry.Show n hook.old.error hook.new.wish) self.new };
+
+    /// Hands a batch to the action handler of this number. The handler collects what is asked for.
+    fn action(&mut self, n: u32, handler: &mut ActionHandler<'_>)
+        requires room { 1 ≤ (Self.seen self.old).spare }
+        requires fresh { IsNewHandler handler.old }
+        ensures same { handler.new ≡ record handler.old { acts = handler.new.acts; handed = handler.new.handed } }
+        ensures told { TellsHooks (Entry.Hand n handler.new.names handler.new.acts) (Self.seen self.old) (Self.seen self.new) }
+        ensures keeps { Keeps Self.seen Self.rule Self.stands self.old handler.old.past (Entry.Hand n handler.new.names handler.new.acts) self.new };
+}
