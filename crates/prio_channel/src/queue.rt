@@ -8,7 +8,8 @@ ghost use Rattle.prio_channel.specs.Greatest.{IsGreatestAt};
 
 use std::alloc::Global;
 use std::marker::Model;
-use wx_events::{Memory, Priority};
+use wx_events::Priority;
+use wx_text::Memory;
 
 /// Why a pair was not taken, with the pair.
 #[derive(Debug, Drop, PartialEq)]

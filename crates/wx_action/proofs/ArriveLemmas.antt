@@ -30,17 +30,17 @@ use Rattle.wx_action.specs.Stands.{Stands, IsOffered, end_room}
 use Rattle.wx_action.proofs.StandsLemmas.{stands_behind, offered_is, stands_offered, stands_sent}
 
 -- a worker goes on to this one, over one entry
-pub record Steps (s : Start) (w : Worker) (p p' : List Entry) : Type 0 where
+pub record StepsOver (s : Start) (w : Worker) (p p' : List Entry) : Type 0 where
   pub stands : Stands s w p'
   pub follows : FollowsAlone s p p'
   pub quiet : StaysQuiet p p'
   pub turns : StaysInTurn p p'
 
-pub steps_add : (s : Start) (w : Worker) (p p' : List Entry) → Steps s w p p' → AddsAlone s p p'
+pub steps_add : (s : Start) (w : Worker) (p p' : List Entry) → StepsOver s w p p' → AddsAlone s p p'
 steps_add s w p p' d = adds s p p' d.follows d.quiet d.turns
 
 -- so it grows, where the room for the end is left
-pub grows : (s : Start) (w w' : Worker) (j j' : Written) → Steps s w' j.past j'.past → end_room w' ≡ end_room w → end_room w ≤ j'.spare → Grows s w j w' j'
+pub grows : (s : Start) (w w' : Worker) (j j' : Written) → StepsOver s w' j.past j'.past → end_room w' ≡ end_room w → end_room w ≤ j'.spare → Grows s w j w' j'
 grows s w w' j j' d same room = record { stands = d.stands; adds = steps_add s w' j.past j'.past d; end_kept = same; room = λ r. omega (arith, same, room) }
 
 -- where no entry was added
@@ -60,7 +60,7 @@ pub sent_then : (s : Start) (p p' : List Entry) (name : ℕ) (event : Event) (pr
 sent_then s p p' name event priority other ranked more o due grown = rw grown (settle_calm (Sent name event priority ∷ p) (rest (Sent name event priority) (agenda s p)) (subst (IsGoing p) due o.going))
 
 -- a word is said
-pub said_done : (s : Start) (w : Worker) (p p' : List Entry) (word : Word) (more : Agenda) → Stands s w p → agenda s p ≡ Says word more → p' ≡ Said word ∷ p → Steps s w p p'
+pub said_done : (s : Start) (w : Worker) (p p' : List Entry) (word : Word) (more : Agenda) → Stands s w p → agenda s p ≡ Says word more → p' ≡ Said word ∷ p → StepsOver s w p p'
 said_done s w p p' word more stands due grown =
     let d : Due s p (Said word) = rw due refl in
     rw grown (record {
@@ -72,12 +72,12 @@ said_done s w p p' word more stands due grown =
 
 pub offer_done : (s : Start) (w : Worker) (p p' : List Entry) (event : Event) (priority : Priority) (more : Agenda) (new : Channel Named) (result : Offered) → Stands s w p → agenda s p ≡ Offers event priority more
     → IsOffered w.queue (record { name = w.named; event = event }, priority) new result → new.size ≡ w.queue.size → new.closed ≡ w.queue.closed → p' ≡ Offer w.named None result event priority ∷ p
-    → Steps s (record w { queue = new; named = w.named + 1 }) p p'
+    → StepsOver s (record w { queue = new; named = w.named + 1 }) p p'
 offer_done s w p p' event priority more new result stands due is size closed grown =
     let name : w.named ≡ event_count p = stands.named_kept in
     let is' : IsOffered w.queue (record { name = event_count p; event = event }, priority) new result = subst (λ (n : ℕ). IsOffered w.queue (record { name = n; event = event }, priority) new result) name is in
     let d : Due s p (Offer (event_count p) None result event priority) = rw due (ap (λ (r : Offered). Offer (event_count p) None r event priority) (offered_is s w p _ new result stands is')) in
-    let P : ℕ → Type 0 = λ n. Steps s (record w { queue = new; named = w.named + 1 }) p (Offer n None result event priority ∷ p) in
+    let P : ℕ → Type 0 = λ n. StepsOver s (record w { queue = new; named = w.named + 1 }) p (Offer n None result event priority ∷ p) in
     rw grown (subst P (sym name) (record {
       stands = stands_offered s w p event priority new result stands d is' size closed;
       follows = λ world hooks p₀ world₀ hooks₀ l. Then (Offer (event_count p) None result event priority) p world hooks l d;
@@ -87,12 +87,12 @@ offer_done s w p p' event priority more new result stands due is size closed gro
 
 pub send_done : (s : Start) (w : Worker) (p p' : List Entry) (event : Event) (priority : Priority) (more : List (Event × Priority)) (new : Channel Named) (result : Offered) → Stands s w p → agenda s p ≡ Sends event priority more
     → length (bag p) < s.config.event_channel_size → closed p ≡ false → IsOffered w.queue (record { name = w.named; event = event }, priority) new result → new.size ≡ w.queue.size → new.closed ≡ w.queue.closed → p' ≡ Sent w.named event priority ∷ p
-    → Steps s (record w { queue = new; named = w.named + 1 }) p p'
+    → StepsOver s (record w { queue = new; named = w.named + 1 }) p p'
 send_done s w p p' event priority more new Queued stands due fits takes is size same_closed grown =
     let name : w.named ≡ event_count p = stands.named_kept in
     let is' : IsOffered w.queue (record { name = event_count p; event = event }, priority) new Queued = subst (λ (n : ℕ). IsOffered w.queue (record { name = n; event = event }, priority) new Queued) name is in
     let d : Due s p (Sent (event_count p) event priority) = rw due refl in
-    let P : ℕ → Type 0 = λ n. Steps s (record w { queue = new; named = w.named + 1 }) p (Sent n event priority ∷ p) in
+    let P : ℕ → Type 0 = λ n. StepsOver s (record w { queue = new; named = w.named + 1 }) p (Sent n event priority ∷ p) in
     rw grown (subst P (sym name) (record {
       stands = stands_sent s w p event priority new stands d is'.0 size same_closed;
       follows = λ world hooks p₀ world₀ hooks₀ l. Then (Sent (event_count p) event priority) p world hooks l d;

@@ -35,7 +35,7 @@ use Rattle.wx_action.specs.Stands.{Stands, AddsTake, HasTaken, HasPassed, IsDrop
 use Rattle.wx_machine.proofs.BagLaws.{IsTaken, is_taken}
 use Rattle.wx_machine.proofs.RunLaws.{joined_if, orderly_more}
 use Rattle.wx_machine.proofs.AllJobs.{turns_over}
-use Rattle.wx_action.proofs.ArriveLemmas.{Steps, said_done, said_then}
+use Rattle.wx_action.proofs.ArriveLemmas.{StepsOver, said_done, said_then}
 use Rattle.wx_machine.proofs.Orderly.{IsGoing, IsOrderly}
 use Rattle.wx_machine.proofs.SettleLaws.{settle_calm}
 use Rattle.wx_action.proofs.StandsLemmas.{events-append, tasks_silent}
@@ -51,7 +51,7 @@ not_empty s w p stands none some =
 
 -- where it passed unseen
 pub record TakeDone (s : Start) (w : Worker) (p p' : List Entry) (found : Found) : Type 0 where
-  pub steps : Steps s w p p'
+  pub steps : StepsOver s w p p'
   pub collected : Finds s p found p'
 
 collects_take : (s : Start) (p p' : List Entry) (due : Bool) → HasPassed p p' → agenda s p' ≡ cond due Hands Open → Finds s p (cond due Hand Kept) p'
@@ -97,8 +97,8 @@ take_done s w p p' at start x queue batch found stands due now takes most size s
     }
 
 -- where it is to be shown to the filter
-pub record IsToShow (s : Start) (w : Worker) (p p' : List Entry) (at : ℕ) (x : Named × Priority) : Type 0 where
-  pub steps : Steps s w p p'
+pub record TakenToShow (s : Start) (w : Worker) (p p' : List Entry) (at : ℕ) (x : Named × Priority) : Type 0 where
+  pub steps : StepsOver s w p p'
   pub due : agenda s p' ≡ Filters x.0.name
   pub is_listed : listed x.0.name p' ≡ Some (x.0.event, x.1)
   pub now : moment p' ≡ at
@@ -124,7 +124,7 @@ collects_judged s p q p'' x rest found is t grown same j = go found j.judged
 
 pub to_show : (s : Start) (w : Worker) (p p' : List Entry) (at : ℕ) (x : Named × Priority) (queue : Channel Named) → Stands s w p → agenda s p ≡ TakesNext → moment p ≡ at
     → Takes w.queue.items x queue.items → AllAtMost x.1 w.queue.items → queue.size ≡ w.queue.size → queue.closed ≡ w.queue.closed → is_unseen x.0.event x.1 ≡ false → p' ≡ Take x.0.name ∷ p
-    → IsToShow s (record w { queue = queue }) p p' at x
+    → TakenToShow s (record w { queue = queue }) p p' at x
 to_show s w p p' at x queue stands due now takes most size same_closed seen grown =
     let t = is_taken p w.queue.items queue.items x stands.orderly.own stands.queue_kept takes most in
     let d : Due s p (Take x.0.name) = rw due (x.0.name, refl, t.is_greatest) in

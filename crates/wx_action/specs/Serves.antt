@@ -8,7 +8,7 @@ use Rattle.wx_machine.specs.Faults.{CountsOn}
 use Rattle.wx_machine.specs.Steady.{IsSteady, OnlyRoom}
 use Rattle.wx_action.specs.declared.worker_state.Worker.{Worker}
 use Rattle.wx_machine.specs.Start.{Start}
-use Rattle.wx_action.specs.Stands.{Stands, Ready, HasRoom, end_room}
+use Rattle.wx_action.specs.Stands.{Stands, Ready, HasEndRoom, end_room}
 use Rattle.wx_machine.specs.Table.{Plan}
 use Rattle.wx_machine.specs.Case.{IsCut}
 use Rattle.wx_machine.specs.Due.{agenda, Open, Plans}
@@ -68,7 +68,7 @@ pub record Continues {K Fixed Plan : Type 0} (seen : K → Hooked Fixed) (rule :
   pub stands : Stands s w' j'.past
   pub serves : Serves s j.past a (seen x).told j'.past b (seen x').told
   pub keeps : KeepsOn seen rule holds x j.past x' j'.past
-  pub room : HasRoom w j.spare a.spare → HasRoom w' j'.spare b.spare
+  pub room : HasEndRoom w j.spare a.spare → HasEndRoom w' j'.spare b.spare
 
 -- ---- with the answer
 

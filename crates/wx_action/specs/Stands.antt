@@ -16,7 +16,7 @@ use Rattle.wx_journal.specs.Names.{event_count, moment}
 use Rattle.wx_journal.specs.Written.{Written}
 use Rattle.wx_error.specs.declared.runtime.RuntimeError.{RuntimeError}
 use Rattle.wx_error.specs.declared.runtime.RuntimeError.TheVariants.{Exit}
-use Rattle.wx_words.specs.declared.list.Memory.{Memory as NoMemory}
+use Rattle.wx_text.specs.declared.list.Memory.{Memory as NoMemory}
 use Rattle.wx_journal.specs.declared.wish.Wish.{Wish}
 use Rattle.wx_control.specs.declared.id.Id.{Id}
 use Rattle.wx_command.specs.declared.command.Command.{Command}
@@ -56,14 +56,14 @@ pub record Stands (s : Start) (w : Worker) (p : List Entry) : Type 0 where
 abbrev pub end_room : Worker → ℕ
 end_room w = 2 * length w.jobs
 
-pub record HasRoom (w : Worker) (journal host : ℕ) : Type 0 where
+pub record HasEndRoom (w : Worker) (journal host : ℕ) : Type 0 where
   pub in_journal : end_room w ≤ journal
   pub in_host : end_room w ≤ host
 
 -- the worker stands for the journal, and the room for the end of all jobs is there
 pub record Ready {Plan : Type 0} (s : Start) (w : Worker) (j : Written) (a : Seen Plan) : Type 0 where
   pub stands : Stands s w j.past
-  pub room : HasRoom w j.spare a.spare
+  pub room : HasEndRoom w j.spare a.spare
 
 -- the worker stands for the journal, and this is due
 pub record Owes (s : Start) (w : Worker) (p : List Entry) (k : Agenda) : Type 0 where
@@ -154,15 +154,15 @@ IsToShow s (Ok error) p = agenda s p ≡ Shows error
 IsToShow s (Err want) p = (error : RuntimeError) × (agenda s p ≡ Shows error)
 
 -- what becomes of an event that a filter answered so about, and didn't let pass
-abbrev pub HasFailed : RuntimeError → Found → Type 0
-HasFailed error (found.Failed (Ok copy)) = copy ≡ error
-HasFailed error (found.Failed (Err want)) = Unit {0}
-HasFailed error (_) = ⊥
+abbrev pub FoundFailed : RuntimeError → Found → Type 0
+FoundFailed error (found.Failed (Ok copy)) = copy ≡ error
+FoundFailed error (found.Failed (Err want)) = Unit {0}
+FoundFailed error (_) = ⊥
 
 abbrev pub IsDropped : Result Bool RuntimeError → Found → Type 0
 IsDropped (Ok passes) f = f ≡ found.Dropped
 IsDropped (Err Exit) f = f ≡ found.Dropped
-IsDropped (Err error) f = HasFailed error f
+IsDropped (Err error) f = FoundFailed error f
 
 -- beside what the end takes there is room for the entry of an error that is to be shown
 abbrev pub LeavesRoom : Found → ℕ → ℕ → ℕ → Type 0

@@ -12,10 +12,10 @@ ghost use Rattle.wx_action.specs.Stands.{Stands, Ready, end_room};
 use crate::worker_state::Worker;
 use std::alloc::Global;
 use wx_control::{Ask, Flag, Id};
-use wx_events::Memory;
 use wx_hooks::{Held, Todo};
 use wx_job::Host;
 use wx_journal::{Entry, Journal, Word};
+use wx_text::Memory;
 
 /// Takes the room for making a job, and for its end. It fails only for want of memory.
 fn reserve_job<W: Host>(worker: &Worker, host: &mut W, journal: &mut Journal) -> Result<(), Memory>

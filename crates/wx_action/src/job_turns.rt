@@ -13,10 +13,10 @@ ghost use Rattle.wx_action.specs.Stands.{Stands, Ready, AtTurn, IsStepOf, end_ro
 use crate::worker_state::Worker;
 use std::alloc::Global;
 use wx_control::{Ask, Id};
-use wx_events::Memory;
 use wx_hooks::Hooks;
 use wx_job::Host;
 use wx_journal::Journal;
+use wx_text::Memory;
 
 /// A turn that asks this of a job: the controls wait. It fails only for want of memory, and adds no entry then.
 pub fn ask_turn(

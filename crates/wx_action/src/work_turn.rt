@@ -19,11 +19,12 @@ use prio_channel::PrioQueue;
 use std::alloc::Global;
 use std::mem;
 use wx_error::{CriticalError, RuntimeError};
-use wx_events::{Copies, Memory, Priority};
+use wx_events::Priority;
 use wx_hooks::{ActionHandler, Batch, ErrorHook, Hooks, Todo, is_quit};
 use wx_job::Host;
 use wx_journal::{Act, Entry, Journal, Named, Wish, Word};
 use wx_machine::is_unseen;
+use wx_text::{Copies, Memory};
 
 /// What a Work turn collected.
 #[derive(Clone, Copy, Debug, PartialEq, Eq)]

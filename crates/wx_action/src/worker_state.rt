@@ -15,10 +15,11 @@ ghost use Rattle.wx_action.specs.Stands.{Stands, Owes, IsOffered, end_room};
 use prio_channel::{PrioQueue, TrySendError};
 use std::alloc::Global;
 use wx_config::Config;
-use wx_events::{Event, Memory, Priority};
+use wx_events::{Event, Priority};
 use wx_hooks::{Batch, JobList, with_copy};
 use wx_job::{Host, JobHooks};
 use wx_journal::{Entry, Journal, Named, Offered, Word};
+use wx_text::Memory;
 
 /// What an engine keeps between turns: its settings, the queue, how many events have a name, the window, the moment at
 /// which the window's first event was taken, in nanoseconds, and the jobs that a handler sees, by rising name.

@@ -15,10 +15,11 @@ use wx_command::Spawnable;
 use wx_config::Filterer;
 use wx_control::Id;
 use wx_error::RuntimeError;
-use wx_events::{Copies, Event, List, Memory, Priority};
-use wx_hooks::{ActionHandler, ErrorHook, Hooks, JobHooks};
-use wx_job::JobTaskContext;
+use wx_events::{Event, Priority};
+use wx_hooks::{ActionHandler, ErrorHook, Hooks};
+use wx_job::{JobHooks, JobTaskContext};
 use wx_journal::{Entry, HostFault};
+use wx_text::{Copies, List, Memory};
 
 /// Hooks that hold what their caller made: filters, action handlers, error handlers, job functions, spawn hooks and error
 /// handlers of jobs. The number n names the n-th of its list, from 0. Under a number that they don't hold an event passes,

@@ -6,10 +6,10 @@ ghost use Rattle.wx_hooks.specs.Handled.{IsNewHandler};
 
 use wx_command::Spawnable;
 use wx_control::Id;
-use wx_events::Memory;
 use wx_hooks::{ActionHandler, ErrorHook};
 use wx_job::JobTaskContext;
 use wx_journal::HostFault;
+use wx_text::Memory;
 
 /// An action handler.
 pub trait OnAction {

@@ -3,8 +3,8 @@ ghost use Rattle.std.specs.Prelude.{◌≡◌, ◌∷◌, [], ◌+◌, ◌≤◌
 
 use std::alloc::Global;
 use std::marker::Model;
-use wx_events::Memory;
 use wx_journal::Entry;
+use wx_text::Memory;
 
 /// The entries that were told. Contracts see them, the newest first, and the room that was taken for more.
 #[derive(Drop, Debug)]

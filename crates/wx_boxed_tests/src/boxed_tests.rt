@@ -11,12 +11,15 @@ use wx_config::{Config, Filterer};
 use wx_control::{Flag, Id, Job};
 use wx_engine::Watchexec;
 use wx_error::RuntimeError;
-use wx_events::{Copies, Event, List, Memory, Priority, Signal, Tag, Text, cut};
+use wx_events::{Event, Priority, Signal, Tag};
 use wx_hooks::{ActionHandler, ErrorHook};
-use wx_job::{CommandState, JobTaskContext};
+use wx_job::JobTaskContext;
 use wx_journal::HostFault;
+use wx_machine::CommandState;
 use wx_script::Script;
+use wx_text::{Copies, List, Memory, Text};
 use wx_trial::{created, root, run_text, script_of};
+use wx_words::cut;
 
 /// Rejects each event.
 #[derive(Drop)]

@@ -11,12 +11,15 @@ use wx_boxed::{BoxedHooks, OnAction};
 use wx_command::Spawnable;
 use wx_control::{Flag, Id, Job, Ticket};
 use wx_engine::Watchexec;
-use wx_events::{Copies, List, Memory, ProcessEnd, Signal, Text, cut};
+use wx_events::{ProcessEnd, Signal};
 use wx_follow::ScriptWorld;
-use wx_hooks::{ActionHandler, Host, Outside, TurnFault, Turned, World};
+use wx_hooks::{ActionHandler, TurnFault, Turned, World};
+use wx_job::{Host, Outside};
 use wx_journal::{HostFault, SpawnTag};
 use wx_script::Script;
+use wx_text::{Copies, List, Memory, Text};
 use wx_trial::{created, root, script_of, text_in};
+use wx_words::cut;
 
 /// Awaits a ticket, and then raises a flag.
 #[derive(Drop)]

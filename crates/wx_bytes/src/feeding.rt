@@ -6,7 +6,7 @@ ghost use Rattle.wx_bytes.specs.Causes.{AddsFront, IsWhole, IsLonger};
 use crate::sink::{Sink, WriteFault};
 use crate::source::Source;
 use std::alloc::Global;
-use wx_events::Text;
+use wx_text::Text;
 
 /// How many bytes a source may give at most.
 pub const LIMIT: usize = 16_777_216;

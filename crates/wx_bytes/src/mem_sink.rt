@@ -8,7 +8,7 @@ ghost use Rattle.wx_journal.specs.Told.{Counts};
 use crate::mem_source::CODE;
 use crate::sink::{Sink, WriteFault};
 use std::alloc::Global;
-use wx_events::Text;
+use wx_text::Text;
 
 /// A sink into memory.
 #[derive(Drop, Debug)]

@@ -7,7 +7,7 @@ ghost use Rattle.wx_journal.specs.Told.{Counts};
 
 use crate::source::{ReadFault, Source};
 use std::alloc::Global;
-use wx_events::Memory;
+use wx_text::Memory;
 
 /// The code of each fault of a source or a sink in memory.
 pub const CODE: u32 = 5;

@@ -2,8 +2,8 @@
 ghost use Rattle.std.specs.Prelude.{◌≡◌};
 
 use std::alloc::Global;
-use wx_events::{List, Memory, Spelled, Text, Words, put_items};
-use wx_words::Fields;
+use wx_text::{List, Memory, Text};
+use wx_words::{Fields, Spelled, Words, put_items};
 
 /// A program, and its arguments.
 #[derive(Drop, Debug)]

@@ -4,8 +4,8 @@ ghost use Rattle.std.specs.Prelude.{◌≡◌};
 use crate::argv::{Argv, ArgvRef};
 use crate::program::Program;
 use std::alloc::Global;
-use wx_events::{Copies, Memory, Spelled, Text, Words};
-use wx_words::{put_row, read_rows};
+use wx_text::{Copies, Memory, Text};
+use wx_words::{Spelled, Words, put_row, read_rows};
 
 /// How a program is spawned.
 #[derive(Clone, Copy, Debug, Default, PartialEq, Eq, Hash)]

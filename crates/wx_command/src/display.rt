@@ -9,7 +9,8 @@ ghost use Rattle.wx_command.specs.Shown.{shown};
 use crate::command::Command;
 use crate::program::Program;
 use std::{fmt, str};
-use wx_events::{Escaped, Text};
+use wx_text::Text;
+use wx_words::Escaped;
 
 /// Writes a text, or where it isn't UTF-8 the word that stands for it.
 fn write_text<W: fmt::Write>(text: &Text, f: &mut fmt::Formatter<W>) -> fmt::Result

@@ -4,7 +4,7 @@ ghost use Rattle.std.specs.List.{list_any};
 ghost use Rattle.std.specs.Str.{bytes_eq};
 ghost use Rattle.wx_command.specs.Execables.{parts_commands, has_more, is_space, first_word, is_setting, is_subshell, is_shell_word, is_program, execable};
 
-use wx_events::Text;
+use wx_text::Text;
 
 /// The words by which the shell itself is meant.
 const SHELL_WORDS: [&[u8]; 14] = [

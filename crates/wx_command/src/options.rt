@@ -4,7 +4,8 @@ ghost use Rattle.wx_command.specs.Options.{flag_byte, flag_in, options_in};
 
 use crate::command::SpawnOptions;
 use std::alloc::Global;
-use wx_events::{Memory, Spelled, Text, Words};
+use wx_text::{Memory, Text};
+use wx_words::{Spelled, Words};
 
 /// This letter where the option is on, and a hyphen where it is off.
 fn flag_byte(letter: u8, on: bool) -> u8

@@ -1,7 +1,7 @@
 // Programs.
 use crate::shell::Shell;
 use std::alloc::Global;
-use wx_events::{Copies, List, Memory, Text};
+use wx_text::{Copies, List, Memory, Text};
 
 /// What a command runs.
 #[derive(Drop, Debug, PartialEq, Eq, Hash)]

@@ -5,7 +5,7 @@ use crate::command::Command;
 use std::alloc::Global;
 use std::marker::Model;
 use std::sync::Arc;
-use wx_events::{Copies, Memory};
+use wx_text::{Copies, Memory};
 
 /// A command that several hold, none with a copy of its own: a job, its handles and its task.
 #[derive(Drop, Debug)]

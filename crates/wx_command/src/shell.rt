@@ -3,7 +3,7 @@ ghost use Rattle.std.specs.Prelude.{◌≡◌, true, IfOk};
 ghost use Rattle.wx_command.specs.Shells.{shell_of};
 
 use std::alloc::Global;
-use wx_events::{Copies, List, Memory, Text};
+use wx_text::{Copies, List, Memory, Text};
 
 /// How a shell is called that runs the text of a command.
 #[derive(Drop, Debug, PartialEq, Eq, Hash)]

@@ -5,8 +5,8 @@ ghost use Rattle.wx_command.specs.Shells.{quoting, program_option};
 
 use crate::shell::Shell;
 use std::alloc::Global;
-use wx_events::{List, Memory, Spelled, Text, Words};
-use wx_words::{Fields, put_row, put_word, read_rows};
+use wx_text::{List, Memory, Text};
+use wx_words::{Fields, Spelled, Words, put_row, put_word, read_rows};
 
 /// Whether the text is to be quoted, to be written.
 #[derive(Clone, Copy)]

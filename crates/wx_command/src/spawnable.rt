@@ -7,8 +7,8 @@ use crate::execable::is_execable;
 use crate::program::Program;
 use crate::shell::Shell;
 use std::alloc::Global;
-use wx_events::{Copies, List, Memory, Spelled, Text, Words};
-use wx_words::Fields;
+use wx_text::{Copies, List, Memory, Text};
+use wx_words::{Fields, Spelled, Words};
 
 /// What is spawned: the program and then its arguments, and how.
 #[derive(Drop, Debug, PartialEq, Eq)]

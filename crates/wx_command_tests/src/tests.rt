@@ -4,7 +4,8 @@ use std::fmt;
 use std::hash::{DefaultHasher, Hash, Hasher};
 use std::process::Abort;
 use wx_command::{Command, Program, Shell, SpawnOptions, Spawnable, is_execable};
-use wx_events::{Copies, List, Memory, Spelled, Text, Words};
+use wx_text::{Copies, List, Memory, Text};
+use wx_words::{Spelled, Words};
 
 /// The words of this value with one space between them.
 fn line_of<T: Spelled>(alloc: Global, value: &T) -> Result<Text, Memory> {

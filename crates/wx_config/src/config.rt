@@ -3,7 +3,7 @@ ghost use Rattle.std.specs.Prelude.{◌≡◌, IfOk};
 
 use std::alloc::Global;
 use std::marker::Model;
-use wx_events::{List, Memory};
+use wx_text::{List, Memory};
 use wx_watch::{WatchedPath, Watcher};
 
 /// A value that can be replaced, which contracts see as that value.

@@ -6,7 +6,8 @@ ghost use Rattle.wx_config.specs.Filters.{PassesOr};
 ghost use Rattle.wx_error.specs.declared.runtime.RuntimeError.{RuntimeError as AnError};
 
 use wx_error::RuntimeError;
-use wx_events::{Event, Priority, TextPath};
+use wx_events::{Event, Priority};
+use wx_words::TextPath;
 
 /// Judges events, and the folders that may be watched for them.
 pub trait Filterer {

@@ -9,8 +9,10 @@ use std::hash::{DefaultHasher, Hash, Hasher};
 use std::process::Abort;
 use wx_config::{Changeable, Config, Filterer};
 use wx_error::{CriticalError, RuntimeError};
-use wx_events::{Copies, Event, List, Memory, Priority, Spelled, Text, TextPath, Words};
+use wx_events::{Event, Priority};
+use wx_text::{Copies, List, Memory, Text};
 use wx_watch::{EntryKind, FsWatcherError, NotifyFault, ScanFault, WatchedPath, Watcher};
+use wx_words::{Spelled, TextPath, Words};
 
 /// The value whose words are this whole line.
 fn read_line<T: Spelled>(alloc: Global, line: &[u8]) -> Result<Option<T>, Memory> {

@@ -5,8 +5,9 @@ ghost use Rattle.wx_control.specs.Asks.{sends_of};
 use crate::control::Control;
 use crate::level::Level;
 use std::alloc::Global;
-use wx_events::{Copies, Memory, Signal, Spelled, Text, Words};
-use wx_words::{put_row, put_word, read_rows};
+use wx_events::Signal;
+use wx_text::{Copies, Memory, Text};
+use wx_words::{Spelled, Words, put_row, put_word, read_rows};
 
 /// What is asked of a job by one call, which may be several controls.
 #[derive(Clone, Copy, Debug, PartialEq, Eq)]

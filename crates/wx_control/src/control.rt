@@ -1,8 +1,9 @@
 // What one message asks of a job.
 
 use std::alloc::Global;
-use wx_events::{Copies, Memory, Signal, Spelled, Text, Words};
-use wx_words::{put_row, put_word, read_rows};
+use wx_events::Signal;
+use wx_text::{Copies, Memory, Text};
+use wx_words::{Spelled, Words, put_row, put_word, read_rows};
 
 /// What is asked of a job by one message.
 #[derive(Clone, Copy, Debug, PartialEq, Eq)]

@@ -9,7 +9,7 @@ use futures::task::{Context, Poll};
 use std::alloc::Global;
 use std::marker::Model;
 use std::sync::{Arc, OnceLock};
-use wx_events::{Copies, Memory};
+use wx_text::{Copies, Memory};
 
 /// A flag that one side raises and others look at. All its copies look at one lock, and each keeps whether it saw that
 /// raised. Contracts see the name of the lock, and what this copy saw: that a flag is raised, and when, no clause says.

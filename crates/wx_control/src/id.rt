@@ -1,6 +1,7 @@
 // Names of jobs.
 use std::alloc::Global;
-use wx_events::{Memory, Spelled, Text, Words};
+use wx_text::{Memory, Text};
+use wx_words::{Spelled, Words};
 
 /// The name of a job, which is its number.
 #[derive(Clone, Copy, Debug, PartialEq, Eq, PartialOrd, Ord, Hash)]

@@ -7,7 +7,7 @@ use crate::id::Id;
 use crate::mirror::Mirror;
 use std::alloc::Global;
 use wx_command::{Command, SharedCommand};
-use wx_events::{Copies, Memory};
+use wx_text::{Copies, Memory};
 
 /// A handle on a job: its name, what it runs, which all handles share, the flag that tells that it is gone, and the
 /// mirror of whether its child runs.

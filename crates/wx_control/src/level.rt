@@ -3,8 +3,8 @@ ghost use Rattle.std.specs.Prelude.{◌≡◌};
 ghost use Rattle.wx_control.specs.Levels.{rank};
 
 use std::alloc::Global;
-use wx_events::{Memory, Spelled, Text, Words};
-use wx_words::{put_word, read_rows};
+use wx_text::{Memory, Text};
+use wx_words::{Spelled, Words, put_word, read_rows};
 
 /// How pressing a control is, rising in this order.
 #[derive(Clone, Copy, Debug, PartialEq, Eq, PartialOrd, Ord)]

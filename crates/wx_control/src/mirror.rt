@@ -4,7 +4,7 @@ use std::alloc::Global;
 use std::marker::Model;
 use std::sync::Arc;
 use std::sync::atomic::{AtomicBool, Ordering};
-use wx_events::{Copies, Memory};
+use wx_text::{Copies, Memory};
 
 /// Whether the child of a job runs, as its task told it last. All copies show the same. One may be read while another
 /// thread tells, so what is read may be late, and contracts see nothing of it.

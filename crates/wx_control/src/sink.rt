@@ -16,12 +16,12 @@ pub enum Refused {
     Memory,
 }
 
-impl From<wx_events::Memory> for Refused {
+impl From<wx_words::Memory> for Refused {
     ghost use Rattle.wx_control.specs.declared.sink.Refused.{Refused};
 
     ghost from_gives = { λ _ refusal. refusal ≡ Refused.Memory };
 
-    fn from(_memory: wx_events::Memory) -> Refused {
+    fn from(_memory: wx_words::Memory) -> Refused {
         Refused::Memory
     }
 }

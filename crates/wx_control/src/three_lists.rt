@@ -7,7 +7,7 @@ use crate::flag::Flag;
 use crate::level::Level;
 use std::alloc::Global;
 use std::marker::Model;
-use wx_events::Memory;
+use wx_text::Memory;
 
 /// A control that waits.
 #[derive(Drop, Debug)]

@@ -9,7 +9,7 @@ use crate::flag::Flag;
 use futures::Future;
 use futures::task::{Context, Poll};
 use std::alloc::Global;
-use wx_events::{Copies, Memory};
+use wx_text::{Copies, Memory};
 
 /// Tells of one control: by `gone` that its job is gone, and by `done` that the control was done.
 #[derive(Drop, Debug)]

@@ -5,7 +5,7 @@ use futures::test::MockTask;
 use std::alloc::Global;
 use std::process::Abort;
 use wx_control::{Flag, Ticket};
-use wx_events::Copies;
+use wx_text::Copies;
 
 /// Holds what this flag is and what was seen of it by this handle to be so.
 fn expect_flag(rt: &impl Abort, flag: &Flag, raised: bool, seen: bool) {

@@ -11,7 +11,9 @@ use std::process::Abort;
 use std::thread;
 use wx_command::{Command, Program, SharedCommand, SpawnOptions};
 use wx_control::{Ask, Control, Controls, Flag, Id, Job, Mirror, Refused, Ticket};
-use wx_events::{Copies, List, Memory, Signal, Spelled, Text};
+use wx_events::Signal;
+use wx_text::{Copies, List, Memory, Text};
+use wx_words::Spelled;
 
 /// A sink that keeps the asks that it takes with the flag of the last one, counts all sends, and refuses each where it
 /// is told to.

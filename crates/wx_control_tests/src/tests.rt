@@ -7,7 +7,8 @@ use wx_control::{
     Ask, Control, Flag, Id, Level, Picked, ThreeLists, are_equal_ids, are_equal_levels,
     compare_ids, compare_levels,
 };
-use wx_events::{Copies, Memory, Spelled, Text, Words};
+use wx_text::{Copies, Memory, Text};
+use wx_words::{Spelled, Words};
 
 /// The words of this value with one space between them.
 pub fn line_of<T: Spelled>(alloc: Global, value: &T) -> Result<Text, Memory> {

@@ -14,7 +14,7 @@ use Rattle.wx_machine.specs.Journal.{turn_count, early_count, turn_fault}
 use Rattle.wx_machine.specs.Due.{agenda, Open, Ends}
 use Rattle.wx_machine.specs.RunLaws.{IsBatched, AreBatches, NoneUrgentWaits, MomentsRise}
 use Rattle.wx_machine.specs.Leads.{Follows}
-use Rattle.wx_action.specs.Stands.{Stands, HasRoom}
+use Rattle.wx_action.specs.Stands.{Stands, HasEndRoom}
 use Rattle.wx_machine.specs.Answer.{IsComplete, IsBroken, AtAnyPlace, Wishes, BreaksOff}
 use Rattle.wx_journal.specs.Lines.{Answer}
 
@@ -54,7 +54,7 @@ Ran s p = IsComplete s p ⊎ IsBroken AtAnyPlace s p
 -- never fell.
 pub record Rests {Plan : Type 0} (s : Start) (w : Worker) (j : Written) (a : Seen Plan) : Type 0 where
   pub stands : Stands s w j.past
-  pub room : HasRoom w j.spare a.spare
+  pub room : HasEndRoom w j.spare a.spare
   pub calm : NoneUrgentWaits j.past
   pub rise : MomentsRise j.past
 

@@ -9,7 +9,7 @@ ghost use Rattle.wx_machine.specs.Due.{agenda, begin_of, Open};
 ghost use Rattle.wx_machine.specs.Told.{is_last, TellsNoEnd};
 ghost use Rattle.wx_machine.specs.RunLaws.{NoneUrgentWaits};
 ghost use Rattle.wx_machine.specs.Answer.{NoneIsToGo, BreaksOff, Answers};
-ghost use Rattle.wx_action.specs.Stands.{Stands, AtTurn, HasRoom, Works, end_room};
+ghost use Rattle.wx_action.specs.Stands.{Stands, AtTurn, HasEndRoom, Works, end_room};
 ghost use Rattle.wx_engine.specs.Run.{HasCause, HasTurnCause, Stops, Rests, IsBetween, ServesTurns, Lists, HasLaws};
 
 use crate::watchexec::Watchexec;
@@ -17,9 +17,11 @@ use std::alloc::Global;
 use wx_action::{Worked, Worker, ask_turn, end_jobs, ended_turn, job_turn, worker};
 use wx_config::Config;
 use wx_error::CriticalError;
-use wx_events::{Copies, Memory, Text, TextPath};
-use wx_hooks::{Hooks, Host, JobHooks, World};
+use wx_hooks::{Hooks, World};
+use wx_job::{Host, JobHooks};
 use wx_journal::{Entry, Journal, TurnKind};
+use wx_text::{Copies, Memory, Text};
+use wx_words::TextPath;
 
 /// The entry that a run begins with. It fails only for want of memory.
 fn beginning(alloc: Global, config: &Config, folder: TextPath) -> Result<Entry, Memory>
@@ -142,10 +144,10 @@ fn serve<W: World, H: Hooks>(
 /// Takes room for a turn in the journal and in the world, besides what the end of all jobs takes. It fails only for want
 /// of memory.
 fn make_room<W: World>(state: &Worker, world: &mut W, journal: &mut Journal) -> Result<(), Memory>
-    requires room { HasRoom state.now journal.old.spare (W.seen world.old).spare }
+    requires room { HasEndRoom state.now journal.old.spare (W.seen world.old).spare }
     ensures same { journal.new.past ≡ journal.old.past }
     ensures rest { OnlyRoom (W.seen world.old) (W.seen world.new) }
-    ensures room { HasRoom state.now journal.new.spare (W.seen world.new).spare }
+    ensures room { HasEndRoom state.now journal.new.spare (W.seen world.new).spare }
     ensures journal_room { OnOk result (1 + end_room state.now ≤ journal.new.spare) }
     ensures world_room { OnOk result (1 + end_room state.now ≤ (W.seen world.new).spare) }
 {

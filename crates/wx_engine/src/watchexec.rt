@@ -7,7 +7,9 @@ ghost use Rattle.wx_engine.specs.Sent.{Refuses};
 use std::alloc::Global;
 use std::marker::Model;
 use wx_config::Config;
-use wx_events::{Event, List, Memory, Priority, TextPath};
+use wx_events::{Event, Priority};
+use wx_text::{List, Memory};
+use wx_words::TextPath;
 
 /// Why an event was not sent.
 #[derive(Drop, Debug)]

@@ -17,7 +17,8 @@ use crate::running::run;
 use crate::watchexec::Watchexec;
 use std::alloc::Global;
 use wx_error::CriticalError;
-use wx_hooks::{Hooks, Host, JobHooks, Outside, World};
+use wx_hooks::{Hooks, World};
+use wx_job::{Host, JobHooks, Outside};
 use wx_journal::Journal;
 
 impl Watchexec {

@@ -5,10 +5,11 @@ use std::alloc::Global;
 use std::process::Abort;
 use wx_control::Id;
 use wx_error::{CriticalError, RuntimeError};
-use wx_events::{Event, List, Memory, Priority, Tag, Text};
+use wx_events::{Event, Priority, Tag};
 use wx_hooks::IdCount;
 use wx_journal::{Entry, Journal};
 use wx_print::{lost, print_journal};
+use wx_text::{List, Memory, Text};
 
 /// Takes the next id of this count, and holds it to be this one.
 fn expect_next(rt: &impl Abort, count: &mut IdCount, want: Option<Id>) {

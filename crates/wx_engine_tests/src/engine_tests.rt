@@ -12,12 +12,15 @@ use wx_command::{SpawnOptions, Spawnable};
 use wx_control::{Flag, Id};
 use wx_engine::{SendRefused, Watchexec};
 use wx_error::RuntimeError;
-use wx_events::{Event, List, Memory, Priority, ProcessEnd, Tag, Text, cut};
+use wx_events::{Event, Priority, ProcessEnd, Tag};
 use wx_follow::{ScriptHooks, ScriptWorld};
-use wx_hooks::{Hooks, Host, JobHooks, World};
+use wx_hooks::{Hooks, World};
+use wx_job::{Host, JobHooks};
 use wx_journal::{SpawnTag, TurnKind};
 use wx_script::Script;
+use wx_text::{List, Memory, Text};
 use wx_trial::{engine_with, root, run_text, script_of};
+use wx_words::cut;
 
 /// Two turns with a fault between them, and one call that quits.
 const TURNS: &[u8] =

@@ -7,12 +7,15 @@ use std::test::Fail;
 use wx_command::Spawnable;
 use wx_control::{Id, Job};
 use wx_error::{CriticalError, RuntimeError};
-use wx_events::{Copies, Event, List, Memory, Priority, Text, cut};
-use wx_hooks::{ActionHandler, ErrorHook, Hooks, JobHooks};
-use wx_job::{CommandState, JobTaskContext};
+use wx_events::{Event, Priority};
+use wx_hooks::{ActionHandler, ErrorHook, Hooks};
+use wx_job::{JobHooks, JobTaskContext};
 use wx_journal::{Entry, HostFault, put_entry};
+use wx_machine::CommandState;
 use wx_script::Script;
+use wx_text::{Copies, List, Memory, Text};
 use wx_trial::{command_of, created, engine_with, run_text, script_of};
+use wx_words::cut;
 
 /// What hooks do in a call.
 #[derive(Clone, Copy)]

@@ -8,9 +8,10 @@ use crate::runtime::RuntimeError;
 use std::alloc::Global;
 use std::fmt;
 use thiserror::Error;
-use wx_events::{Copies, Escaped, Event, Memory, Priority, Spelled, Text, Words};
+use wx_events::{Event, Priority};
+use wx_text::{Copies, Memory, Text};
 use wx_watch::{FsWatcherError, Watcher};
-use wx_words::{Fields, put_row, put_word, read_rows};
+use wx_words::{Escaped, Fields, Spelled, Words, put_row, put_word, read_rows};
 
 /// An error that ends a run. It is shown by its words.
 #[derive(Drop, Debug, Error)]

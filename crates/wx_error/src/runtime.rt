@@ -4,9 +4,10 @@ ghost use Rattle.std.specs.Prelude.{◌≡◌};
 use std::alloc::Global;
 use std::fmt;
 use thiserror::Error;
-use wx_events::{Copies, Escaped, Event, Memory, Priority, Signal, Spelled, Text, Words};
+use wx_events::{Event, Priority, Signal};
+use wx_text::{Copies, Memory, Text};
 use wx_watch::{FsWatcherError, KeyboardWatcherError, Watcher};
-use wx_words::{put_row, put_word, read_rows};
+use wx_words::{Escaped, Spelled, Words, put_row, put_word, read_rows};
 
 /// An error that a run may go on after. It is shown by its words.
 #[derive(Drop, Debug, Error)]

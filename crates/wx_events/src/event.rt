@@ -11,9 +11,8 @@ use crate::process::{ProcessEnd, Signal};
 use crate::source::Source;
 use std::alloc::Global;
 use std::fmt;
-use wx_words::{
-    Copies, Escaped, List, Memory, Spelled, Text, TextPath, Words, put_row, put_word, read_rows,
-};
+use wx_text::{Copies, List, Memory, Text};
+use wx_words::{Escaped, Spelled, TextPath, Words, put_row, put_word, read_rows};
 
 /// What an event says of itself.
 #[derive(Drop, Debug, PartialEq, Eq)]

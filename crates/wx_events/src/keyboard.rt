@@ -6,7 +6,8 @@ ghost use Rattle.wx_events.specs.Keys.{behind_front, char_in, code_in, key_in, p
 
 use std::alloc::Global;
 use std::{fmt, str};
-use wx_words::{Memory, Spelled, Text, Words, put_word, text_in};
+use wx_text::{Memory, Text};
+use wx_words::{Spelled, Words, put_word, text_in};
 
 /// What was read from the keyboard.
 #[derive(Clone, Copy, Debug, PartialEq, Eq)]

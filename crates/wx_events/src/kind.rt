@@ -5,7 +5,8 @@ ghost use Rattle.wx_events.specs.Kinds.{mode_parts, access_parts, created_parts,
 
 use std::alloc::Global;
 use std::fmt;
-use wx_words::{Dotted, Memory, Spelled, Text, Words, put_word, read_dotted, read_rows};
+use wx_text::{Memory, Text};
+use wx_words::{Dotted, Spelled, Words, put_word, read_dotted, read_rows};
 
 /// What happened to a file or a folder.
 #[derive(Clone, Copy, Debug, PartialEq, Eq)]

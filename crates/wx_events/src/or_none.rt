@@ -5,7 +5,8 @@ ghost use Rattle.wx_events.specs.OrNone.{read_or_none};
 
 use std::alloc::Global;
 use std::fmt;
-use wx_words::{Fields, Memory, Spelled, Text, Words, put_word, take_literal};
+use wx_text::{Memory, Text};
+use wx_words::{Fields, Spelled, Words, put_word, take_literal};
 
 /// A value that may be absent, lent to be written. Where it is absent the word `none` stands for it.
 #[derive(Clone, Copy)]

@@ -5,7 +5,8 @@ ghost use Rattle.wx_events.specs.Events.{priority_word};
 
 use std::alloc::Global;
 use std::fmt;
-use wx_words::{Memory, Spelled, Text, Words, put_word, read_rows};
+use wx_text::{Memory, Text};
+use wx_words::{Spelled, Words, put_word, read_rows};
 
 /// How pressing an event is, rising in this order.
 #[derive(Clone, Copy, Debug, Default, PartialEq, Eq, PartialOrd, Ord, Hash)]

@@ -7,7 +7,8 @@ ghost use Rattle.wx_events.specs.Natives.{native};
 use std::alloc::Global;
 use std::fmt;
 use std::num::{NonZeroI32, NonZeroI64};
-use wx_words::{Copies, Dotted, Memory, Spelled, Text, Words, read_dotted, read_rows};
+use wx_text::{Copies, Memory, Text};
+use wx_words::{Dotted, Spelled, Words, read_dotted, read_rows};
 
 /// A signal to a process.
 #[derive(Clone, Copy, Debug, PartialEq, Eq)]

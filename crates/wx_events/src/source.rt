@@ -4,7 +4,8 @@ ghost use Rattle.wx_events.specs.Sources.{source_word};
 
 use std::alloc::Global;
 use std::fmt;
-use wx_words::{Memory, Spelled, Text, Words, put_word, read_rows};
+use wx_text::{Memory, Text};
+use wx_words::{Spelled, Words, put_word, read_rows};
 
 /// What an event came from.
 #[derive(Clone, Copy, Debug, PartialEq, Eq)]

@@ -7,7 +7,8 @@ use std::process::Abort;
 use wx_events::{
     Event, FileEventKind, FileType, Keyboard, Modifiers, Priority, ProcessEnd, Signal, Source, Tag,
 };
-use wx_words::{Copies, List, Memory, Spelled, Text, Words};
+use wx_text::{Copies, List, Memory, Text};
+use wx_words::{Spelled, Words};
 
 /// The value whose words are this whole line.
 fn read_line<T: Spelled>(alloc: Global, line: &[u8]) -> Result<Option<T>, Memory> {

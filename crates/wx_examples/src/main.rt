@@ -5,8 +5,8 @@ use std::fs;
 use std::io::{self, Error, ErrorKind};
 use std::process::ExitCode;
 use wx_bytes::{MemSink, MemSource};
-use wx_events::Memory;
 use wx_replay::replay;
+use wx_text::Memory;
 
 /// The error that stands for want of memory.
 fn no_memory(_want: Memory) -> Error {

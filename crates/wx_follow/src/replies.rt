@@ -1,7 +1,7 @@
 // What is written down for the calls of one kind: its lines, of which so many were used.
 ghost use Rattle.std.specs.Prelude.{◌≡◌, ◌+◌, length, min, get_or};
 
-use wx_events::List;
+use wx_text::List;
 
 /// The line of the next call, and the usual one where none is left.
 pub(crate) fn line<'a, T>(lines: &'a List<T>, used: usize, usual: &'a T) -> &'a T

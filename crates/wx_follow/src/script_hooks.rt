@@ -14,12 +14,12 @@ use std::alloc::Global;
 use wx_command::{Command, Spawnable};
 use wx_control::{Ask, Controls, Id, Job};
 use wx_error::RuntimeError;
-use wx_events::{Copies, Event, List, Memory, Priority, Text};
-use wx_hooks::{ActionHandler, CreateRefused, ErrorHook, Hooks, JobHooks};
-use wx_job::JobTaskContext;
+use wx_events::{Event, Priority};
+use wx_hooks::{ActionHandler, CreateRefused, ErrorHook, Hooks};
+use wx_job::{JobHooks, JobTaskContext};
 use wx_journal::{Act, Entry, HostFault, Journal, Wish};
 use wx_script::{Script, Wanted};
-use wx_words::copy_twice;
+use wx_text::{Copies, List, Memory, Text, copy_twice};
 
 /// Hooks that ask in each call of the action handler for the next acts of a script, and for nothing after them, and answer
 /// each call of the filter by the next answer of the script, and let every event after them pass. Of each error they wish what

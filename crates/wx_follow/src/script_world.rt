@@ -12,10 +12,12 @@ use crate::supply::Supply;
 use std::alloc::Global;
 use wx_command::Spawnable;
 use wx_control::{Flag, Id};
-use wx_events::{Copies, List, Memory, ProcessEnd};
-use wx_hooks::{Host, Outside, TurnFault, Turned, World};
+use wx_events::ProcessEnd;
+use wx_hooks::{TurnFault, Turned, World};
+use wx_job::{Host, Outside};
 use wx_journal::{Entry, HostFault, Journal, SpawnTag, Turn, TurnKind};
 use wx_script::{Answers, Script, ScriptTurn, Used};
+use wx_text::{Copies, List, Memory};
 
 /// A world that gives the turns of a script, in order, and then last turns at the last moment. To the calls on children it
 /// answers what the script says, in order, and then that each went well and each child ended with success. It tells its

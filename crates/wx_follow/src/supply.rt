@@ -3,8 +3,8 @@ ghost use Rattle.std.specs.Prelude.{◌≡◌, ◌∷◌, [], reverse, IfOk, IfN
 
 use std::alloc::Global;
 use std::marker::Model;
-use wx_events::{Copies, List, Memory};
 use wx_script::ScriptTurn;
+use wx_text::{Copies, List, Memory};
 
 /// The turns that are left, each twice: one is given, and one is told. Contracts see them in order.
 #[derive(Drop, Debug)]

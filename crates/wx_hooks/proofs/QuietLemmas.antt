@@ -3,7 +3,7 @@ use Rattle.std.proofs.Common.{◌≡◌, ℕ, List, ◌∷◌, refl, ◌∙◌}
 use Rattle.std.specs.Prelude.{Option}
 use Rattle.wx_control.specs.declared.id.Id.{Id}
 use Rattle.wx_journal.specs.declared.entry.Entry.{Entry}
-use Rattle.wx_journal.specs.declared.entry.Entry.TheVariants.{Begin, Sent, Turn as Turned, TurnFault, Offer, Take, Filter, Show, Hand, Made}
+use Rattle.wx_journal.specs.declared.entry.Entry.TheVariants.{Made}
 use Rattle.wx_journal.specs.Names.{event_count}
 use Rattle.wx_machine.specs.History.{command}
 use Rattle.wx_machine.specs.Table.{Plan}
@@ -14,7 +14,7 @@ use Rattle.wx_machine.proofs.Always.{always_now, always_next}
 use Rattle.wx_machine.proofs.AllJobs.{IsOfJob, MakesNone}
 use Rattle.wx_hooks.specs.Handled.{lookup}
 
--- what a worker keeps besides its tasks is the same in both journals
+-- both journals say the same of what is kept besides the tasks of jobs
 pub record SameRest (p p' : List Entry) : Type 0 where
   pub bag_same : bag p' ≡ bag p
   pub closed_same : closed p' ≡ closed p
@@ -43,17 +43,8 @@ rest_then p q r a b = record {
 -- ---- a plan that makes no job
 
 rest_entry : (e : Entry) (p : List Entry) → IsOfJob e → SameRest p (e ∷ p)
-rest_entry (Begin throttle size errors keyboard follow jobsignals watcher cwd paths) p h = absurd h
-rest_entry (Sent name event priority) p h = absurd h
-rest_entry (Turned t) p h = absurd h
-rest_entry (TurnFault code) p h = absurd h
-rest_entry (Offer name item result event priority) p h = absurd h
-rest_entry (Take name) p h = absurd h
-rest_entry (Filter n name answer) p h = absurd h
-rest_entry (Show n error wish) p h = absurd h
-rest_entry (Hand n names acts) p h = absurd h
 rest_entry (Made job) p h = absurd h
-rest_entry (_) p h = record { bag_same = refl; closed_same = refl; count_same = refl; window_same = refl; lookup_same = refl; first_same = refl; set_same = refl; commands_same = λ i. refl }
+rest_entry (_) p h = search
 
 pub record IsStillLed (p : List Entry) (k' : Plan) (p' : List Entry) : Type 0 where
   pub still : SameRest p p'

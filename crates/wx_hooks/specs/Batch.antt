@@ -10,7 +10,7 @@ pub record Waiting : Type 0 where
   pub room : ℕ
 
 -- The names stand there twice, and no act does. Where an event waits there is room for this many acts, at least one.
-pub record IsReady (names second_names : List ℕ) (acts second_acts : List Act) (act_room : ℕ) : Type 0 where
+pub record IsBatch (names second_names : List ℕ) (acts second_acts : List Act) (act_room : ℕ) : Type 0 where
   pub same : second_names ≡ names
   pub none : acts ≡ []
   pub none_twice : second_acts ≡ []

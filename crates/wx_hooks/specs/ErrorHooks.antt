@@ -6,13 +6,13 @@ use Rattle.wx_journal.specs.declared.wish.Wish.TheVariants.{Nothing}
 use Rattle.wx_hooks.specs.declared.error_hook.Twice.{Twice}
 
 -- the error, the wish so far, and whether the entry was moved out
-pub record Shown : Type 0 where
+pub record ShownError : Type 0 where
   pub error : RuntimeError
   pub wish : Wish
   pub told : Bool
 
 -- nothing was wished, and the entry wasn't moved out
-abbrev pub IsNewHook : Shown → Type 0
+abbrev pub IsNewHook : ShownError → Type 0
 IsNewHook h = (h.wish ≡ Nothing) × (h.told ≡ false)
 
 -- the first wish stands

@@ -3,8 +3,9 @@ ghost use Rattle.std.specs.Prelude.{◌≡◌, ◌+◌, ◌<◌, ◌≤◌, ◌=
 
 use std::alloc::Global;
 use std::marker::Model;
-use wx_events::{Event, Memory};
+use wx_events::Event;
 use wx_journal::{Act, Named};
+use wx_text::Memory;
 
 /// The window of a worker: the names and the events, in the order in which they passed. With each event there is room
 /// to hand it: for its name twice, and for the act that ends the run twice, since two entries are made of a batch.
@@ -20,7 +21,7 @@ pub struct Batch {
 
 impl Model for Batch {
     ghost use Rattle.std.specs.Prelude.{min, ◌-◌, vec_len, vec_capacity};
-    ghost use Rattle.wx_hooks.specs.Batch.{Waiting, IsReady};
+    ghost use Rattle.wx_hooks.specs.Batch.{Waiting, IsBatch};
 
     ghost Value = { Waiting };
 
@@ -30,7 +31,7 @@ impl Model for Batch {
       room = min (min (vec_capacity b.acts) (vec_capacity b.second_acts)) (min (vec_capacity b.names - vec_len b.names) (min (vec_capacity b.second_names - vec_len b.second_names) (vec_capacity b.events - vec_len b.events)));
     } };
 
-    ghost invariant = { λ b. IsReady b.names.items b.second_names.items b.acts.items b.second_acts.items (min (vec_capacity b.acts) (vec_capacity b.second_acts)) };
+    ghost invariant = { λ b. IsBatch b.names.items b.second_names.items b.acts.items b.second_acts.items (min (vec_capacity b.acts) (vec_capacity b.second_acts)) };
 }
 
 /// Takes room for one value more in each of two lists. It fails only for want of memory.

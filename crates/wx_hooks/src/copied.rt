@@ -2,7 +2,7 @@
 ghost use Rattle.std.specs.Prelude.{◌≡◌, IfOk};
 
 use std::alloc::Global;
-use wx_events::{Copies, Memory};
+use wx_text::{Copies, Memory};
 
 /// A value and a copy of it. It fails only for want of memory.
 pub fn with_copy<T: Copies + Drop>(alloc: Global, value: T) -> Result<(T, T), Memory>

@@ -7,8 +7,8 @@ ghost use Rattle.wx_hooks.specs.ErrorHooks.{first_wish, IsKeptWish, wish_in, cop
 use std::alloc::Global;
 use std::marker::Model;
 use wx_error::{CriticalError, RuntimeError};
-use wx_events::{Copies, Memory};
 use wx_journal::{Entry, Wish};
+use wx_text::{Copies, Memory};
 
 /// A value twice: one stays, and one is moved out.
 #[derive(Drop, Debug)]
@@ -88,9 +88,9 @@ pub struct ErrorHook {
 
 impl Model for ErrorHook {
     ghost use Rattle.std.specs.Prelude.{is_none};
-    ghost use Rattle.wx_hooks.specs.ErrorHooks.{Shown, AreKept, wish_in};
+    ghost use Rattle.wx_hooks.specs.ErrorHooks.{ShownError, AreKept, wish_in};
 
-    ghost Value = { Shown };
+    ghost Value = { ShownError };
 
     ghost view = { λ h. record { error = h.error.kept; wish = wish_in h.wish; told = is_none h.error.copy } };
 

@@ -25,9 +25,10 @@ use std::alloc::Global;
 use std::marker::Model;
 use wx_command::Command;
 use wx_control::{Ask, Controls, Flag, Id, Job, Refused, Ticket};
-use wx_events::{Copies, Event, List, Memory};
+use wx_events::Event;
 use wx_job::start_job;
 use wx_journal::{Act, Entry, Journal};
+use wx_text::{Copies, List, Memory};
 
 /// Why no job was created.
 #[derive(Clone, Copy, Debug, PartialEq, Eq)]

@@ -14,9 +14,9 @@ use crate::held::Held;
 use std::alloc::Global;
 use std::marker::Model;
 use wx_control::{Id, Job};
-use wx_events::Memory;
 use wx_job::{Host, JobTask};
 use wx_journal::Journal;
+use wx_text::Memory;
 
 /// The jobs that a worker holds. Contracts see what is held of each, by rising id.
 #[derive(Drop, Debug)]

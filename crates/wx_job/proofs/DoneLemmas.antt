@@ -1,6 +1,6 @@
 -- How a case that may spawn was done, by how its parts were.
 use Rattle.std.proofs.Common.{ℕ, Bool, List, ◌∷◌, Option, Result, Ok, Err, refl}
-use Rattle.wx_words.specs.declared.list.Memory.{Memory}
+use Rattle.wx_text.specs.declared.list.Memory.{Memory}
 use Rattle.wx_control.specs.declared.id.Id.{Id}
 use Rattle.wx_journal.specs.declared.entry.Entry.{Entry}
 use Rattle.wx_journal.specs.declared.entry.Entry.TheVariants.{Pick}

@@ -1,6 +1,6 @@
 -- What the calls of a case ask for and leave.
 use Rattle.std.specs.Prelude.{◌≡◌, ◌<◌, ◌≤◌, ◌+◌, ◌||◌, ℕ, Bool, true, false, Option, None, IfSome, is_some, option_map, Result, IfOk, OnOk, OnErr, List}
-use Rattle.wx_words.specs.declared.list.Memory.{Memory}
+use Rattle.wx_text.specs.declared.list.Memory.{Memory}
 use Rattle.wx_journal.specs.declared.entry.Entry.{Entry}
 use Rattle.wx_control.specs.Waits.{waiting_count}
 use Rattle.wx_journal.specs.Names.{moment, ticket_count}
@@ -30,7 +30,7 @@ pub record IsReadyAt {Fixed Fixed' : Type 0} (at : ℕ) (k : JobTask) (n m : ℕ
   pub now : moment j.past ≡ at
 
 -- This ticket has its name, and the task doesn't hold it.
-pub record IsInHand (ticket : ℕ) (k : JobTask) (p : List Entry) : Type 0 where
+pub record IsTicketInHand (ticket : ℕ) (k : JobTask) (p : List Entry) : Type 0 where
   pub unheld : holds ticket k ≡ 0
   pub named : ticket < ticket_count p
 

@@ -9,7 +9,7 @@ ghost use Rattle.wx_machine.specs.History.{finish, before_spawn, just_picked, be
 ghost use Rattle.wx_machine.specs.Table.{Plan, Done, Words, Signals, Kills, Waits, adds, shows, tries, reap, waiters, spawn, fresh};
 ghost use Rattle.wx_machine.specs.Case.{PlanFollowsHost, PlanFollowsHooks, PlanFollows, PlanGivesUp, HookedOnly, words_of, newest_code};
 ghost use Rattle.wx_machine.specs.Kept.{Quiet};
-ghost use Rattle.wx_job.specs.Calls.{IsReady, IsReadyAt, IsInHand, AreRoomy, HasCalled, HasWaited, HasServed};
+ghost use Rattle.wx_job.specs.Calls.{IsReady, IsReadyAt, IsTicketInHand, AreRoomy, HasCalled, HasWaited, HasServed};
 ghost use Rattle.wx_machine.specs.Steady.{AreSpare, Spends};
 ghost use Rattle.wx_job.specs.Stands.{TaskStands, kit_of, grace_of, holds};
 ghost use Rattle.wx_machine.specs.States.{child_of};
@@ -20,9 +20,10 @@ use crate::task::JobTask;
 use std::alloc::Global;
 use wx_command::Spawnable;
 use wx_control::Flag;
-use wx_events::{Copies, Memory, ProcessEnd};
+use wx_events::ProcessEnd;
 use wx_journal::{Entry, HostFault, Journal};
 use wx_machine::CommandState;
+use wx_text::{Copies, Memory};
 
 #[tactic(auto, using(crate::proofs::Sets::steps))]
 impl JobTask {
@@ -125,7 +126,7 @@ impl JobTask {
     ) -> Option<Standing>
         requires runs { child_of self.old.state ≡ Some child }
         requires begins { begins_by (just_picked self.old.id journal.old.past) (moment journal.old.past) (grace_of self.old) ≡ Some standing.grace }
-        requires in_hand { IsInHand standing.grace.ticket self.old journal.old.past }
+        requires in_hand { IsTicketInHand standing.grace.ticket self.old journal.old.past }
         requires ready { IsReady self.old 2 1 journal.old (H.seen host.old) (K.seen hooks.old) }
         ensures begun { IfNone result ((k : Plan) (f : Plan) → PlanFollows (tries self.old.id self.old.handler (Signals child number) k f) journal.old.past (H.seen host.old) (K.seen hooks.old).told k journal.new.past (H.seen host.new) (K.seen hooks.new).told) }
         ensures failed { IfSome result (λ back. (k : Plan) (f : Plan) → PlanFollows (tries self.old.id self.old.handler (Signals child number) k f) journal.old.past (H.seen host.old) (K.seen hooks.old).told f journal.new.past (H.seen host.new) (K.seen hooks.new).told) }

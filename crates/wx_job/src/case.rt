@@ -8,7 +8,7 @@ ghost use Rattle.wx_machine.specs.History.{before_spawn, just_picked, begins_by,
 ghost use Rattle.wx_machine.specs.Table.{Done, adds, raises, reap, waiters, kit_after, row, graceful, signalled, over, ended_in, ended, polled, number_of, spawns, deletes, is_restart, is_spawning, is_deletion, is_parking, case};
 ghost use Rattle.wx_job.specs.Prepared.{twice, prepared, fresh_or, fresh_in};
 ghost use Rattle.wx_machine.specs.Case.{PlanFollowsHost, PlanFollowsHooks, PlanFollows, PlanGivesUp};
-ghost use Rattle.wx_job.specs.Calls.{IsReady, IsReadyAt, IsInHand, AreRoomy, HasCalled, HasServed, HasDone};
+ghost use Rattle.wx_job.specs.Calls.{IsReady, IsReadyAt, IsTicketInHand, AreRoomy, HasCalled, HasServed, HasDone};
 ghost use Rattle.wx_machine.specs.Steady.{AreSpare, Spends};
 ghost use Rattle.wx_job.specs.Stands.{TaskStands, StepFails, SameJob, kit_of, grace_of, begun_of, holds, choice_of};
 ghost use Rattle.wx_machine.specs.States.{child_of};
@@ -21,9 +21,10 @@ use crate::task::JobTask;
 use std::alloc::Global;
 use wx_command::Spawnable;
 use wx_control::{Control, Flag, Picked};
-use wx_events::{Memory, Signal};
+use wx_events::Signal;
 use wx_journal::{Entry, Journal, SpawnTag, Word};
 use wx_machine::{Choice, CommandState, Function, Grace, child_of};
+use wx_text::Memory;
 
 #[tactic(auto, using(crate::proofs::Sets::steps))]
 impl JobTask {
@@ -94,7 +95,7 @@ impl JobTask {
         hooks: &mut K,
         journal: &mut Journal,
     )
-        requires in_hand { IsInHand picked.ticket self.old journal.old.past }
+        requires in_hand { IsTicketInHand picked.ticket self.old journal.old.past }
         requires begins { begins_by (just_picked self.old.id journal.old.past) (moment journal.old.past) (grace_of self.old) ≡ Some (record { ends = ends; ticket = picked.ticket; restarts = restarts }) }
         requires ready { IsReady self.old 3 1 journal.old (H.seen host.old) (K.seen hooks.old) }
         ensures follows { PlanFollows (graceful self.old.id self.old.handler signal picked.ticket (child_of self.old.state)) journal.old.past (H.seen host.old) (K.seen hooks.old).told Done journal.new.past (H.seen host.new) (K.seen hooks.new).told }
@@ -351,7 +352,7 @@ impl JobTask {
         requires stands { TaskStands self.old journal.old.past }
         requires here { self.old.gone ≡ false }
         requires just { just_picked self.old.id journal.old.past ≡ Some (picked.ticket, AsyncFunc n) }
-        requires in_hand { IsInHand picked.ticket self.old journal.old.past }
+        requires in_hand { IsTicketInHand picked.ticket self.old journal.old.past }
         requires none { begun_of self.old ≡ None }
         requires room { AreRoomy 1 1 journal.old (K.seen hooks.old) }
         ensures follows { PlanFollowsHooks (adds (Entry.Begun self.old.id n) Done) journal.old.past (K.seen hooks.old).told Done journal.new.past (K.seen hooks.new).told }
@@ -506,7 +507,7 @@ impl JobTask {
         hooks: &mut K,
         journal: &mut Journal,
     ) -> Result<(), Memory>
-        requires in_hand { IsInHand picked.ticket self.old journal.old.past }
+        requires in_hand { IsTicketInHand picked.ticket self.old journal.old.past }
         requires just { just_picked self.old.id journal.old.past ≡ Some (picked.ticket, control) }
         requires none { begun_of self.old ≡ None }
         requires here { is_parking control self.old.state ≡ false }
@@ -535,7 +536,7 @@ impl JobTask {
         hooks: &mut K,
         journal: &mut Journal,
     )
-        requires in_hand { IsInHand picked.ticket self.old journal.old.past }
+        requires in_hand { IsTicketInHand picked.ticket self.old journal.old.past }
         requires just { just_picked self.old.id journal.old.past ≡ Some (picked.ticket, control) }
         requires none { begun_of self.old ≡ None }
         requires here { is_parking control self.old.state ≡ false }

@@ -12,8 +12,9 @@ ghost use Rattle.wx_machine.specs.Steady.{OnlyRoom, Tells};
 use crate::context::JobTaskContext;
 use wx_command::Spawnable;
 use wx_control::{Flag, Id};
-use wx_events::{Memory, ProcessEnd};
+use wx_events::ProcessEnd;
 use wx_journal::{Entry, HostFault, SpawnTag};
+use wx_text::Memory;
 
 /// What the parts of the outside mean to contracts. It has no call: each call of the traits that stand on it says
 /// what it keeps of these.

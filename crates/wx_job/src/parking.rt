@@ -4,7 +4,7 @@ ghost use Rattle.std.specs.Prelude.{◌≡◌, ◌∷◌, ◌++◌, [], ◌+◌,
 use std::alloc::Global;
 use std::marker::Model;
 use wx_control::Flag;
-use wx_events::Memory;
+use wx_text::Memory;
 
 /// A ticket that is parked until the child ends, and its flag.
 #[derive(Drop, Debug)]

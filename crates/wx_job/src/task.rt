@@ -23,9 +23,9 @@ use crate::parking::Parking;
 use std::alloc::Global;
 use wx_command::{Command, SharedCommand};
 use wx_control::{Ask, Control, Flag, Id, Job, Level, Mirror, ThreeLists, Ticket};
-use wx_events::{Copies, Memory};
 use wx_journal::{Entry, Journal, SpawnTag};
 use wx_machine::{Choice, CommandState, Stepped, child_of};
+use wx_text::{Copies, Memory};
 
 /// A job, with the child that it drives. It stands for its job in a journal where it keeps what the journal says of it.
 #[derive(Drop, Debug)]

@@ -8,9 +8,12 @@ use crate::test_world::{
 use std::alloc::Global;
 use std::process::Abort;
 use wx_control::{Ask, Flag, Id, Job, Ticket};
-use wx_events::{Copies, Memory, ProcessEnd, Spelled, Text, Words};
-use wx_job::{CommandState, JobTask, Stepped};
+use wx_events::ProcessEnd;
+use wx_job::JobTask;
 use wx_journal::{Entry, Journal, put_entry};
+use wx_machine::{CommandState, Stepped};
+use wx_text::{Copies, Memory, Text};
+use wx_words::{Spelled, Words};
 
 /// What a test does with its job.
 #[derive(Clone, Copy)]

@@ -8,9 +8,11 @@ ghost use Rattle.wx_job.specs.Stands.{TaskStands, id_of, parked_count};
 use std::alloc::Global;
 use wx_command::{Command, Program, SpawnOptions, Spawnable};
 use wx_control::{Ask, Flag, Id, Job, Ticket};
-use wx_events::{Copies, List, Memory, ProcessEnd, Text};
-use wx_job::{CommandState, Host, JobHooks, JobTask, JobTaskContext, Outside, Stepped, start_job};
+use wx_events::ProcessEnd;
+use wx_job::{Host, JobHooks, JobTask, JobTaskContext, Outside, start_job};
 use wx_journal::{Act, Entry, HostFault, Journal, SpawnTag, Turn, TurnKind, put_entry};
+use wx_machine::{CommandState, Stepped};
+use wx_text::{Copies, List, Memory, Text};
 
 /// A host that tells its entries. Of its calls to spawn, signal, kill and wait, counted from 0, the one of the number `bad` fails
 /// with code 7. Children end as the last of `ends` says, or else with success.

@@ -16,9 +16,11 @@ use std::num::NonZeroI64;
 use std::process::Abort;
 use wx_command::Command;
 use wx_control::{Ask, Control, Flag, Id, Job, Ticket};
-use wx_events::{Copies, Memory, ProcessEnd, Text};
-use wx_job::{CommandState, JobTask, Stepped, children_are_reaped, start_job};
+use wx_events::ProcessEnd;
+use wx_job::{JobTask, start_job};
 use wx_journal::{Entry, Journal};
+use wx_machine::{CommandState, Stepped, children_are_reaped};
+use wx_text::{Copies, Memory, Text};
 
 /// Whether what the last move answered, the state and the one before are shown by this text.
 fn is_seen(

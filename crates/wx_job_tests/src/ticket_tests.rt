@@ -11,8 +11,8 @@ use futures::test::MockTask;
 use std::alloc::Global;
 use std::process::Abort;
 use wx_control::{Ask, Control, Flag, Ticket};
-use wx_events::{Copies, Memory, Text};
-use wx_job::Stepped;
+use wx_machine::Stepped;
+use wx_text::{Copies, Memory, Text};
 
 /// Whether one poll by this task finds the ticket ready.
 fn is_ready(task: &MockTask, ticket: &mut Ticket) -> bool {

@@ -10,7 +10,7 @@ use Rattle.wx_words.specs.ChoiceLaws.{MadeAgain, SpeltSo, choice}
 use Rattle.wx_words.specs.Parts.{line, HasWords, nothing, keyword, named, renamed, both, u32}
 use Rattle.wx_words.specs.Results.{AreApart, result_of}
 use Rattle.wx_words.specs.Done.{ok}
-use Rattle.wx_words.specs.declared.list.Memory.{Memory}
+use Rattle.wx_text.specs.declared.list.Memory.{Memory}
 use Rattle.wx_events.specs.Ends.{end}
 use Rattle.wx_events.specs.declared.process.ProcessEnd.{ProcessEnd}
 use Rattle.wx_command.specs.Commands.{spawnable}

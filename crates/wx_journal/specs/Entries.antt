@@ -11,7 +11,7 @@ use Rattle.wx_words.specs.ChoiceLaws.{MadeAgain, SpeltSo, choice}
 use Rattle.wx_words.specs.Parts.{line, never, both, named, list_of, as_line, number, i32, u32, text, optional}
 use Rattle.wx_words.specs.Switches.{switch}
 use Rattle.wx_words.specs.ToEnd.{all_in}
-use Rattle.wx_words.specs.declared.list.Memory.{Memory}
+use Rattle.wx_text.specs.declared.list.Memory.{Memory}
 use Rattle.wx_events.specs.declared.priority.Priority.{Priority}
 use Rattle.wx_events.specs.declared.event.Event.{Event}
 use Rattle.wx_events.specs.declared.process.ProcessEnd.{ProcessEnd}

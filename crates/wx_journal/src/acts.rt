@@ -1,8 +1,8 @@
 // What a handler asks of the engine, as words.
 use crate::entry::Act;
 use std::alloc::Global;
-use wx_events::{Memory, Spelled, Text, Words};
-use wx_words::{put_row, put_word, read_rows};
+use wx_text::{Memory, Text};
+use wx_words::{Spelled, Words, put_row, put_word, read_rows};
 
 #[tactic(auto, unfolding(crate::specs::Acts::act_of, wx_words::specs::Parts::both))]
 impl<J: Spelled> Spelled for Act<J> {

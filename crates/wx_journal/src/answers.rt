@@ -7,8 +7,8 @@ use crate::child::HostFault;
 use std::alloc::Global;
 use wx_command::Spawnable;
 use wx_error::RuntimeError;
-use wx_events::{Memory, Spelled, Text, Words};
-use wx_words::{Fields, put_row, put_word, read_rows};
+use wx_text::{Memory, Text};
+use wx_words::{Fields, Spelled, Words, put_row, put_word, read_rows};
 
 #[tactic(auto, unfolding(crate::specs::Answers::fault))]
 impl Spelled for HostFault {

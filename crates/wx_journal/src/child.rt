@@ -2,8 +2,8 @@
 ghost use Rattle.std.specs.Prelude.{◌≡◌};
 
 use std::alloc::Global;
-use wx_events::{Memory, Spelled, Text, Words};
-use wx_words::{Dotted, read_dotted, read_rows};
+use wx_text::{Memory, Text};
+use wx_words::{Dotted, Spelled, Words, read_dotted, read_rows};
 
 /// What spawns a child.
 #[derive(Clone, Copy, Debug, PartialEq, Eq)]

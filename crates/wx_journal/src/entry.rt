@@ -7,8 +7,10 @@ use std::alloc::Global;
 use wx_command::{Command, Spawnable};
 use wx_control::{Ask, Control, Id, Level};
 use wx_error::RuntimeError;
-use wx_events::{Copies, Event, List, Memory, Priority, ProcessEnd, TextPath};
+use wx_events::{Event, Priority, ProcessEnd};
+use wx_text::{Copies, List, Memory};
 use wx_watch::{WatchedPath, Watcher};
+use wx_words::TextPath;
 
 /// What a turn brings.
 #[derive(Drop, Debug)]

@@ -8,7 +8,7 @@ use crate::entry::Entry;
 use std::alloc::Global;
 use std::marker::Model;
 use std::slice;
-use wx_events::Memory;
+use wx_text::Memory;
 
 /// The entries of a journal, in the order in which they came.
 pub type Entries<'a> = slice::Iter<'a, Entry>;

@@ -1,8 +1,8 @@
 // Turns, and what they bring, as words.
 use crate::entry::{Turn, TurnKind};
 use std::alloc::Global;
-use wx_events::{Memory, Spelled, Text, Words};
-use wx_words::{Fields, put_row, put_word, read_rows};
+use wx_text::{Memory, Text};
+use wx_words::{Fields, Spelled, Words, put_row, put_word, read_rows};
 
 #[tactic(auto, unfolding(crate::specs::Kinds::kind, wx_words::specs::Parts::both))]
 impl Spelled for TurnKind {

@@ -9,8 +9,8 @@ ghost use Rattle.wx_journal.specs.Entries.{EntryFits};
 use crate::entry::Entry;
 use crate::words::append_entry;
 use wx_error::CriticalError;
-use wx_events::{List, Memory, Spelled, Text};
-use wx_words::{put_row, put_word};
+use wx_text::{List, Memory, Text};
+use wx_words::{Spelled, put_row, put_word};
 
 /// Appends the line of an entry.
 fn put_line(entry: &Entry, out: &mut Text) -> Result<(), Memory>

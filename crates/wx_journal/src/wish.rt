@@ -2,8 +2,8 @@
 
 use std::alloc::Global;
 use wx_error::CriticalError;
-use wx_events::{Copies, Memory, Spelled, Text, Words};
-use wx_words::{put_row, put_word, read_rows};
+use wx_text::{Copies, Memory, Text};
+use wx_words::{Spelled, Words, put_row, put_word, read_rows};
 
 /// What an error handler wishes, of an error that it was shown.
 #[derive(Drop, Debug)]

@@ -9,8 +9,8 @@ ghost use Rattle.wx_journal.specs.declared.entry.Entry.TheVariants.{Hand};
 use crate::answers::{HookedRef, ReadyRef, VerdictRef};
 use crate::entry::{Act, Entry, Offered, Word};
 use std::alloc::Global;
-use wx_events::{List, Memory, Spelled, Text, Words, put_items};
-use wx_words::{ResultRef, begin_row, named, put_word, read_rows};
+use wx_text::{List, Memory, Text};
+use wx_words::{ResultRef, Spelled, Words, begin_row, named, put_items, put_word, read_rows};
 
 #[tactic(auto, unfolding(crate::specs::Words::offered))]
 impl Spelled for Offered {

@@ -5,15 +5,14 @@ use std::process::Abort;
 use wx_command::{Command, Program, SpawnOptions, Spawnable};
 use wx_control::{Ask, Control, Id, Level};
 use wx_error::RuntimeError;
-use wx_events::{
-    Copies, Event, List, Memory, Priority, ProcessEnd, Signal, Spelled, Text, TextPath, Words,
-};
+use wx_events::{Event, Priority, ProcessEnd, Signal};
 use wx_journal::{
     Act, Entry, HostFault, Journal, Offered, SpawnTag, Turn, TurnKind, VerdictRef, Word, put_entry,
     read_verdict,
 };
+use wx_text::{Copies, List, Memory, Text};
 use wx_watch::{WatchedPath, Watcher};
-use wx_words::{Fields, ResultRef, read_result};
+use wx_words::{Fields, ResultRef, Spelled, TextPath, Words, read_result};
 
 /// The line of an entry.
 fn line_of(alloc: Global, entry: &Entry) -> Result<Text, Memory> {

@@ -22,24 +22,24 @@ abbrev Item : Type 0
 Item = Named × Priority
 
 -- the names are below a number, above a number, rising
-abbrev pub AreBelow : ℕ → List Item → Type 0
-AreBelow n xs = AllByRecursion (λ x. x.0.name < n) xs
+abbrev pub NamesBelow : ℕ → List Item → Type 0
+NamesBelow n xs = AllByRecursion (λ x. x.0.name < n) xs
 
 abbrev AreAbove : ℕ → List Item → Type 0
 AreAbove n xs = AllByRecursion (λ x. n < x.0.name) xs
 
-abbrev pub AreRising : List Item → Type 0
-AreRising [] = Unit {0}
-AreRising (x ∷ xs) = AreAbove x.0.name xs × AreRising xs
+abbrev pub NamesRise : List Item → Type 0
+NamesRise [] = Unit {0}
+NamesRise (x ∷ xs) = AreAbove x.0.name xs × NamesRise xs
 
 -- each item is what is looked up under its name
 abbrev pub AreListed : (ℕ → Option (Event × Priority)) → List Item → Type 0
 AreListed look xs = AllByRecursion (λ x. look x.0.name ≡ Some (x.0.event, x.1)) xs
 
-below-rise : (m n : ℕ) (xs : List Item) → m ≤ n → AreBelow m xs → AreBelow n xs
+below-rise : (m n : ℕ) (xs : List Item) → m ≤ n → NamesBelow m xs → NamesBelow n xs
 below-rise m n xs le h = each_weaker (λ x. x.0.name < m) (λ x. x.0.name < n) (λ x lt. omega (arith, lt, le)) xs h
 
-rising-append : (xs : List Item) (x : Item) → AreBelow x.0.name xs → AreRising xs → AreRising (xs ++ x ∷ [])
+rising-append : (xs : List Item) (x : Item) → NamesBelow x.0.name xs → NamesRise xs → NamesRise (xs ++ x ∷ [])
 rising-append [] x b r = (tt, tt)
 rising-append (y ∷ xs) x b r = (each_append (λ z. y.0.name < z.0.name) xs (x ∷ []) r.0 (b.0, tt), rising-append xs x b.1 r.1)
 
@@ -47,15 +47,15 @@ all-without : (P : Item → Type 0) (name : ℕ) (xs : List Item) → AllByRecur
 all-without P name [] h = tt
 all-without P name (x ∷ xs) h = either (AllByRecursion P) (x.0.name == name) xs (x ∷ without name xs) h.1 (h.0, all-without P name xs h.1)
 
-rising-without : (name : ℕ) (xs : List Item) → AreRising xs → AreRising (without name xs)
+rising-without : (name : ℕ) (xs : List Item) → NamesRise xs → NamesRise (without name xs)
 rising-without name [] r = tt
-rising-without name (x ∷ xs) r = either AreRising (x.0.name == name) xs (x ∷ without name xs) r.1 (all-without (λ z. x.0.name < z.0.name) name xs r.0, rising-without name xs r.1)
+rising-without name (x ∷ xs) r = either NamesRise (x.0.name == name) xs (x ∷ without name xs) r.1 (all-without (λ z. x.0.name < z.0.name) name xs r.0, rising-without name xs r.1)
 
 -- an event that is listed under a new name leaves what is listed under the names below
 not-new : (m n : ℕ) → n < m → (m == n) ≡ false
 not-new m n lt = ne_eqb m n (λ e. omega arith)
 
-listed-rise : (m : ℕ) (v : Option (Event × Priority)) (look : ℕ → Option (Event × Priority)) (xs : List Item) → AreBelow m xs → AreListed look xs → AreListed (λ name. cond (m == name) v (look name)) xs
+listed-rise : (m : ℕ) (v : Option (Event × Priority)) (look : ℕ → Option (Event × Priority)) (xs : List Item) → NamesBelow m xs → AreListed look xs → AreListed (λ name. cond (m == name) v (look name)) xs
 listed-rise m v look [] b h = tt
 listed-rise m v look (x ∷ xs) b h = (ap (λ (t : Bool). cond t v (look x.0.name)) (not-new m x.0.name b.0) ∙ h.0, listed-rise m v look xs b.1 h.1)
 
@@ -64,13 +64,13 @@ listed-new m v look = ap (λ (t : Bool). cond t v (look m)) (eq-eqb m m refl)
 
 -- what is known of the bag of a journal that names only what its own entries made
 pub record BagFacts (p : List Entry) : Type 0 where
-  pub rising : AreRising (bag p)
-  pub below : AreBelow (event_count p) (bag p)
+  pub rising : NamesRise (bag p)
+  pub below : NamesBelow (event_count p) (bag p)
   pub are_listed : AreListed (λ name. listed name p) (bag p)
 
 -- an item more, under a new name
-with_item : (xs : List Item) (look : ℕ → Option (Event × Priority)) (m : ℕ) (event : Event) (priority : Priority) → AreRising xs → AreBelow m xs → AreListed look xs
-    → AreRising (xs ++ (record { name = m; event = event }, priority) ∷ []) × AreBelow (m + 1) (xs ++ (record { name = m; event = event }, priority) ∷ []) × AreListed (λ name. cond (m == name) (Some (event, priority)) (look name)) (xs ++ (record { name = m; event = event }, priority) ∷ [])
+with_item : (xs : List Item) (look : ℕ → Option (Event × Priority)) (m : ℕ) (event : Event) (priority : Priority) → NamesRise xs → NamesBelow m xs → AreListed look xs
+    → NamesRise (xs ++ (record { name = m; event = event }, priority) ∷ []) × NamesBelow (m + 1) (xs ++ (record { name = m; event = event }, priority) ∷ []) × AreListed (λ name. cond (m == name) (Some (event, priority)) (look name)) (xs ++ (record { name = m; event = event }, priority) ∷ [])
 with_item xs look m event priority r b l =
     let x : Item = (record { name = m; event = event }, priority) in (
       rising-append xs x b r,
@@ -120,12 +120,12 @@ above-at n (y ∷ ys) (suc i) x h e = above-at n ys i x h.1 e
 older : (m n : ℕ) → m < n → (m == n) ≡ false
 older m n lt = ne_eqb m n (λ e. omega arith)
 
-named-at : (xs : List Item) (i : ℕ) (x : Item) → AreRising xs → slice_get xs i ≡ Some x → named x.0.name xs ≡ Some x
+named-at : (xs : List Item) (i : ℕ) (x : Item) → NamesRise xs → slice_get xs i ≡ Some x → named x.0.name xs ≡ Some x
 named-at [] i x r e = cc
 named-at (y ∷ ys) zero x r e = let same : y ≡ x = cc in rw (same, eq-eqb x.0.name x.0.name refl) refl
 named-at (y ∷ ys) (suc i) x r e = rw (older y.0.name x.0.name (above-at y.0.name ys i x r.0 e)) (named-at ys i x r.1 e)
 
-without-at : (xs : List Item) (i : ℕ) (x : Item) → AreRising xs → slice_get xs i ≡ Some x → without x.0.name xs ≡ remove xs i
+without-at : (xs : List Item) (i : ℕ) (x : Item) → NamesRise xs → slice_get xs i ≡ Some x → without x.0.name xs ≡ remove xs i
 without-at [] i x r e = cc
 without-at (y ∷ ys) zero x r e = let same : y ≡ x = cc in rw (same, eq-eqb x.0.name x.0.name refl) refl
 without-at (y ∷ ys) (suc i) x r e = rw (older y.0.name x.0.name (above-at y.0.name ys i x r.0 e)) (ap (λ zs. y ∷ zs) (without-at ys i x r.1 e))
@@ -139,7 +139,7 @@ none-by : (n : ℕ) (b : Bool) (x : Item) (xs : List Item) → (x.0.name == n) �
 none-by n true x xs is above rest = let same : x.0.name ≡ n = eqb-true x.0.name n is in none-above n xs (subst (λ m. AreAbove m xs) same above)
 none-by n false x xs is above rest = rw is rest
 
-pub named-gone : (n : ℕ) (xs : List Item) → AreRising xs → named n (without n xs) ≡ None
+pub named-gone : (n : ℕ) (xs : List Item) → NamesRise xs → named n (without n xs) ≡ None
 named-gone n [] r = refl
 named-gone n (x ∷ xs) r = none-by n (x.0.name == n) x xs refl r.0 (named-gone n xs r.1)
 

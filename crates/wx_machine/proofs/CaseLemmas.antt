@@ -1,7 +1,7 @@
 -- One entry more on the way that a plan leads, by its kind.
 use Rattle.std.proofs.Common.{◌≡◌, ℕ, ◌≤◌, Bool, true, false, cond, List, ◌∷◌, Option, Some, None, Result, Ok, Err, refl, arith}
 use Rattle.std.specs.Prelude.{ℤ, OnErr}
-use Rattle.wx_words.specs.declared.list.Memory.{Memory}
+use Rattle.wx_text.specs.declared.list.Memory.{Memory}
 use Rattle.wx_events.specs.declared.process.ProcessEnd.{ProcessEnd}
 use Rattle.wx_command.specs.declared.command.Command.{Command}
 use Rattle.wx_command.specs.declared.spawnable.Spawnable.{Spawnable}

@@ -170,39 +170,39 @@ pub record HasEnded (id : Id) (p : List Entry) (host hooks : Option (List Entry)
   pub follows : (s : Start) → agenda s p ≡ Ends → Follows s p host hooks p' host' hooks'
 
 -- what is left of the end of a job: nothing where it is gone, else its end from here
-abbrev Owes : Id → List Id → List Entry → Plan → Type 0
-Owes id ids p Done = lives id p ≡ false
-Owes id ids p (k) = (jobs p ≡ id ∷ ids) × (lives id p ≡ true) × (k ≡ end_plan id p)
+abbrev OwesEnd : Id → List Id → List Entry → Plan → Type 0
+OwesEnd id ids p Done = lives id p ≡ false
+OwesEnd id ids p (k) = (jobs p ≡ id ∷ ids) × (lives id p ≡ true) × (k ≡ end_plan id p)
 
-owes_drop : (id : Id) (ids : List Id) (p : List Entry) (running : Option ℕ) → child id p ≡ running → jobs p ≡ id ∷ ids → lives id p ≡ true → Owes id ids p (drop_plan running (adds (Gone id) Done))
+owes_drop : (id : Id) (ids : List Id) (p : List Entry) (running : Option ℕ) → child id p ≡ running → jobs p ≡ id ∷ ids → lives id p ≡ true → OwesEnd id ids p (drop_plan running (adds (Gone id) Done))
 owes_drop id ids p None runs first alive = (first, alive, rw (alive, runs) refl)
 owes_drop id ids p (Some c) runs first alive = (first, alive, rw (alive, runs) refl)
 
 end_plan_is : (id : Id) (p : List Entry) → lives id p ≡ true → end_plan id p ≡ drop_plan (child id p) (adds (Gone id) Done)
 end_plan_is id p alive = rw alive refl
 
-owes_first : (id : Id) (ids : List Id) (p : List Entry) → jobs p ≡ id ∷ ids → lives id p ≡ true → Owes id ids p (end_plan id p)
-owes_first id ids p first alive = subst (Owes id ids p) (sym (end_plan_is id p alive)) (owes_drop id ids p (child id p) refl first alive)
+owes_first : (id : Id) (ids : List Id) (p : List Entry) → jobs p ≡ id ∷ ids → lives id p ≡ true → OwesEnd id ids p (end_plan id p)
+owes_first id ids p first alive = subst (OwesEnd id ids p) (sym (end_plan_is id p alive)) (owes_drop id ids p (child id p) refl first alive)
 
 -- such a plan is that of the end
-owed_end : (id : Id) (ids : List Id) (p : List Entry) (k : Plan) (e : Entry) → Owes id ids p k → PlanAdmits p k e → PlanAdmits p (end p) e
+owed_end : (id : Id) (ids : List Id) (p : List Entry) (k : Plan) (e : Entry) → OwesEnd id ids p k → PlanAdmits p k e → PlanAdmits p (end p) e
 owed_end id ids p Done e o d = absurd d
 owed_end id ids p (k) e o d = subst (λ (j : Plan). PlanAdmits p j e) (o.2 ∙ sym (ap (λ js. first_end js p) o.0)) d
 
-next_drop : (id : Id) (ids : List Id) (p : List Entry) (running : Option ℕ) (e : Entry) → child id p ≡ running → jobs p ≡ id ∷ ids → lives id p ≡ true → PlanAdmits p (drop_plan running (adds (Gone id) Done)) e → Owes id ids (e ∷ p) (next (drop_plan running (adds (Gone id) Done)) e)
+next_drop : (id : Id) (ids : List Id) (p : List Entry) (running : Option ℕ) (e : Entry) → child id p ≡ running → jobs p ≡ id ∷ ids → lives id p ≡ true → PlanAdmits p (drop_plan running (adds (Gone id) Done)) e → OwesEnd id ids (e ∷ p) (next (drop_plan running (adds (Gone id) Done)) e)
 next_drop id ids p None e runs first alive d = rw d.1 (rw (self id) refl)
 next_drop id ids p (Some c) e runs first alive d = rw d.1 (first, alive, rw (alive, runs, eq-eqb c c refl) refl)
 
-next_owed : (id : Id) (ids : List Id) (p : List Entry) (k : Plan) (e : Entry) → Owes id ids p k → PlanAdmits p k e → Owes id ids (e ∷ p) (next k e)
+next_owed : (id : Id) (ids : List Id) (p : List Entry) (k : Plan) (e : Entry) → OwesEnd id ids p k → PlanAdmits p k e → OwesEnd id ids (e ∷ p) (next k e)
 next_owed id ids p Done e o d = absurd d
 next_owed id ids p (k) e o d =
     let is : k ≡ drop_plan (child id p) (adds (Gone id) Done) = o.2 ∙ end_plan_is id p o.1 in
-    subst (λ (j : Plan). Owes id ids (e ∷ p) (next j e)) (sym is) (next_drop id ids p (child id p) e refl o.0 o.1 (subst (λ (j : Plan). PlanAdmits p j e) is d))
+    subst (λ (j : Plan). OwesEnd id ids (e ∷ p) (next j e)) (sym is) (next_drop id ids p (child id p) e refl o.0 o.1 (subst (λ (j : Plan). PlanAdmits p j e) is d))
 
 -- on the way to the end of a job
 record IsOnTheWay (id : Id) (ids : List Id) (p : List Entry) (host hooks : Option (List Entry)) (k : Plan) (p' : List Entry) (host' hooks' : Option (List Entry)) : Type 0 where
   dying : Dying p p'
-  owes : Owes id ids p' k
+  owes : OwesEnd id ids p' k
   world_told : TellsOn is_world p host p' host'
   hooks_told : TellsOn (anywhere is_hooks) p hooks p' hooks'
   follows : (s : Start) → agenda s p ≡ Ends → Follows s p host hooks p' host' hooks'

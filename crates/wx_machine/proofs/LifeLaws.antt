@@ -10,7 +10,7 @@ use Rattle.wx_machine.specs.Table.{step_by, send_plan, end_plan}
 use Rattle.wx_machine.specs.JobLaws.{unreaped, IsReaping, NamesChildren, is_owner, is_about, Lived, LifeBegins, LifeGoesOn, LifeAsks, LifeSteps, LifeGivesUp, LifeEnds}
 use Rattle.wx_machine.proofs.Owners.{self, child_owner, unreaped_owner}
 use Rattle.wx_machine.proofs.Frame.{not_child}
-use Rattle.wx_machine.proofs.StepLaws.{Left, step_of, send_of, end_of, left_done, left_gave}
+use Rattle.wx_machine.proofs.StepLaws.{StepLeft, step_of, send_of, end_of, left_done, left_gave}
 
 -- a child of another is none of this job
 not_owned : (id : Id) (o : Option Id) → is_owner id o ≡ false → o ≡ Some id → ⊥
@@ -36,7 +36,7 @@ record IsGood (id : Id) (p : List Entry) : Type 0 where
   reaping : IsReaping id p
 
 -- what a call leaves of it
-good_left : (id : Id) (p p' : List Entry) → Left id p p' → IsGood id p → IsGood id p'
+good_left : (id : Id) (p p' : List Entry) → StepLeft id p p' → IsGood id p → IsGood id p'
 good_left id p p' left h = record { children = left.children h.children; reaping = left.leaves.reaped h.reaping }
 
 life : (id : Id) (command : Command) (p : List Entry) → Lived id command p → IsGood id p

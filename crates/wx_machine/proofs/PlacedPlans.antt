@@ -33,7 +33,7 @@ use Rattle.wx_machine.proofs.Always.{Always, both, always_now, always_next, alwa
 use Rattle.wx_machine.proofs.Places.{unraised_spot, AreHeld, placed_over, placed_signal, placed_silent, placed_run, placed_begun, placed_poll}
 use Rattle.wx_machine.proofs.Holders.{begun_apart}
 use Rattle.wx_machine.proofs.Moves.{placed_asked, placed_pick}
-use Rattle.wx_machine.proofs.Placing.{Placing, MayBeRaised, MayWait, IsBusy, IsCalm, unraised, free_calm, placing_raise, placing_raises, placing_shows, placing_fault, placing_fresh, placing_waiters, placing_wait, placing_reap, placing_restart, placing_stop, placing_leave}
+use Rattle.wx_machine.proofs.Placing.{Placing, MayBeRaised, MayBeWaitedFor, IsBusy, IsCalm, unraised, free_calm, placing_raise, placing_raises, placing_shows, placing_fault, placing_fresh, placing_waiters, placing_wait, placing_reap, placing_restart, placing_stop, placing_leave}
 
 -- ---- the case of a control
 
@@ -184,7 +184,7 @@ placing_ended_by : (id : Id) (by : Kit) (o : Option Grace) (p : List Entry) → 
 placing_ended_by id by None p calm held is busy = placing_waiters id by.parked Done p calm is (λ q calm' stay same. tt)
 placing_ended_by id by (Some g) p calm held is busy = placing_ended_in id by g p calm (held g refl) is busy
 
-placing_ended : (id : Id) (command : Command) (d : ℕ) (p : List Entry) → MayWait id d p → Always Placing p (ended id (kit id command p) d)
+placing_ended : (id : Id) (command : Command) (d : ℕ) (p : List Entry) → MayBeWaitedFor id d p → Always Placing p (ended id (kit id command p) d)
 placing_ended id command d p m =
     placing_wait id d (ended_by id (kit id command p) (grace id p)) (shows id (handler id p) Done) p m
     (λ fault h busy. placing_shows id (handler id p) Done _ h (unraised id _ h m.alive busy) tt (λ n code h'. tt))

@@ -48,8 +48,8 @@ pub record IsCalm (id : Id) (p : List Entry) : Type 0 where
   pub free : begun id p ≡ None
 
 -- what was in hand is in hand still
-abbrev StaysInHand : Id → List Entry → List Entry → Type 0
-StaysInHand id p q = (t : ℕ) → 1 ≤ times t (in_hand id p) → 1 ≤ times t (in_hand id q)
+abbrev AllStayInHand : Id → List Entry → List Entry → Type 0
+AllStayInHand id p q = (t : ℕ) → 1 ≤ times t (in_hand id p) → 1 ≤ times t (in_hand id q)
 
 pub unraised : (id : Id) (p : List Entry) → IsPlaced p → lives id p ≡ true → IsBusy id p → IsUnraised (case_ticket id p) p
 unraised id p h alive busy = by_ticket (case_ticket id p) busy
@@ -97,8 +97,8 @@ pub placing_fresh : (id : Id) (by : Kit) (t : ℕ) (p : List Entry) → MayBeRai
 placing_fresh id by t p f busy = placing_fresh_by id by.command by.handler by.tag by.hook t p f busy
 
 -- what comes behind these, where no grace stands, what is in hand stays there, and the case is the same
-abbrev Behind : Id → List Entry → Plan → Type 0
-Behind id p k = (q : List Entry) → IsCalm id q → StaysInHand id p q → (IsBusy id p → IsBusy id q) → Always Placing q k
+abbrev BehindCalm : Id → List Entry → Plan → Type 0
+BehindCalm id p k = (q : List Entry) → IsCalm id q → AllStayInHand id p q → (IsBusy id p → IsBusy id q) → Always Placing q k
 
 -- a parked ticket isn't in hand
 parked_apart : (id : Id) (t u : ℕ) (ts : List ℕ) (p : List Entry) → IsPlaced p → lives id p ≡ true → parked id p ≡ t ∷ ts → 1 ≤ times u (in_hand id p) → t ≢ u
@@ -106,7 +106,7 @@ parked_apart id t u ts p h alive is le same =
     let there : 1 ≤ times u (parked id p) = rw (is, same, eq-eqb u u refl) (omega arith) in
     let one = (unraised_spot id u p h alive (omega (arith, le))).0 in absurd (omega (arith, le, there, one))
 
-pub placing_waiters : (id : Id) (ts : List ℕ) (k : Plan) (p : List Entry) → IsCalm id p → parked id p ≡ ts → Behind id p k → Always Placing p (waiters ts k)
+pub placing_waiters : (id : Id) (ts : List ℕ) (k : Plan) (p : List Entry) → IsCalm id p → parked id p ≡ ts → BehindCalm id p k → Always Placing p (waiters ts k)
 placing_waiters id [] k p c is rest = rest p c (λ u le. le) (λ busy. busy)
 placing_waiters id (t ∷ ts) k p c is rest =
     let there : 1 ≤ times t (parked id p) = rw (is, eq-eqb t t refl) (omega arith) in
@@ -138,19 +138,19 @@ wait_in_hand true hand standing before t held busy e = by_test (is_held before h
 
 -- The child that runs may be waited for: no function is begun, and the ticket of the case is in hand, save where the end of the
 -- child is kept.
-pub record MayWait (id : Id) (d : ℕ) (p : List Entry) : Type 0 where
+pub record MayBeWaitedFor (id : Id) (d : ℕ) (p : List Entry) : Type 0 where
   pub placed : IsPlaced p
   pub alive : lives id p ≡ true
   pub free : begun id p ≡ None
   pub runs : child id p ≡ Some d
   pub busy : kept id p ≡ false → IsBusy id p
 
-busy_wait : (id : Id) (d : ℕ) (a : Result ProcessEnd HostFault) (p : List Entry) → MayWait id d p → IsBusy id (Wait d a ∷ p)
+busy_wait : (id : Id) (d : ℕ) (a : Result ProcessEnd HostFault) (p : List Entry) → MayBeWaitedFor id d p → IsBusy id (Wait d a ∷ p)
 busy_wait id d a p m t e =
     let due : wait_ticket (kept id p) (in_hand id p) (grace id p) (case_ticket id p) ≡ Some t = rw (m.runs, eq-eqb d d refl) at e in
     wait_in_hand (kept id p) (in_hand id p) (grace id p) (case_ticket id p) t (m.placed.held id) (λ none. m.busy none t) due
 
-unraised_wait : (id : Id) (d : ℕ) (a : Result ProcessEnd HostFault) (p : List Entry) → MayWait id d p → IsUnraised (case_ticket id (Wait d a ∷ p)) (Wait d a ∷ p)
+unraised_wait : (id : Id) (d : ℕ) (a : Result ProcessEnd HostFault) (p : List Entry) → MayBeWaitedFor id d p → IsUnraised (case_ticket id (Wait d a ∷ p)) (Wait d a ∷ p)
 unraised_wait id d a p m = by_ticket (case_ticket id (Wait d a ∷ p)) (busy_wait id d a p m)
   where
     by_ticket : (o : Option ℕ) → ((t : ℕ) → o ≡ Some t → 1 ≤ times t (in_hand id p)) → IsUnraised o (Wait d a ∷ p)
@@ -158,7 +158,7 @@ unraised_wait id d a p m = by_ticket (case_ticket id (Wait d a ∷ p)) (busy_wai
     by_ticket (Some t) held = hand_unraised id t p m.placed m.alive (held t refl)
 
 -- the child that runs is waited for, and then no grace stands
-pub placing_wait : (id : Id) (d : ℕ) (k f : Plan) (p : List Entry) → MayWait id d p
+pub placing_wait : (id : Id) (d : ℕ) (k f : Plan) (p : List Entry) → MayBeWaitedFor id d p
     → ((fault : HostFault) → IsPlaced (Wait d (Err fault) ∷ p) → IsBusy id (Wait d (Err fault) ∷ p) → Always Placing (Wait d (Err fault) ∷ p) f)
     → ((status : ProcessEnd) → IsCalm id (Wait d (Ok status) ∷ p) → IsBusy id (Wait d (Ok status) ∷ p) → Always Placing (Wait d (Ok status) ∷ p) k)
     → Always Placing p (Owes (Waits d) k f)
@@ -173,7 +173,7 @@ placing_wait id d k f p m failed rest = λ a. (waited a, by_answer a (waited a))
 
 -- the child that runs is reaped, and the parked tickets are raised
 pub placing_reap : (id : Id) (handler : Option ℕ) (d t : ℕ) (ts : List ℕ) (k : Plan) (p : List Entry) → child id p ≡ Some d → MayBeRaised id t p → IsBusy id p → parked id p ≡ ts
-    → ((q : List Entry) → IsCalm id q → StaysInHand id p q → IsBusy id q → Always Placing q k) → Always Placing p (reap id handler d t (waiters ts k))
+    → ((q : List Entry) → IsCalm id q → AllStayInHand id p q → IsBusy id q → Always Placing q k) → Always Placing p (reap id handler d t (waiters ts k))
 placing_reap id handler d t ts k p runs f busy is rest = λ a.
     let killed : List Entry = Kill d a ∷ p in
     let h : IsPlaced killed = placed_kill id d a p runs (unraised id p f.placed f.alive busy) f.free f.placed in

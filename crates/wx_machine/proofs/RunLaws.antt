@@ -37,7 +37,7 @@ use Rattle.wx_machine.specs.Start.{Start}
 use Rattle.wx_machine.specs.Jobs.{living, parent, jobs, first_end, end, AreLawful, act_plan}
 use Rattle.wx_machine.specs.Journal.{listed, passes_unseen, lets_pass, closed, ending, named, bag, one_if, and_one, is_among, unhanded, passed, window, batches, is_over, is_urgent_named, is_urgent_in}
 use Rattle.wx_machine.specs.Due.{Agenda, Begins, Sends, Open, Offers, Says, Takes, Filters, Shows, Hands, Plans, Ends, Breaks, sends, plans, rest, job_turn, ended_turn, turn_agenda, after_pass, after_drop, after_show, after_hand, is_quitting, settle, agenda, Admits, Due, IsRun, IsTurn, IsGreatest}
-use Rattle.wx_machine.proofs.BagLaws.{AreBelow, bag_facts}
+use Rattle.wx_machine.proofs.BagLaws.{NamesBelow, bag_facts}
 use Rattle.wx_machine.specs.Leads.{Leads, Here, Then, Follows}
 use Rattle.wx_machine.proofs.Orderly.{IsQuiet, IsFit, IsGoing, GoneRunNone, IsOrderly}
 use Rattle.wx_machine.proofs.SettleLaws.{fit_settle, going_calm, going_plans, quitting_over}
@@ -138,7 +138,7 @@ below_by_test : (n name : ℕ) (x : Named × Priority) (o : Option (Named × Pri
 below_by_test n name x o P true e lt later h = let same = eqb-true x.0.name name e in omega arith
 below_by_test n name x o P false e lt later h = later h
 
-named_below : (n name : ℕ) (xs : List (Named × Priority)) (P : Named × Priority → Type 0) → AreBelow n xs → IsSomeAnd (named name xs) P → name < n
+named_below : (n name : ℕ) (xs : List (Named × Priority)) (P : Named × Priority → Type 0) → NamesBelow n xs → IsSomeAnd (named name xs) P → name < n
 named_below n name [] P b h = absurd h
 named_below n name (x ∷ xs) P b h = below_by_test n name x (named name xs) P (x.0.name == name) refl b.0 (λ g. named_below n name xs P b.1 g) h
 

@@ -37,12 +37,12 @@ pub end_of : (id : Id) (p : List Entry) → IsPlanOf id p (end_plan id p)
 end_of id p = record { sound = sound_end id p; placing = placed_end id p }
 
 -- what it leaves
-pub record Left (id : Id) (p p' : List Entry) : Type 0 where
+pub record StepLeft (id : Id) (p p' : List Entry) : Type 0 where
   pub leaves : LeavesLaws id p p'
   pub children : NamesChildren p → NamesChildren p'
 
 -- what led to a plan by which the job isn't gone next
-left_led : (id : Id) (k : Plan) (p : List Entry) (host hooks : Option (List Entry)) (n : ℕ) (k' : Plan) (p' : List Entry) (host' hooks' : Option (List Entry)) (n' : ℕ) → IsPlanOf id p k → (Goes id k' → ⊥) → PlanLeads k p host hooks n k' p' host' hooks' n' → Left id p p'
+left_led : (id : Id) (k : Plan) (p : List Entry) (host hooks : Option (List Entry)) (n : ℕ) (k' : Plan) (p' : List Entry) (host' hooks' : Option (List Entry)) (n' : ℕ) → IsPlanOf id p k → (Goes id k' → ⊥) → PlanLeads k p host hooks n k' p' host' hooks' n' → StepLeft id p p'
 left_led id k p host hooks n k' p' host' hooks' n' of stays l =
     let f = follow id k p host hooks n k' p' host' hooks' n' l of.sound in record {
       leaves = record {
@@ -54,14 +54,14 @@ left_led id k p host hooks n k' p' host' hooks' n' of stays l =
       children = f.children;
     }
 
-pub left_done : (id : Id) (k : Plan) (p : List Entry) (host hooks : Option (List Entry)) (n : ℕ) (p' : List Entry) (host' hooks' : Option (List Entry)) (n' : ℕ) → IsPlanOf id p k → PlanLeads k p host hooks n Done p' host' hooks' n' → Left id p p'
+pub left_done : (id : Id) (k : Plan) (p : List Entry) (host hooks : Option (List Entry)) (n : ℕ) (p' : List Entry) (host' hooks' : Option (List Entry)) (n' : ℕ) → IsPlanOf id p k → PlanLeads k p host hooks n Done p' host' hooks' n' → StepLeft id p p'
 left_done id k p host hooks n p' host' hooks' n' of l = left_led id k p host hooks n Done p' host' hooks' n' of (λ goes. goes) l
 
 -- what led to a place where the case was given up
-pub left_gave : (id : Id) (k : Plan) (p : List Entry) (host hooks : Option (List Entry)) (n : ℕ) (rest : Plan) (p' : List Entry) (host' hooks' : Option (List Entry)) (n' : ℕ) → IsPlanOf id p k → IsCut rest → PlanLeads k p host hooks n rest p' host' hooks' n' → Left id p p'
+pub left_gave : (id : Id) (k : Plan) (p : List Entry) (host hooks : Option (List Entry)) (n : ℕ) (rest : Plan) (p' : List Entry) (host' hooks' : Option (List Entry)) (n' : ℕ) → IsPlanOf id p k → IsCut rest → PlanLeads k p host hooks n rest p' host' hooks' n' → StepLeft id p p'
 left_gave id k p host hooks n rest p' host' hooks' n' of cut l = left_led id k p host hooks n rest p' host' hooks' n' of (cut_goes id rest cut) l
 
-pub left_same : (id : Id) (p : List Entry) → Left id p p
+pub left_same : (id : Id) (p : List Entry) → StepLeft id p p
 left_same id p = record { leaves = record { others = λ own. record { own = own; others = λ i ne. same_history i p }; reaped = λ r. r; failed = λ r. r; placed = λ h. h }; children = λ h. h }
 
 pub counted_none : (p : List Entry) (n : ℕ) → Counted p n p n
@@ -70,7 +70,7 @@ counted_none p n = record { later = omega arith; rose = omega arith }
 -- ---- a step, whatever it answers: what it leaves, and that the faults of what it did were counted
 
 pub record Stepped (id : Id) (p : List Entry) (n : ℕ) (p' : List Entry) (n' : ℕ) : Type 0 where
-  pub left : Left id p p'
+  pub left : StepLeft id p p'
   pub counted : Counted p n p' n'
 
 pub stepped_ran : {Fixed : Type 0} (id : Id) (k : Plan) (p : List Entry) (a : Seen Fixed) (hooks : Option (List Entry)) (p' : List Entry) (b : Seen Fixed) (hooks' : Option (List Entry)) → IsPlanOf id p k → PlanRan k p a hooks Done p' b hooks' → Stepped id p a.shown.faults p' b.shown.faults
@@ -81,10 +81,10 @@ stepped_gave id k p a hooks p' b hooks' of g = record { left = left_gave id k p 
 
 -- ---- the end of a job, and asks
 
-pub end_left : {Fixed : Type 0} (id : Id) (p : List Entry) (a : Seen Fixed) (k : Plan) (p' : List Entry) (b : Seen Fixed) → end_plan id p ≡ k → PlanFollowsHost k p a Done p' b → Left id p p'
+pub end_left : {Fixed : Type 0} (id : Id) (p : List Entry) (a : Seen Fixed) (k : Plan) (p' : List Entry) (b : Seen Fixed) → end_plan id p ≡ k → PlanFollowsHost k p a Done p' b → StepLeft id p p'
 end_left id p a k p' b is led = left_done id k p _ _ _ p' _ _ _ (rw is at (end_of id p)) (led k p a None None (ran-none k p a None)).led
 
 -- whatever is answered
-pub send_left : {A E : Type 0} (Same : Type 0) (r : Result A E) (id : Id) (ask : Ask) (p p' : List Entry) → OnOk r (PlanFollowsAlone (send_plan id (sends_of ask) p) p Done p') → OnErr r (Same × p' ≡ p) → Left id p p'
+pub send_left : {A E : Type 0} (Same : Type 0) (r : Result A E) (id : Id) (ask : Ask) (p p' : List Entry) → OnOk r (PlanFollowsAlone (send_plan id (sends_of ask) p) p Done p') → OnErr r (Same × p' ≡ p) → StepLeft id p p'
 send_left Same (Ok a) id ask p p' ok err = left_done id (send_plan id (sends_of ask) p) p None None 0 p' None None 0 (send_of id ask p) (ok _ p None None 0 None None 0 PlanHere)
 send_left Same (Err a) id ask p p' ok err = rw err.1 (left_same id p)

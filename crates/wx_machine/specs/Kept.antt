@@ -1,6 +1,6 @@
 -- What hooks keep over the calls on them.
 use Rattle.std.specs.Prelude.{◌≡◌, ◌≤◌, ◌+◌, false, Result, Ok, Err, List, ◌∷◌}
-use Rattle.wx_words.specs.declared.list.Memory.{Memory}
+use Rattle.wx_text.specs.declared.list.Memory.{Memory}
 use Rattle.wx_command.specs.declared.spawnable.Spawnable.{Spawnable}
 use Rattle.wx_journal.specs.declared.entry.Entry.{Entry}
 use Rattle.wx_journal.specs.Names.{NamesItsOwn}

@@ -7,9 +7,9 @@ ghost use Rattle.wx_journal.specs.declared.entry.Entry.{Entry as AnEntry};
 
 use std::alloc::Global;
 use wx_error::CriticalError;
-use wx_events::{List, Memory, Text};
 use wx_journal::{Entry, Journal, put_end, put_lines};
 use wx_machine::is_unseen;
+use wx_text::{List, Memory, Text};
 
 /// Whether this name is none of a batch.
 fn is_left(name: u64, batch: &[u64]) -> bool

@@ -13,11 +13,12 @@ use wx_bytes::{LIMIT, Sink, Source, Unread, read_all, write_all};
 use wx_config::Config;
 use wx_engine::Watchexec;
 use wx_error::CriticalError;
-use wx_events::{Copies, Memory, Text, TextPath};
 use wx_follow::{ScriptHooks, ScriptWorld};
 use wx_journal::Journal;
 use wx_print::print_journal;
 use wx_script::{Script, read_script};
+use wx_text::{Copies, Memory, Text};
+use wx_words::TextPath;
 
 /// The settings that a script states.
 fn config_of(alloc: Global, script: &Script) -> Result<Config, Memory>

@@ -4,7 +4,7 @@ ghost use Rattle.std.specs.Prelude.{◌<◌};
 use std::alloc::Global;
 use std::process::Abort;
 use wx_bytes::{CODE, LIMIT, MemSink, MemSource, Unread, WriteFault, read_all, write_all};
-use wx_events::Memory;
+use wx_text::Memory;
 
 const BYTES: &[u8] = b"0123456789";
 

@@ -6,8 +6,8 @@ use crate::random_jobs::{Answers, Asked, Control, Queue, Task, World};
 use rand_pcg::Pcg32;
 use rand_pcg::rand_core::Rng;
 use std::alloc::Global;
-use wx_events::{Memory, Text};
 use wx_replay::Status;
+use wx_text::{Memory, Text};
 
 /// What an action does.
 #[derive(Clone, Copy)]

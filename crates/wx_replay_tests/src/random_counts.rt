@@ -1,7 +1,7 @@
 // Counts of the lines of a journal, which tell what random scripts did.
 ghost use Rattle.std.specs.Prelude.{◌<◌};
 
-use wx_events::Memory;
+use wx_text::Memory;
 use wx_words::cut;
 
 /// What is counted.

@@ -1,7 +1,7 @@
 // Jobs of random scripts: what they are asked, and how many lines of each sort they bring.
 use crate::random_counts::{Counts, Sort};
 use std::alloc::Global;
-use wx_events::Memory;
+use wx_text::Memory;
 
 /// How long a child has before a graceful stop kills it, and a graceful restart.
 const STOP_GRACE: u64 = 5;

@@ -4,8 +4,8 @@ use crate::random_counts::{Counts, Sort, raises_twice};
 use std::alloc::Global;
 use std::process::Abort;
 use wx_bytes::{MemSink, MemSource};
-use wx_events::Text;
 use wx_replay::replay;
+use wx_text::Text;
 
 /// The script of this seed. Where memory lacked, its counts tell.
 fn drawn(alloc: Global, seed: u64) -> Draft {

@@ -4,8 +4,8 @@
 use crate::tests::run;
 use std::alloc::Global;
 use std::process::Abort;
-use wx_events::cut;
 use wx_replay::Status;
+use wx_words::cut;
 
 /// Ends the test where this isn't so of this case.
 fn expect_so(rt: &impl Abort, so: bool, case: &str) {

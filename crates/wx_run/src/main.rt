@@ -17,8 +17,8 @@ use std::io::ErrorKind;
 use std::process::ExitCode;
 use std::{env, io};
 use top::wx_main;
-use wx_events::{Memory, Text};
 use wx_replay::Status;
+use wx_text::{Memory, Text};
 
 /// The words of the command line, without the program's name. There are none where one of them is no text.
 fn words(rt: &HostRuntime) -> Result<Vec<Text>, Memory> {

@@ -3,8 +3,9 @@ use crate::top::wx_main;
 use std::alloc::Global;
 use std::process::Abort;
 use wx_bytes::{LIMIT, MemSink, MemSource};
-use wx_events::{Memory, Text, cut};
 use wx_replay::Status;
+use wx_text::{Memory, Text};
+use wx_words::cut;
 
 /// These words, of which a space stands between two.
 fn words_of(alloc: Global, line: &[u8]) -> Result<Vec<Text>, Memory> {

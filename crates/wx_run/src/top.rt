@@ -5,8 +5,8 @@ ghost use Rattle.wx_run.specs.Asked.{replay_words};
 
 use std::alloc::Global;
 use wx_bytes::{LIMIT, Sink, Source};
-use wx_events::Text;
 use wx_replay::{Status, replay};
+use wx_text::Text;
 
 /// Does what the words ask for: `replay` reads a script from the source to its end, runs it, and writes the journal of
 /// the run to the sink.

@@ -3,8 +3,9 @@ ghost use Rattle.std.specs.Prelude.{◌≡◌, IfOk};
 ghost use Rattle.wx_script.specs.HostCalls.{no_answers};
 
 use std::alloc::Global;
-use wx_events::{Copies, List, Memory, ProcessEnd};
+use wx_events::ProcessEnd;
 use wx_journal::HostFault;
+use wx_text::{Copies, List, Memory};
 
 /// The answers to the calls of each kind, in order.
 #[derive(Drop, Debug)]

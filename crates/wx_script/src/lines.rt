@@ -10,9 +10,10 @@ ghost use Rattle.wx_script.specs.Lines.{can_bring, is_scripted, if_scripted, rea
 use crate::script::Wanted;
 use std::alloc::Global;
 use wx_error::RuntimeError;
-use wx_events::{Event, List, Memory, Priority, ProcessEnd, Spelled, Text, Words};
+use wx_events::{Event, Priority, ProcessEnd};
 use wx_journal::{Act, HostFault, Turn, TurnKind, Wish, read_verdict};
-use wx_words::{read_result, read_rows, read_to_end};
+use wx_text::{List, Memory, Text};
+use wx_words::{Spelled, Words, read_result, read_rows, read_to_end};
 
 /// What a line of a script says.
 #[derive(Drop, Debug)]

@@ -9,8 +9,10 @@ use crate::answers::Answers;
 use crate::lines::{Line, line_in};
 use crate::script::{Script, ScriptTurn};
 use std::alloc::Global;
-use wx_events::{Event, List, Memory, Priority, cut};
+use wx_events::{Event, Priority};
 use wx_journal::Turn;
+use wx_text::{List, Memory};
+use wx_words::cut;
 
 /// The number of the first bad line, counted from 1.
 #[derive(Clone, Copy, Debug, PartialEq, Eq)]

@@ -2,8 +2,10 @@
 use crate::answers::Answers;
 use std::alloc::Global;
 use wx_error::RuntimeError;
-use wx_events::{Copies, Event, List, Memory, Priority, Spelled, Text, Words};
+use wx_events::{Event, Priority};
 use wx_journal::{Act, Turn, Wish};
+use wx_text::{Copies, List, Memory, Text};
+use wx_words::{Spelled, Words};
 
 /// What the world is to do when it is asked for a turn.
 #[derive(Drop, Debug)]

@@ -11,12 +11,13 @@ use wx_command::{Command, Program, SpawnOptions};
 use wx_config::Config;
 use wx_control::{Id, Job};
 use wx_engine::Watchexec;
-use wx_events::{List, Memory, Text, TextPath};
 use wx_follow::ScriptWorld;
 use wx_hooks::{ActionHandler, Hooks, World};
 use wx_journal::Journal;
 use wx_print::print_journal;
 use wx_script::{Script, read_script};
+use wx_text::{List, Memory, Text};
+use wx_words::TextPath;
 
 /// The script of these lines.
 pub fn script_of(alloc: Global, lines: &[u8]) -> Result<Script, Fail>

@@ -4,9 +4,8 @@ ghost use Rattle.std.specs.Prelude.{◌≡◌};
 use std::alloc::Global;
 use std::fmt;
 use thiserror::Error;
-use wx_words::{
-    Copies, Escaped, List, Memory, Spelled, Text, TextPath, Words, put_row, put_word, read_rows,
-};
+use wx_text::{Copies, List, Memory, Text};
+use wx_words::{Escaped, Spelled, TextPath, Words, put_row, put_word, read_rows};
 
 /// A fault of a backend that watches files, with the paths that it is about. It is shown by its words.
 #[derive(Drop, Debug, Error)]

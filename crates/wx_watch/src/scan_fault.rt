@@ -2,9 +2,8 @@
 use std::alloc::Global;
 use std::fmt;
 use thiserror::Error;
-use wx_words::{
-    Copies, Escaped, Memory, Spelled, Text, TextPath, Words, put_row, put_word, read_rows,
-};
+use wx_text::{Copies, Memory, Text};
+use wx_words::{Escaped, Spelled, TextPath, Words, put_row, put_word, read_rows};
 
 /// As what a path is known.
 #[derive(Drop, Debug)]

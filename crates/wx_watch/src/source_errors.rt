@@ -6,9 +6,8 @@ use crate::notify_fault::NotifyFault;
 use crate::scan_fault::ScanFault;
 use std::alloc::Global;
 use thiserror::Error;
-use wx_words::{
-    Copies, Escaped, Memory, Spelled, Text, TextPath, Words, put_row, put_word, read_rows,
-};
+use wx_text::{Copies, Memory, Text};
+use wx_words::{Escaped, Spelled, TextPath, Words, put_row, put_word, read_rows};
 
 /// An error of the watching of files. It is shown by its words.
 #[derive(Drop, Debug, Error)]

@@ -3,7 +3,8 @@ ghost use Rattle.std.specs.Prelude.{◌≡◌, true, false};
 
 use std::alloc::Global;
 use std::fmt;
-use wx_words::{Copies, Memory, Spelled, Text, TextPath, Words, put_row, put_word, read_rows};
+use wx_text::{Copies, Memory, Text};
+use wx_words::{Spelled, TextPath, Words, put_row, put_word, read_rows};
 
 /// How files are watched.
 #[derive(Clone, Copy, Debug, Default, PartialEq, Eq)]

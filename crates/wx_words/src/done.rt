@@ -1,11 +1,10 @@
 // What is done and gives no value, as a word.
 use crate::cursor::Words;
-use crate::list::Memory;
 use crate::read_rows;
 use crate::rows::put_word;
 use crate::spelled::Spelled;
-use crate::text::Text;
 use std::alloc::Global;
+use wx_text::{Memory, Text};
 
 #[tactic(auto, unfolding(crate::specs::Done::ok))]
 impl Spelled for () {

@@ -4,8 +4,8 @@ ghost use Rattle.wx_words.specs.Line.{Reads};
 ghost use Rattle.wx_words.specs.Dotted.{read_dotted};
 
 use crate::cursor::Words;
-use crate::list::Memory;
 use std::alloc::Global;
+use wx_text::Memory;
 
 /// A value whose parts are one word, with dots between them.
 pub trait Dotted: Drop {

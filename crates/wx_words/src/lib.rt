@@ -1,10 +1,9 @@
-//! Texts, lists, and the words in which values are written.
+//! The words in which values are written. It offers texts and lists again, which these are made of.
 #![tactic(auto, unfolding(crate::specs::Line::behind))]
 
 mod cursor;
 mod done;
 mod dotted;
-mod list;
 mod lists;
 mod non_zero;
 mod numbers;
@@ -15,13 +14,11 @@ mod rows;
 mod signed;
 mod spelled;
 mod switches;
-mod text;
 mod texts;
 mod tuples;
 
 pub use cursor::{Words, cut};
 pub use dotted::{Dotted, read_dotted};
-pub use list::{Copies, List, Memory, copy_twice};
 pub use lists::{put_items, read_to_end};
 pub use numbers::number_of;
 pub use path::TextPath;
@@ -30,5 +27,5 @@ pub use rows::{
     Fields, NamedFields, begin_row, is_word, put_row, put_word, read_made, take_literal,
 };
 pub use spelled::Spelled;
-pub use text::Text;
 pub use texts::{Escaped, text_in};
+pub use wx_text::{Copies, List, Memory, Text, copy_twice};

@@ -6,10 +6,9 @@ ghost use Rattle.wx_words.specs.ToEnd.{HasWord, read_to_end};
 ghost use Rattle.wx_words.specs.Lists.{read_items, read_list};
 
 use crate::cursor::Words;
-use crate::list::{List, Memory};
 use crate::spelled::Spelled;
-use crate::text::Text;
 use std::alloc::Global;
+use wx_text::{List, Memory, Text};
 
 /// Appends the words of each item, each with a space before it. A part of the words may stand in `out` where memory
 /// runs out.

@@ -2,11 +2,10 @@
 ghost use Rattle.std.specs.Prelude.{◌≡◌};
 
 use crate::cursor::Words;
-use crate::list::Memory;
 use crate::spelled::Spelled;
-use crate::text::Text;
 use std::alloc::Global;
 use std::num::{NonZeroI32, NonZeroI64};
+use wx_text::{Memory, Text};
 
 impl Spelled for NonZeroI64 {
     ghost use Rattle.wx_words.specs.Parts.{as_line, non_zero_i64};

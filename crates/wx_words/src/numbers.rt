@@ -4,10 +4,9 @@ ghost use Rattle.wx_words.specs.Line.{Reads};
 ghost use Rattle.wx_words.specs.Numbers.{number_in, read_u32, with_digits};
 
 use crate::cursor::Words;
-use crate::list::Memory;
 use crate::spelled::Spelled;
-use crate::text::Text;
 use std::alloc::Global;
+use wx_text::{Memory, Text};
 
 /// The number that a word spells.
 pub fn number_of(word: &[u8]) -> Option<u64>

@@ -3,11 +3,10 @@ ghost use Rattle.std.specs.Prelude.{◌≡◌};
 ghost use Rattle.wx_words.specs.Optional.{optional_in};
 
 use crate::cursor::Words;
-use crate::list::Memory;
 use crate::numbers::number_of;
 use crate::spelled::Spelled;
-use crate::text::Text;
 use std::alloc::Global;
+use wx_text::{Memory, Text};
 
 /// The number that a word spells, or that there is none.
 fn optional_of(word: &[u8]) -> Option<Option<u64>>

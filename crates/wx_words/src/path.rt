@@ -2,13 +2,12 @@
 ghost use Rattle.std.specs.Prelude.{◌≡◌};
 
 use crate::cursor::Words;
-use crate::list::{Copies, Memory};
 use crate::spelled::Spelled;
-use crate::text::Text;
 use std::alloc::Global;
 use std::cmp::Ordering;
 use std::hash::{Hash, Hasher};
 use std::marker::Model;
+use wx_text::{Copies, Memory, Text};
 
 /// A path as a text, which contracts see as its bytes.
 #[derive(Drop, Debug)]

@@ -4,11 +4,10 @@ ghost use Rattle.wx_words.specs.Line.{Reads};
 ghost use Rattle.wx_words.specs.Results.{read_result};
 
 use crate::cursor::Words;
-use crate::list::Memory;
 use crate::rows::Fields;
 use crate::spelled::Spelled;
-use crate::text::Text;
 use std::alloc::Global;
+use wx_text::{Memory, Text};
 
 /// A value or an error, lent to be written.
 #[derive(Clone, Copy)]

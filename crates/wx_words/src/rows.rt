@@ -5,10 +5,9 @@ ghost use Rattle.wx_words.specs.Combine.{read_literal, IsMade};
 ghost use Rattle.wx_words.specs.Line.{behind, joined};
 
 use crate::cursor::Words;
-use crate::list::Memory;
 use crate::spelled::Spelled;
-use crate::text::Text;
 use std::alloc::Global;
+use wx_text::{Memory, Text};
 
 /// What stands behind a first word, lent to be written: a value, or one behind the other.
 pub trait Fields {

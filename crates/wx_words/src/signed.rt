@@ -7,11 +7,10 @@ ghost use Rattle.wx_words.specs.Signed.{signed_in, signed_words, read_i64, read_
 ghost use Rattle.wx_words.specs.SignedLaws.{i64_form, i64_clean};
 
 use crate::cursor::Words;
-use crate::list::Memory;
 use crate::numbers::number_of;
 use crate::spelled::Spelled;
-use crate::text::Text;
 use std::alloc::Global;
+use wx_text::{Memory, Text};
 
 /// The signed number that a word spells, whose absolute value has 64 bits at most.
 fn signed_of(word: &[u8]) -> Option<i128>

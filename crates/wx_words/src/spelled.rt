@@ -7,9 +7,8 @@ ghost use Rattle.wx_words.specs.Parts.{line as a_line};
 ghost use Rattle.wx_words.specs.Line.{behind, joined, Reads, Taken};
 
 use crate::cursor::Words;
-use crate::list::Memory;
-use crate::text::Text;
 use std::alloc::Global;
+use wx_text::{Memory, Text};
 
 /// A value that stands in lines as words.
 pub trait Spelled: Drop {

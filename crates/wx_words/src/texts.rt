@@ -6,11 +6,10 @@ ghost use Rattle.wx_words.specs.Texts.{AllBytes, escaped_byte, escaped, text_wor
 ghost use Rattle.std.specs.Fmt.{digit_glyph};
 
 use crate::cursor::Words;
-use crate::list::Memory;
 use crate::spelled::Spelled;
-use crate::text::Text;
 use std::alloc::Global;
 use std::fmt;
+use wx_text::{Memory, Text};
 
 /// The hexadecimal digit of a number.
 fn hex_digit(n: u8) -> u8

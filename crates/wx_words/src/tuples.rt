@@ -2,10 +2,9 @@
 ghost use Rattle.std.specs.Prelude.{◌≡◌};
 
 use crate::cursor::Words;
-use crate::list::Memory;
 use crate::spelled::Spelled;
-use crate::text::Text;
 use std::alloc::Global;
+use wx_text::{Memory, Text};
 
 #[tactic(auto, using(crate::specs::LineLaws::behinds), unfolding(crate::specs::Parts::both))]
 impl<A: Spelled, B: Spelled> Spelled for (A, B) {

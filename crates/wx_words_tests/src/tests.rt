@@ -3,9 +3,8 @@ use std::alloc::Global;
 use std::fmt;
 use std::num::{NonZeroI32, NonZeroI64};
 use std::process::Abort;
-use wx_words::{
-    Copies, List, Memory, Spelled, Text, TextPath, Words, copy_twice, read_made, take_literal,
-};
+use wx_text::{Copies, List, Memory, Text, copy_twice};
+use wx_words::{Spelled, TextPath, Words, read_made, take_literal};
 
 /// The words of this value with one space between them.
 fn line_of<T: Spelled>(alloc: Global, value: &T) -> Result<Text, Memory> {

@@ -2,7 +2,7 @@ use Rattle.wx_machine.specs.Steady.{OnlyRoom}
 use Rattle.wx_machine.specs.Due.{Agenda}
 use Rattle.wx_action.specs.Serves.{AddsAlone}
 use Rattle.wx_action.specs.Perform.{OwesActs}
-use Rattle.wx_action.specs.Stands.{Stands, HasRoom}
+use Rattle.wx_action.specs.Stands.{Stands, HasEndRoom}
 use Rattle.wx_action.proofs.acts_done.perform.Given as goal
 
 abbrev pub ghost-perform_one : goal.ghost-perform_one
@@ -14,5 +14,5 @@ invariant-loop-one g l = record {
   stands : Stands g.start l.worker l.journal.past;
   adds : AddsAlone g.start l.initial.journal.past l.journal.past;
   rest : OnlyRoom (g.W.Outside.seen l.initial.host) (g.W.Outside.seen l.host);
-  room : HasRoom l.worker l.journal.spare (g.W.Outside.seen l.host).spare;
+  room : HasEndRoom l.worker l.journal.spare (g.W.Outside.seen l.host).spare;
 }

@@ -4,7 +4,7 @@ use Rattle.wx_machine.specs.Table.{step_plan}
 use Rattle.wx_job.specs.Stands.{TaskStands, id_of, command_of}
 use Rattle.wx_machine.specs.Due.{Open}
 use Rattle.wx_hooks.specs.HeldJobs.{with_task}
-use Rattle.wx_action.specs.Stands.{HasRoom}
+use Rattle.wx_action.specs.Stands.{HasEndRoom}
 use Rattle.wx_machine.proofs.FaultLaws.{counts_on}
 use Rattle.wx_action.proofs.PlanLemmas.{JobDone}
 use Rattle.wx_hooks.proofs.JobListLemmas.{length_with}
@@ -28,7 +28,7 @@ step-requires-clause-room g c = let parked = parked_lent c.args.worker.now.jobs 
 }
 
 -- the room for the end of all jobs is left
-room : (g : _) (c : After-step g) → HasRoom (record c.args.worker.now { jobs = with_task c.args.id c.args.worker.now.jobs c.step.new.self }) c.step.new.journal.spare (g.W.Outside.seen c.step.new.host).spare
+room : (g : _) (c : After-step g) → HasEndRoom (record c.args.worker.now { jobs = with_task c.args.id c.args.worker.now.jobs c.step.new.self }) c.step.new.journal.spare (g.W.Outside.seen c.step.new.host).spare
 room g c =
     let same = length_with c.args.id c.args.worker.now.jobs c.step.new.self in
     let parked = parked_lent c.args.worker.now.jobs c.args.id c.task_mut-task.result.now c.task_mut-task.ensures.task in

@@ -8,7 +8,7 @@ use Rattle.wx_machine.specs.RunLaws.{NoneUrgentWaits, MomentsRise}
 use Rattle.wx_machine.specs.Journal.{early_count}
 use Rattle.wx_machine.specs.Kept.{KeepsOn, Past}
 use Rattle.wx_machine.specs.Leads.{Follows}
-use Rattle.wx_action.specs.Stands.{HasRoom}
+use Rattle.wx_action.specs.Stands.{HasEndRoom}
 use Rattle.wx_machine.specs.Told.{is_last}
 use Rattle.wx_engine.specs.Run.{Rests, ServesTurns}
 use Rattle.wx_engine.proofs.TurnLemmas.{Drawn, turn_drawn, fault_drawn, drawn_follows, drawn_quiet, drawn_counts, turn_calm, fault_calm, early_drawn, served, turn_stands, fault_stands, turns_then}
@@ -45,7 +45,7 @@ listed_rise : (g : _) (c : After-push-in-turns g) → MomentsRise c.push-in-turn
 listed_rise g c =
     rw (rw c.in_ok-make_room.ensures.same at c.push-in-turns.ensures.past) (omega (arith, c.turns.invariant.now, c.in-Ok.ensures.later, ap (λ k. k.moment) c.in_ok-make_room.ensures.rest.steady.progress_kept), c.turns.invariant.rise)
 
-listed_room : (g : _) (c : After-push-in-turns g) → HasRoom c.turns.state c.push-in-turns.new.self.spare (g.W.Outside.seen c.turn.new.self).spare
+listed_room : (g : _) (c : After-push-in-turns g) → HasEndRoom c.turns.state c.push-in-turns.new.self.spare (g.W.Outside.seen c.turn.new.self).spare
 listed_room g c = record { in_journal = omega (arith, c.in_ok-make_room.ensures.journal_room, c.push-in-turns.ensures.room); in_host = omega (arith, c.in_ok-make_room.ensures.world_room, c.in-Ok.ensures.gives.room) }
 
 listed : (g : _) (c : After-push-in-turns g) → ServesTurns g.start c.args.journal.now.past (g.W.Outside.seen c.args.world.now) (g.H.JobHooks.seen c.args.hooks.now).told c.push-in-turns.new.self.past (g.W.Outside.seen c.turn.new.self) (g.H.JobHooks.seen c.turns.hooks).told
@@ -64,7 +64,7 @@ listed g c =
 
 -- ---- and served
 
-rests : (g : _) (c : After-serve g) → HasRoom c.turns.state c.push-in-turns.new.self.spare (g.W.Outside.seen c.turn.new.self).spare → MomentsRise c.push-in-turns.new.self.past → NoneUrgentWaits c.push-in-turns.new.self.past → Rests g.start c.serve.new.state c.serve.new.journal (g.W.Outside.seen c.serve.new.world)
+rests : (g : _) (c : After-serve g) → HasEndRoom c.turns.state c.push-in-turns.new.self.spare (g.W.Outside.seen c.turn.new.self).spare → MomentsRise c.push-in-turns.new.self.past → NoneUrgentWaits c.push-in-turns.new.self.past → Rests g.start c.serve.new.state c.serve.new.journal (g.W.Outside.seen c.serve.new.world)
 rests g c room rise calm = record {
   stands = c.serve.ensures.continues.stands;
   room = c.serve.ensures.continues.room room;

@@ -7,7 +7,7 @@ use Rattle.wx_machine.specs.Faults.{CountsOn}
 use Rattle.wx_machine.specs.RunLaws.{NoneUrgentWaits, MomentsRise}
 use Rattle.wx_machine.specs.Kept.{KeepsOn}
 use Rattle.wx_machine.specs.Leads.{Follows}
-use Rattle.wx_action.specs.Stands.{Stands, HasRoom}
+use Rattle.wx_action.specs.Stands.{Stands, HasEndRoom}
 use Rattle.wx_engine.specs.Run.{TellsTurns}
 use Rattle.wx_engine.proofs.running.serve_turns.Given as goal
 
@@ -19,7 +19,7 @@ invariant-turns g l = record {
   about : l.about ≡ codes "turn";
   stands : Stands g.start l.state l.journal.past;
   calm : NoneUrgentWaits l.journal.past;
-  room : HasRoom l.state l.journal.spare (g.W.Outside.seen l.world).spare;
+  room : HasEndRoom l.state l.journal.spare (g.W.Outside.seen l.world).spare;
   open_is : agenda g.start l.journal.past ≡ Open;
   fault : turn_fault l.journal.past ≡ None;
   now : moment l.journal.past ≤ (g.W.Outside.seen l.world).progress.moment;

@@ -1,13 +1,13 @@
 use Rattle.std.proofs.Common.{refl, ap, arith, length, ◌+◌}
 use Rattle.wx_action.proofs.StandsLemmas.{event_count-small}
-use Rattle.wx_action.proofs.ArriveLemmas.{Steps, grows, grows_none, offer_done, offered_then}
+use Rattle.wx_action.proofs.ArriveLemmas.{StepsOver, grows, grows_none, offer_done, offered_then}
 use Rattle.wx_action.proofs.worker_state.Worker.arrive.Goals as goal
 
 pub overflow_add-self : goal.overflow_add-self
 overflow_add-self g c =
     omega (arith, event_count-small c.args.journal.now.past, c.requires.stands.named_kept, ap (λ p. length p) c.in-Ok.ensures.same, c.in-Ok.ensures.room, c.in-Ok.ensures.fits)
 
-done : (g : _) (c : goal.After-push g) → Steps g.start (record c.args.self.now { queue = c.offer_to-result.new.queue; named = c.args.self.now.named + 1 }) c.args.journal.now.past c.push.new.self.past
+done : (g : _) (c : goal.After-push g) → StepsOver g.start (record c.args.self.now { queue = c.offer_to-result.new.queue; named = c.args.self.now.named + 1 }) c.args.journal.now.past c.push.new.self.past
 done g c =
     offer_done g.start c.args.self.now c.args.journal.now.past c.push.new.self.past c.args.event c.args.priority _ c.offer_to-result.new.queue c.offer_to-result.result c.requires.stands c.requires.due
     (rw c.in_ok-event.ensures.1 at c.offer_to-result.ensures.offered) c.offer_to-result.ensures.size c.offer_to-result.ensures.closed (rw (c.in-Ok.ensures.same, c.in_ok-event.ensures.0) at c.push.ensures.past)

@@ -1,13 +1,13 @@
 use Rattle.std.proofs.Common.{refl, ap, arith, length, length-append, ◌+◌}
 use Rattle.wx_action.proofs.StandsLemmas.{event_count-small}
-use Rattle.wx_action.proofs.ArriveLemmas.{Steps, grows, grows_none, send_done, sent_then}
+use Rattle.wx_action.proofs.ArriveLemmas.{StepsOver, grows, grows_none, send_done, sent_then}
 use Rattle.wx_action.proofs.worker_state.Worker.send.Goals as goal
 
 pub overflow_add-self : goal.overflow_add-self
 overflow_add-self g c =
     omega (arith, event_count-small c.args.journal.now.past, c.requires.0.1.stands.named_kept, ap (λ p. length p) c.in-Ok.ensures.same, c.in-Ok.ensures.room, c.in-Ok.ensures.fits)
 
-done : (g : _) (c : goal.After-push g) → Steps g.start (record c.args.self.now { queue = c.offer_to.new.queue; named = c.args.self.now.named + 1 }) c.args.journal.now.past c.push.new.self.past
+done : (g : _) (c : goal.After-push g) → StepsOver g.start (record c.args.self.now { queue = c.offer_to.new.queue; named = c.args.self.now.named + 1 }) c.args.journal.now.past c.push.new.self.past
 done g c =
     send_done g.start c.args.self.now c.args.journal.now.past c.push.new.self.past c.args.event c.args.priority _ c.offer_to.new.queue c.offer_to.result c.requires.0.1.stands c.requires.0.1.due c.requires.1.0 c.requires.1.1
     (rw c.in_ok-event.ensures.1 at c.offer_to.ensures.offered) c.offer_to.ensures.size c.offer_to.ensures.closed (rw (c.in-Ok.ensures.same, c.in_ok-event.ensures.0) at c.push.ensures.past)

@@ -2,7 +2,7 @@ use Rattle.std.proofs.Common.{ap, arith}
 use Rattle.wx_action.specs.Stands.{end_room}
 use Rattle.wx_action.proofs.ArriveLemmas.{steps_add}
 use Rattle.wx_action.proofs.Serving.{hand_adds, hand_then}
-use Rattle.wx_action.proofs.WorkLemmas.{not_empty, TakeDone, take_done, IsToShow, to_show}
+use Rattle.wx_action.proofs.WorkLemmas.{not_empty, TakeDone, take_done, TakenToShow, to_show}
 use Rattle.wx_action.proofs.worker_state.Worker.take.Goals.{Else-is_unseen, After-join}
 use Rattle.wx_action.proofs.worker_state.Worker.take.Goals as goal
 
@@ -31,7 +31,7 @@ returns-then-is_unseen-clause-found g c = (done g c).collected
 
 -- ---- it is shown to the filter
 
-shows : (g : _) (c : Else-is_unseen g) → IsToShow g.start (record c.args.self.now { queue = c.try_recv.new.self }) c.args.journal.now.past c.push.new.self.past c.args.at (c.in-Some.item, c.in-Some.priority)
+shows : (g : _) (c : Else-is_unseen g) → TakenToShow g.start (record c.args.self.now { queue = c.try_recv.new.self }) c.args.journal.now.past c.push.new.self.past c.args.at (c.in-Some.item, c.in-Some.priority)
 shows g c =
     to_show g.start c.args.self.now c.args.journal.now.past c.push.new.self.past c.args.at (c.in-Some.item, c.in-Some.priority) c.try_recv.new.self
     c.requires.1.0.stands c.requires.1.0.due c.requires.1.0.now c.in-Some.ensures.taken c.in-Some.ensures.greatest c.try_recv.ensures.size c.try_recv.ensures.closed
