@@ -1,6 +1,6 @@
 -- An event is offered to the queue, or listed as sent, or a word is said.
 use Rattle.std.proofs.Common.{◌≡◌, ℕ, ◌+◌, ◌<◌, ◌≤◌, true, false, List, ◌∷◌, length, arith, refl, ap, sym, subst, ◌∙◌}
-use Rattle.std.specs.Prelude.{None}
+use Rattle.std.specs.Prelude.{None, Result, Ok, Err, OnOk, OnErr}
 use Rattle.wx_events.specs.declared.event.Event.{Event}
 use Rattle.wx_events.specs.declared.priority.Priority.{Priority}
 use Rattle.prio_channel.specs.Channel.{Channel}
@@ -17,13 +17,12 @@ use Rattle.wx_journal.specs.Written.{Written}
 use Rattle.wx_action.specs.declared.worker_state.Worker.{Worker}
 use Rattle.wx_machine.specs.Start.{Start}
 use Rattle.wx_machine.specs.Journal.{closed, bag}
-use Rattle.wx_machine.specs.Due.{Agenda, agenda, Due, Open, Offers, Says, Sends, rest, settle}
-use Rattle.wx_machine.proofs.Orderly.{IsGoing, IsOrderly}
-use Rattle.wx_machine.proofs.SettleLaws.{settle_calm}
+use Rattle.wx_machine.specs.Due.{Point, Sends, Offers, Says, Agenda, Open, Comes, rest, is_quitting, settle, agenda, Due}
+use Rattle.wx_machine.proofs.SettleLaws.{settle_calm, settle_over}
 use Rattle.wx_machine.specs.Kept.{StaysQuiet, More}
 use Rattle.wx_machine.specs.Leads.{FollowsAlone, Then}
 use Rattle.wx_machine.specs.Turns.{StaysInTurn}
-use Rattle.wx_action.specs.Serves.{AddsAlone, Grows}
+use Rattle.wx_action.specs.Serves.{AddsAlone, Grows, OwesRest, Settles}
 use Rattle.wx_action.proofs.ServesLaws.{adds, adds_none}
 use Rattle.wx_machine.proofs.AllJobs.{turns_over}
 use Rattle.wx_action.specs.Stands.{Stands, IsOffered, end_room}
@@ -47,54 +46,59 @@ grows s w w' j j' d same room = record { stands = d.stands; adds = steps_add s w
 pub grows_none : (s : Start) (w w' : Worker) (j j' : Written) → Stands s w' j'.past → j'.past ≡ j.past → end_room w' ≡ end_room w → (end_room w ≤ j.spare → end_room w' ≤ j'.spare) → Grows s w j w' j'
 grows_none s w w' j j' stands same end room = record { stands = stands; adds = rw same (adds_none s j.past); end_kept = end; room = room }
 
--- nothing is owed behind an offer, or a word
-pub offered_then : (s : Start) (p p' : List Entry) (name : ℕ) (event : Event) (priority : Priority) (result : Offered) → IsOrderly s p → agenda s p ≡ Offers event priority Open → p' ≡ Offer name None result event priority ∷ p → agenda s p' ≡ Open
-offered_then s p p' name event priority result o due grown =
-    rw grown (ap (λ (k : Agenda). settle (Offer name None result event priority ∷ p) (rest (Offer name None result event priority) k)) due ∙ settle_calm (Offer name None result event priority ∷ p) Open (subst (IsGoing p) due o.going))
+-- what stood behind an offer, an event that is listed as sent, or a word is owed
+pub offered_then : (s : Start) (p p' : List Entry) (name : ℕ) (event : Event) (priority : Priority) (result : Offered) → p' ≡ Offer name None result event priority ∷ p → OwesRest s (Offers event priority) p p'
+offered_then s p p' name event priority result grown more due =
+    rw grown (ap (λ (k : Agenda). settle (Offer name None result event priority ∷ p) (rest (Offer name None result event priority) k)) due ∙ settle_over (Offer name None result event priority ∷ p) p more refl)
 
-pub said_then : (s : Start) (p p' : List Entry) (word : Word) → IsOrderly s p → agenda s p ≡ Says word Open → p' ≡ Said word ∷ p → agenda s p' ≡ Open
-said_then s p p' word o due grown = rw grown (ap (λ (k : Agenda). settle (Said word ∷ p) (rest (Said word) k)) due ∙ settle_calm (Said word ∷ p) Open (subst (IsGoing p) due o.going))
+pub sent_then : (s : Start) (p p' : List Entry) (name : ℕ) (event : Event) (priority : Priority) (other : Event) (ranked : Priority) → p' ≡ Sent name event priority ∷ p → OwesRest s (Sends other ranked) p p'
+sent_then s p p' name event priority other ranked grown more due =
+    rw grown (ap (λ (k : Agenda). settle (Sent name event priority ∷ p) (rest (Sent name event priority) k)) due ∙ settle_over (Sent name event priority ∷ p) p more refl)
 
--- behind an event that is listed as sent are the others
-pub sent_then : (s : Start) (p p' : List Entry) (name : ℕ) (event : Event) (priority : Priority) (other : Event) (ranked : Priority) (more : List (Event × Priority)) → IsOrderly s p → agenda s p ≡ Sends other ranked more → p' ≡ Sent name event priority ∷ p → agenda s p' ≡ rest (Sent name event priority) (agenda s p)
-sent_then s p p' name event priority other ranked more o due grown = rw grown (settle_calm (Sent name event priority ∷ p) (rest (Sent name event priority) (agenda s p)) (subst (IsGoing p) due o.going))
+pub said_then : (s : Start) (p p' : List Entry) (word : Word) → p' ≡ Said word ∷ p → OwesRest s (Says word) p p'
+said_then s p p' word grown more due = rw grown (ap (λ (k : Agenda). settle (Said word ∷ p) (rest (Said word) k)) due ∙ settle_over (Said word ∷ p) p more refl)
+
+-- where nothing stood behind it, and the end wasn't asked for, nothing is owed
+pub settles_open : {X E : Type 0} (s : Start) (x : Point) (p p' : List Entry) (result : Result X E) → is_quitting p ≡ false → agenda s p ≡ Comes x Open → OnOk result (OwesRest s x p p') → OnErr result (p' ≡ p) → Settles result s p p'
+settles_open s x p p' (Ok u) going due done err = record { done = done Open due ∙ settle_calm p Open going; err = tt }
+settles_open s x p p' (Err e) going due done err = record { done = tt; err = err }
 
 -- a word is said
-pub said_done : (s : Start) (w : Worker) (p p' : List Entry) (word : Word) (more : Agenda) → Stands s w p → agenda s p ≡ Says word more → p' ≡ Said word ∷ p → StepsOver s w p p'
+pub said_done : (s : Start) (w : Worker) (p p' : List Entry) (word : Word) (more : Agenda) → Stands s w p → agenda s p ≡ Comes (Says word) more → p' ≡ Said word ∷ p → StepsOver s w p p'
 said_done s w p p' word more stands due grown =
-    let d : Due s p (Said word) = rw due refl in
+    let d : Due s p (Said word) = rw due (tt, refl) in
     rw grown (record {
-      stands = stands_behind s w (Said word) p refl tt d stands;
+      stands = stands_behind s w (Said word) p refl tt stands;
       follows = λ world hooks p₀ world₀ hooks₀ l. Then (Said word) p world hooks l d;
       quiet = λ p₀ a. More _ p a refl;
       turns = turns_over _ _ refl;
     })
 
-pub offer_done : (s : Start) (w : Worker) (p p' : List Entry) (event : Event) (priority : Priority) (more : Agenda) (new : Channel Named) (result : Offered) → Stands s w p → agenda s p ≡ Offers event priority more
+pub offer_done : (s : Start) (w : Worker) (p p' : List Entry) (event : Event) (priority : Priority) (more : Agenda) (new : Channel Named) (result : Offered) → Stands s w p → agenda s p ≡ Comes (Offers event priority) more
     → IsOffered w.queue (record { name = w.named; event = event }, priority) new result → new.size ≡ w.queue.size → new.closed ≡ w.queue.closed → p' ≡ Offer w.named None result event priority ∷ p
     → StepsOver s (record w { queue = new; named = w.named + 1 }) p p'
 offer_done s w p p' event priority more new result stands due is size closed grown =
     let name : w.named ≡ event_count p = stands.named_kept in
     let is' : IsOffered w.queue (record { name = event_count p; event = event }, priority) new result = subst (λ (n : ℕ). IsOffered w.queue (record { name = n; event = event }, priority) new result) name is in
-    let d : Due s p (Offer (event_count p) None result event priority) = rw due (ap (λ (r : Offered). Offer (event_count p) None r event priority) (offered_is s w p _ new result stands is')) in
+    let d : Due s p (Offer (event_count p) None result event priority) = rw due (tt, ap (λ (r : Offered). Offer (event_count p) None r event priority) (offered_is s w p _ new result stands is')) in
     let P : ℕ → Type 0 = λ n. StepsOver s (record w { queue = new; named = w.named + 1 }) p (Offer n None result event priority ∷ p) in
     rw grown (subst P (sym name) (record {
-      stands = stands_offered s w p event priority new result stands d is' size closed;
+      stands = stands_offered s w p event priority new result stands is' size closed;
       follows = λ world hooks p₀ world₀ hooks₀ l. Then (Offer (event_count p) None result event priority) p world hooks l d;
       quiet = λ p₀ a. More _ p a refl;
       turns = turns_over _ _ refl;
     }))
 
-pub send_done : (s : Start) (w : Worker) (p p' : List Entry) (event : Event) (priority : Priority) (more : List (Event × Priority)) (new : Channel Named) (result : Offered) → Stands s w p → agenda s p ≡ Sends event priority more
+pub send_done : (s : Start) (w : Worker) (p p' : List Entry) (event : Event) (priority : Priority) (more : Agenda) (new : Channel Named) (result : Offered) → Stands s w p → agenda s p ≡ Comes (Sends event priority) more
     → length (bag p) < s.config.event_channel_size → closed p ≡ false → IsOffered w.queue (record { name = w.named; event = event }, priority) new result → new.size ≡ w.queue.size → new.closed ≡ w.queue.closed → p' ≡ Sent w.named event priority ∷ p
     → StepsOver s (record w { queue = new; named = w.named + 1 }) p p'
 send_done s w p p' event priority more new Queued stands due fits takes is size same_closed grown =
     let name : w.named ≡ event_count p = stands.named_kept in
     let is' : IsOffered w.queue (record { name = event_count p; event = event }, priority) new Queued = subst (λ (n : ℕ). IsOffered w.queue (record { name = n; event = event }, priority) new Queued) name is in
-    let d : Due s p (Sent (event_count p) event priority) = rw due refl in
+    let d : Due s p (Sent (event_count p) event priority) = rw due (tt, refl) in
     let P : ℕ → Type 0 = λ n. StepsOver s (record w { queue = new; named = w.named + 1 }) p (Sent n event priority ∷ p) in
     rw grown (subst P (sym name) (record {
-      stands = stands_sent s w p event priority new stands d is'.0 size same_closed;
+      stands = stands_sent s w p event priority new stands is'.0 size same_closed;
       follows = λ world hooks p₀ world₀ hooks₀ l. Then (Sent (event_count p) event priority) p world hooks l d;
       quiet = λ p₀ a. More _ p a refl;
       turns = turns_over _ _ refl;

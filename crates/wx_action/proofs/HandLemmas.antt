@@ -1,16 +1,17 @@
 -- The window is handed.
-use Rattle.std.proofs.Common.{◌≡◌, ◌≢◌, ℕ, Bool, true, false, cond, List, [], ◌∷◌, ◌++◌, inl, inr, refl, ap, sym, subst, ◌∙◌, append_assoc}
+use Rattle.std.proofs.Common.{◌≡◌, ◌≢◌, ◌<◌, ℕ, Bool, true, false, cond, List, [], ◌∷◌, ◌++◌, inl, inr, refl, ap, sym, subst, ◌∙◌, append_assoc}
 use Rattle.std.specs.Prelude.{Option, None, Some, Result, Ok, Err, OnErr, map}
 use Rattle.std.specs.List.{AllByRecursion, filter}
+use Rattle.std.proofs.lemmas.Bool.{not-false}
 use Rattle.wx_command.specs.declared.command.Command.{Command}
 use Rattle.wx_control.specs.declared.id.Id.{Id}
 use Rattle.wx_journal.specs.declared.entry.Entry.{Entry}
 use Rattle.wx_journal.specs.declared.entry.Entry.TheVariants.{Hand}
 use Rattle.wx_journal.specs.Acts.{JournalAct as Act}
 use Rattle.wx_journal.specs.declared.entry.Act.TheVariants.{Create, Ask, Quit}
-use Rattle.wx_journal.specs.Names.{next_job}
+use Rattle.wx_journal.specs.Names.{event_count, next_job}
 use Rattle.wx_journal.specs.Told.{tell}
-use Rattle.wx_machine.specs.History.{lives, creation, or_else, command}
+use Rattle.wx_machine.specs.History.{lives, child, creation, or_else, command}
 use Rattle.wx_machine.specs.Table.{Plan, Done}
 use Rattle.wx_hooks.specs.declared.handler.Todo.{Todo}
 use Rattle.wx_hooks.specs.declared.held.Held.{Held}
@@ -22,24 +23,24 @@ use Rattle.wx_machine.specs.Start.{Start}
 use Rattle.wx_machine.specs.Journal.{settings, window}
 use Rattle.wx_machine.specs.Jobs.{set, act_plan, AreLawful}
 use Rattle.wx_machine.specs.Answer.{NoneIsToGo}
-use Rattle.wx_machine.specs.Due.{Agenda, agenda, Due, Hands, Open, Ends, plans, has_quit, after_acts, is_quitting, settle}
-use Rattle.wx_machine.specs.RunLaws.{NoneUrgent, urgent_in, NoneUrgentWaits}
-use Rattle.wx_machine.specs.Leads.{FollowsHooks, FollowsAlone, Then}
+use Rattle.wx_machine.specs.Due.{Hands, Agenda, Open, Comes, plans, has_quit, after_acts, is_quitting, settle, agenda, Due}
+use Rattle.wx_machine.specs.Leads.{FollowsHooks, Then}
 use Rattle.wx_action.specs.Perform.{AreCommanded, OwesActs}
 use Rattle.wx_action.specs.Stands.{Stands, Collects, Works, without_hand}
 use Rattle.wx_hooks.specs.JobsStand.{HeldStands, held_id}
+use Rattle.wx_job.specs.Stands.{gone_of, running_of}
 use Rattle.wx_hooks.specs.HeldJobs.{is_here}
 use Rattle.wx_hooks.specs.Todo.{AreTodo}
 use Rattle.wx_machine.specs.Turns.{StaysInTurn}
-use Rattle.wx_machine.proofs.Orderly.{IsOrderly}
-use Rattle.wx_machine.proofs.RunLaws.{orderly_more, calm_led, hand_is, window_handed}
-use Rattle.wx_machine.proofs.AllJobs.{IsIn, command_kept, creation_is, turns_over}
+use Rattle.wx_machine.proofs.RunLaws.{window_below, window_handed}
+use Rattle.wx_machine.proofs.AllJobs.{IsIn, command_kept, unseen_hand, creation_is, turns_over}
 use Rattle.wx_hooks.proofs.JobsLemmas.{same_held}
 use Rattle.wx_action.proofs.StandsLemmas.{over_hand}
+use Rattle.wx_job.proofs.StandsLemmas.{lives-kept, child-kept}
 
 -- the entry of a batch that was due
-pub hand_due : (s : Start) (p : List Entry) (n : ℕ) (names : List ℕ) (acts : List Act) → agenda s p ≡ Hands → n ≡ (settings s p).action_handler → names ≡ window p → AreLawful (next_job p) acts → Due s p (Hand n names acts)
-hand_due s p n names acts due number is lawful = rw (due, number, is) (acts, refl, lawful)
+pub hand_due : (s : Start) (p : List Entry) (n : ℕ) (names : List ℕ) (acts : List Act) → agenda s p ≡ Comes Hands Open → n ≡ (settings s p).action_handler → names ≡ window p → AreLawful (next_job p) acts → Due s p (Hand n names acts)
+hand_due s p n names acts due number is lawful = rw (due, number, is) ((acts, lawful), refl)
 
 pub hand_follows : (s : Start) (p p' : List Entry) (n : ℕ) (names : List ℕ) (acts : List Act) (hooks hooks' : Option (List Entry)) → Due s p (Hand n names acts) → p' ≡ Hand n names acts ∷ p → hooks' ≡ tell (Hand n names acts) hooks → FollowsHooks s p hooks p' hooks'
 hand_follows s p p' n names acts hooks hooks' due grown told = rw (grown, told) (λ world p₀ world₀ hooks₀ l. Then (Hand n names acts) p world hooks l due)
@@ -54,7 +55,7 @@ ids_here : (p : List Entry) (hs : List Held) → AllByRecursion (HeldStands p) h
 ids_here p [] s = refl
 ids_here p (h ∷ hs) s =
     map_cond (is_here h) h (filter is_here hs) ∙ ap (λ (ids : List Id). cond (is_here h) (held_id h ∷ ids) ids) (ids_here p hs s.1)
-    ∙ ap (λ (b : Bool). cond b (held_id h ∷ filter (λ id. lives id p) (map held_id hs)) (filter (λ id. lives id p) (map held_id hs))) s.0.task_stands.lives_kept
+    ∙ ap (λ (b : Bool). cond b (held_id h ∷ filter (λ id. lives id p) (map held_id hs)) (filter (λ id. lives id p) (map held_id hs))) (lives-kept h.task p s.0.task_stands)
 
 all_cond : (P : Held → Type 0) (b : Bool) (h : Held) (hs : List Held) → P h → AllByRecursion P hs → AllByRecursion P (cond b (h ∷ hs) hs)
 all_cond P true h hs x s = (x, s)
@@ -64,12 +65,21 @@ all_here : (P : Held → Type 0) (hs : List Held) → AllByRecursion P hs → Al
 all_here P [] s = tt
 all_here P (h ∷ hs) s = all_cond P (is_here h) h (filter is_here hs) s.0 (all_here P hs s.1)
 
-tasks_hand : (s : Start) (p : List Entry) (n : ℕ) (names : List ℕ) (acts : List Act) (hs : List Held) → IsOrderly s p → AreLawful (next_job p) acts → ((id : Id) → IsIn id (map held_id hs) → IsIn id (set p)) → AllByRecursion (HeldStands p) hs → AllByRecursion (HeldStands (Hand n names acts ∷ p)) hs
-tasks_hand s p n names acts [] o lawful here stood = tt
-tasks_hand s p n names acts (h ∷ hs) o lawful here stood = (
-  same_held p (Hand n names acts ∷ p) h (over_hand n names acts p (held_id h) (command_kept s p n names acts (held_id h) o lawful (here (held_id h) (inl refl)))) stood.0,
-  tasks_hand s p n names acts hs o lawful (λ id g. here id (inr g)) stood.1,
+tasks_hand : (p : List Entry) (n : ℕ) (names : List ℕ) (acts : List Act) (hs : List Held) → AreLawful (next_job p) acts → ((id : Id) → IsIn id (map held_id hs) → IsIn id (set p)) → AllByRecursion (HeldStands p) hs → AllByRecursion (HeldStands (Hand n names acts ∷ p)) hs
+tasks_hand p n names acts [] lawful here stood = tt
+tasks_hand p n names acts (h ∷ hs) lawful here stood = (
+  same_held p (Hand n names acts ∷ p) h (over_hand n names acts p (held_id h) (command_kept p n names acts (held_id h) lawful (here (held_id h) (inl refl)))) stood.0,
+  tasks_hand p n names acts hs lawful (λ id g. here id (inr g)) stood.1,
 )
+
+-- no child runs of one that is gone
+gone_runs : (p : List Entry) (id : Id) (hs : List Held) → AllByRecursion (HeldStands p) hs → IsIn id (map held_id hs) → lives id p ≡ false → child id p ≡ None
+gone_runs p id [] stood here dead = absurd here
+gone_runs p id (h ∷ hs) stood (inl is) dead =
+    let gone : gone_of h.task ≡ true = not-false (gone_of h.task) (lives-kept h.task p stood.0.task_stands ∙ ap (λ i. lives i p) is ∙ dead) in
+    let none : running_of h.task ≡ None = rw gone refl in
+    ap (λ i. child i p) (sym is) ∙ sym (child-kept h.task p stood.0.task_stands) ∙ none
+gone_runs p id (h ∷ hs) stood (inr here) dead = gone_runs p id hs stood.1 here dead
 
 -- ---- what the acts ask for is owed
 
@@ -83,16 +93,15 @@ all_commanded p n m names acts before (Quit ∷ after) is l = all_commanded p n 
 
 pub record Handed (s : Start) (w' : Worker) (p' : List Entry) (todos : List Todo) (ends : Bool) : Type 0 where
   pub stands : Stands s w' p'
-  pub calm : NoneUrgentWaits p'
   pub owes : OwesActs s p' todos (after_acts ends)
 
-pub handed : (s : Start) (w w' : Worker) (n : ℕ) (names : List ℕ) (acts : List Act) (todos : List Todo) (ends : Bool) (p p' : List Entry) → Stands s w p → Due s p (Hand n names acts) → AreLawful (next_job p) acts → AreTodo acts todos → ends ≡ has_quit acts
+pub handed : (s : Start) (w w' : Worker) (n : ℕ) (names : List ℕ) (acts : List Act) (todos : List Todo) (ends : Bool) (p p' : List Entry) → Stands s w p → names ≡ window p → AreLawful (next_job p) acts → AreTodo acts todos → ends ≡ has_quit acts
     → w' ≡ record w { batch = w'.batch; jobs = w'.jobs } → w'.batch.names ≡ [] → w'.batch.events ≡ [] → w'.jobs ≡ filter is_here w.jobs → p' ≡ Hand n names acts ∷ p → Handed s w' p' todos ends
-handed s w w' n names acts todos ends p p' stands due lawful todo_is quits fields names_none events_none items grown =
-    let none : window (Hand n names acts ∷ p) ≡ [] = window_handed n names acts p (hand_is s p n names acts stands.orderly due).0 in
-    let tasks = tasks_hand s p n names acts w.jobs stands.orderly lawful (λ id g. rw stands.jobs_kept at g) stands.tasks_kept in
+handed s w w' n names acts todos ends p p' stands whole lawful todo_is quits fields names_none events_none items grown =
+    let none : window (Hand n names acts ∷ p) ≡ [] = window_handed n names acts p whole in
+    let tasks = tasks_hand p n names acts w.jobs lawful (λ id g. rw stands.jobs_kept at g) stands.tasks_kept in
     let stood : Stands s (record w { batch = w'.batch; jobs = w'.jobs }) (Hand n names acts ∷ p) = record {
-      orderly = orderly_more s (Hand n names acts) p due stands.orderly;
+      own = (subst (AllByRecursion (λ name. name < event_count p)) (sym whole) (window_below p stands.own), stands.own);
       config_kept = stands.config_kept;
       queue_kept = stands.queue_kept;
       size_kept = stands.size_kept;
@@ -103,38 +112,20 @@ handed s w w' n names acts todos ends p p' stands due lawful todo_is quits field
       first_kept = stands.first_kept;
       jobs_kept = ap (λ (hs : List Held). map held_id hs) items ∙ ids_here p w.jobs stands.tasks_kept ∙ ap (λ (ids : List Id). filter (λ id. lives id p) ids) stands.jobs_kept;
       tasks_kept = rw items (all_here (HeldStands (Hand n names acts ∷ p)) w.jobs tasks);
+      idle_kept = unseen_hand n names acts p stands.idle_kept (λ id here dead. gone_runs p id w.jobs stands.tasks_kept (rw stands.jobs_kept here) dead);
     } in
     rw grown (record {
       stands = rw fields stood;
-      calm = subst (NoneUrgent (urgent_in (Hand n names acts ∷ p))) (sym none) tt;
-      owes = record { acts = acts; is_todo = todo_is; commanded = all_commanded p n (next_job p) names acts [] acts refl lawful; due = refl; then = ap after_acts (sym quits) };
+      owes = record { acts = acts; lawful = lawful; is_todo = todo_is; commanded = all_commanded p n (next_job p) names acts [] acts refl lawful; due = refl; then = ap after_acts (sym quits) };
     })
 
-not_hands_open : Open ≡ Hands → ⊥
-not_hands_open e = cc
-
-not_hands_ends : Ends ≡ Hands → ⊥
-not_hands_ends e = cc
-
--- an agenda that is open owes no batch
-pub not_hands : (s : Start) (p : List Entry) → agenda s p ≡ Open → agenda s p ≡ Hands → ⊥
-not_hands s p is e = not_hands_open (sym is ∙ e)
-
--- one that is to end owes none either
-not_hands_at_end : (s : Start) (p : List Entry) → agenda s p ≡ Ends → agenda s p ≡ Hands → ⊥
-not_hands_at_end s p is e = not_hands_ends (sym is ∙ e)
-
--- what was collected, where this isn't a window that is due, owes none, and says whether the run goes on
-pub record Unhanded (s : Start) (found : Collected) (p : List Entry) : Type 0 where
-  pub none : agenda s p ≡ Hands → ⊥
-  pub works : Works s (without_hand found) p
-
-pub unhanded : (s : Start) (p p' : List Entry) (found : Collected) → found ≢ collected.Hand → Collects s p found p' → Unhanded s found p'
-unhanded s p p' collected.Stop other c = record { none = not_hands_at_end s p' c.1; works = c.1 }
-unhanded s p p' collected.Hand other c = absurd (other refl)
-unhanded s p p' collected.Idle other c = record { none = not_hands s p' c.1; works = c.1 }
-unhanded s p p' collected.Kept other c = record { none = not_hands s p' c.1; works = c.1 }
-unhanded s p p' collected.Dropped other c = record { none = not_hands s p' c.1; works = c.1 }
+-- what was collected, where this isn't a window that is due, says whether the run goes on
+pub works_unhanded : (s : Start) (p p' : List Entry) (found : Collected) → found ≢ collected.Hand → Collects s p found p' → Works s (without_hand found) p'
+works_unhanded s p p' collected.Stop other c = c.1
+works_unhanded s p p' collected.Hand other c = absurd (other refl)
+works_unhanded s p p' collected.Idle other c = c.1
+works_unhanded s p p' collected.Kept other c = c.1
+works_unhanded s p p' collected.Dropped other c = c.1
 
 -- what holds whatever is answered holds where the answer is an error
 pub on_err : {T E P : Type 0} (result : Result T E) → P → OnErr result P
@@ -161,19 +152,3 @@ works_by s p false e = e
 -- a batch is no turn
 pub turns_hand : (n : ℕ) (names : List ℕ) (acts : List Act) (p p' : List Entry) → p' ≡ Hand n names acts ∷ p → StaysInTurn p p'
 turns_hand n names acts p p' grown = rw grown (turns_over (Hand n names acts) p refl)
-
--- the acts of a batch owe no batch
-not_hands_after : (ends : Bool) → after_acts ends ≡ Hands → ⊥
-not_hands_after true e = not_hands_ends e
-not_hands_after false e = not_hands_open e
-
-not_hands_acts : (p : List Entry) (k : Plan) → settle p (plans k Open) ≡ Hands → ⊥
-not_hands_acts p Done e = not_hands_after (is_quitting p) e
-not_hands_acts p (k) e = cc
-
-pub owes_none : (s : Start) (p : List Entry) (todos : List Todo) (ends : Bool) → OwesActs s p todos (after_acts ends) → agenda s p ≡ Hands → ⊥
-owes_none s p todos ends owes e = not_hands_acts p (act_plan (λ id. lives id p) owes.acts) (sym owes.due ∙ e)
-
--- where a batch was handed no urgent event waits while its acts are done
-pub calm_acts : (s : Start) (w : Worker) (p p' : List Entry) (todos left : List Todo) (ends : Bool) → Stands s w p → NoneUrgentWaits p → OwesActs s p todos (after_acts ends) → FollowsAlone s p p' → OwesActs s p' left (after_acts ends) → NoneUrgentWaits p'
-calm_acts s w p p' todos left ends stands h owed follows owes = calm_led s p None None p' None None (follows None None) stands.orderly (owes_none s p todos ends owed) h (owes_none s p' left ends owes)

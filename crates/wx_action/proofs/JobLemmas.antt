@@ -1,5 +1,5 @@
 -- The turns of jobs.
-use Rattle.std.proofs.Common.{◌≡◌, ℕ, zero, suc, ◌<◌, Bool, true, false, cond, List, [], ◌∷◌, length, get_or, inl, inr, arith, refl, ap, sym, subst, ◌∙◌, eq-eqb}
+use Rattle.std.proofs.Common.{◌≡◌, ℕ, Bool, true, false, cond, List, [], ◌∷◌, inl, inr, refl, ap, sym, subst, ◌∙◌, eq-eqb}
 use Rattle.std.specs.Prelude.{Option, None, Some, Result, Ok, Err, is_some, option_map, map, not}
 use Rattle.std.specs.List.{AllByRecursion, find}
 use Rattle.wx_words.specs.OptionLaws.{refused}
@@ -25,13 +25,12 @@ use Rattle.wx_hooks.specs.declared.held.Held.{Held}
 use Rattle.wx_action.specs.declared.worker_state.Worker.{Worker}
 use Rattle.wx_machine.specs.Start.{Start}
 use Rattle.wx_machine.specs.Jobs.{set, living, parent}
-use Rattle.wx_machine.specs.Due.{agenda, Open, Says, Plans, plans, ask_turn, job_turn, ended_turn, is_quitting}
+use Rattle.wx_machine.specs.Due.{Open, Plans, plans, says, ask_turn, job_turn, ended_turn, is_quitting, agenda}
 use Rattle.wx_machine.proofs.SettleLaws.{settle_calm}
 use Rattle.wx_machine.specs.Kept.{StaysQuiet}
 use Rattle.wx_machine.specs.Leads.{FollowsAlone, Follows}
 use Rattle.wx_action.specs.Serves.{LeavesOff, Steps, Settles}
 use Rattle.wx_machine.specs.Turns.{StaysInTurn}
-use Rattle.wx_machine.proofs.RunLaws.{orderly_turn}
 use Rattle.wx_machine.proofs.AllJobs.{calls_none_ask, IsIn, is_child_some, none_by_ask, none_by_step, parent_is, parent_is_none}
 use Rattle.wx_action.proofs.TurnLaws.{at_end_of_none, other_over_end}
 use Rattle.wx_hooks.specs.HeldJobs.{is_of, runs_child, handle_id, task_of, with_task, parked_in, parked_at}
@@ -39,11 +38,11 @@ use Rattle.wx_action.specs.Stands.{Stands, AtTurn, IsStepOf}
 use Rattle.wx_hooks.specs.JobsStand.{HeldStands, held_id}
 use Rattle.wx_hooks.proofs.JobListLemmas.{placed, with_put, none_at, also, some_alive, held_some, task_held, id_held, none_held}
 use Rattle.wx_action.proofs.ShownLemmas.{alive_is}
-use Rattle.wx_hooks.proofs.QuietLemmas.{same_rest}
 use Rattle.wx_action.proofs.StandsLemmas.{rest_over, stands_rest}
-use Rattle.wx_hooks.proofs.JobsLemmas.{held_at, tasks_put, ids_put}
+use Rattle.wx_hooks.proofs.JobsLemmas.{held_at, is_in_place, tasks_put, ids_put}
 use Rattle.wx_action.proofs.PlanLemmas.{JobDone, jobs_stand, plan_done, same_done}
 use Rattle.wx_hooks.proofs.JobsLemmas.{Changes}
+use Rattle.wx_job.proofs.StandsLemmas.{lives-kept, child-kept}
 
 -- ---- a job that is held
 
@@ -107,10 +106,10 @@ ask_done s w w' id task task' ask p p' stands going due alive l fields jobs same
     let h = l.held in
     let change = changed p p' w.jobs w'.jobs id task task' l jobs same stood in
     let id_is : id_of task ≡ id = ap id_of (sym l.task_is) ∙ l.id_is in
-    let owed : agenda s p ≡ plans (ask_plan id (sends_of ask) Done) Open = due ∙ ap (λ (b : Bool). cond b (plans (ask_plan id (sends_of ask) Done) Open) (Says Ignored Open)) alive in
+    let owed : agenda s p ≡ plans (ask_plan id (sends_of ask) Done) Open = due ∙ ap (λ (b : Bool). cond b (plans (ask_plan id (sends_of ask) Done) Open) (says Ignored)) alive in
     let plan_is : send_plan (id_of task) (sends_of ask) p ≡ ask_plan id (sends_of ask) Done = rw (id_is, alive) refl in
     let done : (world hooks : Option (List Entry)) → JobDone s w' (ask_plan id (sends_of ask) Done) Open p p' world world hooks hooks = λ world hooks.
-    plan_done s w w' w.jobs change.0 h (record h { task = task' }) p p p' (ask_plan id (sends_of ask) Done) Done Open world world hooks hooks 0 0 stands (same_rest p) stands.orderly going owed (none_by_ask id ask p) (jobs_stand s w p stands) fields change.1 (rw l.task_is leaves)
+    plan_done s w w' change.0 h (record h { task = task' }) p p' (ask_plan id (sends_of ask) Done) Done Open world world hooks hooks 0 0 stands going owed (none_by_ask id ask p) fields change.1 (rw l.task_is leaves)
     (rw (← plan_is) (follows _ p world hooks 0 world hooks 0 PlanHere)) in
     let one = done None None in record {
       stands = one.stands;
@@ -146,7 +145,7 @@ step_at_plan s w w' at id task task' k' p p' world world' hooks hooks' m m' stan
     let owed : agenda s p ≡ plans (step_plan (id_of task) (command_of task) p) Open = rw (← l.task_is) due in
     let is_open : closed_of task ≡ false = ap closed_of (sym l.task_is) ∙ l.stood.is_open in
     let step_led = subst (λ (b : Bool). PlanLeads (step_by b (id_of task) (command_of task) p) p world hooks m k' p' world' hooks' m') is_open led in
-    plan_done s w w' w.jobs change.0 h (record h { task = task' }) p p p' (step_plan (id_of task) (command_of task) p) k' Open world world' hooks hooks' m m' stands (same_rest p) stands.orderly step.going owed (none_by_step (id_of task) (command_of task) p) (jobs_stand s w p stands) fields change.1 (rw l.task_is leaves) step_led
+    plan_done s w w' change.0 h (record h { task = task' }) p p' (step_plan (id_of task) (command_of task) p) k' Open world world' hooks hooks' m m' stands step.going owed (none_by_step (id_of task) (command_of task) p) fields change.1 (rw l.task_is leaves) step_led
 
 pub step_done : (s : Start) (w w' : Worker) (at : ℕ) (id : Id) (task task' : JobTask) (p p' : List Entry) (world world' hooks hooks' : Option (List Entry)) (m m' : ℕ) → Stands s w p → IsStepOf s id at p → Lent p w.jobs id task
     → w' ≡ record w { jobs = w'.jobs } → w'.jobs ≡ with_task id w.jobs task' → SameJob task task' → TaskStands task' p' → LeavesOthers (id_of task) p p' → PlanLeads (step_by (closed_of task) (id_of task) (command_of task) p) p world hooks m Done p' world' hooks' m'
@@ -200,20 +199,15 @@ steps_settled s p p' (Err e) h = record { done = tt; err = inl h.err }
 never_runs : (c : ℕ) (p : List Entry) (hs : List Held) → AllByRecursion (HeldStands p) hs → AllByRecursion (λ h. runs_child c h ≡ false) hs → (id : Id) → IsIn id (map held_id hs) → child id p ≡ Some c → ⊥
 never_runs c p [] s none id here runs = here
 never_runs c p (h ∷ hs) s none id (inl is) runs =
-    let its : running_of h.task ≡ Some c = s.0.task_stands.child_kept ∙ ap (λ j. child j p) is ∙ runs in
+    let its : running_of h.task ≡ Some c = child-kept h.task p s.0.task_stands ∙ ap (λ j. child j p) is ∙ runs in
     let there : runs_child c h ≡ true = ap (is_child c) its ∙ eq-eqb c c refl in
     let both : true ≡ false = sym there ∙ none.0 in absurd cc
 never_runs c p (h ∷ hs) s none id (inr here) runs = never_runs c p hs s.1 none.1 id here runs
 
-is_in_place : (hs : List Held) (n : ℕ) (h : Held) → n < length hs → h ≡ get_or hs n h → IsIn (held_id h) (map held_id hs)
-is_in_place [] n h lt is = absurd (omega arith)
-is_in_place (x ∷ hs) zero h lt is = inl (ap held_id (sym is))
-is_in_place (x ∷ hs) (suc n) h lt is = inr (is_in_place hs n h (omega arith) is)
-
 -- where none is found the turn is ignored
 pub record NoneEnded (s : Start) (w : Worker) (p : List Entry) : Type 0 where
   pub stands : Stands s w p
-  pub due : agenda s p ≡ Says Ignored Open
+  pub due : agenda s p ≡ says Ignored
 
 pub none_ended : (s : Start) (w : Worker) (at c : ℕ) (p : List Entry) → AtTurn s w at (Ended c) p → option_map handle_id (find (runs_child c) w.jobs) ≡ None → NoneEnded s w p
 none_ended s w at c p a e =
@@ -237,7 +231,7 @@ one_ends s w at c id p a e =
     let mine : is_of id h ≡ true = ap (λ i. same i id) o.2 ∙ self id in
     record {
       there = also (runs_child c) (is_of id) w.jobs h o.1 mine;
-      its = ap (λ i. child i a.before) (sym o.2 ∙ stood.handle_is) ∙ sym stood.task_stands.child_kept ∙ is_child_some c (running_of h.task) place.1.mine;
+      its = ap (λ i. child i a.before) (sym o.2 ∙ stood.handle_is) ∙ sym (child-kept h.task a.before stood.task_stands) ∙ is_child_some c (running_of h.task) place.1.mine;
     }
 
 -- the task of that job can keep the end
@@ -248,7 +242,7 @@ pub record CanEnd (at c : ℕ) (task : JobTask) (p : List Entry) : Type 0 where
 pub can_end : (s : Start) (w : Worker) (at c : ℕ) (id : Id) (task : JobTask) (p : List Entry) (a : AtTurn s w at (Ended c) p) → OneEnds w c id a.before → Lent a.before w.jobs id task → CanEnd at c task p
 can_end s w at c id task p a one l = subst (λ (k : JobTask). CanEnd at c k p) l.task_is (record {
   ending = record { before = a.before; last = a.last; stands = l.stood.task_stands };
-  runs = l.stood.task_stands.child_kept ∙ ap (λ i. child i a.before) l.id_is ∙ one.its;
+  runs = child-kept l.held.task a.before l.stood.task_stands ∙ ap (λ i. child i a.before) l.id_is ∙ one.its;
 })
 
 -- a journal with the turn that told the end of this child
@@ -277,12 +271,12 @@ end_kept s w w' at c id task task' p a one l fields items same task_stands =
     let the_change = changed a.before p hs w'.jobs id task task' l items same task_stands in
     let n = the_change.0 in
     let change = the_change.1 in
-    let own : NamesItsOwn a.before = a.stands.orderly.own in
+    let own : NamesItsOwn a.before = a.stands.own in
     let jobs = jobs_stand s w a.before a.stands in
     let stood : HeldStands a.before h = l.stood in
     let its : child (held_id h) a.before ≡ Some c = ap (λ i. child i a.before) l.id_is ∙ one.its in
-    let runs : running_of h.task ≡ Some c = stood.task_stands.child_kept ∙ its in
-    let alive : lives (held_id h) a.before ≡ true = sym stood.task_stands.lives_kept ∙ ap not (refused (gone_of h.task) _ c runs).0 in
+    let runs : running_of h.task ≡ Some c = child-kept h.task a.before stood.task_stands ∙ its in
+    let alive : lives (held_id h) a.before ≡ true = sym (lives-kept h.task a.before stood.task_stands) ∙ ap not (refused (gone_of h.task) _ c runs).0 in
     let here : IsIn (held_id h) (set a.before) = rw a.stands.jobs_kept at (is_in_place hs n h change.within change.held) in
     let new : HeldStands (told at c a.before) h' = record {
       task_stands = subst (TaskStands h'.task) a.last change.task_stands;
@@ -296,6 +290,6 @@ end_kept s w w' at c id task task' p a one l fields items same task_stands =
     let owed = owes_step s at c (held_id h) (command_of h.task) a.before own here its alive stood.command_is in
     let step : IsStepOf s (held_id h) at (told at c a.before) = record { what = command_of h.task; alive = alive; runs = stood.command_is; due = owed; going = refl; now = refl } in
     subst (EndKept s w' id at) (sym a.last) (record {
-      stands = stands_rest s w w' a.before (told at c a.before) a.stands (orderly_turn s (record { at = at; kind = Ended c }) a.before a.stands.orderly) (rest_over (Turned (record { at = at; kind = Ended c })) a.before tt) fields ids (rw change.items tasks);
+      stands = stands_rest s w w' a.before (told at c a.before) a.stands (tt, own) a.stands.idle_kept (rest_over (Turned (record { at = at; kind = Ended c })) a.before tt) fields ids (rw change.items tasks);
       step = subst (λ (i : Id). IsStepOf s i at (told at c a.before)) l.id_is step;
     })

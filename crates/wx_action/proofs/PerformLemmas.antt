@@ -1,5 +1,5 @@
 -- What the acts of a batch ask for is done.
-use Rattle.std.proofs.Common.{◌≡◌, ◌≢◌, ℕ, ◌<◌, ◌+◌, Bool, true, false, cond, List, [], ◌∷◌, ◌++◌, length, inl, inr, arith, refl, ap, sym, subst, ◌∙◌}
+use Rattle.std.proofs.Common.{◌≡◌, ◌≢◌, ℕ, ◌<◌, ◌+◌, Bool, true, false, cond, List, [], ◌∷◌, length, inl, inr, arith, refl, ap, sym, subst, ◌∙◌}
 use Rattle.std.specs.Prelude.{Option, None, Some, map, ◌||◌, ◌⊎◌}
 use Rattle.std.specs.List.{AllByRecursion}
 use Rattle.wx_words.specs.EachLaws.{each_weaker}
@@ -15,35 +15,35 @@ use Rattle.wx_journal.specs.declared.entry.Act.TheVariants.{Create, Ask, Quit}
 use Rattle.wx_journal.specs.declared.entry.Entry.{Entry}
 use Rattle.wx_journal.specs.declared.entry.Entry.TheVariants.{Word as Said, Made, Asked}
 use Rattle.wx_journal.specs.declared.entry.Word.TheVariants.{Ignored}
-use Rattle.wx_journal.specs.Names.{ticket_count}
-use Rattle.wx_machine.specs.History.{same, lives, command, RunsOnly, SameHistory}
+use Rattle.wx_journal.specs.Names.{above, ticket_count, next_job, IsNextJob}
+use Rattle.wx_machine.specs.History.{same, lives, command, RunsOnly}
 use Rattle.wx_machine.specs.Table.{Plan, Done, adds, asks, ask_second, ask_plan, send_plan}
 use Rattle.wx_machine.specs.Case.{PlanAdmits, next, PlanLeads, PlanHere, PlanThen, PlanFollowsAlone}
-use Rattle.wx_machine.specs.Leaves.{LeavesOthers}
+use Rattle.wx_machine.specs.Leaves.{SameHistory, LeavesOthers}
 use Rattle.wx_job.specs.declared.task.JobTask.{JobTask}
 use Rattle.wx_job.specs.Stands.{TaskStands, SameJob, id_of}
 use Rattle.wx_machine.proofs.Owners.{other-is}
+use Rattle.wx_machine.proofs.Frame.{frame_apart}
 use Rattle.wx_hooks.specs.declared.handler.Todo.{Todo}
 use Rattle.wx_hooks.specs.declared.handler.Todo.TheVariants as todo
 use Rattle.wx_hooks.specs.declared.held.Held.{Held}
 use Rattle.wx_action.specs.declared.worker_state.Worker.{Worker}
 use Rattle.wx_machine.specs.Start.{Start}
-use Rattle.wx_machine.specs.Jobs.{set, act_plan, AreBelow}
+use Rattle.wx_machine.specs.Jobs.{with_id, set, act_plan, AreLawful, AreBelow}
 use Rattle.wx_machine.specs.Due.{Agenda, Open, settle, agenda, plans, rest, after_acts, is_quitting, Admits, Due}
 use Rattle.wx_hooks.specs.Todo.{IsNew, AreTodo}
 use Rattle.wx_action.specs.Perform.{AreCommanded, OwesActs}
 use Rattle.wx_machine.specs.Kept.{StaysQuiet, More}
 use Rattle.wx_machine.specs.Leads.{FollowsAlone, Then}
 use Rattle.wx_machine.specs.Turns.{StaysInTurn}
-use Rattle.wx_hooks.specs.HeldJobs.{with_task}
-use Rattle.wx_machine.proofs.Orderly.{IsOrderly}
-use Rattle.wx_machine.proofs.RunLaws.{orderly_more}
-use Rattle.wx_machine.proofs.AllJobs.{made_above, insert_last, none_by_ask, turns_over}
+use Rattle.wx_hooks.specs.HeldJobs.{with_task, with_held}
+use Rattle.wx_hooks.proofs.JobListLemmas.{all_with, ids_with}
+use Rattle.wx_machine.proofs.AllJobs.{set_rising, unseen_made, commanded_created, none_by_ask, turns_over}
 use Rattle.wx_action.specs.Stands.{Stands}
 use Rattle.wx_hooks.specs.JobsStand.{HeldStands, held_id}
 use Rattle.wx_action.proofs.StandsLemmas.{stands_rest, stands_behind}
 use Rattle.wx_hooks.proofs.JobsLemmas.{same_held}
-use Rattle.wx_action.proofs.PlanLemmas.{jobs_stand}
+use Rattle.wx_action.proofs.PlanLemmas.{jobs_stand, idle_then}
 use Rattle.wx_hooks.proofs.JobsLemmas.{jobs_change}
 use Rattle.wx_hooks.proofs.QuietLemmas.{still_led}
 use Rattle.wx_action.proofs.JobLemmas.{Lent, changed}
@@ -70,34 +70,21 @@ record FirstMake (s : Start) (p : List Entry) (held : Held) (rest : List Todo) :
   what : Command
   acts : List Act
   is_new : IsNew held id what
+  is_next : IsNextJob (next_job p) id
+  lawful : AreLawful (above (next_job p) id) acts
   is_todo : AreTodo acts rest
   commanded : command id p ≡ Some what
   later : AreCommanded p acts
   due : agenda s p ≡ settle p (plans (adds (Made id) (act_plan (λ job. same id job || lives job p) acts)) Open)
 
-first_make : (s : Start) (p : List Entry) (held : Held) (rest : List Todo) (acts : List Act) → AreTodo acts (todo.Create held ∷ rest) → AreCommanded p acts → agenda s p ≡ settle p (plans (act_plan (λ id. lives id p) acts) Open) → FirstMake s p held rest
-first_make s p held rest [] t k d = absurd t
-first_make s p held rest (Create id what ∷ acts) t k d = record { id = id; what = what; acts = acts; is_new = t.0; is_todo = t.1; commanded = k.0; later = k.1; due = d }
-first_make s p held rest (Ask id ask ∷ acts) t k d = absurd t
-first_make s p held rest (Quit ∷ acts) t k d = first_make s p held rest acts t k d
+first_make : (s : Start) (p : List Entry) (held : Held) (rest : List Todo) (acts : List Act) → AreLawful (next_job p) acts → AreTodo acts (todo.Create held ∷ rest) → AreCommanded p acts → agenda s p ≡ settle p (plans (act_plan (λ id. lives id p) acts) Open) → FirstMake s p held rest
+first_make s p held rest [] l t k d = absurd t
+first_make s p held rest (Create id what ∷ acts) l t k d = record { id = id; what = what; acts = acts; is_new = t.0; is_next = l.0; lawful = l.1; is_todo = t.1; commanded = k.0; later = k.1; due = d }
+first_make s p held rest (Ask id ask ∷ acts) l t k d = absurd t
+first_make s p held rest (Quit ∷ acts) l t k d = first_make s p held rest acts l t k d
 
 over_made : (i id : Id) (p : List Entry) → i ≢ id → SameHistory i p (Made id ∷ p)
-over_made i id p ne = record {
-  lives_same = rw (other-is i id ne) refl;
-  waits_same = λ l. rw (other-is i id ne) refl;
-  child_same = rw (other-is i id ne) refl;
-  kept_same = rw (other-is i id ne) refl;
-  state_same = rw (other-is i id ne) refl;
-  previous_same = rw (other-is i id ne) refl;
-  hook_same = rw (other-is i id ne) refl;
-  handler_same = rw (other-is i id ne) refl;
-  begun_same = rw (other-is i id ne) refl;
-  tag_same = rw (other-is i id ne) refl;
-  grace_same = rw (other-is i id ne) refl;
-  parked_same = rw (other-is i id ne) refl;
-  tickets_later = omega arith;
-  command_same = refl;
-}
+over_made i id p ne = frame_apart i (Made id) p (other-is i id ne) refl
 
 -- a job runs what it was created to run
 runs_only : (id : Id) (what : Command) (p : List Entry) → command id p ≡ Some what → RunsOnly id what p
@@ -107,20 +94,16 @@ runs_only id what p is created made = let here : Some what ≡ Some created = sy
 new_id : (ids : List Id) (id : Id) → AreBelow id.0 ids → AllByRecursion (λ j. j ≢ id) ids
 new_id ids id below = each_weaker (λ j. j.0 < id.0) (λ j. j ≢ id) (λ j lt e. (let same : j.0 ≡ id.0 = ap (λ (i : Id). i.0) e in absurd (omega arith))) ids below
 
-ids_more : (hs : List Held) (h : Held) → map held_id (hs ++ h ∷ []) ≡ map held_id hs ++ held_id h ∷ []
-ids_more [] h = refl
-ids_more (x ∷ hs) h = ap (λ js. held_id x ∷ js) (ids_more hs h)
+tasks_made : (p : List Entry) (id : Id) (hs : List Held) → AllByRecursion (λ j. j ≢ id) (map held_id hs) → AllByRecursion (HeldStands p) hs → AllByRecursion (HeldStands (Made id ∷ p)) hs
+tasks_made p id [] ne s = tt
+tasks_made p id (x ∷ hs) ne s = (same_held p (Made id ∷ p) x (over_made (held_id x) id p ne.0) s.0, tasks_made p id hs ne.1 s.1)
 
-tasks_more : (p : List Entry) (id : Id) (hs : List Held) (h : Held) → AllByRecursion (λ j. j ≢ id) (map held_id hs) → AllByRecursion (HeldStands p) hs → HeldStands (Made id ∷ p) h → AllByRecursion (HeldStands (Made id ∷ p)) (hs ++ h ∷ [])
-tasks_more p id [] h ne s new = (new, tt)
-tasks_more p id (x ∷ hs) h ne s new = (same_held p (Made id ∷ p) x (over_made (held_id x) id p ne.0) s.0, tasks_more p id hs h ne.1 s.1 new)
-
-made_by : (s : Start) (w w' : Worker) (held : Held) (rests : List Todo) (more : Agenda) (p : List Entry) (f : FirstMake s p held rests) → settle p Open ≡ more → Stands s w p → w' ≡ record w { jobs = w'.jobs } → w'.jobs ≡ w.jobs ++ held ∷ [] → OneDone s w' rests more p (Made f.id ∷ p)
+made_by : (s : Start) (w w' : Worker) (held : Held) (rests : List Todo) (more : Agenda) (p : List Entry) (f : FirstMake s p held rests) → settle p Open ≡ more → Stands s w p → w' ≡ record w { jobs = w'.jobs } → w'.jobs ≡ with_held held w.jobs → OneDone s w' rests more p (Made f.id ∷ p)
 made_by s w w' held rests more p f then stands fields items =
     let due : Due s p (Made f.id) = subst (λ (a : Agenda). Admits s p a (Made f.id)) (sym f.due) (tt, refl) in
-    let orderly : IsOrderly s (Made f.id ∷ p) = orderly_more s (Made f.id) p due stands.orderly in
-    let lower : AreBelow f.id.0 (set p) = made_above s p f.id stands.orderly orderly in
+    let lower : AreBelow f.id.0 (set p) = subst (λ n. AreBelow n (set p)) (sym f.is_next) (set_rising p).below in
     let others : AllByRecursion (λ j. j ≢ f.id) (map held_id w.jobs) = rw stands.jobs_kept (new_id (set p) f.id lower) in
+    let ids = ids_with p w.jobs held stands.tasks_kept (f.is_new.handle_id ∙ sym f.is_new.task_id) (rw f.is_new.task_id others) in
     let new : HeldStands (Made f.id ∷ p) held = record {
       task_stands = f.is_new.stands p (runs_only f.id f.what p f.commanded);
       command_is = ap (λ (i : Id). command i p) f.is_new.task_id ∙ f.commanded ∙ ap (λ (k : Command). Some k) (sym f.is_new.task_command);
@@ -129,7 +112,7 @@ made_by s w w' held rests more p f then stands fields items =
       is_open = f.is_new.is_open;
     } in
     let stood : Stands s (record w { jobs = w'.jobs }) (Made f.id ∷ p) = record {
-      orderly = orderly;
+      own = (commanded_created f.id p f.what f.commanded, stands.own);
       config_kept = stands.config_kept;
       queue_kept = stands.queue_kept;
       size_kept = stands.size_kept;
@@ -138,20 +121,21 @@ made_by s w w' held rests more p f then stands fields items =
       names_kept = stands.names_kept;
       events_kept = stands.events_kept;
       first_kept = stands.first_kept;
-      jobs_kept = ap (λ (hs : List Held). map held_id hs) items ∙ ids_more w.jobs held ∙ ap (λ (ids : List Id). ids ++ held_id held ∷ []) stands.jobs_kept ∙ ap (λ (i : Id). set p ++ i ∷ []) f.is_new.task_id ∙ sym (insert_last f.id (set p) lower);
-      tasks_kept = rw items (tasks_more p f.id w.jobs held others stands.tasks_kept new);
+      jobs_kept = ap (λ (hs : List Held). map held_id hs) items ∙ ids ∙ ap (λ (i : Id). with_id i (map held_id w.jobs)) f.is_new.task_id ∙ ap (with_id f.id) stands.jobs_kept;
+      tasks_kept = rw items (all_with (HeldStands (Made f.id ∷ p)) w.jobs held (tasks_made p f.id w.jobs others stands.tasks_kept) new);
+      idle_kept = unseen_made f.id p stands.idle_kept;
     } in
     record {
       stands = rw fields stood;
       follows = λ world hooks p₀ world₀ hooks₀ l. Then (Made f.id) p world hooks l due;
       quiet = λ p₀ a. More (Made f.id) p a refl;
       turns = turns_over _ _ refl;
-      owes = record { acts = f.acts; is_todo = f.is_todo; commanded = commanded_same p (Made f.id ∷ p) f.acts (λ i. refl) f.later; due = ap (λ (a : Agenda). settle (Made f.id ∷ p) (rest (Made f.id) a)) f.due; then = then };
+      owes = record { acts = f.acts; lawful = f.lawful; is_todo = f.is_todo; commanded = commanded_same p (Made f.id ∷ p) f.acts (λ i. refl) f.later; due = ap (λ (a : Agenda). settle (Made f.id ∷ p) (rest (Made f.id) a)) f.due; then = then };
     }
 
-pub made : (s : Start) (w w' : Worker) (held : Held) (rests : List Todo) (more : Agenda) (p p' : List Entry) → OwesActs s p (todo.Create held ∷ rests) more → Stands s w p → w' ≡ record w { jobs = w'.jobs } → w'.jobs ≡ w.jobs ++ held ∷ [] → p' ≡ Made held.handle.id ∷ p → OneDone s w' rests more p p'
+pub made : (s : Start) (w w' : Worker) (held : Held) (rests : List Todo) (more : Agenda) (p p' : List Entry) → OwesActs s p (todo.Create held ∷ rests) more → Stands s w p → w' ≡ record w { jobs = w'.jobs } → w'.jobs ≡ with_held held w.jobs → p' ≡ Made held.handle.id ∷ p → OneDone s w' rests more p p'
 made s w w' held rests more p p' owes stands fields items grown =
-    let f = first_make s p held rests owes.acts owes.is_todo owes.commanded owes.due in
+    let f = first_make s p held rests owes.acts owes.lawful owes.is_todo owes.commanded owes.due in
     let is : p' ≡ Made f.id ∷ p = grown ∙ ap (λ (i : Id). Made i ∷ p) f.is_new.handle_id in
     rw is (made_by s w w' held rests more p f owes.then stands fields items)
 
@@ -159,27 +143,28 @@ made s w w' held rests more p p' owes stands fields items grown =
 
 record FirstAsk (s : Start) (p : List Entry) (id : Id) (ask : AnAsk) (rest : List Todo) : Type 0 where
   acts : List Act
+  lawful : AreLawful (next_job p) acts
   is_todo : AreTodo acts rest
   commanded : AreCommanded p acts
   due : agenda s p ≡ settle p (plans (cond (lives id p) (ask_plan id (sends_of ask) (act_plan (λ job. lives job p) acts)) (adds (Said Ignored) (act_plan (λ job. lives job p) acts))) Open)
 
-first_ask : (s : Start) (p : List Entry) (id : Id) (ask : AnAsk) (done : Flag) (rest : List Todo) (acts : List Act) → AreTodo acts (todo.Ask id ask done ∷ rest) → AreCommanded p acts → agenda s p ≡ settle p (plans (act_plan (λ id. lives id p) acts) Open) → FirstAsk s p id ask rest
-first_ask s p id ask done rest [] t k d = absurd t
-first_ask s p id ask done rest (Create job what ∷ acts) t k d = absurd t
-first_ask s p id ask done rest (Ask job asked ∷ acts) t k d = record { acts = acts; is_todo = t.2; commanded = k; due = rw (t.0, t.1) d }
-first_ask s p id ask done rest (Quit ∷ acts) t k d = first_ask s p id ask done rest acts t k d
+first_ask : (s : Start) (p : List Entry) (id : Id) (ask : AnAsk) (done : Flag) (rest : List Todo) (acts : List Act) → AreLawful (next_job p) acts → AreTodo acts (todo.Ask id ask done ∷ rest) → AreCommanded p acts → agenda s p ≡ settle p (plans (act_plan (λ id. lives id p) acts) Open) → FirstAsk s p id ask rest
+first_ask s p id ask done rest [] l t k d = absurd t
+first_ask s p id ask done rest (Create job what ∷ acts) l t k d = absurd t
+first_ask s p id ask done rest (Ask job asked ∷ acts) l t k d = record { acts = acts; lawful = l; is_todo = t.2; commanded = k; due = rw (t.0, t.1) d }
+first_ask s p id ask done rest (Quit ∷ acts) l t k d = first_ask s p id ask done rest acts l t k d
 
 pub ignored_one : (s : Start) (w : Worker) (id : Id) (ask : AnAsk) (done : Flag) (rests : List Todo) (more : Agenda) (p p' : List Entry) → OwesActs s p (todo.Ask id ask done ∷ rests) more → Stands s w p → lives id p ≡ false → p' ≡ Said Ignored ∷ p → OneDone s w rests more p p'
 ignored_one s w id ask done rests more p p' owes stands gone grown =
-    let f = first_ask s p id ask done rests owes.acts owes.is_todo owes.commanded owes.due in
+    let f = first_ask s p id ask done rests owes.acts owes.lawful owes.is_todo owes.commanded owes.due in
     let owed : agenda s p ≡ settle p (plans (adds (Said Ignored) (act_plan (λ job. lives job p) f.acts)) Open) = f.due ∙ ap (λ (b : Bool). settle p (plans (cond b (ask_plan id (sends_of ask) (act_plan (λ job. lives job p) f.acts)) (adds (Said Ignored) (act_plan (λ job. lives job p) f.acts))) Open)) gone in
     let due : Due s p (Said Ignored) = subst (λ (a : Agenda). Admits s p a (Said Ignored)) (sym owed) (tt, refl) in
     rw grown (record {
-      stands = stands_behind s w (Said Ignored) p refl tt due stands;
+      stands = stands_behind s w (Said Ignored) p refl tt stands;
       follows = λ world hooks p₀ world₀ hooks₀ l. Then (Said Ignored) p world hooks l due;
       quiet = λ p₀ a. More (Said Ignored) p a refl;
       turns = turns_over _ _ refl;
-      owes = record { acts = f.acts; is_todo = f.is_todo; commanded = commanded_same p (Said Ignored ∷ p) f.acts (λ i. refl) f.commanded; due = ap (λ (a : Agenda). settle (Said Ignored ∷ p) (rest (Said Ignored) a)) owed; then = owes.then };
+      owes = record { acts = f.acts; lawful = f.lawful; is_todo = f.is_todo; commanded = commanded_same p (Said Ignored ∷ p) f.acts (λ i. refl) f.commanded; due = ap (λ (a : Agenda). settle (Said Ignored ∷ p) (rest (Said Ignored) a)) owed; then = owes.then };
     })
 
 -- the entries of an ask: one for each of its controls
@@ -223,38 +208,38 @@ asked_done id level first second p p' (inr (inr h)) = h.1
 
 -- what is known of a run to which the entries of an ask were added that was owed before this plan
 record Asks (s : Start) (k : Plan) (p p' : List Entry) : Type 0 where
-  orderly : IsOrderly s p → IsOrderly s p'
   follows : FollowsAlone s p p'
   quiet : StaysQuiet p p'
   turns : StaysInTurn p p'
   due : agenda s p' ≡ settle p' (plans k Open)
   quits : is_quitting p' ≡ is_quitting p
   commands : (i : Id) → command i p' ≡ command i p
+  next_same : next_job p' ≡ next_job p
   acts_same : (acts : List Act) → act_plan (λ job. lives job p') acts ≡ act_plan (λ job. lives job p) acts
 
 asks_one : (s : Start) (p : List Entry) (id : Id) (level : Level) (control : Control) (k : Plan) → agenda s p ≡ settle p (plans (asks id level control k) Open) → Asks s k p (Asked (ticket_count p) id level control ∷ p)
 asks_one s p id level control k owed =
     let e = Asked (ticket_count p) id level control in
     let due : Due s p e = subst (λ (a : Agenda). Admits s p a e) (sym owed) (tt, refl) in record {
-      orderly = λ o. orderly_more s e p due o;
       follows = λ world hooks p₀ world₀ hooks₀ l. Then e p world hooks l due;
       quiet = λ p₀ a. More e p a refl;
       turns = turns_over e p refl;
       due = ap (λ (a : Agenda). settle (e ∷ p) (rest e a)) owed;
       quits = refl;
       commands = λ i. refl;
+      next_same = refl;
       acts_same = λ acts. refl;
     }
 
 asks_then : (s : Start) (k k' : Plan) (p q r : List Entry) → Asks s k p q → Asks s k' q r → Asks s k' p r
 asks_then s k k' p q r a b = record {
-  orderly = λ o. b.orderly (a.orderly o);
   follows = λ world hooks p₀ world₀ hooks₀ l. b.follows world hooks p₀ world₀ hooks₀ (a.follows world hooks p₀ world₀ hooks₀ l);
   quiet = λ p₀ h. b.quiet p₀ (a.quiet p₀ h);
   turns = λ p₀ h. b.turns p₀ (a.turns p₀ h);
   due = b.due;
   quits = b.quits ∙ a.quits;
   commands = λ i. b.commands i ∙ a.commands i;
+  next_same = b.next_same ∙ a.next_same;
   acts_same = λ acts. b.acts_same acts ∙ a.acts_same acts;
 }
 
@@ -268,7 +253,7 @@ asks_all s p id level first (Some second) k owed =
 pub asked_one : (s : Start) (w w' : Worker) (id : Id) (task task' : JobTask) (ask : AnAsk) (done : Flag) (rests : List Todo) (more : Agenda) (p p' : List Entry) → OwesActs s p (todo.Ask id ask done ∷ rests) more → Stands s w p → lives id p ≡ true → Lent p w.jobs id task → w' ≡ record w { jobs = w'.jobs }
     → w'.jobs ≡ with_task id w.jobs task' → SameJob task task' → TaskStands task' p' → LeavesOthers (id_of task) p p' → PlanFollowsAlone (send_plan (id_of task) (sends_of ask) p) p Done p' → OneDone s w' rests more p p'
 asked_one s w w' id task task' ask done rests more p p' owes stands alive l fields jobs same task_stands leaves follows =
-    let f = first_ask s p id ask done rests owes.acts owes.is_todo owes.commanded owes.due in
+    let f = first_ask s p id ask done rests owes.acts owes.lawful owes.is_todo owes.commanded owes.due in
     let sends = sends_of ask in
     let k : Plan = act_plan (λ job. lives job p) f.acts in
     let change = changed p p' w.jobs w'.jobs id task task' l jobs same task_stands in
@@ -279,8 +264,10 @@ asked_one s w w' id task task' ask done rests more p p' owes stands alive l fiel
     let grown = asked_done id sends.level sends.first sends.second p p' (asked_so id sends.level sends.first sends.second p None None 0 Done p' None None 0 led) in
     let ran = asks_all s p id sends.level sends.first sends.second k owed in
     let still = (still_led (ask_plan id sends Done) p None None 0 Done p' None None 0 (none_by_ask id ask p) led).still in
-    let j = jobs_change p p' w.jobs w'.jobs change.0 l.held (record l.held { task = task' }) (jobs_stand s w p stands) still (rw l.task_is leaves) change.1 in
-    let stood : Stands s w' (asked_all id sends.level sends.first sends.second p) = subst (Stands s w') grown (stands_rest s w w' p p' stands (subst (IsOrderly s) (sym grown) (ran.orderly stands.orderly)) still fields j.0 j.1) in
+    let others : LeavesOthers (held_id l.held) p p' = rw l.task_is leaves in
+    let j = jobs_change p p' w.jobs w'.jobs change.0 l.held (record l.held { task = task' }) (jobs_stand s w p stands) still others change.1 in
+    let idle = idle_then s w change.0 l.held p p' stands change.1.within change.1.held still others in
+    let stood : Stands s w' (asked_all id sends.level sends.first sends.second p) = subst (Stands s w') grown (stands_rest s w w' p p' stands leaves.own idle still fields j.0 j.1) in
     rw grown (record {
       stands = stood;
       follows = ran.follows;
@@ -288,6 +275,7 @@ asked_one s w w' id task task' ask done rests more p p' owes stands alive l fiel
       turns = ran.turns;
       owes = record {
         acts = f.acts;
+        lawful = rw ran.next_same f.lawful;
         is_todo = f.is_todo;
         commanded = commanded_same p (asked_all id sends.level sends.first sends.second p) f.acts ran.commands f.commanded;
         due = ran.due ∙ ap (λ (i : Plan). settle (asked_all id sends.level sends.first sends.second p) (plans i Open)) (sym (ran.acts_same f.acts));

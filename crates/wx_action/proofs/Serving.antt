@@ -3,7 +3,8 @@ use Rattle.std.proofs.Common.{◌≡◌, ◌≤◌, ℕ, Option, List, arith, re
 use Rattle.wx_journal.specs.declared.entry.Entry.{Entry}
 use Rattle.wx_journal.specs.Written.{Written}
 use Rattle.wx_machine.specs.Seen.{Seen, Hooked}
-use Rattle.wx_machine.specs.Kept.{OnlyHooksRoom, Same, KeepsOn, Past, Roomy}
+use Rattle.wx_machine.specs.Kept.{OnlyHooksRoom, Same, KeepsOn, Still, Past, Roomy, Promised}
+use Rattle.wx_machine.proofs.KeptLemmas.{KeepsOther, promised}
 use Rattle.wx_machine.specs.Steady.{OnlyRoom}
 use Rattle.wx_machine.proofs.SteadyLemmas.{steady_none, steady_then}
 use Rattle.wx_machine.specs.Start.{Start}
@@ -134,3 +135,9 @@ hand_then seen rule holds s p q r x y z v w g h = record {
   };
   keeps = λ x₀ p₀ k. h.keeps x₀ p₀ (g.keeps x₀ p₀ k);
 }
+
+-- ---- what hooks promise
+
+-- where the worker stands for the longer journal, which names its own then, what was kept is promised
+pub promised_grown : {K Fixed : Type 0} (seen : K → Hooked Fixed) (rule : Fixed → List Entry → Entry → Type 0) (holds : K → List Entry → Type 0) (s : Start) (w' : Worker) (p p' : List Entry) (x x' : K) → ((y : K) → KeepsOther (holds y)) → Stands s w' p' → KeepsOn seen rule holds x p x' p' → Promised seen rule holds x p x' p'
+promised_grown seen rule holds s w' p p' x x' other stands keeps = promised seen rule holds x p x' p' other stands.own (keeps x p Still)

@@ -14,22 +14,21 @@ use Rattle.wx_journal.specs.declared.entry.Named.{Named}
 use Rattle.wx_journal.specs.declared.entry.Offered.{Offered}
 use Rattle.wx_journal.specs.declared.entry.Offered.TheVariants.{Queued, Full, Closed}
 use Rattle.wx_journal.specs.Acts.{JournalAct as Act}
-use Rattle.wx_journal.specs.Names.{event_count}
-use Rattle.wx_machine.specs.History.{command, SameHistory}
+use Rattle.wx_journal.specs.Names.{event_count, Names, NamesItsOwn}
+use Rattle.wx_machine.specs.History.{command}
+use Rattle.wx_machine.specs.Leaves.{SameHistory}
 use Rattle.wx_hooks.specs.declared.held.Held.{Held}
 use Rattle.wx_action.specs.declared.worker_state.Worker.{Worker}
 use Rattle.wx_machine.specs.Start.{Start}
 use Rattle.wx_machine.specs.Journal.{settings, closed, bag, offered, window}
-use Rattle.wx_machine.specs.Jobs.{set}
-use Rattle.wx_machine.specs.Due.{Due}
+use Rattle.wx_machine.specs.Jobs.{set, UnseenRunNone}
 use Rattle.wx_hooks.specs.Handled.{AreEvents, lookup}
-use Rattle.wx_machine.proofs.Frame.{is_silent, frame_silent}
+use Rattle.wx_machine.proofs.Frame.{is_silent, frame_silent, frame_apart}
 use Rattle.wx_hooks.proofs.JobsLemmas.{same_held}
 use Rattle.wx_hooks.proofs.QuietLemmas.{SameRest}
 use Rattle.wx_action.specs.Stands.{Stands, IsOffered}
 use Rattle.wx_hooks.specs.JobsStand.{HeldStands, held_id}
-use Rattle.wx_machine.proofs.Orderly.{IsOrderly}
-use Rattle.wx_machine.proofs.RunLaws.{window_below, orderly_more}
+use Rattle.wx_machine.proofs.RunLaws.{window_below}
 
 -- ---- what is held of a job
 
@@ -40,7 +39,7 @@ tasks_silent e p (h ∷ hs) silent s = (same_held p (e ∷ p) h (frame_silent (h
 
 -- a batch changes what its acts create
 pub over_hand : (n : ℕ) (names : List ℕ) (acts : List Act) (p : List Entry) (i : Id) → command i (Hand n names acts ∷ p) ≡ command i p → SameHistory i p (Hand n names acts ∷ p)
-over_hand n names acts p i kept = record { lives_same = refl; waits_same = λ l. refl; child_same = refl; kept_same = refl; state_same = refl; previous_same = refl; hook_same = refl; handler_same = refl; begun_same = refl; tag_same = refl; grace_same = refl; parked_same = refl; tickets_later = omega arith; command_same = kept }
+over_hand n names acts p i kept = frame_apart i (Hand n names acts) p tt kept
 
 -- ---- what a worker keeps besides jobs
 
@@ -57,11 +56,27 @@ rest_over (TurnFault code) p h = record { bag_same = refl; closed_same = refl; c
 rest_over (Said word) p h = record { bag_same = refl; closed_same = refl; count_same = refl; window_same = refl; lookup_same = refl; first_same = refl; set_same = refl; commands_same = λ i. refl }
 rest_over (_) p h = absurd h
 
+-- they name nothing, and no child runs because of one
+names_still : (e : Entry) (p : List Entry) → IsStill e → Names p e
+names_still (Turned t) p h = tt
+names_still (TurnFault code) p h = tt
+names_still (Said word) p h = tt
+names_still (_) p h = absurd h
+
+pub own_still : (e : Entry) (p : List Entry) → IsStill e → NamesItsOwn p → NamesItsOwn (e ∷ p)
+own_still e p still own = (names_still e p still, own)
+
+pub idle_still : (e : Entry) (p : List Entry) → IsStill e → UnseenRunNone p → UnseenRunNone (e ∷ p)
+idle_still (Turned t) p h idle = idle
+idle_still (TurnFault code) p h idle = idle
+idle_still (Said word) p h idle = idle
+idle_still (_) p h idle = absurd h
+
 -- the worker with other jobs
-pub stands_rest : (s : Start) (w w' : Worker) (p p' : List Entry) → Stands s w p → IsOrderly s p' → SameRest p p' → w' ≡ record w { jobs = w'.jobs } → map held_id w'.jobs ≡ set p' → AllByRecursion (HeldStands p') w'.jobs → Stands s w' p'
-stands_rest s w w' p p' stands orderly q fields ids tasks =
+pub stands_rest : (s : Start) (w w' : Worker) (p p' : List Entry) → Stands s w p → NamesItsOwn p' → UnseenRunNone p' → SameRest p p' → w' ≡ record w { jobs = w'.jobs } → map held_id w'.jobs ≡ set p' → AllByRecursion (HeldStands p') w'.jobs → Stands s w' p'
+stands_rest s w w' p p' stands own idle q fields ids tasks =
     let stood : Stands s (record w { jobs = w'.jobs }) p' = record {
-      orderly = orderly;
+      own = own;
       config_kept = stands.config_kept;
       queue_kept = rw q.bag_same stands.queue_kept;
       size_kept = stands.size_kept;
@@ -72,14 +87,15 @@ stands_rest s w w' p p' stands orderly q fields ids tasks =
       first_kept = stands.first_kept ∙ sym q.first_same;
       jobs_kept = ids;
       tasks_kept = tasks;
+      idle_kept = idle;
     } in
     rw fields stood
 
 -- the worker behind a word or the fault of a turn
-pub stands_behind : (s : Start) (w : Worker) (e : Entry) (p : List Entry) → is_silent e ≡ true → IsStill e → Due s p e → Stands s w p → Stands s w (e ∷ p)
-stands_behind s w e p silent still due stands =
+pub stands_behind : (s : Start) (w : Worker) (e : Entry) (p : List Entry) → is_silent e ≡ true → IsStill e → Stands s w p → Stands s w (e ∷ p)
+stands_behind s w e p silent still stands =
     let q = rest_over e p still in
-    stands_rest s w w p (e ∷ p) stands (orderly_more s e p due stands.orderly) q refl (stands.jobs_kept ∙ sym q.set_same) (tasks_silent e p w.jobs silent stands.tasks_kept)
+    stands_rest s w w p (e ∷ p) stands (own_still e p still stands.own) (idle_still e p still stands.idle_kept) q refl (stands.jobs_kept ∙ sym q.set_same) (tasks_silent e p w.jobs silent stands.tasks_kept)
 
 -- an event that is listed under a new name leaves the events of the names below
 events-rise : (m : ℕ) (v : Option (Event × Priority)) (look : ℕ → Option (Event × Priority)) (names : List ℕ) (events : List Event) → AllByRecursion (λ name. name < m) names → AreEvents look names events → AreEvents (λ name. cond (m == name) v (look name)) names events
@@ -114,65 +130,69 @@ offered_is s w p item new Closed stands is =
     rw shut refl
 
 -- the worker after an offer
-pub stands_offered : (s : Start) (w : Worker) (p : List Entry) (event : Event) (priority : Priority) (new : Channel Named) (result : Offered) → Stands s w p → Due s p (Offer (event_count p) None result event priority)
+pub stands_offered : (s : Start) (w : Worker) (p : List Entry) (event : Event) (priority : Priority) (new : Channel Named) (result : Offered) → Stands s w p
     → IsOffered w.queue (record { name = event_count p; event = event }, priority) new result → new.size ≡ w.queue.size → new.closed ≡ w.queue.closed
     → Stands s (record w { queue = new; named = w.named + 1 }) (Offer (event_count p) None result event priority ∷ p)
-stands_offered s w p event priority new Queued stands due is size same_closed = record {
-  orderly = orderly_more s (Offer (event_count p) None Queued event priority) p due stands.orderly;
+stands_offered s w p event priority new Queued stands is size same_closed = record {
+  own = ((refl, tt), stands.own);
   config_kept = stands.config_kept;
   queue_kept = same-trans _ _ _ is.0 (add-bag w.queue.items (bag p) _ stands.queue_kept);
   size_kept = size ∙ stands.size_kept;
   closed_kept = same_closed ∙ stands.closed_kept;
   named_kept = omega (arith, stands.named_kept);
   names_kept = stands.names_kept;
-  events_kept = events-rise (event_count p) (Some (event, priority)) (lookup p) (window p) w.batch.events (window_below p stands.orderly.own) stands.events_kept;
+  events_kept = events-rise (event_count p) (Some (event, priority)) (lookup p) (window p) w.batch.events (window_below p stands.own) stands.events_kept;
   first_kept = stands.first_kept;
   jobs_kept = stands.jobs_kept;
   tasks_kept = tasks_silent (Offer (event_count p) None Queued event priority) p w.jobs refl stands.tasks_kept;
+  idle_kept = stands.idle_kept;
 }
-stands_offered s w p event priority new Full stands due is size same_closed = record {
-  orderly = orderly_more s (Offer (event_count p) None Full event priority) p due stands.orderly;
+stands_offered s w p event priority new Full stands is size same_closed = record {
+  own = ((refl, tt), stands.own);
   config_kept = stands.config_kept;
   queue_kept = rw is.0 stands.queue_kept;
   size_kept = size ∙ stands.size_kept;
   closed_kept = same_closed ∙ stands.closed_kept;
   named_kept = omega (arith, stands.named_kept);
   names_kept = stands.names_kept;
-  events_kept = events-rise (event_count p) (Some (event, priority)) (lookup p) (window p) w.batch.events (window_below p stands.orderly.own) stands.events_kept;
+  events_kept = events-rise (event_count p) (Some (event, priority)) (lookup p) (window p) w.batch.events (window_below p stands.own) stands.events_kept;
   first_kept = stands.first_kept;
   jobs_kept = stands.jobs_kept;
   tasks_kept = tasks_silent (Offer (event_count p) None Full event priority) p w.jobs refl stands.tasks_kept;
+  idle_kept = stands.idle_kept;
 }
-stands_offered s w p event priority new Closed stands due is size same_closed = record {
-  orderly = orderly_more s (Offer (event_count p) None Closed event priority) p due stands.orderly;
+stands_offered s w p event priority new Closed stands is size same_closed = record {
+  own = ((refl, tt), stands.own);
   config_kept = stands.config_kept;
   queue_kept = rw is.0 stands.queue_kept;
   size_kept = size ∙ stands.size_kept;
   closed_kept = same_closed ∙ stands.closed_kept;
   named_kept = omega (arith, stands.named_kept);
   names_kept = stands.names_kept;
-  events_kept = events-rise (event_count p) (Some (event, priority)) (lookup p) (window p) w.batch.events (window_below p stands.orderly.own) stands.events_kept;
+  events_kept = events-rise (event_count p) (Some (event, priority)) (lookup p) (window p) w.batch.events (window_below p stands.own) stands.events_kept;
   first_kept = stands.first_kept;
   jobs_kept = stands.jobs_kept;
   tasks_kept = tasks_silent (Offer (event_count p) None Closed event priority) p w.jobs refl stands.tasks_kept;
+  idle_kept = stands.idle_kept;
 }
 
 -- the worker after an event was listed as sent
-pub stands_sent : (s : Start) (w : Worker) (p : List Entry) (event : Event) (priority : Priority) (new : Channel Named) → Stands s w p → Due s p (Sent (event_count p) event priority)
+pub stands_sent : (s : Start) (w : Worker) (p : List Entry) (event : Event) (priority : Priority) (new : Channel Named) → Stands s w p
     → SameBag new.items (w.queue.items ++ (record { name = event_count p; event = event }, priority) ∷ []) → new.size ≡ w.queue.size → new.closed ≡ w.queue.closed
     → Stands s (record w { queue = new; named = w.named + 1 }) (Sent (event_count p) event priority ∷ p)
-stands_sent s w p event priority new stands due is size same_closed = record {
-  orderly = orderly_more s (Sent (event_count p) event priority) p due stands.orderly;
+stands_sent s w p event priority new stands is size same_closed = record {
+  own = (refl, stands.own);
   config_kept = stands.config_kept;
   queue_kept = same-trans _ _ _ is (add-bag w.queue.items (bag p) _ stands.queue_kept);
   size_kept = size ∙ stands.size_kept;
   closed_kept = same_closed ∙ stands.closed_kept;
   named_kept = omega (arith, stands.named_kept);
   names_kept = stands.names_kept;
-  events_kept = events-rise (event_count p) (Some (event, priority)) (lookup p) (window p) w.batch.events (window_below p stands.orderly.own) stands.events_kept;
+  events_kept = events-rise (event_count p) (Some (event, priority)) (lookup p) (window p) w.batch.events (window_below p stands.own) stands.events_kept;
   first_kept = stands.first_kept;
   jobs_kept = stands.jobs_kept;
   tasks_kept = tasks_silent (Sent (event_count p) event priority) p w.jobs refl stands.tasks_kept;
+  idle_kept = stands.idle_kept;
 }
 
 -- events are at most as many as entries

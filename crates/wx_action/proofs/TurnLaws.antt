@@ -1,4 +1,4 @@
--- What is known of a worker directly after a turn was drawn, and of what hooks promise over several calls.
+-- What is known of a worker directly after a turn was drawn.
 use Rattle.std.proofs.Common.{◌≡◌, ◌≢◌, ℕ, false, cond, List, [], ◌∷◌, inl, inr, refl, ap, sym, subst, ◌∙◌, ne_eqb}
 use Rattle.std.specs.Prelude.{Option, None, Some, map}
 use Rattle.std.specs.List.{AllByRecursion}
@@ -9,22 +9,19 @@ use Rattle.wx_journal.specs.declared.entry.Turn.{Turn}
 use Rattle.wx_journal.specs.declared.entry.TurnKind.{TurnKind}
 use Rattle.wx_journal.specs.declared.entry.TurnKind.TheVariants.{Ended}
 use Rattle.wx_journal.specs.Names.{moment, NamesItsOwn}
-use Rattle.wx_job.specs.declared.task.JobTask.{JobTask}
 use Rattle.wx_machine.specs.History.{child, is_child, names_end}
-use Rattle.wx_job.specs.Stands.{TaskStands}
 use Rattle.wx_machine.specs.Told.{TellsNoEnd}
 use Rattle.wx_hooks.specs.declared.held.Held.{Held}
 use Rattle.wx_action.specs.declared.worker_state.Worker.{Worker}
 use Rattle.wx_machine.specs.Start.{Start}
-use Rattle.wx_machine.specs.Due.{Hands, is_quitting, agenda, turn_agenda}
+use Rattle.wx_machine.specs.Due.{turn_agenda, is_quitting, agenda}
 use Rattle.wx_machine.proofs.SettleLaws.{settle_calm}
-use Rattle.wx_machine.specs.RunLaws.{NoneUrgentWaits}
-use Rattle.wx_machine.specs.Leads.{Follows}
 use Rattle.wx_machine.specs.Jobs.{set, parent_among, parent}
 use Rattle.wx_hooks.specs.JobsStand.{HeldStands, held_id}
 use Rattle.wx_action.specs.Stands.{Stands, AtTurn}
-use Rattle.wx_machine.proofs.RunLaws.{orderly_turn, calm_turn}
 use Rattle.wx_machine.proofs.AllJobs.{IsIn, parent_none, one_parent}
+use Rattle.wx_machine.proofs.Frame.{frame_apart}
+use Rattle.wx_hooks.proofs.JobsLemmas.{same_held}
 
 -- what is known of every turn that was drawn: it owes what its kind says
 pub record IsTurned (s : Start) (at : ℕ) (kind : TurnKind) (p : List Entry) : Type 0 where
@@ -35,41 +32,14 @@ pub record IsTurned (s : Start) (at : ℕ) (kind : TurnKind) (p : List Entry) : 
 pub turned : (s : Start) (w : Worker) (at : ℕ) (kind : TurnKind) (p : List Entry) → AtTurn s w at kind p → IsTurned s at kind p
 turned s w at kind p a = subst (IsTurned s at kind) (sym a.last) (record { due = settle_calm (Turned (record { at = at; kind = kind }) ∷ a.before) _ refl; going = refl; now = refl })
 
--- where no urgent event waited at a turn, none waits once nothing is due, nor at the end
-pub calm_after : (s : Start) (w : Worker) (at : ℕ) (kind : TurnKind) (p p' : List Entry) (world hooks world' hooks' : Option (List Entry)) → AtTurn s w at kind p → Follows s p world hooks p' world' hooks' → (agenda s p' ≡ Hands → ⊥) → NoneUrgentWaits p → NoneUrgentWaits p'
-calm_after s w at kind p p' world hooks world' hooks' a f other h =
-    calm_turn s (record { at = at; kind = kind }) a.before world hooks p' world' hooks' (subst (λ q. Follows s q world hooks p' world' hooks') a.last f) a.stands.orderly (subst NoneUrgentWaits a.last h) other
-
 -- ---- what stands over a turn: all but the task whose child's end it tells
-
-task_over : (k : JobTask) (t : Turn) (p : List Entry) → names_end t.kind (child k.id p) ≡ false → TaskStands k p → TaskStands k (Turned t ∷ p)
-task_over k t p other stands = record {
-  lives_kept = stands.lives_kept;
-  urgent_kept = stands.urgent_kept;
-  high_kept = stands.high_kept;
-  normal_kept = stands.normal_kept;
-  child_kept = stands.child_kept;
-  end_kept = rw other stands.end_kept;
-  state_kept = stands.state_kept;
-  previous_kept = stands.previous_kept;
-  hook_kept = stands.hook_kept;
-  handler_kept = stands.handler_kept;
-  begun_kept = stands.begun_kept;
-  tag_kept = stands.tag_kept;
-  grace_kept = stands.grace_kept;
-  parked_kept = stands.parked_kept;
-  parked_room = stands.parked_room;
-  held_once = stands.held_once;
-  held_named = stands.held_named;
-  runs_kept = stands.runs_kept;
-}
 
 -- the turn tells no end of this one's child
 abbrev pub IsApart : Turn → List Entry → Held → Type 0
 IsApart t p h = names_end t.kind (child (held_id h) p) ≡ false
 
 pub held_over : (t : Turn) (p : List Entry) (h : Held) → IsApart t p h → HeldStands p h → HeldStands (Turned t ∷ p) h
-held_over t p h other stands = record { task_stands = task_over h.task t p other stands.task_stands; command_is = stands.command_is; handle_is = stands.handle_is; handle_command = stands.handle_command; is_open = stands.is_open }
+held_over t p h other stands = same_held p (Turned t ∷ p) h (frame_apart (held_id h) (Turned t) p other refl) stands
 
 held_all_over : (t : Turn) (p : List Entry) (hs : List Held) → AllByRecursion (IsApart t p) hs → AllByRecursion (HeldStands p) hs → AllByRecursion (HeldStands (Turned t ∷ p)) hs
 held_all_over t p [] other stands = tt
@@ -77,7 +47,7 @@ held_all_over t p (h ∷ hs) other stands = (held_over t p h other.0 stands.0, h
 
 pub stands_over : (s : Start) (w : Worker) (t : Turn) (p : List Entry) → AllByRecursion (IsApart t p) w.jobs → Stands s w p → Stands s w (Turned t ∷ p)
 stands_over s w t p other stands = record {
-  orderly = orderly_turn s t p stands.orderly;
+  own = (tt, stands.own);
   config_kept = stands.config_kept;
   queue_kept = stands.queue_kept;
   size_kept = stands.size_kept;
@@ -88,6 +58,7 @@ stands_over s w t p other stands = record {
   first_kept = stands.first_kept;
   jobs_kept = stands.jobs_kept;
   tasks_kept = held_all_over t p w.jobs other stands.tasks_kept;
+  idle_kept = stands.idle_kept;
 }
 
 -- ---- the worker stands for the journal with the turn too

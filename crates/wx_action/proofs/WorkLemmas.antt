@@ -1,5 +1,5 @@
 -- A Work turn.
-use Rattle.std.proofs.Common.{◌≡◌, ◌≤◌, ℕ, ◌+◌, Bool, true, false, cond, List, [], ◌∷◌, ◌++◌, length, inl, refl, arith, ap, sym, subst, ◌∙◌}
+use Rattle.std.proofs.Common.{◌≡◌, ◌<◌, ◌≤◌, ℕ, ◌+◌, Bool, true, false, cond, List, [], ◌∷◌, ◌++◌, length, inl, refl, arith, ap, sym, ◌∙◌}
 use Rattle.std.proofs.lemmas.Bool.{eqb-true}
 use Rattle.std.specs.Prelude.{Option, Some, Result, Ok, Err, is_some, ◌==◌, ◌||◌}
 use Rattle.wx_events.specs.declared.event.Event.{Event}
@@ -14,7 +14,7 @@ use Rattle.prio_channel.proofs.BagLaws.{same-length}
 use Rattle.wx_journal.specs.declared.entry.Entry.{Entry}
 use Rattle.wx_journal.specs.declared.entry.Entry.TheVariants.{Word as Said, Take, Filter, Show}
 use Rattle.wx_journal.specs.declared.entry.Named.{Named}
-use Rattle.wx_journal.specs.Names.{moment}
+use Rattle.wx_journal.specs.Names.{event_count, moment}
 use Rattle.wx_journal.specs.Told.{is_turn, tell}
 use Rattle.wx_action.specs.declared.worker_state.Worker.{Worker}
 use Rattle.wx_action.specs.declared.work_turn.Found.{Found}
@@ -24,20 +24,19 @@ use Rattle.wx_journal.specs.declared.entry.Word.TheVariants.{Idle}
 use Rattle.wx_hooks.specs.Batch.{Waiting}
 use Rattle.wx_machine.specs.Start.{Start}
 use Rattle.wx_machine.specs.Journal.{settings, listed, is_urgent_in, is_urgent_named, is_unseen, is_unseen_in, passes_unseen, lets_pass, is_exit, is_close, closed, ending, wished, one_if, and_one, begun, without, bag, window, first, is_over, is_over_of}
-use Rattle.wx_machine.specs.Due.{agenda, Due, Open, Says, Takes as TakesNext, Filters, Shows as ShowsNext, Hands, work, after_pass, after_drop, after_show, after_filter}
+use Rattle.wx_machine.specs.Due.{Takes as TakesNext, Filters, Shows as ShowsNext, Hands, Agenda, Open, Comes, rest, says, work, after_pass, after_take, after_drop, after_show, after_filter, is_quitting, settle, agenda, Due}
 use Rattle.wx_hooks.specs.Handled.{lookup}
 use Rattle.wx_machine.specs.Kept.{More, Keeps, Called}
 use Rattle.wx_machine.specs.Seen.{Hooked}
 use Rattle.wx_action.specs.Serves.{GrowsHand}
 use Rattle.wx_action.proofs.ServesLaws.{adds_hand}
 use Rattle.wx_machine.specs.Leads.{FollowsHooks, Then}
-use Rattle.wx_action.specs.Stands.{Stands, AddsTake, HasTaken, HasPassed, IsDropped, LeavesRoom, Finds, Judges, IsJudged}
+use Rattle.wx_action.specs.Stands.{Stands, OwesAt, OwesHand, AddsTake, HasTaken, HasPassed, IsDropped, LeavesRoom, Finds, Judges, IsJudged}
 use Rattle.wx_machine.proofs.BagLaws.{IsTaken, is_taken}
-use Rattle.wx_machine.proofs.RunLaws.{joined_if, orderly_more}
+use Rattle.wx_machine.proofs.RunLaws.{listed_below, window_some, joined_if, some-append, below_taken}
 use Rattle.wx_machine.proofs.AllJobs.{turns_over}
 use Rattle.wx_action.proofs.ArriveLemmas.{StepsOver, said_done, said_then}
-use Rattle.wx_machine.proofs.Orderly.{IsGoing, IsOrderly}
-use Rattle.wx_machine.proofs.SettleLaws.{settle_calm}
+use Rattle.wx_machine.proofs.SettleLaws.{settle_calm, settle_over}
 use Rattle.wx_action.proofs.StandsLemmas.{events-append, tasks_silent}
 
 -- a queue that is empty, where the bag isn't
@@ -54,30 +53,40 @@ pub record TakeDone (s : Start) (w : Worker) (p p' : List Entry) (found : Found)
   pub steps : StepsOver s w p p'
   pub collected : Finds s p found p'
 
-collects_take : (s : Start) (p p' : List Entry) (due : Bool) → HasPassed p p' → agenda s p' ≡ cond due Hands Open → Finds s p (cond due Hand Kept) p'
-collects_take s p p' true passed e = e
+-- a window that an event joined isn't empty
+owes_joined : (s : Start) (p p' : List Entry) (name : ℕ) → window p' ≡ window p ++ name ∷ [] → agenda s p' ≡ Comes Hands Open → OwesHand s p'
+owes_joined s p p' name joined due = record { due = due; some = rw joined (some-append (window p) name) }
+
+collects_take : (s : Start) (p p' : List Entry) (due : Bool) → HasPassed p p' → agenda s p' ≡ cond due (Comes Hands Open) Open → Finds s p (cond due Hand Kept) p'
+collects_take s p p' true passed e = owes_joined s p p' passed.name passed.joined e
 collects_take s p p' false passed e = (passed, e)
 
 has_taken : (p p' : List Entry) (x : Named × Priority) (rest : List (Named × Priority)) (unseen : Bool) → passes_unseen x.0.name p ≡ unseen → IsTaken p x rest → AddsTake unseen x.0.name p p' → bag p' ≡ without x.0.name (bag p) → HasTaken x.0.name p p'
 has_taken p p' x rest unseen is t shows left = record { taken = rw is shows; was = ap is_some t.is_named; left = rw left t.is_gone }
 
-pub take_done : (s : Start) (w : Worker) (p p' : List Entry) (at start : ℕ) (x : Named × Priority) (queue : Channel Named) (batch : Waiting) (found : Found) → Stands s w p → agenda s p ≡ TakesNext → moment p ≡ at
+after_take_is : (s : Start) (p : List Entry) (name : ℕ) → is_quitting p ≡ false → agenda s p ≡ Comes TakesNext Open → agenda s (Take name ∷ p) ≡ after_take s name p Open
+after_take_is s p name going due = ap (λ (k : Agenda). settle (Take name ∷ p) (after_take s name p (rest (Take name) k))) due ∙ settle_calm (Take name ∷ p) _ going
+
+pub take_done : (s : Start) (w : Worker) (p p' : List Entry) (at start : ℕ) (x : Named × Priority) (queue : Channel Named) (batch : Waiting) (found : Found) → OwesAt s w at p (Comes TakesNext Open)
     → Takes w.queue.items x queue.items → AllAtMost x.1 w.queue.items → queue.size ≡ w.queue.size → queue.closed ≡ w.queue.closed → is_unseen x.0.event x.1 ≡ true → start ≡ cond (length w.batch.names == 0) at w.first
     → batch.names ≡ w.batch.names ++ x.0.name ∷ [] → batch.events ≡ w.batch.events ++ x.0.event ∷ [] → found ≡ cond (is_urgent x.1 || is_over_of w.config.throttle batch.names start at) Hand Kept → p' ≡ Take x.0.name ∷ p
     → TakeDone s (record w { queue = queue; batch = batch; first = start }) p p' found
-take_done s w p p' at start x queue batch found stands due now takes most size same_closed seen began names events is_found grown =
-    let t = is_taken p w.queue.items queue.items x stands.orderly.own stands.queue_kept takes most in
-    let d : Due s p (Take x.0.name) = rw due (x.0.name, refl, t.is_greatest) in
+take_done s w p p' at start x queue batch found owes takes most size same_closed seen began names events is_found grown =
+    let stands = owes.stands in
+    let due = owes.due in
+    let now = owes.now in
+    let t = is_taken p w.queue.items queue.items x stands.own stands.queue_kept takes most in
+    let d : Due s p (Take x.0.name) = rw due ((x.0.name, t.is_greatest), refl) in
     let unseen : passes_unseen x.0.name p ≡ true = ap is_unseen_in t.is_listed ∙ seen in
     let window_is : window (Take x.0.name ∷ p) ≡ window p ++ x.0.name ∷ [] = joined_if p x.0.name (passes_unseen x.0.name p) unseen in
     let first_is : first (Take x.0.name ∷ p) ≡ start = rw (unseen, began, stands.names_kept, stands.first_kept, now) refl in
     let names_are : batch.names ≡ window (Take x.0.name ∷ p) = names ∙ ap (λ (ns : List ℕ). ns ++ x.0.name ∷ []) stands.names_kept ∙ sym window_is in
     let over : is_over s (Take x.0.name ∷ p) (moment p) ≡ is_over_of w.config.throttle batch.names start at = rw (first_is, names_are, stands.config_kept, now) refl in
-    let after : agenda s (Take x.0.name ∷ p) ≡ cond (is_urgent x.1 || is_over_of w.config.throttle batch.names start at) Hands Open = settle_calm (Take x.0.name ∷ p) _ (subst (IsGoing p) due stands.orderly.going) ∙ ap (λ (b : Bool). cond b (after_pass s x.0.name (Take x.0.name ∷ p)) (Filters x.0.name)) unseen ∙ rw (← over, ← t.urgency) refl in
+    let after : agenda s (Take x.0.name ∷ p) ≡ cond (is_urgent x.1 || is_over_of w.config.throttle batch.names start at) (Comes Hands Open) Open = after_take_is s p x.0.name owes.going due ∙ ap (λ (b : Bool). cond b (after_pass s x.0.name (Take x.0.name ∷ p) Open) (Comes (Filters x.0.name) Open)) unseen ∙ rw (← over, ← t.urgency) refl in
     record {
       steps = rw grown (record {
         stands = record {
-          orderly = orderly_more s (Take x.0.name) p d stands.orderly;
+          own = (below_taken p x.0.name t.is_greatest stands.own, stands.own);
           config_kept = stands.config_kept;
           queue_kept = t.is_rest;
           size_kept = size ∙ stands.size_kept;
@@ -88,6 +97,7 @@ take_done s w p p' at start x queue batch found stands due now takes most size s
           first_kept = sym first_is;
           jobs_kept = stands.jobs_kept;
           tasks_kept = tasks_silent (Take x.0.name) p w.jobs refl stands.tasks_kept;
+          idle_kept = stands.idle_kept;
         };
         follows = λ world hooks p₀ world₀ hooks₀ l. Then (Take x.0.name) p world hooks l d;
         quiet = λ p₀ a. More _ p a refl;
@@ -99,9 +109,10 @@ take_done s w p p' at start x queue batch found stands due now takes most size s
 -- where it is to be shown to the filter
 pub record TakenToShow (s : Start) (w : Worker) (p p' : List Entry) (at : ℕ) (x : Named × Priority) : Type 0 where
   pub steps : StepsOver s w p p'
-  pub due : agenda s p' ≡ Filters x.0.name
+  pub due : agenda s p' ≡ Comes (Filters x.0.name) Open
   pub is_listed : listed x.0.name p' ≡ Some (x.0.event, x.1)
   pub now : moment p' ≡ at
+  pub going : is_quitting p' ≡ false
   pub same_window : window p' ≡ window p
   pub collects : (found : Found) (p'' : List Entry) → IsJudged s p' x.0.name found p'' → Finds s p found p''
 
@@ -118,24 +129,27 @@ collects_judged s p q p'' x rest found is t grown same j = go found j.judged
     go outcome.Hand h = h
     go outcome.Kept h = (record { name = x.0.name; taken = taken; joined = h.0 ∙ ap (λ ns. ns ++ x.0.name ∷ []) same }, h.1)
     go outcome.Dropped h = (record { name = x.0.name; taken = taken; stays = h.0 ∙ same }, h.1)
-    go (outcome.Failed error) h = (record { name = x.0.name; taken = taken; stays = h.0 ∙ same }, h.1)
+    go (outcome.Failed error) h = (record { name = x.0.name; n = j.n; answer = j.answer; seen = is; shown = whole; was = taken.was; left = taken.left; stays = h.0 ∙ same }, h.1)
     go outcome.Stop h = absurd h
     go outcome.Idle h = absurd h
 
-pub to_show : (s : Start) (w : Worker) (p p' : List Entry) (at : ℕ) (x : Named × Priority) (queue : Channel Named) → Stands s w p → agenda s p ≡ TakesNext → moment p ≡ at
+pub to_show : (s : Start) (w : Worker) (p p' : List Entry) (at : ℕ) (x : Named × Priority) (queue : Channel Named) → OwesAt s w at p (Comes TakesNext Open)
     → Takes w.queue.items x queue.items → AllAtMost x.1 w.queue.items → queue.size ≡ w.queue.size → queue.closed ≡ w.queue.closed → is_unseen x.0.event x.1 ≡ false → p' ≡ Take x.0.name ∷ p
     → TakenToShow s (record w { queue = queue }) p p' at x
-to_show s w p p' at x queue stands due now takes most size same_closed seen grown =
-    let t = is_taken p w.queue.items queue.items x stands.orderly.own stands.queue_kept takes most in
-    let d : Due s p (Take x.0.name) = rw due (x.0.name, refl, t.is_greatest) in
+to_show s w p p' at x queue owes takes most size same_closed seen grown =
+    let stands = owes.stands in
+    let due = owes.due in
+    let now = owes.now in
+    let t = is_taken p w.queue.items queue.items x stands.own stands.queue_kept takes most in
+    let d : Due s p (Take x.0.name) = rw due ((x.0.name, t.is_greatest), refl) in
     let unseen : passes_unseen x.0.name p ≡ false = ap is_unseen_in t.is_listed ∙ seen in
     let same : window (Take x.0.name ∷ p) ≡ window p = ap (λ (b : Bool). and_one (window p) (one_if b x.0.name)) unseen in
     let first_is : first (Take x.0.name ∷ p) ≡ first p = ap (λ (b : Bool). begun (one_if b x.0.name) (window p) (moment p) (first p)) unseen in
-    let after : agenda s (Take x.0.name ∷ p) ≡ Filters x.0.name = settle_calm (Take x.0.name ∷ p) _ (subst (IsGoing p) due stands.orderly.going) ∙ rw unseen refl in
+    let after : agenda s (Take x.0.name ∷ p) ≡ Comes (Filters x.0.name) Open = after_take_is s p x.0.name owes.going due ∙ rw unseen refl in
     record {
       steps = rw grown (record {
         stands = record {
-          orderly = orderly_more s (Take x.0.name) p d stands.orderly;
+          own = (below_taken p x.0.name t.is_greatest stands.own, stands.own);
           config_kept = stands.config_kept;
           queue_kept = t.is_rest;
           size_kept = size ∙ stands.size_kept;
@@ -146,6 +160,7 @@ to_show s w p p' at x queue stands due now takes most size same_closed seen grow
           first_kept = stands.first_kept ∙ sym first_is;
           jobs_kept = stands.jobs_kept;
           tasks_kept = tasks_silent (Take x.0.name) p w.jobs refl stands.tasks_kept;
+          idle_kept = stands.idle_kept;
         };
         follows = λ world hooks p₀ world₀ hooks₀ l. Then (Take x.0.name) p world hooks l d;
         quiet = λ p₀ a. More _ p a refl;
@@ -154,6 +169,7 @@ to_show s w p p' at x queue stands due now takes most size same_closed seen grow
       due = ap (agenda s) grown ∙ after;
       is_listed = rw grown t.is_listed;
       now = rw grown now;
+      going = rw grown owes.going;
       same_window = ap (λ q. window q) grown ∙ same;
       collects = λ found p'' j. collects_judged s p p' p'' x queue.items found unseen t grown (ap (λ q. window q) grown ∙ same) j;
     }
@@ -161,7 +177,7 @@ to_show s w p p' at x queue stands due now takes most size same_closed seen grow
 -- ---- an event was shown to the filter
 
 -- the entry of an event that was to be shown
-pub filter_due : (s : Start) (p : List Entry) (n name : ℕ) (answer : Result Bool RuntimeError) → agenda s p ≡ Filters name → n ≡ (settings s p).filterer → Due s p (Filter n name answer)
+pub filter_due : (s : Start) (p : List Entry) (n name : ℕ) (answer : Result Bool RuntimeError) → agenda s p ≡ Comes (Filters name) Open → n ≡ (settings s p).filterer → Due s p (Filter n name answer)
 filter_due s p n name answer due number = rw (due, number) (answer, refl)
 
 -- a call on hooks was told, and kept what it promises
@@ -185,28 +201,30 @@ pub record FilterDone (s : Start) (w : Worker) (p : List Entry) (n name : ℕ) (
   pub stands : Stands s w p'
   pub judged : IsJudged s p name found p'
 
-after_filter_is : (s : Start) (p : List Entry) (n name : ℕ) (answer : Result Bool RuntimeError) → IsOrderly s p → agenda s p ≡ Filters name → agenda s (Filter n name answer ∷ p) ≡ after_filter s name answer (Filter n name answer ∷ p)
-after_filter_is s p n name answer o due = settle_calm (Filter n name answer ∷ p) _ (subst (IsGoing p) due o.going)
+after_filter_is : (s : Start) (p : List Entry) (n name : ℕ) (answer : Result Bool RuntimeError) → is_quitting p ≡ false → agenda s p ≡ Comes (Filters name) Open → agenda s (Filter n name answer ∷ p) ≡ after_filter s name answer (Filter n name answer ∷ p) Open
+after_filter_is s p n name answer going due = ap (λ (k : Agenda). settle (Filter n name answer ∷ p) (after_filter s name answer (Filter n name answer ∷ p) (rest (Filter n name answer) k))) due ∙ settle_calm (Filter n name answer ∷ p) _ going
 
-judges_passed : (s : Start) (p p' : List Entry) (name : ℕ) (due : Bool) → window p' ≡ window p ++ name ∷ [] → agenda s p' ≡ cond due Hands Open → Judges s p name (cond due Hand Kept) p'
-judges_passed s p p' name true joined e = e
+judges_passed : (s : Start) (p p' : List Entry) (name : ℕ) (due : Bool) → window p' ≡ window p ++ name ∷ [] → agenda s p' ≡ cond due (Comes Hands Open) Open → Judges s p name (cond due Hand Kept) p'
+judges_passed s p p' name true joined e = owes_joined s p p' name joined e
 judges_passed s p p' name false joined e = (joined, e)
 
 -- it passed
-pub filter_passed : (s : Start) (w w' : Worker) (p p' : List Entry) (at n name : ℕ) (event : Event) (priority : Priority) (answer : Result Bool RuntimeError) (found : Found) → Stands s w p → agenda s p ≡ Filters name → moment p ≡ at
+pub filter_passed : (s : Start) (w w' : Worker) (p p' : List Entry) (at n name : ℕ) (event : Event) (priority : Priority) (answer : Result Bool RuntimeError) (found : Found) → OwesAt s w at p (Comes (Filters name) Open)
     → listed name p ≡ Some (event, priority) → n ≡ w.config.filterer → lets_pass answer ≡ true → is_exit answer ≡ false → w' ≡ record w { batch = w'.batch; first = w'.first } → w'.first ≡ cond (length w.batch.names == 0) at w.first
     → w'.batch.names ≡ w.batch.names ++ name ∷ [] → w'.batch.events ≡ w.batch.events ++ event ∷ [] → found ≡ cond (is_urgent priority || is_over_of w.config.throttle w'.batch.names w'.first at) Hand Kept → p' ≡ Filter n name answer ∷ p
     → FilterDone s w' p n name answer found p'
-filter_passed s w w' p p' at n name event priority answer found stands due now is_listed number passes stays fields began names events is_found grown =
+filter_passed s w w' p p' at n name event priority answer found owes is_listed number passes stays fields began names events is_found grown =
+    let stands = owes.stands in
+    let due = owes.due in
     let d : Due s p (Filter n name answer) = filter_due s p n name answer due (number ∙ ap (λ c. c.filterer) stands.config_kept) in
     let window_is : window (Filter n name answer ∷ p) ≡ window p ++ name ∷ [] = joined_if p name (lets_pass answer) passes in
-    let first_is : first (Filter n name answer ∷ p) ≡ w'.first = rw (passes, began, stands.names_kept, stands.first_kept, now) refl in
+    let first_is : first (Filter n name answer ∷ p) ≡ w'.first = rw (passes, began, stands.names_kept, stands.first_kept, owes.now) refl in
     let names_are : w'.batch.names ≡ window (Filter n name answer ∷ p) = names ∙ ap (λ (ns : List ℕ). ns ++ name ∷ []) stands.names_kept ∙ sym window_is in
-    let over : is_over s (Filter n name answer ∷ p) (moment p) ≡ is_over_of w.config.throttle w'.batch.names w'.first at = rw (first_is, names_are, stands.config_kept, now) refl in
+    let over : is_over s (Filter n name answer ∷ p) (moment p) ≡ is_over_of w.config.throttle w'.batch.names w'.first at = rw (first_is, names_are, stands.config_kept, owes.now) refl in
     let urgency : is_urgent_named name p ≡ is_urgent priority = ap is_urgent_in is_listed in
-    let after : agenda s (Filter n name answer ∷ p) ≡ cond (is_urgent priority || is_over_of w.config.throttle w'.batch.names w'.first at) Hands Open = after_filter_is s p n name answer stands.orderly due ∙ ap (λ (b : Bool). cond b (after_pass s name (Filter n name answer ∷ p)) (after_drop answer)) passes ∙ rw (← over, ← urgency) refl in
+    let after : agenda s (Filter n name answer ∷ p) ≡ cond (is_urgent priority || is_over_of w.config.throttle w'.batch.names w'.first at) (Comes Hands Open) Open = after_filter_is s p n name answer owes.going due ∙ ap (λ (b : Bool). cond b (after_pass s name (Filter n name answer ∷ p) Open) (after_drop answer Open)) passes ∙ rw (← over, ← urgency) refl in
     let stood : Stands s (record w { batch = w'.batch; first = w'.first }) (Filter n name answer ∷ p) = record {
-      orderly = orderly_more s (Filter n name answer) p d stands.orderly;
+      own = (listed_below name p (event, priority) stands.own is_listed, stands.own);
       config_kept = stands.config_kept;
       queue_kept = stands.queue_kept;
       size_kept = stands.size_kept;
@@ -217,6 +235,7 @@ filter_passed s w w' p p' at n name event priority answer found stands due now i
       first_kept = sym first_is;
       jobs_kept = stands.jobs_kept;
       tasks_kept = tasks_silent (Filter n name answer) p w.jobs refl stands.tasks_kept;
+      idle_kept = stands.idle_kept;
     } in
     record {
       due = d;
@@ -224,24 +243,26 @@ filter_passed s w w' p p' at n name event priority answer found stands due now i
       judged = record { n = n; answer = answer; shown = grown; judged = rw is_found (judges_passed s p p' name _ (ap (λ q. window q) grown ∙ window_is) (ap (agenda s) grown ∙ after)) };
     }
 
-judges_dropped : (s : Start) (p p' : List Entry) (name : ℕ) (answer : Result Bool RuntimeError) (found : Found) → IsDropped answer found → window p' ≡ window p → agenda s p' ≡ after_drop answer → Judges s p name found p'
+judges_dropped : (s : Start) (p p' : List Entry) (name : ℕ) (answer : Result Bool RuntimeError) (found : Found) → IsDropped answer found → window p' ≡ window p → agenda s p' ≡ after_drop answer Open → Judges s p name found p'
 judges_dropped s p p' name (Ok passes) found is same e = rw is (same, e)
 judges_dropped s p p' name (Err Exit) found is same e = rw is (same, e)
-judges_dropped s p p' name (Err error) (outcome.Failed (Ok copy)) is same e = (same, e ∙ ap (λ (x : RuntimeError). ShowsNext x) (sym is))
+judges_dropped s p p' name (Err error) (outcome.Failed (Ok copy)) is same e = (same, e ∙ ap (λ (x : RuntimeError). Comes (ShowsNext x) Open) (sym is))
 judges_dropped s p p' name (Err error) (outcome.Failed (Err want)) is same e = (same, (error, e))
 judges_dropped s p p' name (Err error) (_) is same e = absurd is
 
 -- it didn't pass
-pub filter_dropped : (s : Start) (w w' : Worker) (p p' : List Entry) (n name : ℕ) (answer : Result Bool RuntimeError) (found : Found) → Stands s w p → agenda s p ≡ Filters name → n ≡ w.config.filterer → lets_pass answer ≡ false → IsDropped answer found
+pub filter_dropped : (s : Start) (w w' : Worker) (p p' : List Entry) (at n name : ℕ) (answer : Result Bool RuntimeError) (found : Found) → OwesAt s w at p (Comes (Filters name) Open) → name < event_count p → n ≡ w.config.filterer → lets_pass answer ≡ false → IsDropped answer found
     → w' ≡ record w { queue = w'.queue } → w'.queue.items ≡ w.queue.items → w'.queue.size ≡ w.queue.size → w'.queue.closed ≡ (is_exit answer || w.queue.closed) → p' ≡ Filter n name answer ∷ p
     → FilterDone s w' p n name answer found p'
-filter_dropped s w w' p p' n name answer found stands due number passes is_dropped fields items size shut grown =
+filter_dropped s w w' p p' at n name answer found owes below number passes is_dropped fields items size shut grown =
+    let stands = owes.stands in
+    let due = owes.due in
     let d : Due s p (Filter n name answer) = filter_due s p n name answer due (number ∙ ap (λ c. c.filterer) stands.config_kept) in
     let same : window (Filter n name answer ∷ p) ≡ window p = ap (λ (b : Bool). and_one (window p) (one_if b name)) passes in
     let first_is : first (Filter n name answer ∷ p) ≡ first p = ap (λ (b : Bool). begun (one_if b name) (window p) (moment p) (first p)) passes in
-    let after : agenda s (Filter n name answer ∷ p) ≡ after_drop answer = after_filter_is s p n name answer stands.orderly due ∙ ap (λ (b : Bool). cond b (after_pass s name (Filter n name answer ∷ p)) (after_drop answer)) passes in
+    let after : agenda s (Filter n name answer ∷ p) ≡ after_drop answer Open = after_filter_is s p n name answer owes.going due ∙ ap (λ (b : Bool). cond b (after_pass s name (Filter n name answer ∷ p) Open) (after_drop answer Open)) passes in
     let stood : Stands s (record w { queue = w'.queue }) (Filter n name answer ∷ p) = record {
-      orderly = orderly_more s (Filter n name answer) p d stands.orderly;
+      own = (below, stands.own);
       config_kept = stands.config_kept;
       queue_kept = rw items stands.queue_kept;
       size_kept = size ∙ stands.size_kept;
@@ -252,6 +273,7 @@ filter_dropped s w w' p p' n name answer found stands due number passes is_dropp
       first_kept = stands.first_kept ∙ sym first_is;
       jobs_kept = stands.jobs_kept;
       tasks_kept = tasks_silent (Filter n name answer) p w.jobs refl stands.tasks_kept;
+      idle_kept = stands.idle_kept;
     } in
     record {
       due = d;
@@ -265,19 +287,20 @@ filter_dropped s w w' p p' n name answer found stands due number passes is_dropp
 pub record ShowDone (s : Start) (w : Worker) (p : List Entry) (n : ℕ) (error : RuntimeError) (wish : Wish) (p' : List Entry) : Type 0 where
   pub due : Due s p (Show n error wish)
   pub stands : Stands s w p'
-  pub after : agenda s p' ≡ after_show (ending error wish)
+  pub after : (more : Agenda) → agenda s p ≡ Comes (ShowsNext error) more → agenda s p' ≡ settle p (after_show (ending error wish) more)
   pub newest : wished p' ≡ ending error wish
 
-pub show_done : (s : Start) (w : Worker) (p p' : List Entry) (n : ℕ) (error : RuntimeError) (wish : Wish) (queue : Channel Named) → Stands s w p → agenda s p ≡ ShowsNext error → n ≡ w.config.error_handler
+pub show_done : (s : Start) (w : Worker) (p p' : List Entry) (n : ℕ) (error : RuntimeError) (wish : Wish) (more : Agenda) (queue : Channel Named) → Stands s w p → agenda s p ≡ Comes (ShowsNext error) more → n ≡ w.config.error_handler
     → queue.items ≡ w.queue.items → queue.size ≡ w.queue.size → queue.closed ≡ (is_close wish || w.queue.closed) → p' ≡ Show n error wish ∷ p
     → ShowDone s (record w { queue = queue }) p n error wish p'
-show_done s w p p' n error wish queue stands due number items size shut grown =
+show_done s w p p' n error wish more queue stands due number items size shut grown =
     let d : Due s p (Show n error wish) = rw (due, number, stands.config_kept) (wish, refl) in
-    let after : agenda s (Show n error wish ∷ p) ≡ after_show (ending error wish) = settle_calm (Show n error wish ∷ p) _ (subst (IsGoing p) due stands.orderly.going) in
+    let after : (k : Agenda) → agenda s p ≡ Comes (ShowsNext error) k → agenda s (Show n error wish ∷ p) ≡ settle p (after_show (ending error wish) k) = λ k owed.
+    ap (λ (j : Agenda). settle (Show n error wish ∷ p) (after_show (ending error wish) (rest (Show n error wish) j))) owed ∙ settle_over (Show n error wish ∷ p) p (after_show (ending error wish) k) refl in
     record {
       due = d;
       stands = rw grown (record {
-        orderly = orderly_more s (Show n error wish) p d stands.orderly;
+        own = (tt, stands.own);
         config_kept = stands.config_kept;
         queue_kept = rw items stands.queue_kept;
         size_kept = size ∙ stands.size_kept;
@@ -288,19 +311,20 @@ show_done s w p p' n error wish queue stands due number items size shut grown =
         first_kept = stands.first_kept;
         jobs_kept = stands.jobs_kept;
         tasks_kept = tasks_silent (Show n error wish) p w.jobs refl stands.tasks_kept;
+        idle_kept = stands.idle_kept;
       });
-      after = ap (agenda s) grown ∙ after;
+      after = λ k owed. ap (agenda s) grown ∙ after k owed;
       newest = ap (λ q. wished q) grown;
     }
 
 -- the call that showed it
-pub show_grows : {K Fixed : Type 0} (seen : K → Hooked Fixed) (rule : Fixed → List Entry → Entry → Type 0) (holds : K → List Entry → Type 0) (s : Start) (w : Worker) (p p' : List Entry) (x x' : K) (n : ℕ) (error lent pushed : RuntimeError) (wish asked : Wish) (queue : Channel Named) → Stands s w p → agenda s p ≡ ShowsNext error → n ≡ w.config.error_handler
+pub show_grows : {K Fixed : Type 0} (seen : K → Hooked Fixed) (rule : Fixed → List Entry → Entry → Type 0) (holds : K → List Entry → Type 0) (s : Start) (w : Worker) (p p' : List Entry) (x x' : K) (n : ℕ) (error lent pushed : RuntimeError) (wish asked : Wish) (more : Agenda) (queue : Channel Named) → Stands s w p → agenda s p ≡ Comes (ShowsNext error) more → n ≡ w.config.error_handler
     → lent ≡ error → pushed ≡ lent → asked ≡ wish → queue.items ≡ w.queue.items → queue.size ≡ w.queue.size → queue.closed ≡ (is_close asked || w.queue.closed) → p' ≡ Show n pushed asked ∷ p → (seen x').told ≡ tell (Show n lent wish) (seen x).told → Keeps seen rule holds x p (Show n lent wish) x'
     → GrowsHand seen rule holds s p x (record w { queue = queue }) p' x'
-show_grows seen rule holds s w p p' x x' n error lent pushed wish asked queue stands due number same_error same_pushed same_wish items size shut grown told keeps =
+show_grows seen rule holds s w p p' x x' n error lent pushed wish asked more queue stands due number same_error same_pushed same_wish items size shut grown told keeps =
     let grew : p' ≡ Show n lent wish ∷ p = grown ∙ ap (λ (e : RuntimeError). Show n e asked ∷ p) same_pushed ∙ ap (λ (m : Wish). Show n lent m ∷ p) same_wish in
-    let owed : agenda s p ≡ ShowsNext lent = due ∙ ap (λ (e : RuntimeError). ShowsNext e) (sym same_error) in
-    let done = show_done s w p p' n lent wish queue stands owed number items size (shut ∙ ap (λ (m : Wish). is_close m || w.queue.closed) same_wish) grew in
+    let owed : agenda s p ≡ Comes (ShowsNext lent) more = due ∙ ap (λ (e : RuntimeError). Comes (ShowsNext e) more) (sym same_error) in
+    let done = show_done s w p p' n lent wish more queue stands owed number items size (shut ∙ ap (λ (m : Wish). is_close m || w.queue.closed) same_wish) grew in
     called_grows seen rule holds s p p' x x' (record w { queue = queue }) (Show n lent wish) refl (show_follows s p p' n lent wish (seen x).told (seen x').told done.due grew told) grew keeps done.stands
 
 -- one that passes doesn't ask for the end
@@ -315,28 +339,29 @@ empty_is [] e = refl
 empty_is (x ∷ xs) e = let none : length (x ∷ xs) ≡ 0 = eqb-true _ _ e in absurd (omega arith)
 
 -- there was nothing to take
-pub idle_done : (s : Start) (w : Worker) (p p' : List Entry) (at : ℕ) → Stands s w p → agenda s p ≡ work s p at → moment p ≡ at → w.queue.closed ≡ false → is_over_of w.config.throttle w.batch.names w.first at ≡ false → (length w.queue.items == 0) ≡ true → p' ≡ Said Idle ∷ p
+pub idle_done : (s : Start) (w : Worker) (p p' : List Entry) (at : ℕ) → OwesAt s w at p (work s p at) → w.queue.closed ≡ false → is_over_of w.config.throttle w.batch.names w.first at ≡ false → (length w.queue.items == 0) ≡ true → p' ≡ Said Idle ∷ p
     → TakeDone s w p p' outcome.Idle
-idle_done s w p p' at stands due now is_open over empty grown =
+idle_done s w p p' at owes is_open over empty grown =
+    let stands = owes.stands in
     let later : is_over s p at ≡ false = rw (← stands.config_kept, ← stands.names_kept, ← stands.first_kept) over in
     let takes : closed p ≡ false = sym stands.closed_kept ∙ is_open in
     let none : (length (bag p) == 0) ≡ true = rw (← same-length w.queue.items (bag p) stands.queue_kept) empty in
-    let owed : agenda s p ≡ Says Idle Open = due ∙ rw (takes, later, none) refl in
-    record { steps = said_done s w p p' Idle Open stands owed grown; collected = (record { early = rw now later; none = empty_is (bag p) none; said = grown }, said_then s p p' Idle stands.orderly owed grown) }
+    let owed : agenda s p ≡ says Idle = owes.due ∙ rw (takes, later, none) refl in
+    record { steps = said_done s w p p' Idle Open stands owed grown; collected = (record { early = rw owes.now later; none = empty_is (bag p) none; said = grown }, said_then s p p' Idle grown Open owed ∙ settle_calm p Open owes.going) }
 
 -- the queue was closed
 pub stop_done : (s : Start) (w : Worker) (p : List Entry) (at : ℕ) → Stands s w p → agenda s p ≡ work s p at → w.queue.closed ≡ true → Finds s p outcome.Stop p
 stop_done s w p at stands due shut = let is : closed p ≡ true = sym stands.closed_kept ∙ shut in (record { is_closed = is; same = refl }, due ∙ rw is refl)
 
 -- the window is due
-pub over_done : (s : Start) (w : Worker) (p : List Entry) (at : ℕ) → Stands s w p → agenda s p ≡ work s p at → w.queue.closed ≡ false → is_over_of w.config.throttle w.batch.names w.first at ≡ true → agenda s p ≡ Hands
+pub over_done : (s : Start) (w : Worker) (p : List Entry) (at : ℕ) → Stands s w p → agenda s p ≡ work s p at → w.queue.closed ≡ false → is_over_of w.config.throttle w.batch.names w.first at ≡ true → OwesHand s p
 over_done s w p at stands due is_open over =
     let takes : closed p ≡ false = sym stands.closed_kept ∙ is_open in
     let later : is_over s p at ≡ true = rw (← stands.config_kept, ← stands.names_kept, ← stands.first_kept) over in
-    due ∙ rw (takes, later) refl
+    record { due = due ∙ rw (takes, later) refl; some = window_some (window p) _ later }
 
 -- an event is to be taken
-pub takes_due : (s : Start) (w : Worker) (p : List Entry) (at : ℕ) → Stands s w p → agenda s p ≡ work s p at → w.queue.closed ≡ false → is_over_of w.config.throttle w.batch.names w.first at ≡ false → (length w.queue.items == 0) ≡ false → (agenda s p ≡ TakesNext) × ((length (bag p) == 0) ≡ false)
+pub takes_due : (s : Start) (w : Worker) (p : List Entry) (at : ℕ) → Stands s w p → agenda s p ≡ work s p at → w.queue.closed ≡ false → is_over_of w.config.throttle w.batch.names w.first at ≡ false → (length w.queue.items == 0) ≡ false → (agenda s p ≡ Comes TakesNext Open) × ((length (bag p) == 0) ≡ false)
 takes_due s w p at stands due is_open over some =
     let takes : closed p ≡ false = sym stands.closed_kept ∙ is_open in
     let later : is_over s p at ≡ false = rw (← stands.config_kept, ← stands.names_kept, ← stands.first_kept) over in
@@ -346,7 +371,7 @@ takes_due s w p at stands due is_open over some =
 -- the worker with more room
 pub stands_room : (s : Start) (w : Worker) (p : List Entry) (batch : Waiting) → Stands s w p → batch.names ≡ w.batch.names → batch.events ≡ w.batch.events → Stands s (record w { batch = batch }) p
 stands_room s w p batch stands names events = record {
-  orderly = stands.orderly;
+  own = stands.own;
   config_kept = stands.config_kept;
   queue_kept = stands.queue_kept;
   size_kept = stands.size_kept;
@@ -357,6 +382,7 @@ stands_room s w p batch stands names events = record {
   first_kept = stands.first_kept;
   jobs_kept = stands.jobs_kept;
   tasks_kept = stands.tasks_kept;
+  idle_kept = stands.idle_kept;
 }
 
 -- there is room for an error that is to be shown

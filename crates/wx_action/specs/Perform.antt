@@ -2,11 +2,12 @@
 use Rattle.std.specs.Prelude.{◌≡◌, Some, Result, OnOk, OnErr, List, [], ◌∷◌}
 use Rattle.wx_journal.specs.declared.entry.Entry.{Entry}
 use Rattle.wx_journal.specs.Acts.{JournalAct as Act}
+use Rattle.wx_journal.specs.Names.{next_job}
 use Rattle.wx_journal.specs.declared.entry.Act.TheVariants.{Create, Ask, Quit}
 use Rattle.wx_machine.specs.History.{lives, command}
 use Rattle.wx_hooks.specs.declared.handler.Todo.{Todo}
 use Rattle.wx_machine.specs.Start.{Start}
-use Rattle.wx_machine.specs.Jobs.{act_plan}
+use Rattle.wx_machine.specs.Jobs.{AreLawful, act_plan}
 use Rattle.wx_machine.specs.Due.{Agenda, Open, settle, agenda, plans}
 use Rattle.wx_hooks.specs.Todo.{AreTodo}
 
@@ -20,6 +21,7 @@ AreCommanded p (Quit ∷ acts) = AreCommanded p acts
 -- these acts are owed, and then this agenda; this is what is to be done for them
 pub record OwesActs (s : Start) (p : List Entry) (todo : List Todo) (more : Agenda) : Type 0 where
   pub acts : List Act
+  pub lawful : AreLawful (next_job p) acts
   pub is_todo : AreTodo acts todo
   pub commanded : AreCommanded p acts
   pub due : agenda s p ≡ settle p (plans (act_plan (λ id. lives id p) acts) Open)

@@ -11,7 +11,7 @@ use Rattle.wx_machine.specs.Start.{Start}
 use Rattle.wx_action.specs.Stands.{Stands, Ready, HasEndRoom, end_room}
 use Rattle.wx_machine.specs.Table.{Plan}
 use Rattle.wx_machine.specs.Case.{IsCut}
-use Rattle.wx_machine.specs.Due.{agenda, Open, Plans}
+use Rattle.wx_machine.specs.Due.{Point, Agenda, agenda, settle, Open, Comes, Plans}
 use Rattle.wx_machine.specs.Leads.{Follows, FollowsHooks, FollowsAlone}
 use Rattle.wx_machine.specs.Turns.{StaysInTurn}
 
@@ -71,6 +71,10 @@ pub record Continues {K Fixed Plan : Type 0} (seen : K → Hooked Fixed) (rule :
   pub room : HasEndRoom w j.spare a.spare → HasEndRoom w' j'.spare b.spare
 
 -- ---- with the answer
+
+-- what stood behind this point is owed, as the last pass leaves it
+abbrev pub OwesRest : Start → Point → List Entry → List Entry → Type 0
+OwesRest s x p p' = (more : Agenda) → agenda s p ≡ Comes x more → agenda s p' ≡ settle p more
 
 -- the case of a job was given up behind the call of its spawn hook: what is left of it is still due
 pub record IsGivenUp (s : Start) (p : List Entry) : Type 0 where

@@ -1,5 +1,5 @@
 -- A worker stands for a journal.
-use Rattle.std.specs.Prelude.{◌≡◌, ◌≤◌, ◌⊎◌, ℕ, ◌+◌, ◌*◌, ◌==◌, Bool, true, false, None, Some, is_some, Result, Ok, Err, List, [], ◌∷◌, ◌++◌, length, map}
+use Rattle.std.specs.Prelude.{◌≡◌, ◌<◌, ◌≤◌, ◌⊎◌, ℕ, ◌+◌, ◌*◌, ◌==◌, Bool, true, false, None, Some, is_some, Result, Ok, Err, List, [], ◌∷◌, ◌++◌, length, map}
 use Rattle.std.specs.List.{AllByRecursion}
 use Rattle.wx_events.specs.declared.priority.Priority.{Priority}
 use Rattle.prio_channel.specs.Channel.{Channel}
@@ -12,7 +12,7 @@ use Rattle.wx_journal.specs.declared.entry.Offered.TheVariants.{Queued, Full, Cl
 use Rattle.wx_journal.specs.declared.entry.TurnKind.{TurnKind}
 use Rattle.wx_journal.specs.declared.entry.TurnKind.TheVariants.{Work}
 use Rattle.wx_journal.specs.declared.entry.Word.TheVariants.{Idle}
-use Rattle.wx_journal.specs.Names.{event_count, moment}
+use Rattle.wx_journal.specs.Names.{event_count, moment, NamesItsOwn}
 use Rattle.wx_journal.specs.Written.{Written}
 use Rattle.wx_error.specs.declared.runtime.RuntimeError.{RuntimeError}
 use Rattle.wx_error.specs.declared.runtime.RuntimeError.TheVariants.{Exit}
@@ -23,7 +23,7 @@ use Rattle.wx_command.specs.declared.command.Command.{Command}
 use Rattle.wx_machine.specs.History.{lives, command}
 use Rattle.wx_machine.specs.Seen.{Seen}
 use Rattle.wx_machine.specs.Table.{step_plan}
-use Rattle.wx_machine.specs.Jobs.{set}
+use Rattle.wx_machine.specs.Jobs.{set, UnseenRunNone}
 use Rattle.wx_action.specs.declared.worker_state.Worker.{Worker}
 use Rattle.wx_action.specs.declared.work_turn.Collected.{Collected}
 use Rattle.wx_action.specs.declared.work_turn.Collected.TheVariants as collected
@@ -33,14 +33,14 @@ use Rattle.wx_action.specs.declared.work_turn.Worked.{Worked}
 use Rattle.wx_action.specs.declared.work_turn.Worked.TheVariants as worked
 use Rattle.wx_machine.specs.Start.{Start}
 use Rattle.wx_machine.specs.Journal.{settings, passes_unseen, closed, named, bag, window, first, is_over}
-use Rattle.wx_machine.specs.Due.{Agenda, is_quitting, agenda, plans, Open, Shows, Hands, Ends}
+use Rattle.wx_machine.specs.Due.{Shows, Hands, Agenda, Open, Comes, Ends, plans, is_quitting, agenda}
 use Rattle.wx_hooks.specs.Handled.{AreEvents, lookup}
 use Rattle.wx_hooks.specs.JobsStand.{HeldStands, held_id}
-use Rattle.wx_machine.proofs.Orderly.{IsOrderly}
 
--- the journal is orderly, and it keeps what this says, for this start
+-- It keeps what the journal says, for this start. The journal names what its own entries made, and no child runs of a job that
+-- isn't held.
 pub record Stands (s : Start) (w : Worker) (p : List Entry) : Type 0 where
-  pub orderly : IsOrderly s p
+  pub own : NamesItsOwn p
   pub config_kept : w.config ≡ settings s p
   pub queue_kept : SameBag w.queue.items (bag p)
   pub size_kept : w.queue.size ≡ (settings s p).event_channel_size
@@ -51,6 +51,7 @@ pub record Stands (s : Start) (w : Worker) (p : List Entry) : Type 0 where
   pub first_kept : w.first ≡ first p
   pub jobs_kept : map held_id w.jobs ≡ set p
   pub tasks_kept : AllByRecursion (HeldStands p) w.jobs
+  pub idle_kept : UnseenRunNone p
 
 -- the end of all jobs takes this room, and it is there
 abbrev pub end_room : Worker → ℕ
@@ -70,11 +71,17 @@ pub record Owes (s : Start) (w : Worker) (p : List Entry) (k : Agenda) : Type 0 
   pub stands : Stands s w p
   pub due : agenda s p ≡ k
 
--- the same, where the last turn has this moment
+-- the same in a turn of this moment, in which the end wasn't asked for
 pub record OwesAt (s : Start) (w : Worker) (at : ℕ) (p : List Entry) (k : Agenda) : Type 0 where
   pub stands : Stands s w p
   pub due : agenda s p ≡ k
   pub now : moment p ≡ at
+  pub going : is_quitting p ≡ false
+
+-- the window is due, and isn't empty
+pub record OwesHand (s : Start) (p : List Entry) : Type 0 where
+  pub due : agenda s p ≡ Comes Hands Open
+  pub some : 0 < length (window p)
 
 -- the journal's last entry is a turn of this moment and kind, and the worker stands for it without that turn
 pub record AtTurn (s : Start) (w : Worker) (at : ℕ) (kind : TurnKind) (p : List Entry) : Type 0 where
@@ -128,6 +135,17 @@ pub record HasDropped (p p' : List Entry) : Type 0 where
   pub taken : HasTaken name p p'
   pub stays : window p' ≡ window p
 
+-- one was taken and shown to the filter, which failed: its error wasn't shown yet, and the window is as it was
+pub record HasFailed (p p' : List Entry) : Type 0 where
+  pub name : ℕ
+  pub n : ℕ
+  pub answer : Result Bool RuntimeError
+  pub seen : passes_unseen name p ≡ false
+  pub shown : p' ≡ Filter n name answer ∷ Take name ∷ p
+  pub was : is_some (named name (bag p)) ≡ true
+  pub left : named name (bag p') ≡ None
+  pub stays : window p' ≡ window p
+
 -- the queue was closed, and nothing was done
 pub record HasStopped (p p' : List Entry) : Type 0 where
   pub is_closed : closed p ≡ true
@@ -143,15 +161,15 @@ pub record HasNone (s : Start) (p p' : List Entry) : Type 0 where
 -- nothing to take, or an event passed, which waits, or didn't pass.
 abbrev pub Collects : Start → List Entry → Collected → List Entry → Type 0
 Collects s p collected.Stop p' = HasStopped p p' × (agenda s p' ≡ Ends)
-Collects s p collected.Hand p' = agenda s p' ≡ Hands
+Collects s p collected.Hand p' = OwesHand s p'
 Collects s p collected.Idle p' = HasNone s p p' × (agenda s p' ≡ Open)
 Collects s p collected.Kept p' = HasPassed p p' × (agenda s p' ≡ Open)
 Collects s p collected.Dropped p' = HasDropped p p' × (agenda s p' ≡ Open)
 
 -- the error of a filter is to be shown, or there was no memory for a copy of it
 abbrev pub IsToShow : Start → Result RuntimeError NoMemory → List Entry → Type 0
-IsToShow s (Ok error) p = agenda s p ≡ Shows error
-IsToShow s (Err want) p = (error : RuntimeError) × (agenda s p ≡ Shows error)
+IsToShow s (Ok error) p = agenda s p ≡ Comes (Shows error) Open
+IsToShow s (Err want) p = (error : RuntimeError) × (agenda s p ≡ Comes (Shows error) Open)
 
 -- what becomes of an event that a filter answered so about, and didn't let pass
 abbrev pub FoundFailed : RuntimeError → Found → Type 0
@@ -169,19 +187,19 @@ abbrev pub LeavesRoom : Found → ℕ → ℕ → ℕ → Type 0
 LeavesRoom (found.Failed error) ends journal hooks = (1 + ends ≤ journal) × (1 ≤ hooks)
 LeavesRoom (_) ends journal hooks = Unit {0}
 
--- The same before the error of a filter is shown: then the event was dropped, and this is due.
+-- The same before the error of a filter is shown: then this is due.
 abbrev pub Finds : Start → List Entry → Found → List Entry → Type 0
 Finds s p found.Stop p' = Collects s p collected.Stop p'
 Finds s p found.Hand p' = Collects s p collected.Hand p'
 Finds s p found.Idle p' = Collects s p collected.Idle p'
 Finds s p found.Kept p' = Collects s p collected.Kept p'
 Finds s p found.Dropped p' = Collects s p collected.Dropped p'
-Finds s p (found.Failed error) p' = HasDropped p p' × IsToShow s error p'
+Finds s p (found.Failed error) p' = HasFailed p p' × IsToShow s error p'
 
 -- What became of an event that was shown to the filter, behind its Filter: the window is due with it, or it waits there, or
 -- it was dropped, and maybe the error of the filter is to be shown.
 abbrev pub Judges : Start → List Entry → ℕ → Found → List Entry → Type 0
-Judges s p name found.Hand p' = agenda s p' ≡ Hands
+Judges s p name found.Hand p' = OwesHand s p'
 Judges s p name found.Kept p' = (window p' ≡ window p ++ name ∷ []) × (agenda s p' ≡ Open)
 Judges s p name found.Dropped p' = (window p' ≡ window p) × (agenda s p' ≡ Open)
 Judges s p name (found.Failed error) p' = (window p' ≡ window p) × IsToShow s error p'

@@ -2,28 +2,31 @@
 ghost use Rattle.std.specs.Prelude.{◌≡◌, ℕ, ◌+◌, IfSome, IfNone, IfOk};
 ghost use Rattle.wx_journal.specs.declared.entry.TurnKind.TheVariants.{Ask as AsksTurn, Job as JobTurn, Ended as EndedTurn};
 ghost use Rattle.wx_journal.specs.declared.entry.Word.TheVariants.{Ignored};
+ghost use Rattle.wx_machine.specs.Kept.{Promised};
 ghost use Rattle.wx_machine.specs.Steady.{HaveRoom};
 ghost use Rattle.wx_action.specs.Serves.{Grows, Continues, Steps, Settles};
 ghost use Rattle.wx_hooks.specs.EndsJobs.{EndsJobs};
 ghost use Rattle.wx_machine.specs.Start.{Start};
 ghost use Rattle.wx_hooks.specs.HeldJobs.{parked_at};
-ghost use Rattle.wx_machine.specs.Due.{agenda, Says, Open};
+ghost use Rattle.wx_machine.specs.Due.{Open, agenda, says};
 ghost use Rattle.wx_action.specs.Stands.{Stands, Ready, AtTurn, IsStepOf, end_room};
 
 use crate::worker_state::Worker;
 use std::alloc::Global;
-use wx_control::{Ask, Id};
+use wx_control::{Ask, Flag, Id};
 use wx_hooks::Hooks;
 use wx_job::Host;
 use wx_journal::Journal;
 use wx_text::Memory;
 
-/// A turn that asks this of a job: the controls wait. It fails only for want of memory, and adds no entry then.
+/// A turn that asks this of a job: the controls wait, the last one with `last` as its flag, where that is given. It fails
+/// only for want of memory, and adds no entry then.
 pub fn ask_turn(
     alloc: Global,
     worker: &mut Worker,
     id: Id,
     ask: Ask,
+    last: Option<Flag>,
     journal: &mut Journal,
 ) -> Result<(), Memory>
     ghost start: { Start }
@@ -36,7 +39,7 @@ pub fn ask_turn(
     }
     worker.reserve(2, journal)?;
     let task = worker.jobs.task_mut(id);
-    let ticket = task.send(alloc, ask, None, journal)?;
+    let ticket = task.send(alloc, ask, last, journal)?;
     drop(ticket);
     Ok(())
 }
@@ -108,6 +111,7 @@ pub fn job_turn<W: Host, H: Hooks>(
     ghost start: { Start }
     requires turn { AtTurn start worker.old at (JobTurn id) journal.old.past }
     ensures continues { Continues H.seen H.rule H.stands start worker.old journal.old (W.seen host.old) hooks.old worker.new journal.new (W.seen host.new) hooks.new }
+    ensures promised { Promised H.seen H.rule H.stands hooks.old journal.old.past hooks.new journal.new.past }
     ensures steps { Steps result start journal.old.past journal.new.past }
 {
     if !worker.jobs.lives(id) {
@@ -122,7 +126,7 @@ pub fn keep_end(worker: &mut Worker, child: u64, at: u64, journal: &Journal) -> 
     requires turn { AtTurn start worker.old at (EndedTurn child) journal.now.past }
     ensures stands { Stands start worker.new journal.now.past }
     ensures some { IfSome result (λ id. IsStepOf start id at journal.now.past) }
-    ensures none { IfNone result (agenda start journal.now.past ≡ Says Ignored Open) }
+    ensures none { IfNone result (agenda start journal.now.past ≡ says Ignored) }
     ensures room { end_room worker.new ≡ end_room worker.old }
 {
     let Some(id) = worker.jobs.parent(child) else {
@@ -147,6 +151,7 @@ pub fn ended_turn<W: Host, H: Hooks>(
     ghost start: { Start }
     requires turn { AtTurn start worker.old at (EndedTurn child) journal.old.past }
     ensures continues { Continues H.seen H.rule H.stands start worker.old journal.old (W.seen host.old) hooks.old worker.new journal.new (W.seen host.new) hooks.new }
+    ensures promised { Promised H.seen H.rule H.stands hooks.old journal.old.past hooks.new journal.new.past }
     ensures steps { Steps result start journal.old.past journal.new.past }
 {
     let Some(id) = keep_end(worker, child, at, journal) else {

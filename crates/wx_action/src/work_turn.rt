@@ -4,14 +4,14 @@ ghost use Rattle.wx_journal.specs.declared.entry.Entry.{Entry};
 ghost use Rattle.wx_journal.specs.declared.entry.Entry.TheVariants.{Filter};
 ghost use Rattle.wx_events.specs.Priority.{is_urgent};
 ghost use Rattle.wx_job.specs.Calls.{AreRoomy};
-ghost use Rattle.wx_action.specs.Serves.{GrowsHand, GrowsWithin, Continues};
+ghost use Rattle.wx_action.specs.Serves.{GrowsHand, GrowsWithin, Continues, OwesRest};
 ghost use Rattle.wx_machine.specs.Start.{Start};
 ghost use Rattle.wx_machine.specs.Journal.{listed, is_unseen, lets_pass, is_exit, is_close, ending, bag, is_over, is_over_of};
-ghost use Rattle.wx_machine.specs.Due.{agenda, work, has_quit, Open, Takes, Filters, Shows, Hands, after_acts};
+ghost use Rattle.wx_machine.specs.Due.{Takes, Filters, Shows, Agenda, Open, Comes, agenda, work, has_quit, after_acts};
+ghost use Rattle.wx_machine.specs.Kept.{Promised};
 ghost use Rattle.wx_machine.specs.Answer.{NoneIsToGo, BreaksOff, BreaksHere, Fails};
 ghost use Rattle.wx_action.specs.Perform.{OwesActs};
-ghost use Rattle.wx_machine.specs.RunLaws.{NoneUrgentWaits};
-ghost use Rattle.wx_action.specs.Stands.{Owes, OwesAt, AtWork, MayShow, Finds, Collects, IsDropped, IsJudged, LeavesRoom, Works, without_hand, end_room};
+ghost use Rattle.wx_action.specs.Stands.{Stands, Owes, OwesAt, OwesHand, AtWork, MayShow, Finds, Collects, IsDropped, IsJudged, LeavesRoom, Works, without_hand, end_room};
 
 use crate::acts_done::perform;
 use crate::worker_state::Worker;
@@ -190,7 +190,7 @@ impl Worker {
         journal: &mut Journal,
     ) -> Found
         ghost start: { Start }
-        requires owes { OwesAt start self.old at journal.old.past (Filters item.name) }
+        requires owes { OwesAt start self.old at journal.old.past (Comes (Filters item.name) Open) }
         requires listed { listed item.name journal.old.past ≡ Some (item.event, priority) }
         requires room { AreRoomy 1 1 journal.old (H.seen hooks.old) }
         requires batch_room { 1 ≤ self.old.batch.room }
@@ -243,7 +243,7 @@ impl Worker {
         journal: &mut Journal,
     ) -> Found
         ghost start: { Start }
-        requires owes { OwesAt start self.old at journal.old.past Takes }
+        requires owes { OwesAt start self.old at journal.old.past (Comes Takes Open) }
         requires some { (length (bag journal.old.past) == 0) ≡ false }
         requires room { AreRoomy 2 1 journal.old (H.seen hooks.old) }
         requires batch_room { 1 ≤ self.old.batch.room }
@@ -302,11 +302,11 @@ impl Worker {
         journal: &mut Journal,
     ) -> Result<(), CriticalError>
         ghost start: { Start }
-        requires owes { Owes start self.old journal.old.past (Shows error) }
+        requires owes { (more : Agenda) × Owes start self.old journal.old.past (Comes (Shows error) more) }
         requires room { AreRoomy 1 1 journal.old (H.seen hooks.old) }
         ensures within { GrowsWithin H.seen H.rule H.stands start 1 1 self.old journal.old hooks.old self.new journal.new hooks.new }
         ensures adds { MayShow journal.old.past journal.new.past }
-        ensures done { OnOk result (agenda start journal.new.past ≡ Open) }
+        ensures done { OnOk result (OwesRest start (Shows error) journal.old.past journal.new.past) }
         ensures breaks { IfErr result (λ error. BreaksHere start journal.new.past error) }
     {
         let n = self.config.error_handler;
@@ -340,6 +340,7 @@ pub fn throttle_collect<H: Hooks>(
     ghost start: { Start }
     requires { AtWork start worker.old at journal.old.past }
     ensures within { GrowsWithin H.seen H.rule H.stands start 3 2 worker.old journal.old hooks.old worker.new journal.new hooks.new }
+    ensures promised { Promised H.seen H.rule H.stands hooks.old journal.old.past hooks.new journal.new.past }
     ensures collected { IfOk result (λ found. Collects start journal.old.past found journal.new.past) }
     ensures fails { IfErr result (λ error. Fails start journal.old.past journal.new.past error) }
     ensures kept_room { end_room worker.old ≤ journal.old.spare → end_room worker.new ≤ journal.new.spare }
@@ -383,11 +384,11 @@ fn hand_batch<H: Hooks>(
     journal: &mut Journal,
 ) -> (bool, Vec<Todo>)
     ghost start: { Start }
-    requires owes { Owes start worker.old journal.old.past Hands }
+    requires stands { Stands start worker.old journal.old.past }
+    requires owes { OwesHand start journal.old.past }
     requires room { AreRoomy (1 + end_room worker.old) 1 journal.old (H.seen hooks.old) }
     ensures grows { GrowsHand H.seen H.rule H.stands start journal.old.past hooks.old worker.new journal.new.past hooks.new }
     ensures owes { OwesActs start journal.new.past result.1.items (after_acts result.0) }
-    ensures calm { NoneUrgentWaits journal.new.past }
     ensures room { end_room worker.new ≤ journal.new.spare }
     ensures end_room { end_room worker.new ≤ end_room worker.old }
 {
@@ -412,13 +413,13 @@ fn hand<W: Host, H: Hooks>(
     journal: &mut Journal,
 ) -> Result<Worked, Memory>
     ghost start: { Start }
-    requires owes { Owes start worker.old journal.old.past Hands }
+    requires stands { Stands start worker.old journal.old.past }
+    requires owes { OwesHand start journal.old.past }
     requires room { AreRoomy (1 + end_room worker.old) 1 journal.old (H.seen hooks.old) }
     requires host_room { end_room worker.old ≤ (W.seen host.old).spare }
     ensures continues { Continues H.seen H.rule H.stands start worker.old journal.old (W.seen host.old) hooks.old worker.new journal.new (W.seen host.new) hooks.new }
     ensures works { IfOk result (λ worked. Works start worked journal.new.past) }
     ensures cut { OnErr result (NoneIsToGo (agenda start journal.new.past)) }
-    ensures calm { NoneUrgentWaits journal.new.past }
 {
     let (ends, todo) = hand_batch(alloc, worker, hooks, journal);
     perform(alloc, worker, todo, host, journal)?;
@@ -427,8 +428,8 @@ fn hand<W: Host, H: Hooks>(
 
 /// One Work turn: what it collects is handed to the action handler where it is due, what this asks for is done, and the
 /// answer says whether the run goes on. It fails where the error handler wished that the run ends with an error, and for want
-/// of memory, but not while an event is to be shown or a window to be handed behind an entry of its own. Where no urgent event
-/// waited, none waits afterwards. Where there was room for the end of all jobs, there is.
+/// of memory, but not while an event is to be shown or a window to be handed behind an entry of its own. Where there was room
+/// for the end of all jobs, there is.
 pub fn worker<W: Host, H: Hooks>(
     alloc: Global,
     worker: &mut Worker,
@@ -441,8 +442,8 @@ pub fn worker<W: Host, H: Hooks>(
     requires { AtWork start worker.old at journal.old.past }
     ensures continues { Continues H.seen H.rule H.stands start worker.old journal.old (W.seen host.old) hooks.old worker.new journal.new (W.seen host.new) hooks.new }
     ensures works { IfOk result (λ worked. Works start worked journal.new.past) }
+    ensures promised { Promised H.seen H.rule H.stands hooks.old journal.old.past hooks.new journal.new.past }
     ensures breaks { IfErr result (λ error. BreaksOff start journal.new.past error) }
-    ensures calm { NoneUrgentWaits journal.old.past → NoneUrgentWaits journal.new.past }
 {
     worker.reserve_calls(4, 0, 3, host, hooks, journal)?;
     match throttle_collect(alloc, worker, at, hooks, journal)? {

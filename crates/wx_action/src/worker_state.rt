@@ -2,14 +2,13 @@
 ghost use Rattle.std.specs.Prelude.{◌≡◌, ◌∷◌, [], ◌+◌, ◌*◌, ◌^◌, ◌<◌, ◌≤◌, false, length, List, IfOk, OnOk, OnErr};
 ghost use Rattle.wx_events.specs.declared.event.Event.{Event as AnEvent};
 ghost use Rattle.wx_events.specs.declared.priority.Priority.{Priority as APriority};
-ghost use Rattle.wx_journal.specs.declared.entry.Entry.{Entry};
 ghost use Rattle.wx_journal.specs.declared.entry.Word.TheVariants.{Ignored};
 ghost use Rattle.wx_machine.specs.Steady.{OnlyRoom};
 ghost use Rattle.wx_machine.specs.Kept.{OnlyHooksRoom};
-ghost use Rattle.wx_action.specs.Serves.{Grows, Settles};
+ghost use Rattle.wx_action.specs.Serves.{Grows, OwesRest};
 ghost use Rattle.wx_machine.specs.Start.{Start, IsSize};
 ghost use Rattle.wx_machine.specs.Journal.{closed, bag};
-ghost use Rattle.wx_machine.specs.Due.{agenda, Open, Sends, rest, Offers, Says, begin_of};
+ghost use Rattle.wx_machine.specs.Due.{Sends, Offers, Says, Agenda, Comes, begin_of};
 ghost use Rattle.wx_action.specs.Stands.{Stands, Owes, IsOffered, end_room};
 
 use prio_channel::{PrioQueue, TrySendError};
@@ -123,11 +122,11 @@ impl Worker {
         journal: &mut Journal,
     ) -> Result<(), Memory>
         ghost start: { Start }
-        requires owes { (more : List (AnEvent × APriority)) × Owes start self.old journal.old.past (Sends event priority more) }
+        requires owes { (more : Agenda) × Owes start self.old journal.old.past (Comes (Sends event priority) more) }
         requires fits { length (bag journal.old.past) < start.config.event_channel_size }
         requires takes { closed journal.old.past ≡ false }
         ensures grows { Grows start self.old journal.old self.new journal.new }
-        ensures done { OnOk result (agenda start journal.new.past ≡ rest (Entry.Sent self.old.named event priority) (agenda start journal.old.past)) }
+        ensures done { OnOk result (OwesRest start (Sends event priority) journal.old.past journal.new.past) }
         ensures bag { OnOk result (length (bag journal.new.past) ≡ length (bag journal.old.past) + 1) }
         ensures takes { closed journal.new.past ≡ false }
         ensures err { OnErr result (journal.new.past ≡ journal.old.past) }
@@ -159,9 +158,10 @@ impl Worker {
         journal: &mut Journal,
     ) -> Result<(), Memory>
         ghost start: { Start }
-        requires owes { Owes start self.old journal.old.past (Offers event priority Open) }
+        requires owes { (more : Agenda) × Owes start self.old journal.old.past (Comes (Offers event priority) more) }
         ensures grows { Grows start self.old journal.old self.new journal.new }
-        ensures settles { Settles result start journal.old.past journal.new.past }
+        ensures done { OnOk result (OwesRest start (Offers event priority) journal.old.past journal.new.past) }
+        ensures err { OnErr result (journal.new.past ≡ journal.old.past) }
         ensures same { OnErr result (self.new ≡ self.old) }
     {
         let Ok(()) = self.reserve(1, journal) else {
@@ -185,9 +185,10 @@ impl Worker {
     /// Says of a turn that what it is about isn't there. It fails only for want of memory, and adds no entry then.
     pub fn ignored(&self, journal: &mut Journal) -> Result<(), Memory>
         ghost start: { Start }
-        requires owes { Owes start self.now journal.old.past (Says Ignored Open) }
+        requires owes { (more : Agenda) × Owes start self.now journal.old.past (Comes (Says Ignored) more) }
         ensures grows { Grows start self.now journal.old self.now journal.new }
-        ensures settles { Settles result start journal.old.past journal.new.past }
+        ensures done { OnOk result (OwesRest start (Says Ignored) journal.old.past journal.new.past) }
+        ensures err { OnErr result (journal.new.past ≡ journal.old.past) }
     {
         self.reserve(1, journal)?;
         journal.push(Entry::Word(Word::Ignored));

@@ -1,11 +1,17 @@
-//! The settings of an engine and its filters. The errors, and what is watched, are offered again here.
+//! The settings of an engine, their changes, and its filters. The errors, what is watched, and the names of jobs are offered
+//! again here.
 #![tactic(auto)]
 
+mod change;
 mod config;
+mod config_watched;
 mod filter;
 
-pub use config::{Changeable, Config};
+pub use change::{Change, RevisionSpent};
+pub use config::{Changeable, ChangeableFilterer, ChangeableFn, Config};
+pub use config_watched::ConfigWatched;
 pub use filter::Filterer;
+pub use wx_control::Id;
 pub use wx_error::{CriticalError, RuntimeError, TrySendFault};
 pub use wx_watch::{
     EntryKind, FsWatcherError, Identity, KeyboardWatcherError, NotifyFault, NotifyFaultKind,

@@ -15,14 +15,14 @@ use wx_watch::{EntryKind, FsWatcherError, NotifyFault, ScanFault, WatchedPath, W
 use wx_words::{Spelled, TextPath, Words};
 
 /// The value whose words are this whole line.
-fn read_line<T: Spelled>(alloc: Global, line: &[u8]) -> Result<Option<T>, Memory> {
+pub(crate) fn read_line<T: Spelled>(alloc: Global, line: &[u8]) -> Result<Option<T>, Memory> {
     let mut words = Words::new(line);
     let found = T::take(alloc, &mut words)?;
     if words.is_done() { Ok(found) } else { Ok(None) }
 }
 
 /// Whether the words of this value, with one space between them, are this line.
-fn is_spelled<T: Spelled>(alloc: Global, value: &T, line: &str) -> Result<bool, Memory> {
+pub(crate) fn is_spelled<T: Spelled>(alloc: Global, value: &T, line: &str) -> Result<bool, Memory> {
     let mut written = Text::new(alloc);
     value.put(&mut written)?;
     Ok(written.as_slice() == line.as_bytes())
@@ -57,14 +57,12 @@ fn is_copied<T: Spelled + Copies + fmt::Display>(
     is_made(alloc, value.copy(alloc)?, line)
 }
 
-/// Whether the fields of this value are shown by this text.
-fn has_fields<T: fmt::Debug>(alloc: Global, value: &T, fields: &str) -> Result<bool, Memory> {
-    let shown = format!(in alloc; "{value:?}")?;
-    Ok(shown.as_str() == fields)
-}
-
 /// Whether the fields of this value are shown by a text that begins so.
-fn begins<T: fmt::Debug>(alloc: Global, value: &T, fields: &str) -> Result<bool, Memory> {
+pub(crate) fn begins<T: fmt::Debug>(
+    alloc: Global,
+    value: &T,
+    fields: &str,
+) -> Result<bool, Memory> {
     let shown = format!(in alloc; "{value:?}")?;
     Ok(shown.as_str().starts_with(fields))
 }
@@ -88,7 +86,7 @@ fn is_case<T: Spelled + Copies + fmt::Display + fmt::Debug>(
 }
 
 /// Ends the test where the answer isn't yes, and says at which case.
-fn expect_yes(rt: &impl Abort, answer: Result<bool, Memory>, case: &str) {
+pub(crate) fn expect_yes(rt: &impl Abort, answer: Result<bool, Memory>, case: &str) {
     assert!(rt; answer == Ok(true), "at {case}");
 }
 
@@ -110,7 +108,7 @@ fn is_refused<T: Spelled>(alloc: Global, line: &str) -> Result<bool, Memory> {
 }
 
 /// No line of the table is a value of this type.
-fn each_is_refused<T: Spelled>(rt: &impl Abort, alloc: Global, table: &str) {
+pub(crate) fn each_is_refused<T: Spelled>(rt: &impl Abort, alloc: Global, table: &str) {
     for line in table.lines() {
         expect_yes(rt, is_refused::<T>(alloc, line), line);
     }
@@ -120,12 +118,12 @@ const DEFAULTS: &str = "Config { change_signal: 0, action_handler: 0, error_hand
     pathset: Changeable { value: List { items: [] } }, file_watcher: Changeable { value: Native }, \
     follow_symlinks: Changeable { value: true }, signal_job_control: false, \
     keyboard_events: Changeable { value: false }, throttle: Changeable { value: 50000000 }, \
-    filterer: 0, error_channel_size: 64, event_channel_size: 4096 }";
+    filterer: 0, error_channel_size: 64, event_channel_size: 4096, fs_ready: Flag {";
 
 #[test]
 fn the_default_settings(rt: HostRuntime) {
     let config = Config::new(rt.alloc()).expect(&rt, "settings");
-    expect_yes(&rt, has_fields(rt.alloc(), &config, DEFAULTS), DEFAULTS);
+    expect_yes(&rt, begins(rt.alloc(), &config, DEFAULTS), DEFAULTS);
     drop(config);
 }
 

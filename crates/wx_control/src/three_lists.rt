@@ -1,5 +1,5 @@
 // The controls that wait for a job.
-ghost use Rattle.std.specs.Prelude.{◌≡◌, ◌∷◌, ◌++◌, [], ◌+◌, ◌≤◌, ◌<◌, ◌==◌, vec_len, vec_capacity, false, OnOk, OnErr, IfSome, IfNone, option_map};
+ghost use Rattle.std.specs.Prelude.{◌≡◌, ◌∷◌, ◌++◌, [], ◌+◌, ◌≤◌, ◌<◌, ◌^◌, ◌==◌, vec_len, vec_capacity, false, OnOk, OnErr, IfOk, IfSome, IfNone, MatchOption, option_map};
 ghost use Rattle.wx_control.specs.Waits.{IsEmpty, ticketed, picked, joined, headed, first_of, first_level, waiting_count};
 
 use crate::control::Control;
@@ -50,15 +50,15 @@ impl Model for ThreeLists {
 }
 
 impl ThreeLists {
-    /// Lists in which none waits. It takes no memory.
-    pub fn new(alloc: Global) -> ThreeLists
-        ensures { IsEmpty result }
+    /// Lists in which none waits. It fails only for want of memory.
+    pub fn new(alloc: Global) -> Result<ThreeLists, Memory>
+        ensures { IfOk result (λ lists. IsEmpty lists) }
     {
-        ThreeLists {
+        Ok(ThreeLists {
             urgent: Vec::new(alloc),
             high: Vec::new(alloc),
             normal: Vec::new(alloc),
-        }
+        })
     }
 
     /// Takes room for `n` more at every level. It fails only for want of memory.
@@ -155,9 +155,9 @@ impl ThreeLists {
         Some(take_first(&mut self.normal, Level::Normal))
     }
 
-    /// How many wait at all levels, where that is a number of 64 bits.
+    /// How many wait at all levels. There is no answer exactly where that is 2^64 or more.
     pub fn count(&self) -> Option<u64>
-        ensures { IfSome result (λ n. n ≡ waiting_count self.now) }
+        ensures { MatchOption result (2 ^ 64 ≤ waiting_count self.now) (λ n. n ≡ waiting_count self.now) }
     {
         let pressing = (self.urgent.len() as u64).checked_add(self.high.len() as u64)?;
         pressing.checked_add(self.normal.len() as u64)

@@ -442,7 +442,7 @@ const PICKS: &str = "\
 
 #[test]
 fn the_most_pressing_is_picked_first(rt: HostRuntime) {
-    let mut lists = ThreeLists::new(rt.alloc());
+    let mut lists = ThreeLists::new(rt.alloc()).expect(&rt, "lists");
     put_seven(&rt, rt.alloc(), &mut lists);
     expect_so(&rt, lists.count() == Some(7), "seven wait");
     let line = picks_of(&rt, rt.alloc(), &mut lists, &GRACES);
@@ -466,7 +466,7 @@ fn expect_pick(rt: &impl Abort, lists: &mut ThreeLists, want: Option<u64>) {
 
 #[test]
 fn what_is_put_behind_a_pick_waits_behind(rt: HostRuntime) {
-    let mut lists = ThreeLists::new(rt.alloc());
+    let mut lists = ThreeLists::new(rt.alloc()).expect(&rt, "lists");
     put_two(&rt, rt.alloc(), &mut lists);
     expect_pick(&rt, &mut lists, Some(7));
     let flag = new_flag(&rt, rt.alloc());
@@ -493,7 +493,7 @@ fn each_pick_has_the_flag_that_was_put_with_it(rt: HostRuntime) {
     let alloc = rt.alloc();
     let later = new_flag(&rt, alloc);
     let sooner = new_flag(&rt, alloc);
-    let mut lists = ThreeLists::new(alloc);
+    let mut lists = ThreeLists::new(alloc).expect(&rt, "lists");
     let flag = copy_of(&rt, alloc, &later);
     put(&rt, &mut lists, 0, flag, Control::Stop, Level::Normal);
     let flag = copy_of(&rt, alloc, &sooner);

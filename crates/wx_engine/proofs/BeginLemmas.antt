@@ -1,5 +1,5 @@
 -- The beginning of a run.
-use Rattle.std.proofs.Common.{◌≡◌, ℕ, false, suc, ◌+◌, ◌*◌, ◌<◌, List, [], ◌∷◌, length, drop, get_or, drop-cons, add-one, arith, refl, ap, sym, ◌∙◌}
+use Rattle.std.proofs.Common.{◌≡◌, ℕ, false, suc, ◌+◌, ◌*◌, ◌<◌, List, [], ◌∷◌, length, drop, get_or, drop-cons, add-one, arith, refl, ap, sym, subst, ◌∙◌}
 use Rattle.std.specs.Prelude.{None, map}
 use Rattle.std.specs.List.{filter}
 use Rattle.wx_events.specs.declared.event.Event.{Event}
@@ -11,8 +11,7 @@ use Rattle.wx_action.specs.declared.worker_state.Worker.{Worker}
 use Rattle.wx_machine.specs.Start.{Start}
 use Rattle.wx_machine.specs.Journal.{closed, bag}
 use Rattle.wx_machine.proofs.SettleLaws.{settle_calm}
-use Rattle.wx_machine.specs.Due.{Sends, Hands, agenda, sends, begin_of, IsRun}
-use Rattle.wx_machine.specs.RunLaws.{NoneUrgentWaits}
+use Rattle.wx_machine.specs.Due.{begin_of, Sends, Comes, sends, is_quitting, agenda, IsRun}
 use Rattle.wx_machine.specs.Kept.{StaysQuiet, More}
 use Rattle.wx_machine.specs.Leads.{FollowsAlone, Then}
 use Rattle.wx_action.specs.Serves.{AddsAlone}
@@ -20,7 +19,8 @@ use Rattle.wx_machine.specs.Turns.{StaysInTurn}
 use Rattle.wx_machine.specs.Jobs.{set, jobs}
 use Rattle.wx_action.specs.Stands.{Stands, end_room}
 use Rattle.wx_hooks.specs.JobsStand.{held_id}
-use Rattle.wx_machine.proofs.RunLaws.{none_waits, run_led}
+use Rattle.wx_machine.proofs.Orderly.{IsGoing}
+use Rattle.wx_machine.proofs.RunLaws.{orderly, run_led}
 use Rattle.wx_machine.proofs.AllJobs.{turns_over}
 
 -- what is known once the beginning is listed
@@ -39,26 +39,26 @@ begun s w e p p' empty is grown stands = rw (grown, is, empty) (record {
   due = settle_calm (begin_of s ∷ []) (sends s.events) refl;
   count = refl;
   takes = refl;
-  follows = λ world hooks p₀ world₀ hooks₀ l. Then (begin_of s) [] world hooks l refl;
+  follows = λ world hooks p₀ world₀ hooks₀ l. Then (begin_of s) [] world hooks l (tt, refl);
   quiet = λ p₀ a. More (begin_of s) [] a refl;
   turns = turns_over _ _ refl;
 })
 
-sends_no_batch : (xs : List (Event × Priority)) → sends xs ≡ Hands → ⊥
-sends_no_batch [] e = cc
-sends_no_batch (x ∷ xs) e = cc
-
--- what is listed at the beginning is a run, in which no urgent event waits
+-- what is listed at the beginning is a run, in which the end wasn't asked for
 pub begun_run : (s : Start) (p p' : List Entry) → p ≡ [] → AddsAlone s p p' → IsRun s p'
 begun_run s p p' empty adds = run_led s p None None p' None None (adds.follows None None) (rw empty tt)
 
-pub calm_begun : (s : Start) (p p' : List Entry) (xs : List (Event × Priority)) → p ≡ [] → AddsAlone s p p' → agenda s p' ≡ sends xs → NoneUrgentWaits p'
-calm_begun s p p' xs empty adds due = none_waits s p' (begun_run s p p' empty adds) (λ e. sends_no_batch xs (sym due ∙ e))
+going_sends : (p : List Entry) (xs : List (Event × Priority)) → IsGoing p (sends xs) → is_quitting p ≡ false
+going_sends p [] going = going
+going_sends p (x ∷ xs) going = going
+
+pub going_begun : (s : Start) (p p' : List Entry) (xs : List (Event × Priority)) → p ≡ [] → AddsAlone s p p' → agenda s p' ≡ sends xs → is_quitting p' ≡ false
+going_begun s p p' xs empty adds due = going_sends p' xs (subst (IsGoing p') due (orderly s p' (begun_run s p p' empty adds)).going)
 
 -- the next event that was sent
-pub next_sent : (s : Start) (p : List Entry) (xs : List (Event × Priority)) (i : ℕ) (x : Event × Priority) → i < length xs → x ≡ get_or xs i x → agenda s p ≡ sends (drop i xs) → agenda s p ≡ Sends x.0 x.1 (drop (i + 1) xs)
+pub next_sent : (s : Start) (p : List Entry) (xs : List (Event × Priority)) (i : ℕ) (x : Event × Priority) → i < length xs → x ≡ get_or xs i x → agenda s p ≡ sends (drop i xs) → agenda s p ≡ Comes (Sends x.0 x.1) (sends (drop (i + 1) xs))
 next_sent s p xs i x lt is due =
-    due ∙ ap sends (drop-cons xs i x lt ∙ ap (λ (y : Event × Priority). y ∷ drop (suc i) xs) (sym is)) ∙ ap (λ (k : ℕ). Sends x.0 x.1 (drop k xs)) (sym (add-one i))
+    due ∙ ap sends (drop-cons xs i x lt ∙ ap (λ (y : Event × Priority). y ∷ drop (suc i) xs) (sym is)) ∙ ap (λ (k : ℕ). Comes (Sends x.0 x.1) (sends (drop k xs))) (sym (add-one i))
 
 -- no job lives while a worker holds none
 none_by : (p : List Entry) (hs : List Held) → 2 * length hs ≡ 0 → map held_id hs ≡ set p → jobs p ≡ []

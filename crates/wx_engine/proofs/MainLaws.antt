@@ -4,7 +4,7 @@ use Rattle.std.specs.Prelude.{IfErr}
 use Rattle.wx_journal.specs.declared.entry.Entry.{Entry}
 use Rattle.wx_journal.specs.declared.entry.Entry.TheVariants.{Show, Dropped, Gone}
 use Rattle.wx_journal.specs.Told.{Rose, tell_if, tells, anywhere, is_world, is_hooks}
-use Rattle.wx_machine.specs.TicketLaws.{Throughout, GracesNeedChildren, IsPlaced}
+use Rattle.wx_machine.specs.TicketLaws.{Throughout, WaitForFunctions, GracesNeedChildren, IsPlaced}
 use Rattle.wx_machine.proofs.Graces.{graces_need_children}
 use Rattle.wx_machine.specs.Start.{Start}
 use Rattle.wx_error.specs.declared.error.CriticalError.{CriticalError}
@@ -15,6 +15,7 @@ use Rattle.wx_machine.specs.RunLaws.{IsBatched, AreBatches, NoneUnseenIsShown, N
 use Rattle.wx_machine.specs.Leads.{Leads, Here, Then}
 use Rattle.wx_machine.proofs.AllJobs.{run_makes_once}
 use Rattle.wx_machine.proofs.RunLaws.{orderly, run_is_batched, run_has_batches, run_shows, run_shows_open, run_is_served}
+use Rattle.wx_machine.proofs.FunctionLaws.{run_waits, dying_waits}
 use Rattle.wx_machine.proofs.PlanLaws.{of_end}
 use Rattle.wx_machine.proofs.Lawful.{IsOfEnd}
 use Rattle.wx_machine.proofs.EndLaws.{dying_keeps}
@@ -108,6 +109,11 @@ ran_is_served s p (inr broken) = (dying_keeps s broken.before p broken.dying).se
 pub ran_is_placed : (s : Start) (p : List Entry) → Ran s p → IsPlaced p
 ran_is_placed s p (inl complete) = (orderly s p complete.run).placed
 ran_is_placed s p (inr broken) = (dying_keeps s broken.before p broken.dying).placed (orderly s broken.before broken.run).placed
+
+-- while a function is begun nothing else is done of its job
+pub ran_waits : (s : Start) (p : List Entry) → Ran s p → WaitForFunctions p
+ran_waits s p (inl complete) = run_waits s p complete.run (orderly s p complete.run).placed.polled
+ran_waits s p (inr broken) = dying_waits broken.before p broken.dying (run_waits s broken.before broken.run (orderly s broken.before broken.run).placed.polled)
 
 -- no grace of a journal stands without a child
 pub graces_have_children : (p : List Entry) → Throughout GracesNeedChildren p

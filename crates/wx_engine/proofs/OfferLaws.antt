@@ -1,38 +1,19 @@
 -- What the offers of a run say, proved.
-use Rattle.std.proofs.Common.{◌≡◌, ℕ, Option, inl, inr, List, [], ◌∷◌}
-use Rattle.wx_events.specs.declared.event.Event.{Event}
-use Rattle.wx_events.specs.declared.priority.Priority.{Priority}
+use Rattle.std.proofs.Common.{inl, inr, List, [], ◌∷◌}
 use Rattle.wx_journal.specs.declared.entry.Entry.{Entry}
 use Rattle.wx_journal.specs.declared.entry.Entry.TheVariants.{Offer, Dropped, Gone}
-use Rattle.wx_journal.specs.declared.entry.Offered.{Offered}
 use Rattle.wx_machine.specs.Start.{Start}
-use Rattle.wx_machine.specs.Journal.{offered}
-use Rattle.wx_machine.specs.Due.{Agenda, Begins, Sends, Open, Offers, Says, Takes, Filters, Shows, Hands, Plans, Ends, Breaks, agenda, Admits, IsRun}
-use Rattle.wx_machine.proofs.Orderly.{IsFit}
+use Rattle.wx_machine.specs.Due.{agenda, IsRun}
 use Rattle.wx_machine.specs.Answer.{Dying, Alive, Dies}
 use Rattle.wx_machine.proofs.Lawful.{IsOfEnd}
-use Rattle.wx_machine.proofs.PlanLaws.{lawful_now, of_end}
-use Rattle.wx_machine.proofs.RunLaws.{orderly}
+use Rattle.wx_machine.proofs.PlanLaws.{of_end}
+use Rattle.wx_machine.proofs.RunLaws.{admitted, orderly}
 use Rattle.wx_engine.specs.Offers.{AreOffered}
 use Rattle.wx_engine.specs.Run.{Ran}
 
-admits_offer : (s : Start) (p : List Entry) (k : Agenda) (name : ℕ) (item : Option ℕ) (result : Offered) (event : Event) (priority : Priority) → Admits s p k (Offer name item result event priority) → IsFit p k → result ≡ offered s p
-admits_offer s p Begins name item result event priority d f = absurd cc
-admits_offer s p (Sends e q more) name item result event priority d f = absurd cc
-admits_offer s p Open name item result event priority d f = absurd d
-admits_offer s p (Offers e q more) name item result event priority d f = cc
-admits_offer s p (Says word more) name item result event priority d f = absurd cc
-admits_offer s p Takes name item result event priority d f = let h = d.1 in absurd cc
-admits_offer s p (Filters m) name item result event priority d f = let h = d.1 in absurd cc
-admits_offer s p (Shows m) name item result event priority d f = let h = d.1 in absurd cc
-admits_offer s p Breaks name item result event priority d f = absurd d
-admits_offer s p Hands name item result event priority d f = let h = d.1 in absurd cc
-admits_offer s p (Plans k more) name item result event priority d f = absurd (lawful_now p k (Offer name item result event priority) d f.0).of_plan
-admits_offer s p Ends name item result event priority d f = absurd (of_end p (Offer name item result event priority) d)
-
 run_offers : (s : Start) (p : List Entry) → IsRun s p → AreOffered s p
 run_offers s [] r = tt
-run_offers s (Offer name item result event priority ∷ p) r = (admits_offer s p (agenda s p) name item result event priority r.0 (orderly s p r.1).fit, run_offers s p r.1)
+run_offers s (Offer name item result event priority ∷ p) r = ((admitted s p (agenda s p) (Offer name item result event priority) (λ i. i) (λ i. i) r.0 (orderly s p r.1).fit).2, run_offers s p r.1)
 run_offers s (_ ∷ p) r = run_offers s p r.1
 
 -- the end brings no offer

@@ -1,10 +1,10 @@
 -- The end behind the turns of a run.
-use Rattle.std.proofs.Common.{◌≡◌, ℕ, Some, List, [], ◌∷◌, Ok, Err, inl, inr, subst, ◌∙◌}
+use Rattle.std.proofs.Common.{◌≡◌, ℕ, false, Some, List, [], ◌∷◌, Ok, Err, inl, inr, refl, ap, subst, ◌∙◌}
 use Rattle.std.specs.Prelude.{IsErrAnd, IfErr}
 use Rattle.wx_events.specs.declared.event.Event.{Event}
 use Rattle.wx_events.specs.declared.priority.Priority.{Priority}
 use Rattle.wx_journal.specs.declared.entry.Entry.{Entry}
-use Rattle.wx_journal.specs.declared.entry.Entry.TheVariants.{Show}
+use Rattle.wx_journal.specs.declared.entry.Entry.TheVariants.{Turn as Turned, TurnFault, Show}
 use Rattle.wx_journal.specs.declared.wish.Wish.{Wish}
 use Rattle.wx_journal.specs.declared.wish.Wish.TheVariants.{Nothing, Elevate, Critical}
 use Rattle.wx_error.specs.declared.runtime.RuntimeError.{RuntimeError}
@@ -13,8 +13,10 @@ use Rattle.wx_error.specs.declared.error.CriticalError.TheVariants.{Exit, IoErro
 use Rattle.wx_machine.specs.Journal.{ending}
 use Rattle.wx_machine.specs.Start.{Start}
 use Rattle.wx_machine.specs.Jobs.{jobs}
-use Rattle.wx_machine.specs.Due.{agenda, Open, Ends, sends, IsRun}
-use Rattle.wx_machine.specs.Answer.{Dying, Alive, IsComplete, IsBroken, NoneIsToGo, MemoryCuts, Wishes, Answers}
+use Rattle.wx_machine.specs.Due.{Hands, Agenda, Comes, agenda, Open, Ends, sends, rest, after_show, settle, IsRun}
+use Rattle.wx_machine.specs.Answer.{Dying, Alive, IsComplete, IsBroken, IsBehindTurn, NoneIsToGo, MemoryCuts, Wishes, Answers}
+use Rattle.wx_machine.specs.RunLaws.{NoneUrgentWaits}
+use Rattle.wx_machine.proofs.RunLaws.{is_to_hand, none_waits, run_is_served}
 use Rattle.wx_journal.specs.Lines.{Answer}
 use Rattle.wx_machine.proofs.EndLaws.{dying_turns, dying_run, dying_ends}
 use Rattle.wx_engine.specs.Run.{Stops, HasCause, HasTurnCause}
@@ -82,3 +84,37 @@ none_of_sends (x ∷ xs) = tt
 
 pub none_when_sending : (s : Start) (p : List Entry) (xs : List (Event × Priority)) → agenda s p ≡ sends xs → NoneIsToGo (agenda s p)
 none_when_sending s p xs is = rw is (none_of_sends xs)
+
+-- ---- no urgent event waits where turns are served no longer
+
+none_to_hand : (k : Agenda) → NoneIsToGo k → is_to_hand k ≡ false
+none_to_hand (Comes Hands more) none = absurd none
+none_to_hand (_) none = refl
+
+calm_behind : (s : Start) (p : List Entry) → IsRun s p → IsBehindTurn p → NoneUrgentWaits p
+calm_behind s [] r behind = absurd behind
+calm_behind s (Turned t ∷ p) r behind = none_waits s p r.1 (ap is_to_hand (run_is_served s (Turned t ∷ p) r).0)
+calm_behind s (TurnFault code ∷ p) r behind = none_waits s p r.1 (ap is_to_hand (run_is_served s (TurnFault code ∷ p) r).0)
+calm_behind s (_ ∷ p) r behind = absurd behind
+
+calm_cut : (s : Start) (p : List Entry) → IsRun s p → MemoryCuts s p → NoneUrgentWaits p
+calm_cut s p r (inl behind) = calm_behind s p r behind
+calm_cut s p r (inr none) = none_waits s p r (none_to_hand (agenda s p) none)
+
+calm_wished : (s : Start) (p : List Entry) (error : CriticalError) → IsRun s p → Wishes error p → NoneUrgentWaits p
+calm_wished s [] error r is = absurd cc
+calm_wished s (Show n shown wish ∷ p) error r is = none_waits s (Show n shown wish ∷ p) r (ap (λ o. is_to_hand (settle (Show n shown wish ∷ p) (after_show o (rest (Show n shown wish) (agenda s p))))) is)
+calm_wished s (_ ∷ p) error r is = absurd cc
+
+pub calm_stops : (s : Start) (p : List Entry) (answer : Answer) → IsRun s p → Stops s p answer → NoneUrgentWaits p
+calm_stops s p (Ok u) r stops = none_waits s p r (ap is_to_hand stops.0)
+calm_stops s p (Err (IoError about err)) r (inl failed) = none_waits s p r (ap is_to_hand failed.0)
+calm_stops s p (Err (IoError about err)) r (inr wished) = calm_wished s p (IoError about err) r wished
+calm_stops s p (Err Memory) r (inl failed) = absurd failed
+calm_stops s p (Err Memory) r (inr cut) = calm_cut s p r cut
+calm_stops s p (Err error) r (inl failed) = absurd failed
+calm_stops s p (Err error) r (inr wished) = calm_wished s p error r wished
+
+-- nor where it was broken off at the beginning
+pub calm_begun : (s : Start) (p : List Entry) → IsRun s p → NoneIsToGo (agenda s p) → NoneUrgentWaits p
+calm_begun s p r none = none_waits s p r (none_to_hand (agenda s p) none)

@@ -11,7 +11,7 @@ use Rattle.wx_action.specs.declared.worker_state.Worker.{Worker}
 use Rattle.wx_machine.specs.Start.{Start}
 use Rattle.wx_machine.specs.Journal.{turn_count, early_count, turn_fault}
 use Rattle.wx_machine.specs.Due.{agenda, Open, Due}
-use Rattle.wx_machine.specs.RunLaws.{NoneUrgentWaits, MomentsRise}
+use Rattle.wx_machine.specs.RunLaws.{MomentsRise}
 use Rattle.wx_machine.specs.Faults.{CountsOn}
 use Rattle.wx_machine.proofs.FaultLaws.{counts_entry}
 use Rattle.wx_machine.specs.Kept.{Quiet, Same, More}
@@ -53,13 +53,6 @@ drawn_quiet s e p p' d = rw d.grown (More e p Same d.hooks)
 pub drawn_counts : (s : Start) (e : Entry) (p₀ p p' : List Entry) (n₀ n n' : ℕ) → Drawn s p e p' → CountsOn p₀ n₀ p n → n ≤ n' → CountsOn p₀ n₀ p' n'
 drawn_counts s e p₀ p p' n₀ n n' d so_far later = λ q m before. rw d.grown (counts_entry e p n n' d.calm later q m (so_far q m before))
 
--- neither leaves an urgent event
-pub turn_calm : (t : Turn) (p p' : List Entry) → NoneUrgentWaits p → p' ≡ Turned t ∷ p → NoneUrgentWaits p'
-turn_calm t p p' calm grown = rw grown calm
-
-pub fault_calm : (code : ℕ) (p p' : List Entry) → NoneUrgentWaits p → p' ≡ TurnFault code ∷ p → NoneUrgentWaits p'
-fault_calm code p p' calm grown = rw grown calm
-
 -- what a journal says of its turns after one more, and what was served in it
 pub record Served (t : Turn) (p p' : List Entry) : Type 0 where
   pub count : turn_count p' ≡ turn_count p + 1
@@ -100,8 +93,8 @@ pub turn_stands : (s : Start) (w : Worker) (t : Turn) (p p' : List Entry) → St
 turn_stands s w t p p' stands grown none = (at_turn s w t.at t.kind p' none (next_turn s w p p' t.at t.kind stands grown)).stands
 
 -- and with the fault of one
-pub fault_stands : (s : Start) (w : Worker) (code : ℕ) (p p' : List Entry) → Stands s w p → agenda s p ≡ Open → p' ≡ TurnFault code ∷ p → Stands s w p'
-fault_stands s w code p p' stands open_is grown = rw grown (stands_behind s w (TurnFault code) p refl tt (rw open_is tt) stands)
+pub fault_stands : (s : Start) (w : Worker) (code : ℕ) (p p' : List Entry) → Stands s w p → p' ≡ TurnFault code ∷ p → Stands s w p'
+fault_stands s w code p p' stands grown = rw grown (stands_behind s w (TurnFault code) p refl tt stands)
 
 -- turns were served, and then one more
 pub turns_then : {Plan : Type 0} (s : Start) (p q r : List Entry) (a b c : Seen Plan) (hooks hooks' hooks'' : Option (List Entry)) → ServesTurns s p a hooks q b hooks' → Serves s q b hooks' r c hooks'' → ServesTurns s p a hooks r c hooks''

@@ -7,31 +7,31 @@ use Rattle.wx_journal.specs.declared.entry.Entry.TheVariants.{Show, Dropped, Gon
 use Rattle.wx_journal.specs.Lines.{Answer}
 use Rattle.wx_machine.specs.Start.{Start}
 use Rattle.wx_machine.specs.Journal.{ending}
-use Rattle.wx_machine.specs.Due.{Ends, after_show, settle, Admits, IsRun}
+use Rattle.wx_machine.specs.Due.{Agenda, Ends, Admits, rest, after_show, settle, agenda, IsRun}
 use Rattle.wx_machine.specs.Answer.{Dying, Alive, Dies, IsComplete, IsBroken, Wishes, Answers}
 use Rattle.wx_machine.proofs.Lawful.{IsOfEnd}
 use Rattle.wx_machine.proofs.PlanLaws.{of_end}
 use Rattle.wx_engine.specs.Completes.{NoneEnds, IsErrorOrMemory, AreGranted}
 
 -- nothing comes behind a wish that ends the run, nor is the end due there
-goes_on : (s : Start) (shown e : Entry) (p : List Entry) (wished : Option CriticalError) → Admits s (shown ∷ p) (settle (shown ∷ p) (after_show wished)) e → wished ≡ None
-goes_on s shown e p None due = refl
-goes_on s shown e p (Some error) due = absurd due
+goes_on : (s : Start) (shown e : Entry) (p : List Entry) (wished : Option CriticalError) (more : Agenda) → Admits s (shown ∷ p) (settle (shown ∷ p) (after_show wished more)) e → wished ≡ None
+goes_on s shown e p None more due = refl
+goes_on s shown e p (Some error) more due = absurd due
 
-ends_calm : (shown : Entry) (p : List Entry) (wished : Option CriticalError) → settle (shown ∷ p) (after_show wished) ≡ Ends → wished ≡ None
-ends_calm shown p None due = refl
-ends_calm shown p (Some error) due = absurd cc
+ends_calm : (shown : Entry) (p : List Entry) (wished : Option CriticalError) (more : Agenda) → settle (shown ∷ p) (after_show wished more) ≡ Ends → wished ≡ None
+ends_calm shown p None more due = refl
+ends_calm shown p (Some error) more due = absurd cc
 
 -- so no wish but the last entry's ends a run
 none_below : (s : Start) (e : Entry) (p : List Entry) → IsRun s (e ∷ p) → NoneEnds p
 none_below s e [] run = tt
-none_below s e (Show n error wish ∷ p) run = (goes_on s (Show n error wish) e p (ending error wish) run.0, none_below s (Show n error wish) p run.1)
+none_below s e (Show n error wish ∷ p) run = (goes_on s (Show n error wish) e p (ending error wish) (rest (Show n error wish) (agenda s p)) run.0, none_below s (Show n error wish) p run.1)
 none_below s e (x ∷ p) run = none_below s x p run.1
 
 -- and none ends one whose end is due
 none_complete : (s : Start) (p : List Entry) → IsComplete s p → NoneEnds p
 none_complete s [] complete = tt
-none_complete s (Show n error wish ∷ p) complete = (ends_calm (Show n error wish) p (ending error wish) complete.ended, none_below s (Show n error wish) p complete.run)
+none_complete s (Show n error wish ∷ p) complete = (ends_calm (Show n error wish) p (ending error wish) (rest (Show n error wish) (agenda s p)) complete.ended, none_below s (Show n error wish) p complete.run)
 none_complete s (x ∷ p) complete = none_below s x p complete.run
 
 -- where no wish ends the run, any answer will do, and want of memory always does

@@ -50,12 +50,10 @@ Ran s p = IsComplete s p ⊎ IsBroken AtAnyPlace s p
 
 -- ---- turns, one after another
 
--- A worker rests: it stands for the journal, the room for the end of all jobs is there, no urgent event waits, and moments
--- never fell.
+-- A worker rests: it stands for the journal, the room for the end of all jobs is there, and moments never fell.
 pub record Rests {Plan : Type 0} (s : Start) (w : Worker) (j : Written) (a : Seen Plan) : Type 0 where
   pub stands : Stands s w j.past
   pub room : HasEndRoom w j.spare a.spare
-  pub calm : NoneUrgentWaits j.past
   pub rise : MomentsRise j.past
 
 -- it rests where a turn may come: nothing is due, and no turn failed

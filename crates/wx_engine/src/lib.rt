@@ -1,4 +1,4 @@
-//! The engine.
+//! The engine. What follows a script, and hooks over boxes of a caller, are offered again here.
 #![tactic(auto)]
 
 mod running;
@@ -6,3 +6,5 @@ mod watchexec;
 mod watchexec_main;
 
 pub use watchexec::{SendRefused, Watchexec};
+pub use wx_boxed::{BoxedHooks, OnAction, OnError, OnFault, OnJob, OnSpawn};
+pub use wx_follow::{ScriptHooks, ScriptWorld};

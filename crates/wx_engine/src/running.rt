@@ -7,7 +7,6 @@ ghost use Rattle.wx_machine.specs.Start.{Start, IsSize};
 ghost use Rattle.wx_machine.specs.Jobs.{jobs};
 ghost use Rattle.wx_machine.specs.Due.{agenda, begin_of, Open};
 ghost use Rattle.wx_machine.specs.Told.{is_last, TellsNoEnd};
-ghost use Rattle.wx_machine.specs.RunLaws.{NoneUrgentWaits};
 ghost use Rattle.wx_machine.specs.Answer.{NoneIsToGo, BreaksOff, Answers};
 ghost use Rattle.wx_action.specs.Stands.{Stands, AtTurn, HasEndRoom, Works, end_room};
 ghost use Rattle.wx_engine.specs.Run.{HasCause, HasTurnCause, Stops, Rests, IsBetween, ServesTurns, Lists, HasLaws};
@@ -16,10 +15,11 @@ use crate::watchexec::Watchexec;
 use std::alloc::Global;
 use wx_action::{Worked, Worker, ask_turn, end_jobs, ended_turn, job_turn, worker};
 use wx_config::Config;
+use wx_control::Flag;
 use wx_error::CriticalError;
 use wx_hooks::{Hooks, World};
 use wx_job::{Host, JobHooks};
-use wx_journal::{Entry, Journal, TurnKind};
+use wx_journal::{Beginning, Entry, Journal, TurnKind};
 use wx_text::{Copies, Memory, Text};
 use wx_words::TextPath;
 
@@ -28,7 +28,7 @@ fn beginning(alloc: Global, config: &Config, folder: TextPath) -> Result<Entry, 
     ensures { IfOk result (λ entry. entry ≡ begin_of (record { config = config.now; folder = folder; events = [] })) }
 {
     let paths = config.pathset.get().copy(alloc)?;
-    Ok(Entry::Begin {
+    Ok(Entry::Begin(Beginning {
         throttle: *config.throttle.get(),
         size: config.event_channel_size,
         errors: config.error_channel_size,
@@ -38,7 +38,7 @@ fn beginning(alloc: Global, config: &Config, folder: TextPath) -> Result<Entry, 
         watcher: *config.file_watcher.get(),
         cwd: folder,
         paths,
-    })
+    }))
 }
 
 /// The worker of a run with these settings and this folder, whose beginning it lists. It fails only for want of memory; then
@@ -83,7 +83,6 @@ pub(crate) fn begin(
     ensures open { OnOk result (agenda start journal.new.past ≡ Open) }
     ensures none { jobs journal.new.past ≡ [] }
     ensures room { IfOk result (λ worker. end_room worker ≡ 0) }
-    ensures calm { NoneUrgentWaits journal.new.past }
     ensures cut { OnErr result (NoneIsToGo (agenda start journal.new.past)) }
     ensures adds { AddsAlone start journal.old.past journal.new.past }
 {
@@ -100,11 +99,13 @@ pub(crate) fn begin(
     Ok(worker)
 }
 
-/// What is due in a turn that was drawn and listed, of this moment and kind. The answer says whether the run goes on. It
-/// fails where the run breaks off: for want of memory, and where the error handler wished it.
+/// What is due in a turn that was drawn and listed, of this moment and kind. `done` is the flag of an ask's last control,
+/// where one was made with the ask. The answer says whether the run goes on. It fails where the run breaks off: for want of
+/// memory, and where the error handler wished it.
 fn serve<W: World, H: Hooks>(
     alloc: Global,
     kind: TurnKind,
+    done: Option<Flag>,
     at: u64,
     state: &mut Worker,
     world: &mut W,
@@ -117,7 +118,6 @@ fn serve<W: World, H: Hooks>(
     ensures works { IfOk result (λ worked. Works start worked journal.new.past) }
     ensures last { IfOk result (λ worked. worked ≡ Worked.On → is_last kind ≡ false) }
     ensures breaks { IfErr result (λ error. BreaksOff start journal.new.past error) }
-    ensures calm { NoneUrgentWaits journal.old.past → NoneUrgentWaits journal.new.past }
 {
     match kind {
         TurnKind::Arrive(event, priority) => {
@@ -134,7 +134,7 @@ fn serve<W: World, H: Hooks>(
             Ok(Worked::On)
         }
         TurnKind::Ask(id, ask) => {
-            ask_turn(alloc, state, id, ask, journal)?;
+            ask_turn(alloc, state, id, ask, done, journal)?;
             Ok(Worked::On)
         }
         TurnKind::Last => Ok(Worked::End),
@@ -204,7 +204,7 @@ fn serve_turns<W: World, H: Hooks>(
         let at = given.turn.at;
         let kind = kind_again(alloc, &given.turn.kind);
         journal.push(Entry::Turn(given.turn));
-        match serve(alloc, kind?, at, state, world, hooks, journal)? {
+        match serve(alloc, kind?, given.done, at, state, world, hooks, journal)? {
             Worked::On => {}
             Worked::End => return Ok(()),
         }

@@ -1,6 +1,8 @@
 // The engine.
-ghost use Rattle.std.specs.Prelude.{◌≡◌, ◌∷◌, ◌++◌, [], ◌+◌, true, length, List, OnOk, OnErr, IfOk, IfErr, Err};
+ghost use Rattle.std.specs.Prelude.{◌≡◌, ◌∷◌, ◌++◌, [], ◌+◌, true, false, length, List, OnOk, OnErr, IfOk, IfErr, Err};
+ghost use Rattle.wx_config.specs.Changes.{changed};
 ghost use Rattle.wx_config.specs.Defaults.{default_config};
+ghost use Rattle.wx_config.specs.declared.change.Change.TheVariants.{OnAction};
 ghost use Rattle.wx_machine.specs.Start.{Start, IsSize, IsStart, is_absolute};
 ghost use Rattle.wx_engine.specs.Sent.{Refuses};
 
@@ -44,11 +46,11 @@ impl Watchexec {
     /// for want of memory.
     pub fn new(alloc: Global, action: u32, folder: TextPath) -> Result<Watchexec, Memory>
         requires { is_absolute folder ≡ true }
-        ensures { IfOk result (λ engine. engine ≡ record { config = record default_config { change_signal = 1; action_handler = action }; folder = folder; events = [] }) }
+        ensures start { IfOk result (λ engine. engine ≡ record { config = changed (OnAction action) (default_config engine.config.fs_ready); folder = folder; events = [] }) }
+        ensures ready { IfOk result (λ engine. engine.config.fs_ready.seen ≡ false) }
     {
         let mut config = Config::new(alloc)?;
-        config.action_handler = action;
-        config.change_signal = 1;
+        config.on_action(action).unwrap();
         Watchexec::with_config(alloc, config, folder)
     }
 

@@ -3,6 +3,7 @@ ghost use Rattle.std.specs.Prelude.{◌≡◌, [], ◌+◌, ◌≤◌, false, If
 ghost use Rattle.wx_control.specs.declared.id.Id.{Id as AnId};
 ghost use Rattle.wx_journal.specs.Told.{is_world, is_hooks, is_turn, anywhere, tells, Obeys, Rose};
 ghost use Rattle.wx_machine.specs.History.{child};
+ghost use Rattle.wx_machine.specs.Afterwards.{GoesOnAfterFaults};
 ghost use Rattle.wx_machine.specs.JobLaws.{IsReaping, AfterFaults};
 ghost use Rattle.wx_machine.specs.TicketLaws.{Throughout, AreInOnePlace, AreRaisedLast, WaitForGraces, WaitForFunctions, GracesNeedChildren};
 ghost use Rattle.wx_machine.specs.Journal.{turn_count, early_count};
@@ -58,6 +59,7 @@ impl Watchexec {
         // not be sent a signal, killed or waited for runs, without a grace where this was at the end of one.
         ensures host_faults { Counted [] (W.seen world.old).shown.faults journal.new.past (W.seen world.new).shown.faults }
         ensures after_faults { AfterFaults journal.new.past }
+        ensures afterwards { GoesOnAfterFaults journal.new.past }
 
         // Each child of a job is reaped, and none runs.
         ensures children { (id : AnId) → IsReaping id journal.new.past }
@@ -72,8 +74,8 @@ impl Watchexec {
         ensures graces { Throughout GracesNeedChildren journal.new.past }
         ensures pressing { WaitForGraces journal.new.past }
 
-        // While a function that was begun isn't ready, its job picks no control, no grace of it ends, and no child of it is
-        // spawned, killed or waited for.
+        // While a function that was begun isn't ready, nothing comes of its job but its polls, controls that are asked, and
+        // the end of the job. In a turn about the job no word is said but that it isn't ready, behind a poll.
         ensures functions { WaitForFunctions journal.new.past }
 
         // The laws of runs.

@@ -10,7 +10,7 @@ use wx_error::{CriticalError, RuntimeError};
 use wx_events::{Event, Priority};
 use wx_hooks::{ActionHandler, ErrorHook, Hooks};
 use wx_job::{JobHooks, JobTaskContext};
-use wx_journal::{Entry, HostFault, put_entry};
+use wx_journal::{Entry, HostFault};
 use wx_machine::CommandState;
 use wx_script::Script;
 use wx_text::{Copies, List, Memory, Text};
@@ -288,7 +288,7 @@ const ASKED: &[u8] =
 /// The words of an entry. A long enum is dropped by generic code, which is quicker to prove.
 fn line_of(alloc: Global, entry: Entry) -> Result<Text, Memory> {
     let mut line = Text::new(alloc);
-    let put = put_entry(&entry, &mut line);
+    let put = entry.put(&mut line);
     drop(entry);
     put?;
     Ok(line)

@@ -160,13 +160,14 @@ impl World for ScriptWorld {
             self.told.push(Entry::Turn(last_turn(self.last)));
             return Ok(Turned {
                 turn: last_turn(self.last),
+                done: None,
             });
         };
         self.told.push(entry_of(told));
         match given {
             ScriptTurn::Turn(turn) => {
                 self.moment = turn.at;
-                Ok(Turned { turn })
+                Ok(Turned { turn, done: None })
             }
             ScriptTurn::Fault(code) => {
                 self.faults = counted(self.faults, true);

@@ -1,14 +1,20 @@
 -- What is held in a list of jobs.
-use Rattle.std.proofs.Common.{◌≡◌, ℕ, zero, suc, ◌+◌, ◌<◌, Bool, true, false, cond, List, [], ◌∷◌, length, get_or, set as put, arith, refl, ap, sym, subst, ◌∙◌}
-use Rattle.std.specs.Prelude.{Option, None, Some, is_some, option_map}
-use Rattle.std.specs.List.{AllByRecursion, find, position, position_from}
+use Rattle.std.proofs.Common.{◌≡◌, ◌≢◌, ℕ, zero, suc, ◌+◌, ◌<◌, ◌≤◌, Bool, true, false, cond, List, [], ◌∷◌, length, get_or, set as put, arith, refl, ap, sym, subst, ◌∙◌}
+use Rattle.std.specs.Prelude.{Option, None, Some, is_some, option_map, map, not, nat_lt, nat_le, ◌==◌}
+use Rattle.std.specs.List.{AllByRecursion, find, insert, position, position_or_len, position_from}
+use Rattle.std.proofs.lemmas.Bool.{ltb-false, le-ltb, lt-ltb, leb-true, leb-false}
+use Rattle.std.proofs.lemmas.List.Sums.{prefix_len-le-length}
 use Rattle.std.proofs.lemmas.List.Quantifiers.{position-Some}
 use Rattle.std.proofs.lemmas.Iterator.Adapters.{position_from-zero}
 use Rattle.wx_words.specs.OptionLaws.{neither}
 use Rattle.wx_control.specs.declared.id.Id.{Id}
 use Rattle.wx_job.specs.declared.task.JobTask.{JobTask}
 use Rattle.wx_hooks.specs.declared.held.Held.{Held}
-use Rattle.wx_hooks.specs.HeldJobs.{is_of, is_alive, handle_id, task_of, with_task}
+use Rattle.wx_hooks.specs.HeldJobs.{is_of, is_alive, handle_id, task_of, with_task, with_held}
+use Rattle.wx_hooks.specs.JobsStand.{HeldStands, held_id}
+use Rattle.wx_journal.specs.declared.entry.Entry.{Entry}
+use Rattle.wx_machine.proofs.Owners.{other-is}
+use Rattle.wx_machine.specs.Jobs.{with_id}
 
 -- ---- the place of a job
 
@@ -113,3 +119,51 @@ length_or false x y hs hs' same = ap suc same
 pub length_with : (id : Id) (hs : List Held) (task : JobTask) → length (with_task id hs task) ≡ length hs
 length_with id [] task = refl
 length_with id (h ∷ hs) task = length_or (is_of id h) h (record h { task = task }) hs (with_task id hs task) (length_with id hs task)
+
+-- ---- a job is added at its place
+
+pub place-le : (t : Held → Bool) (hs : List Held) → position_or_len t hs ≤ length hs
+place-le t hs = prefix_len-le-length (λ h. not (t h)) hs
+
+place_or : (b : Bool) (m n : ℕ) → cond b (Some m) None ≡ Some n → n ≡ m
+place_or true m n e = let is : m ≡ n = cc in sym is
+place_or false m n e = absurd cc
+
+pub place_some : (t : Held → Bool) (hs : List Held) (n : ℕ) → position t hs ≡ Some n → n ≡ position_or_len t hs
+place_some t hs n e = place_or (nat_lt (position_or_len t hs) (length hs)) (position_or_len t hs) n e
+
+place_end : (m n : ℕ) (b : Bool) → nat_lt m n ≡ b → m ≤ n → cond b (Some m) None ≡ None → n ≡ m
+place_end m n true lt le e = absurd cc
+place_end m n false lt le e = let most = ltb-false m n lt in omega (arith, most, le)
+
+pub place_none : (t : Held → Bool) (hs : List Held) → position t hs ≡ None → length hs ≡ position_or_len t hs
+place_none t hs e = place_end (position_or_len t hs) (length hs) (nat_lt (position_or_len t hs) (length hs)) refl (place-le t hs) e
+
+-- what is known of each and of the new one is known of all
+all_inserted : (P : Held → Type 0) (hs : List Held) (n : ℕ) (h : Held) → AllByRecursion P hs → P h → AllByRecursion P (insert hs n h)
+all_inserted P hs zero h all new = (new, all)
+all_inserted P [] (suc n) h all new = (new, tt)
+all_inserted P (x ∷ hs) (suc n) h all new = (all.0, all_inserted P hs n h all.1 new)
+
+pub all_with : (P : Held → Type 0) (hs : List Held) (h : Held) → AllByRecursion P hs → P h → AllByRecursion P (with_held h hs)
+all_with P hs h all new = all_inserted P hs (position_or_len (λ other. nat_le h.handle.id.0 other.handle.id.0) hs) h all new
+
+-- the ids have the new one at its place
+insert_later : (x h : Held) (hs : List Held) (n : ℕ) → insert (x ∷ hs) (1 + n) h ≡ x ∷ insert hs n h
+insert_later x h hs n = let more : 1 + n ≡ suc n = omega arith in ap (λ (m : ℕ). insert (x ∷ hs) m h) more
+
+ids_at : (x h : Held) (hs : List Held) (b : Bool) → nat_le h.handle.id.0 x.handle.id.0 ≡ b → x.handle.id ≡ held_id x → h.handle.id ≡ held_id h → held_id x ≢ held_id h → map held_id (with_held h hs) ≡ with_id (held_id h) (map held_id hs)
+    → map held_id (insert (x ∷ hs) (cond (not b) (1 + position_or_len (λ other. nat_le h.handle.id.0 other.handle.id.0) hs) 0) h) ≡ with_id (held_id h) (held_id x ∷ map held_id hs)
+ids_at x h hs true le its mine ne more =
+    let most = leb-true h.handle.id.0 x.handle.id.0 le in
+    let later : nat_lt (held_id x).0 (held_id h).0 ≡ false = rw (← its, ← mine) (le-ltb x.handle.id.0 h.handle.id.0 most) in
+    let apart : ((held_id x).0 == (held_id h).0) ≡ false = other-is (held_id h) (held_id x) (λ e. ne (sym e)) in
+    rw (later, apart) refl
+ids_at x h hs false le its mine ne more =
+    let less = leb-false h.handle.id.0 x.handle.id.0 le in
+    let before : nat_lt (held_id x).0 (held_id h).0 ≡ true = rw (← its, ← mine) (lt-ltb x.handle.id.0 h.handle.id.0 less) in
+    ap (λ (xs : List Held). map held_id xs) (insert_later x h hs _) ∙ rw before (ap (λ ids. held_id x ∷ ids) more)
+
+pub ids_with : (p : List Entry) (hs : List Held) (h : Held) → AllByRecursion (HeldStands p) hs → h.handle.id ≡ held_id h → AllByRecursion (λ id. id ≢ held_id h) (map held_id hs) → map held_id (with_held h hs) ≡ with_id (held_id h) (map held_id hs)
+ids_with p [] h stand mine ne = refl
+ids_with p (x ∷ hs) h stand mine ne = ids_at x h hs (nat_le h.handle.id.0 x.handle.id.0) refl stand.0.handle_is mine ne.0 (ids_with p hs h stand.1 mine ne.1)

@@ -1,12 +1,13 @@
 -- One of several held jobs changes, and the others stand as before.
-use Rattle.std.proofs.Common.{◌≡◌, ◌≢◌, ℕ, zero, suc, ◌<◌, List, [], ◌∷◌, length, get_or, set as put, arith, ap, sym, subst, ◌∙◌}
+use Rattle.std.proofs.Common.{◌≡◌, ◌≢◌, ℕ, zero, suc, ◌<◌, List, [], ◌∷◌, length, get_or, set as put, inl, inr, arith, ap, sym, subst, ◌∙◌}
 use Rattle.std.specs.Prelude.{map}
 use Rattle.std.specs.List.{AllByRecursion}
 use Rattle.wx_control.specs.declared.id.Id.{Id}
 use Rattle.wx_journal.specs.declared.entry.Entry.{Entry}
-use Rattle.wx_machine.specs.History.{SameHistory}
+use Rattle.wx_machine.specs.Leaves.{SameHistory}
 use Rattle.wx_machine.specs.Leaves.{LeavesOthers}
 use Rattle.wx_machine.specs.Jobs.{set}
+use Rattle.wx_machine.proofs.AllJobs.{IsIn}
 use Rattle.wx_job.specs.Stands.{TaskStands, SameJob}
 use Rattle.wx_job.proofs.StandsLemmas.{stands_history}
 use Rattle.wx_hooks.specs.declared.held.Held.{Held}
@@ -27,6 +28,12 @@ at_place : (P : Id → Type 0) (hs : List Held) (n : ℕ) (h : Held) → n < len
 at_place P [] n h lt is all = absurd (omega arith)
 at_place P (x ∷ hs) zero h lt is all = subst (λ (y : Held). P (held_id y)) (sym is) all.0
 at_place P (x ∷ hs) (suc n) h lt is all = at_place P hs n h (omega arith) is all.1
+
+-- its id is among theirs
+pub is_in_place : (hs : List Held) (n : ℕ) (h : Held) → n < length hs → h ≡ get_or hs n h → IsIn (held_id h) (map held_id hs)
+is_in_place [] n h lt is = absurd (omega arith)
+is_in_place (x ∷ hs) zero h lt is = inl (ap held_id (sym is))
+is_in_place (x ∷ hs) (suc n) h lt is = inr (is_in_place hs n h (omega arith) is)
 
 -- what is held at a place stands
 pub held_at : (p : List Entry) (hs : List Held) (n : ℕ) (h : Held) → n < length hs → h ≡ get_or hs n h → AllByRecursion (HeldStands p) hs → HeldStands p h

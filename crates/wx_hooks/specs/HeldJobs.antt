@@ -1,6 +1,6 @@
 -- The jobs that an action sees.
-use Rattle.std.specs.Prelude.{◌≡◌, ℕ, Bool, false, not, if◌then◌else◌, is_some, Option, None, Some, List, [], ◌∷◌, map}
-use Rattle.std.specs.List.{find, AllByRecursion}
+use Rattle.std.specs.Prelude.{◌≡◌, ℕ, Bool, false, not, nat_le, if◌then◌else◌, is_some, Option, None, Some, List, [], ◌∷◌, map}
+use Rattle.std.specs.List.{find, insert, position_or_len, AllByRecursion}
 use Rattle.wx_control.specs.declared.id.Id.{Id}
 use Rattle.wx_control.specs.declared.job.Job.{Job}
 use Rattle.wx_journal.specs.declared.entry.Entry.{Entry}
@@ -46,6 +46,10 @@ task_of h = h.task
 abbrev pub with_task : Id → List Held → JobTask → List Held
 with_task id [] task = []
 with_task id (h ∷ held) task = if is_of id h then record h { task = task } ∷ held else h ∷ with_task id held task
+
+-- the jobs with one more, which comes before the first whose id isn't less
+abbrev pub with_held : Held → List Held → List Held
+with_held h held = insert held (position_or_len (λ other. nat_le h.handle.id.0 other.handle.id.0) held) h
 
 -- the ids with the handles, in order
 abbrev pub handles : List Held → List (Id × Job)

@@ -1,10 +1,10 @@
 // The jobs that a worker holds, and those that an action sees.
-ghost use Rattle.std.specs.Prelude.{◌≡◌, [], ◌∷◌, ◌++◌, ◌*◌, ◌≤◌, true, is_some, length, Some, option_map, OnOk, OnErr};
+ghost use Rattle.std.specs.Prelude.{◌≡◌, [], ◌+◌, ◌*◌, ◌≤◌, true, is_some, length, nat_le, Some, option_map, OnOk, OnErr};
 ghost use Rattle.std.specs.Borrow.{sem};
-ghost use Rattle.std.specs.List.{find, filter, position};
+ghost use Rattle.std.specs.List.{find, filter, position, position_or_len};
 ghost use Rattle.std.specs.Iterator.{YieldsFirstBy, item_count};
 ghost use Rattle.wx_journal.specs.Names.{NamesItsOwn};
-ghost use Rattle.wx_hooks.specs.HeldJobs.{is_of, is_here, is_alive, runs_child, handles, handle_id, task_of, parked_at};
+ghost use Rattle.wx_hooks.specs.HeldJobs.{is_of, is_here, is_alive, runs_child, handles, handle_id, task_of, with_held, parked_at};
 ghost use Rattle.wx_hooks.specs.LentTask.{LendsTask};
 ghost use Rattle.wx_hooks.specs.EndsJobs.{EndsJobs};
 ghost use Rattle.wx_hooks.specs.JobsStand.{JobsStand};
@@ -38,6 +38,23 @@ fn place_of(held: &[Held], id: Id) -> Option<usize>
     ensures { result ≡ position (is_of id) held.now }
 {
     held.iter().position(|held| held.handle.id().0 == id.0)
+}
+
+/// The place of the first job among these whose id isn't less than this.
+fn first_not_less(held: &[Held], id: Id) -> Option<usize>
+    ensures { result ≡ position (λ other. nat_le id.0 other.handle.id.0) held.now }
+{
+    held.iter().position(|held| id.0 <= held.handle.id().0)
+}
+
+/// The place of a job of this id among these: before the first whose id isn't less.
+fn place_for(held: &[Held], id: Id) -> usize
+    ensures { result ≡ position_or_len (λ other. nat_le id.0 other.handle.id.0) held.now }
+{
+    match first_not_less(held, id) {
+        Some(place) => place,
+        None => held.len(),
+    }
 }
 
 impl JobList {
@@ -105,12 +122,14 @@ impl JobList {
         &mut held.task
     }
 
-    /// Adds a job, whose id is greater than those before. It fails only for want of memory, and adds none then.
+    /// Adds a job at the place of its id among rising ones. It fails only for want of memory, and adds none then.
     pub fn add(&mut self, held: Held) -> Result<(), Memory>
-        ensures added { OnOk result (self.new ≡ self.old ++ held ∷ []) }
+        ensures added { OnOk result (self.new ≡ with_held held self.old) }
+        ensures len { OnOk result (length self.new ≡ length self.old + 1) }
         ensures err { OnErr result (self.new ≡ self.old) }
     {
-        self.items.push(held)?;
+        let place = place_for(self.items.as_slice(), held.handle.id());
+        self.items.insert(place, held)?;
         Ok(())
     }
 

@@ -9,6 +9,7 @@ ghost use Rattle.wx_hooks.specs.Given.{gives_last, GivesTurn};
 
 use crate::error_hook::ErrorHook;
 use crate::handler::ActionHandler;
+use wx_control::Flag;
 use wx_error::RuntimeError;
 use wx_events::{Event, Priority};
 use wx_job::{Host, JobHooks};
@@ -22,6 +23,8 @@ pub struct TurnFault(pub u32);
 #[derive(Drop, Debug)]
 pub struct Turned {
     pub turn: Turn,
+    /// The flag that the last control of an ask raises when it is over, where one was made with the ask.
+    pub done: Option<Flag>,
 }
 
 /// What gives the turns of a run.

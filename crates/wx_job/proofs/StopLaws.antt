@@ -30,10 +30,10 @@ stepped seen heard (Ok a) closed id command k k' j j' h h' x x' ok err = stepped
 stepped seen heard (Err e) closed id command k k' j j' h h' x x' ok err = stepped_stop seen heard id (step_by closed id command j.past) k k' j j' h h' x x' (step_of closed id command j.past) (stops _ _ _ _ _ _ _ k k' j j' h h' x x' err)
 
 -- what stopped from any way here stopped on the way from here, with its ticket in hand
-stops_holding : {H K Fixed : Type 0} (closed : Bool) (command : Command) (a : Seen Fixed) (hooks : Option (List Entry)) (b : Seen Fixed) (hooks' : Option (List Entry)) (k k' : JobTask) (j j' : Written) (h h' : H) (x x' : K) → TaskStands k j.past → StepFails k j h x k' j' h' x' (GaveUp (step_by closed k.id command j.past) j.past a hooks j'.past b hooks') → StepFails k j h x k' j' h' x' (GaveUp (step_by closed k.id command j.past) j.past a hooks j'.past b hooks' × HasInHand k.id (grace k.id j.past) (pick_by closed k.id j.past) j.past j'.past)
+stops_holding : {H K Fixed : Type 0} (closed : Bool) (command : Command) (a : Seen Fixed) (hooks : Option (List Entry)) (b : Seen Fixed) (hooks' : Option (List Entry)) (k k' : JobTask) (j j' : Written) (h h' : H) (x x' : K) → TaskStands k j.past → StepFails k j h x k' j' h' x' (GaveUp (step_by closed k.id command j.past) j.past a hooks j'.past b hooks') → StepFails k j h x k' j' h' x' (GaveUp (step_by closed k.id command j.past) j.past a hooks j'.past b hooks' × HasInHand k.id (grace k.id j.past) (pick_by closed k.id j.past) j'.past)
 stops_holding closed command a hooks b hooks' k k' j j' h h' x x' stands (AllAsBefore undone same) = AllAsBefore undone same
 stops_holding closed command a hooks b hooks' k k' j j' h h' x x' stands (BehindHook pending gave) = BehindHook pending (gave, gave_in_hand closed k command j.past a hooks j'.past b hooks' stands gave)
 
-pub on_stops : {A E H K Fixed : Type 0} (r : Result A E) (closed : Bool) (command : Command) (a : Seen Fixed) (hooks : Option (List Entry)) (b : Seen Fixed) (hooks' : Option (List Entry)) (k k' : JobTask) (j j' : Written) (h h' : H) (x x' : K) → TaskStands k j.past → OnErr r (StepFails k j h x k' j' h' x' (PlanGivesUp (step_by closed k.id command j.past) j.past a hooks j'.past b hooks')) → OnErr r (StepFails k j h x k' j' h' x' (GaveUp (step_by closed k.id command j.past) j.past a hooks j'.past b hooks' × HasInHand k.id (grace k.id j.past) (pick_by closed k.id j.past) j.past j'.past))
+pub on_stops : {A E H K Fixed : Type 0} (r : Result A E) (closed : Bool) (command : Command) (a : Seen Fixed) (hooks : Option (List Entry)) (b : Seen Fixed) (hooks' : Option (List Entry)) (k k' : JobTask) (j j' : Written) (h h' : H) (x x' : K) → TaskStands k j.past → OnErr r (StepFails k j h x k' j' h' x' (PlanGivesUp (step_by closed k.id command j.past) j.past a hooks j'.past b hooks')) → OnErr r (StepFails k j h x k' j' h' x' (GaveUp (step_by closed k.id command j.past) j.past a hooks j'.past b hooks' × HasInHand k.id (grace k.id j.past) (pick_by closed k.id j.past) j'.past))
 on_stops (Ok u) closed command a hooks b hooks' k k' j j' h h' x x' stands s = tt
 on_stops (Err e) closed command a hooks b hooks' k k' j j' h h' x x' stands s = stops_holding closed command a hooks b hooks' k k' j j' h h' x x' stands (stops _ _ _ _ _ _ _ k k' j j' h h' x x' s)

@@ -15,12 +15,12 @@ use Rattle.wx_machine.specs.Case.{PlanFollows, PlanGivesUp}
 use Rattle.wx_machine.specs.Seen.{Seen, Hooked}
 use Rattle.wx_machine.specs.Kept.{KeepsOn}
 use Rattle.wx_machine.specs.Steady.{HaveRoom, UseRoom}
-use Rattle.wx_job.specs.Stands.{TaskStands, id_of, gone_of, closed_of, grace_of, holds}
+use Rattle.wx_job.specs.Stands.{TaskKeeps, id_of, gone_of, closed_of, grace_of, holds}
 use Rattle.wx_machine.specs.States.{child_of}
 
 -- The task, whose job is there, stands for the journal, and there is so much room in journal and host, and so much in the hooks.
 pub record IsReady {Fixed Fixed' : Type 0} (k : JobTask) (n m : ℕ) (j : Written) (a : Seen Fixed) (x : Hooked Fixed') : Type 0 where
-  pub stands : TaskStands k j.past
+  pub stands : TaskKeeps k j.past
   pub here : k.gone ≡ false
   pub room : HaveRoom n m j a x
 
@@ -47,13 +47,13 @@ pub record AreRoomy {Fixed' : Type 0} (n m : ℕ) (j : Written) (x : Hooked Fixe
 
 -- The task stands for the journal afterwards, the hooks kept what each call on them promises, and at most so much room was used.
 pub record HasServed {K Fixed Fixed' : Type 0} (seen : K → Hooked Fixed') (rule : Fixed' → List Entry → Entry → Type 0) (stands : K → List Entry → Type 0) (n m : ℕ) (j : Written) (a : Seen Fixed) (x : K) (k' : JobTask) (j' : Written) (b : Seen Fixed) (x' : K) : Type 0 where
-  pub stood : TaskStands k' j'.past
+  pub stood : TaskKeeps k' j'.past
   pub keeps : KeepsOn seen rule stands x j.past x' j'.past
   pub uses : UseRoom n m j a (seen x) j' b (seen x')
 
 -- the same of calls on hooks alone: the task stands, the hooks kept their promise, and at most so much room was used, in no new turn
 pub record HasCalled {K Fixed' : Type 0} (seen : K → Hooked Fixed') (rule : Fixed' → List Entry → Entry → Type 0) (stands : K → List Entry → Type 0) (n m : ℕ) (j : Written) (x : K) (k' : JobTask) (j' : Written) (x' : K) : Type 0 where
-  pub stood : TaskStands k' j'.past
+  pub stood : TaskKeeps k' j'.past
   pub keeps : KeepsOn seen rule stands x j.past x' j'.past
   pub now : moment j'.past ≡ moment j.past
   pub in_journal : j.spare ≤ j'.spare + n

@@ -2,10 +2,9 @@
 use Rattle.std.specs.Prelude.{◌≡◌, ℕ, ◌+◌, ◌≤◌, Bool, true, false, not, if◌then◌else◌, Option, None, Some, is_some, option_map, List, ◌∷◌, length}
 use Rattle.wx_command.specs.declared.command.Command.{Command}
 use Rattle.wx_control.specs.declared.id.Id.{Id}
-use Rattle.wx_control.specs.declared.level.Level.TheVariants.{Normal, High, Urgent}
 use Rattle.wx_control.specs.declared.ticket.Ticket.{Ticket}
 use Rattle.wx_control.specs.Flags.{Flag}
-use Rattle.wx_control.specs.Waits.{first_of, waiting_count}
+use Rattle.wx_control.specs.Waits.{Waits, first_of, waiting_count}
 use Rattle.wx_journal.specs.declared.entry.Entry.{Entry}
 use Rattle.wx_journal.specs.declared.entry.Entry.TheVariants.{Turn as Turned}
 use Rattle.wx_journal.specs.declared.entry.TurnKind.TheVariants.{Ended}
@@ -21,7 +20,9 @@ use Rattle.wx_job.specs.declared.task.JobTask.{JobTask}
 use Rattle.wx_machine.specs.Held.{times, times_waits, times_grace, times_begun}
 use Rattle.wx_machine.specs.declared.choice.Choice.{Choice}
 use Rattle.wx_machine.specs.Table.{Kit, choose}
-use Rattle.wx_machine.specs.History.{lives, waits, child, kept, state, previous, hook, handler, tag, grace, begun, parked, RunsOnly}
+use Rattle.wx_machine.specs.History.{JobHistory, history, RunsOnly}
+use Rattle.wx_machine.specs.TicketLaws.{IsPlacedOf}
+use Rattle.wx_job.specs.Parkings.{Tickets}
 
 -- what a task is of: the name of its job, and what that runs
 abbrev pub id_of : JobTask → Id
@@ -58,30 +59,50 @@ parked_of k = k.parked.tickets
 abbrev pub parked_count : JobTask → ℕ
 parked_count k = length (parked_of k)
 
+-- what it keeps of the history of its job
+abbrev pub history_of : JobTask → JobHistory
+history_of k = record {
+  lives = not k.gone;
+  urgent = k.waiting.urgent;
+  high = k.waiting.high;
+  normal = k.waiting.normal;
+  child = running_of k;
+  kept = k.kept;
+  state = k.state;
+  previous = k.previous;
+  hook = k.hook;
+  handler = k.handler;
+  tag = k.tag;
+  begun = begun_of k;
+  grace = grace_of k;
+  parked = parked_of k;
+}
+
+-- how often a ticket is held by these
+abbrev pub held_by : ℕ → Waits → List ℕ → Option Grace → Option Function → ℕ
+held_by ticket waiting parked standing function = times_waits ticket waiting + times ticket parked + times_grace ticket standing + times_begun ticket function
+
 -- how often a task holds a ticket
 abbrev pub holds : ℕ → JobTask → ℕ
-holds ticket k = times_waits ticket k.waiting + times ticket (parked_of k) + times_grace ticket (grace_of k) + times_begun ticket (begun_of k)
+holds ticket k = held_by ticket k.waiting (parked_of k) (grace_of k) (begun_of k)
+
+-- there is room to park what waits, and no ticket is held twice, and none of this name or a later one
+pub record AreHeldApart (waiting : Waits) (parking : Tickets) (standing : Option Grace) (function : Option Function) (n : ℕ) : Type 0 where
+  pub room : waiting_count waiting ≤ parking.spare
+  pub once : (ticket : ℕ) → held_by ticket waiting parking.tickets standing function ≤ 1
+  pub named : (ticket : ℕ) → n ≤ ticket → held_by ticket waiting parking.tickets standing function ≡ 0
 
 -- the task keeps what the journal says of its job, has room to park what waits, and holds no ticket twice, and none that isn't named yet
-pub record TaskStands (k : JobTask) (p : List Entry) : Type 0 where
-  pub lives_kept : not k.gone ≡ lives k.id p
-  pub urgent_kept : k.waiting.urgent ≡ waits k.id Urgent p
-  pub high_kept : k.waiting.high ≡ waits k.id High p
-  pub normal_kept : k.waiting.normal ≡ waits k.id Normal p
-  pub child_kept : running_of k ≡ child k.id p
-  pub end_kept : k.kept ≡ kept k.id p
-  pub state_kept : k.state ≡ state k.id p
-  pub previous_kept : k.previous ≡ previous k.id p
-  pub hook_kept : k.hook ≡ hook k.id p
-  pub handler_kept : k.handler ≡ handler k.id p
-  pub begun_kept : begun_of k ≡ begun k.id p
-  pub tag_kept : k.tag ≡ tag k.id p
-  pub grace_kept : grace_of k ≡ grace k.id p
-  pub parked_kept : parked_of k ≡ parked k.id p
-  pub parked_room : waiting_count k.waiting ≤ k.parked.spare
-  pub held_once : (ticket : ℕ) → holds ticket k ≤ 1
-  pub held_named : (ticket : ℕ) → ticket_count p ≤ ticket → holds ticket k ≡ 0
+pub record TaskKeeps (k : JobTask) (p : List Entry) : Type 0 where
+  pub history_kept : history_of k ≡ history k.id p
+  pub tickets_held : AreHeldApart k.waiting k.parked (grace_of k) (begun_of k) (ticket_count p)
   pub runs_kept : RunsOnly k.id k.command p
+
+-- It stands for its job: it keeps that, and the tickets of the job are placed: so those of its grace and of its begun function are in
+-- hand.
+pub record TaskStands (k : JobTask) (p : List Entry) : Type 0 where
+  pub keeps : TaskKeeps k p
+  pub placed : IsPlacedOf k.id p
 
 -- two tasks of one job
 pub record SameJob (k k' : JobTask) : Type 0 where
@@ -112,6 +133,10 @@ pub record Undone {Host : Type 0} (k : JobTask) (j : Written) (h : Host) (k' : J
 pub data StepFails {Host Hooks : Type 0} (k : JobTask) (j : Written) (h : Host) (x : Hooks) (k' : JobTask) (j' : Written) (h' : Host) (x' : Hooks) (GaveUp : Type 0) : Type 0 where
   AllAsBefore : Undone k j h k' j' h' → x' ≡ x → StepFails k j h x k' j' h' x' GaveUp
   BehindHook : k'.state ≡ Pending → GaveUp → StepFails k j h x k' j' h' x' GaveUp
+
+-- the task with what a spawn may change as it is in this one
+abbrev pub spawned : JobTask → JobTask → JobTask
+spawned k k' = record k { state = k'.state; previous = k'.previous; kept = k'.kept }
 
 -- all that a task keeps is the same, but for the room for controls and for parked tickets
 pub record SameTask (k k' : JobTask) : Type 0 where

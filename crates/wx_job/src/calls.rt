@@ -5,13 +5,13 @@ ghost use Rattle.wx_journal.specs.declared.entry.Entry.{Entry};
 ghost use Rattle.wx_journal.specs.Names.{moment};
 ghost use Rattle.wx_journal.specs.Told.{tell};
 ghost use Rattle.wx_machine.specs.declared.state.CommandState.TheVariants.{Pending};
-ghost use Rattle.wx_machine.specs.History.{finish, before_spawn, just_picked, begins_by};
+ghost use Rattle.wx_machine.specs.History.{finish, before_spawn, picked_last, begins_by};
 ghost use Rattle.wx_machine.specs.Table.{Plan, Done, Words, Signals, Kills, Waits, adds, shows, tries, reap, waiters, spawn, fresh};
 ghost use Rattle.wx_machine.specs.Case.{PlanFollowsHost, PlanFollowsHooks, PlanFollows, PlanGivesUp, HookedOnly, words_of, newest_code};
 ghost use Rattle.wx_machine.specs.Kept.{Quiet};
 ghost use Rattle.wx_job.specs.Calls.{IsReady, IsReadyAt, IsTicketInHand, AreRoomy, HasCalled, HasWaited, HasServed};
 ghost use Rattle.wx_machine.specs.Steady.{AreSpare, Spends};
-ghost use Rattle.wx_job.specs.Stands.{TaskStands, kit_of, grace_of, holds};
+ghost use Rattle.wx_job.specs.Stands.{TaskKeeps, kit_of, grace_of, holds, spawned};
 ghost use Rattle.wx_machine.specs.States.{child_of};
 
 use crate::grace::Standing;
@@ -35,10 +35,10 @@ impl JobTask {
         host: &mut H,
         journal: &mut Journal,
     )
-        requires stands { TaskStands self.now journal.old.past }
+        requires stands { TaskKeeps self.now journal.old.past }
         requires unheld { holds ticket self.now ≡ 0 }
         requires room { AreSpare 1 journal.old (H.seen host.old) }
-        ensures stands { TaskStands self.now journal.new.past }
+        ensures stands { TaskKeeps self.now journal.new.past }
         ensures follows { (k : Plan) → PlanFollowsHost (adds (Entry.Raise ticket) k) journal.old.past (H.seen host.old) k journal.new.past (H.seen host.new) }
         ensures before { before_spawn self.now.id journal.new.past ≡ self.now.state }
         ensures quiet { Quiet journal.old.past journal.new.past }
@@ -50,10 +50,10 @@ impl JobTask {
 
     /// Raises each parked ticket, in order.
     pub(crate) fn raise_parked<H: Host>(&mut self, host: &mut H, journal: &mut Journal)
-        requires stands { TaskStands self.old journal.old.past }
+        requires stands { TaskKeeps self.old journal.old.past }
         requires before { before_spawn self.old.id journal.old.past ≡ self.old.state }
         requires room { AreSpare (length self.old.parked.tickets) journal.old (H.seen host.old) }
-        ensures stands { TaskStands self.new journal.new.past }
+        ensures stands { TaskKeeps self.new journal.new.past }
         ensures follows { (k : Plan) → PlanFollowsHost (waiters self.old.parked.tickets k) journal.old.past (H.seen host.old) k journal.new.past (H.seen host.new) }
         ensures fields { self.new ≡ record self.old { parked = self.new.parked } }
         ensures none { self.new.parked.tickets ≡ [] }
@@ -70,7 +70,7 @@ impl JobTask {
 
     /// Shows the fault that the journal's newest entry holds to the error handler, where one is set.
     fn show<K: JobHooks>(&self, fault: HostFault, hooks: &mut K, journal: &mut Journal)
-        requires stands { TaskStands self.now journal.old.past }
+        requires stands { TaskKeeps self.now journal.old.past }
         requires newest { newest_code journal.old.past ≡ fault.0 }
         requires room { AreRoomy 1 1 journal.old (K.seen hooks.old) }
         ensures follows { (k : Plan) → PlanFollowsHooks (shows self.now.id self.now.handler k) journal.old.past (K.seen hooks.old).told k journal.new.past (K.seen hooks.new).told }
@@ -97,7 +97,7 @@ impl JobTask {
         hooks: &mut K,
         journal: &mut Journal,
     )
-        requires begins { begins_by (just_picked self.now.id journal.old.past) (moment journal.old.past) (grace_of self.now) ≡ grace_of self.now }
+        requires begins { begins_by (picked_last self.now.id journal.old.past) (moment journal.old.past) (grace_of self.now) ≡ grace_of self.now }
         requires ready { IsReady self.now 2 1 journal.old (H.seen host.old) (K.seen hooks.old) }
         ensures follows { (k : Plan) → PlanFollows (tries self.now.id self.now.handler (Signals child number) k k) journal.old.past (H.seen host.old) (K.seen hooks.old).told k journal.new.past (H.seen host.new) (K.seen hooks.new).told }
         ensures served { HasServed K.seen K.rule K.stands 2 1 journal.old (H.seen host.old) hooks.old self.now journal.new (H.seen host.new) hooks.new }
@@ -125,7 +125,7 @@ impl JobTask {
         journal: &mut Journal,
     ) -> Option<Standing>
         requires runs { child_of self.old.state ≡ Some child }
-        requires begins { begins_by (just_picked self.old.id journal.old.past) (moment journal.old.past) (grace_of self.old) ≡ Some standing.grace }
+        requires begins { begins_by (picked_last self.old.id journal.old.past) (moment journal.old.past) (grace_of self.old) ≡ Some standing.grace }
         requires in_hand { IsTicketInHand standing.grace.ticket self.old journal.old.past }
         requires ready { IsReady self.old 2 1 journal.old (H.seen host.old) (K.seen hooks.old) }
         ensures begun { IfNone result ((k : Plan) (f : Plan) → PlanFollows (tries self.old.id self.old.handler (Signals child number) k f) journal.old.past (H.seen host.old) (K.seen hooks.old).told k journal.new.past (H.seen host.new) (K.seen hooks.new).told) }
@@ -254,7 +254,7 @@ impl JobTask {
         requires before { before ≡ before_spawn self.old.id journal.old.past }
         requires ready { IsReadyAt at self.old 2 1 journal.old (H.seen host.old) (K.seen hooks.old) }
         ensures follows { (words : Words) → words_of journal.old.past words ≡ what → (k : Plan) → PlanFollows (spawn self.old.id self.old.handler self.old.tag words k) journal.old.past (H.seen host.old) (K.seen hooks.old).told k journal.new.past (H.seen host.new) (K.seen hooks.new).told }
-        ensures fields { self.new ≡ record self.old { state = self.new.state; previous = self.new.previous; kept = self.new.kept } }
+        ensures fields { self.new ≡ spawned self.old self.new }
         ensures served { HasServed K.seen K.rule K.stands 2 1 journal.old (H.seen host.old) hooks.old self.new journal.new (H.seen host.new) hooks.new }
     {
         let child = journal.children();
@@ -289,7 +289,7 @@ impl JobTask {
         hooks: &mut K,
         journal: &mut Journal,
     ) -> Result<(Spawnable, Spawnable), Memory>
-        requires stands { TaskStands self.old journal.old.past }
+        requires stands { TaskKeeps self.old journal.old.past }
         requires runs { child_of self.old.state ≡ None }
         requires here { self.old.gone ≡ false }
         requires what { what ≡ spawnable_of self.old.command }
@@ -338,7 +338,7 @@ impl JobTask {
         ensures ok { OnOk result ((k : Plan) → PlanFollows (fresh self.old.id (kit_of self.old) k) journal.old.past (H.seen host.old) (K.seen hooks.old).told k journal.new.past (H.seen host.new) (K.seen hooks.new).told) }
         ensures err { OnErr result ((k : Plan) → PlanGivesUp (fresh self.old.id (kit_of self.old) k) journal.old.past (H.seen host.old) (K.seen hooks.old).told journal.new.past (H.seen host.new) (K.seen hooks.new).told) }
         ensures pending { OnErr result (self.new.state ≡ Pending) }
-        ensures fields { self.new ≡ record self.old { state = self.new.state; previous = self.new.previous; kept = self.new.kept } }
+        ensures fields { self.new ≡ spawned self.old self.new }
         ensures served { HasServed K.seen K.rule K.stands 3 2 journal.old (H.seen host.old) hooks.old self.new journal.new (H.seen host.new) hooks.new }
     {
         let before = self.state;

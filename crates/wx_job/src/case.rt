@@ -4,13 +4,13 @@ ghost use Rattle.wx_control.specs.declared.control.Control.TheVariants.{Stop, De
 ghost use Rattle.wx_control.specs.Waits.{picked, first_of};
 ghost use Rattle.wx_journal.specs.declared.entry.Entry.{Entry};
 ghost use Rattle.wx_journal.specs.Names.{moment};
-ghost use Rattle.wx_machine.specs.History.{before_spawn, just_picked, begins_by, set_hook, set_handler, set_tag};
+ghost use Rattle.wx_machine.specs.History.{before_spawn, picked_last, begins_by, set_hook, set_handler, set_tag};
 ghost use Rattle.wx_machine.specs.Table.{Done, adds, raises, reap, waiters, kit_after, row, graceful, signalled, over, ended_in, ended, polled, number_of, spawns, deletes, is_restart, is_spawning, is_deletion, is_parking, case};
 ghost use Rattle.wx_job.specs.Prepared.{twice, prepared, fresh_or, fresh_in};
 ghost use Rattle.wx_machine.specs.Case.{PlanFollowsHost, PlanFollowsHooks, PlanFollows, PlanGivesUp};
 ghost use Rattle.wx_job.specs.Calls.{IsReady, IsReadyAt, IsTicketInHand, AreRoomy, HasCalled, HasServed, HasDone};
 ghost use Rattle.wx_machine.specs.Steady.{AreSpare, Spends};
-ghost use Rattle.wx_job.specs.Stands.{TaskStands, StepFails, SameJob, kit_of, grace_of, begun_of, holds, choice_of};
+ghost use Rattle.wx_job.specs.Stands.{TaskKeeps, StepFails, SameJob, kit_of, grace_of, begun_of, holds, choice_of, spawned};
 ghost use Rattle.wx_machine.specs.States.{child_of};
 
 use crate::context::JobTaskContext;
@@ -46,7 +46,7 @@ impl JobTask {
         requires before { before_spawn self.old.id journal.old.past ≡ self.old.state }
         requires ready { IsReadyAt at self.old 4 2 journal.old (H.seen host.old) (K.seen hooks.old) }
         ensures done { HasDone result self.new (is_some what) (fresh_or (is_some what) self.old.id (kit_of self.old) ticket) journal.old.past (H.seen host.old) (K.seen hooks.old).told journal.new.past (H.seen host.new) (K.seen hooks.new).told }
-        ensures fields { self.new ≡ record self.old { state = self.new.state; previous = self.new.previous; kept = self.new.kept } }
+        ensures fields { self.new ≡ spawned self.old self.new }
         ensures served { HasServed K.seen K.rule K.stands 4 2 journal.old (H.seen host.old) hooks.old self.new journal.new (H.seen host.new) hooks.new }
     {
         if let Some((what, listed)) = what {
@@ -96,7 +96,7 @@ impl JobTask {
         journal: &mut Journal,
     )
         requires in_hand { IsTicketInHand picked.ticket self.old journal.old.past }
-        requires begins { begins_by (just_picked self.old.id journal.old.past) (moment journal.old.past) (grace_of self.old) ≡ Some (record { ends = ends; ticket = picked.ticket; restarts = restarts }) }
+        requires begins { begins_by (picked_last self.old.id journal.old.past) (moment journal.old.past) (grace_of self.old) ≡ Some (record { ends = ends; ticket = picked.ticket; restarts = restarts }) }
         requires ready { IsReady self.old 3 1 journal.old (H.seen host.old) (K.seen hooks.old) }
         ensures follows { PlanFollows (graceful self.old.id self.old.handler signal picked.ticket (child_of self.old.state)) journal.old.past (H.seen host.old) (K.seen hooks.old).told Done journal.new.past (H.seen host.new) (K.seen hooks.new).told }
         ensures fields { self.new ≡ record self.old { grace = self.new.grace } }
@@ -138,7 +138,7 @@ impl JobTask {
         requires what { what ≡ twice self.old.command (is_some what) }
         requires ready { IsReadyAt at self.old (9 + length self.old.parked.tickets) 4 journal.old (H.seen host.old) (K.seen hooks.old) }
         ensures done { HasDone result self.new (is_some what) (reap self.old.id self.old.handler child ticket (waiters self.old.parked.tickets (fresh_or (is_some what) self.old.id (kit_of self.old) ticket))) journal.old.past (H.seen host.old) (K.seen hooks.old).told journal.new.past (H.seen host.new) (K.seen hooks.new).told }
-        ensures fields { self.new ≡ record self.old { state = self.new.state; previous = self.new.previous; kept = self.new.kept; grace = self.new.grace; parked = self.new.parked } }
+        ensures fields { self.new ≡ record (spawned self.old self.new) { grace = self.new.grace; parked = self.new.parked } }
         ensures served { HasServed K.seen K.rule K.stands (9 + length self.old.parked.tickets) 4 journal.old (H.seen host.old) hooks.old self.new journal.new (H.seen host.new) hooks.new }
     {
         if self
@@ -168,7 +168,7 @@ impl JobTask {
         requires before { before_spawn self.old.id journal.old.past ≡ self.old.state }
         requires ready { IsReadyAt at self.old (9 + length self.old.parked.tickets) 4 journal.old (H.seen host.old) (K.seen hooks.old) }
         ensures done { HasDone result self.new (is_some what) (fresh_in self.old.id (kit_of self.old) picked.now.ticket (is_some what) (child_of self.old.state)) journal.old.past (H.seen host.old) (K.seen hooks.old).told journal.new.past (H.seen host.new) (K.seen hooks.new).told }
-        ensures fields { self.new ≡ record self.old { state = self.new.state; previous = self.new.previous; kept = self.new.kept; grace = self.new.grace; parked = self.new.parked } }
+        ensures fields { self.new ≡ record (spawned self.old self.new) { grace = self.new.grace; parked = self.new.parked } }
         ensures served { HasServed K.seen K.rule K.stands (9 + length self.old.parked.tickets) 4 journal.old (H.seen host.old) hooks.old self.new journal.new (H.seen host.new) hooks.new }
     {
         let ticket = picked.ticket;
@@ -189,7 +189,7 @@ impl JobTask {
         journal: &mut Journal,
     )
         requires unheld { holds picked.now.ticket self.old ≡ 0 }
-        requires begins { begins_by (just_picked self.old.id journal.old.past) (moment journal.old.past) (grace_of self.old) ≡ grace_of self.old }
+        requires begins { begins_by (picked_last self.old.id journal.old.past) (moment journal.old.past) (grace_of self.old) ≡ grace_of self.old }
         requires ready { IsReady self.old 3 1 journal.old (H.seen host.old) (K.seen hooks.old) }
         ensures follows { PlanFollows (signalled self.old.id self.old.handler signal picked.now.ticket (child_of self.old.state)) journal.old.past (H.seen host.old) (K.seen hooks.old).told Done journal.new.past (H.seen host.new) (K.seen hooks.new).told }
         ensures fields { self.new ≡ self.old }
@@ -203,11 +203,11 @@ impl JobTask {
 
     /// The case of Delete: the ticket is raised, and the job ends.
     fn delete<H: Host>(&mut self, picked: &Picked, host: &mut H, journal: &mut Journal)
-        requires stands { TaskStands self.old journal.old.past }
+        requires stands { TaskKeeps self.old journal.old.past }
         requires here { self.old.gone ≡ false }
         requires unheld { holds picked.now.ticket self.old ≡ 0 }
         requires room { AreSpare 3 journal.old (H.seen host.old) }
-        ensures stands { TaskStands self.new journal.new.past }
+        ensures stands { TaskKeeps self.new journal.new.past }
         ensures follows { PlanFollowsHost (row self.old.id (kit_of self.old) picked.now.ticket Delete (child_of self.old.state)) journal.old.past (H.seen host.old) Done journal.new.past (H.seen host.new) }
         ensures fields { self.new ≡ record self.old { waiting = self.new.waiting; kept = false; gone = true; grace = None; begun = None; parked = self.new.parked } }
         ensures spends { Spends 3 journal.old (H.seen host.old) journal.new (H.seen host.new) }
@@ -233,7 +233,7 @@ impl JobTask {
         requires what { what ≡ twice self.old.command (grace.restarts) }
         requires ready { IsReadyAt at self.old (10 + length self.old.parked.tickets) 4 journal.old (H.seen host.old) (K.seen hooks.old) }
         ensures done { HasDone result self.new (grace.restarts) (over self.old.id (kit_of self.old) child grace) journal.old.past (H.seen host.old) (K.seen hooks.old).told journal.new.past (H.seen host.new) (K.seen hooks.new).told }
-        ensures fields { self.new ≡ record self.old { state = self.new.state; previous = self.new.previous; kept = self.new.kept; grace = self.new.grace; parked = self.new.parked } }
+        ensures fields { self.new ≡ record (spawned self.old self.new) { grace = self.new.grace; parked = self.new.parked } }
         ensures served { HasServed K.seen K.rule K.stands (10 + length self.old.parked.tickets) 4 journal.old (H.seen host.old) hooks.old self.new journal.new (H.seen host.new) hooks.new }
     {
         let Some(standing) = self.grace.take() else {
@@ -270,7 +270,7 @@ impl JobTask {
         requires what { what ≡ twice self.old.command (is_restart (grace_of self.old)) }
         requires ready { IsReadyAt at self.old (6 + length self.old.parked.tickets) 3 journal.old (H.seen host.old) (K.seen hooks.old) }
         ensures done { HasDone result self.new (is_restart (grace_of self.old)) (ended self.old.id (kit_of self.old) child) journal.old.past (H.seen host.old) (K.seen hooks.old).told journal.new.past (H.seen host.new) (K.seen hooks.new).told }
-        ensures fields { self.new ≡ record self.old { state = self.new.state; previous = self.new.previous; kept = self.new.kept; grace = self.new.grace; parked = self.new.parked } }
+        ensures fields { self.new ≡ record (spawned self.old self.new) { grace = self.new.grace; parked = self.new.parked } }
         ensures served { HasServed K.seen K.rule K.stands (6 + length self.old.parked.tickets) 3 journal.old (H.seen host.old) hooks.old self.new journal.new (H.seen host.new) hooks.new }
     {
         match self.wait(child, at, host, hooks, journal) {
@@ -307,7 +307,7 @@ impl JobTask {
         requires before { before_spawn self.old.id journal.old.past ≡ self.old.state }
         requires ready { IsReadyAt at self.old (4 + length self.old.parked.tickets) 2 journal.old (H.seen host.old) (K.seen hooks.old) }
         ensures done { HasDone result self.new (standing.grace.restarts) (ended_in self.old.id (kit_of self.old) standing.grace) journal.old.past (H.seen host.old) (K.seen hooks.old).told journal.new.past (H.seen host.new) (K.seen hooks.new).told }
-        ensures fields { self.new ≡ record self.old { state = self.new.state; previous = self.new.previous; kept = self.new.kept; parked = self.new.parked } }
+        ensures fields { self.new ≡ record (spawned self.old self.new) { parked = self.new.parked } }
         ensures served { HasServed K.seen K.rule K.stands (4 + length self.old.parked.tickets) 2 journal.old (H.seen host.old) hooks.old self.new journal.new (H.seen host.new) hooks.new }
     {
         let Standing { grace, done } = standing;
@@ -349,9 +349,9 @@ impl JobTask {
         hooks: &mut K,
         journal: &mut Journal,
     )
-        requires stands { TaskStands self.old journal.old.past }
+        requires stands { TaskKeeps self.old journal.old.past }
         requires here { self.old.gone ≡ false }
-        requires just { just_picked self.old.id journal.old.past ≡ Some (picked.ticket, AsyncFunc n) }
+        requires just { picked_last self.old.id journal.old.past ≡ Some (picked.ticket, AsyncFunc n) }
         requires in_hand { IsTicketInHand picked.ticket self.old journal.old.past }
         requires none { begun_of self.old ≡ None }
         requires room { AreRoomy 1 1 journal.old (K.seen hooks.old) }
@@ -464,16 +464,16 @@ impl JobTask {
     /// Takes the control that is picked out of those that wait. It sets or clears the spawn hook, the error handler
     /// and what spawns. There is none to do where its ticket is parked.
     fn pick(&mut self, ticket: u64, control: Control, journal: &mut Journal) -> Option<Picked>
-        requires stands { TaskStands self.old journal.old.past }
+        requires stands { TaskKeeps self.old journal.old.past }
         requires here { self.old.gone ≡ false }
         requires chosen { first_of (is_some (grace_of self.old)) self.old.waiting ≡ Some (ticket, control) }
         requires journal_room { 1 ≤ journal.old.spare }
-        ensures stands { TaskStands self.new journal.new.past }
+        ensures stands { TaskKeeps self.new journal.new.past }
         ensures picked { IfSome result (λ x. (picked x ≡ (ticket, control)) × (is_parking control self.old.state ≡ false)) }
         ensures parks { IfNone result (is_parking control self.old.state ≡ true) }
         ensures unheld { IfSome result (λ x. holds ticket self.new ≡ 0) }
         ensures entry { journal.new.past ≡ Entry.Pick self.old.id ticket ∷ journal.old.past }
-        ensures just { just_picked self.old.id journal.new.past ≡ Some (ticket, control) }
+        ensures just { picked_last self.old.id journal.new.past ≡ Some (ticket, control) }
         ensures fields { self.new ≡ record self.old { waiting = self.new.waiting; parked = self.new.parked; hook = set_hook (Some control) self.old.hook; handler = set_handler (Some control) self.old.handler; tag = set_tag (Some control) self.old.tag } }
         ensures kept { IfSome result (λ x. self.new.parked ≡ self.old.parked) }
         ensures journal_room { journal.old.spare ≤ journal.new.spare + 1 }
@@ -508,7 +508,7 @@ impl JobTask {
         journal: &mut Journal,
     ) -> Result<(), Memory>
         requires in_hand { IsTicketInHand picked.ticket self.old journal.old.past }
-        requires just { just_picked self.old.id journal.old.past ≡ Some (picked.ticket, control) }
+        requires just { picked_last self.old.id journal.old.past ≡ Some (picked.ticket, control) }
         requires none { begun_of self.old ≡ None }
         requires here { is_parking control self.old.state ≡ false }
         requires what { what ≡ prepared self.old.command control (child_of self.old.state) }
@@ -537,7 +537,7 @@ impl JobTask {
         journal: &mut Journal,
     )
         requires in_hand { IsTicketInHand picked.ticket self.old journal.old.past }
-        requires just { just_picked self.old.id journal.old.past ≡ Some (picked.ticket, control) }
+        requires just { picked_last self.old.id journal.old.past ≡ Some (picked.ticket, control) }
         requires none { begun_of self.old ≡ None }
         requires here { is_parking control self.old.state ≡ false }
         requires alone { spawns control (child_of self.old.state) ≡ false }

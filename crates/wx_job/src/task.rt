@@ -11,8 +11,8 @@ ghost use Rattle.wx_machine.specs.Case.{PlanRan, PlanFollowsHost, PlanFollowsAlo
 ghost use Rattle.wx_machine.specs.Faults.{Counted};
 ghost use Rattle.wx_machine.specs.Steady.{AreSpare, Spends, HaveRoom, UseRoom};
 ghost use Rattle.wx_machine.specs.Kept.{KeepsOn, Promised};
-ghost use Rattle.wx_machine.specs.Leaves.{LeavesLaws};
-ghost use Rattle.wx_job.specs.Stands.{TaskStands, StepFails, SameJob, SameTask, IsEnding, IsTicketOf, id_of, command_of, flag_of, closed_of, gone_of, running_of, parked_count, with_end, with_close};
+ghost use Rattle.wx_machine.specs.Leaves.{LeavesLaws, AddsByLaws};
+ghost use Rattle.wx_job.specs.Stands.{TaskKeeps, TaskStands, StepFails, SameJob, SameTask, IsEnding, IsTicketOf, id_of, command_of, flag_of, closed_of, gone_of, running_of, parked_count, with_end, with_close};
 ghost use Rattle.wx_machine.specs.Held.{HasInHand};
 ghost use Rattle.wx_machine.specs.States.{child_of};
 
@@ -69,11 +69,12 @@ pub fn start_job(alloc: Global, id: Id, command: Command) -> Result<(Job, JobTas
     let flag = Flag::new(alloc, false)?;
     let mirror = Mirror::new(alloc)?;
     let job = handle_on(alloc, id, &command, &flag, &mirror)?;
+    let waiting = ThreeLists::new(alloc)?;
     let task = JobTask {
         id,
         command,
         flag,
-        waiting: ThreeLists::new(alloc),
+        waiting,
         state: CommandState::Pending,
         previous: None,
         kept: false,
@@ -106,7 +107,7 @@ fn handle_on(
     Ok(Job::new(id, command, flag, mirror))
 }
 
-#[tactic(auto, using(crate::proofs::Sets::steps))]
+#[tactic(auto, using(crate::proofs::Sets::tasks))]
 impl JobTask {
     /// Asks this of the job: its controls wait, one entry each, numbered on from the journal. A job that is gone writes
     /// nothing. It answers the ticket of the last control, over copies of the flag of the job and of `last` where that is
@@ -126,6 +127,7 @@ impl JobTask {
         ensures leads { OnOk result (PlanFollowsAlone (send_plan (id_of self.old) (sends_of ask) journal.old.past) journal.old.past Done journal.new.past) }
         ensures refused { OnErr result (SameTask self.old self.new × journal.new.past ≡ journal.old.past) }
         ensures leaves { LeavesLaws (id_of self.old) journal.old.past journal.new.past }
+        ensures adds { AddsByLaws (id_of self.old) journal.old.past journal.new.past }
         ensures journal_room { journal.old.spare ≤ journal.new.spare + 2 }
     {
         self.put(alloc, ask, last, journal)
@@ -151,8 +153,9 @@ impl JobTask {
         ensures job { SameJob self.old self.new }
         ensures leads { OnOk result (PlanRan (step_by (closed_of self.old) (id_of self.old) (command_of self.old) journal.old.past) journal.old.past (H.seen host.old) (K.seen hooks.old).told Done journal.new.past (H.seen host.new) (K.seen hooks.new).told) }
         ensures steps { HasStepped result self.old journal.old.past self.new journal.new.past }
-        ensures err { OnErr result (StepFails self.old journal.old host.old hooks.old self.new journal.new host.new hooks.new (GaveUp (step_by (closed_of self.old) (id_of self.old) (command_of self.old) journal.old.past) journal.old.past (H.seen host.old) (K.seen hooks.old).told journal.new.past (H.seen host.new) (K.seen hooks.new).told × HasInHand (id_of self.old) (grace (id_of self.old) journal.old.past) (pick_by (closed_of self.old) (id_of self.old) journal.old.past) journal.old.past journal.new.past)) }
+        ensures err { OnErr result (StepFails self.old journal.old host.old hooks.old self.new journal.new host.new hooks.new (GaveUp (step_by (closed_of self.old) (id_of self.old) (command_of self.old) journal.old.past) journal.old.past (H.seen host.old) (K.seen hooks.old).told journal.new.past (H.seen host.new) (K.seen hooks.new).told × HasInHand (id_of self.old) (grace (id_of self.old) journal.old.past) (pick_by (closed_of self.old) (id_of self.old) journal.old.past) journal.new.past)) }
         ensures leaves { LeavesLaws (id_of self.old) journal.old.past journal.new.past }
+        ensures adds { AddsByLaws (id_of self.old) journal.old.past journal.new.past }
         ensures keeps { KeepsOn K.seen K.rule K.stands hooks.old journal.old.past hooks.new journal.new.past }
         ensures promised { NamesItsOwn journal.old.past → Promised K.seen K.rule K.stands hooks.old journal.old.past hooks.new journal.new.past }
         ensures faults { Counted journal.old.past (H.seen host.old).shown.faults journal.new.past (H.seen host.new).shown.faults }
@@ -192,8 +195,9 @@ impl JobTask {
         ensures job { SameJob self.old self.new }
         ensures leads { OnOk result (PlanRan (step_by (closed_of self.old) (id_of self.old) (command_of self.old) journal.old.past) journal.old.past (H.seen host.old) (K.seen hooks.old).told Done journal.new.past (H.seen host.new) (K.seen hooks.new).told) }
         ensures steps { HasStepped result self.old journal.old.past self.new journal.new.past }
-        ensures err { OnErr result (StepFails (with_end self.old) journal.old host.old hooks.old self.new journal.new host.new hooks.new (GaveUp (step_by (closed_of self.old) (id_of self.old) (command_of self.old) journal.old.past) journal.old.past (H.seen host.old) (K.seen hooks.old).told journal.new.past (H.seen host.new) (K.seen hooks.new).told × HasInHand (id_of self.old) (grace (id_of self.old) journal.old.past) (pick_by (closed_of self.old) (id_of self.old) journal.old.past) journal.old.past journal.new.past)) }
+        ensures err { OnErr result (StepFails (with_end self.old) journal.old host.old hooks.old self.new journal.new host.new hooks.new (GaveUp (step_by (closed_of self.old) (id_of self.old) (command_of self.old) journal.old.past) journal.old.past (H.seen host.old) (K.seen hooks.old).told journal.new.past (H.seen host.new) (K.seen hooks.new).told × HasInHand (id_of self.old) (grace (id_of self.old) journal.old.past) (pick_by (closed_of self.old) (id_of self.old) journal.old.past) journal.new.past)) }
         ensures leaves { LeavesLaws (id_of self.old) journal.old.past journal.new.past }
+        ensures adds { AddsByLaws (id_of self.old) journal.old.past journal.new.past }
         ensures keeps { KeepsOn K.seen K.rule K.stands hooks.old journal.old.past hooks.new journal.new.past }
         ensures promised { NamesItsOwn journal.old.past → Promised K.seen K.rule K.stands hooks.old journal.old.past hooks.new journal.new.past }
         ensures faults { Counted journal.old.past (H.seen host.old).shown.faults journal.new.past (H.seen host.new).shown.faults }
@@ -221,6 +225,7 @@ impl JobTask {
         ensures leads { (hooks : Option (List Entry)) → PlanRan (end_plan (id_of self.old) journal.old.past) journal.old.past (H.seen host.old) hooks Done journal.new.past (H.seen host.new) hooks }
         ensures gone { gone_of self.new ≡ true }
         ensures leaves { LeavesLaws (id_of self.old) journal.old.past journal.new.past }
+        ensures adds { AddsByLaws (id_of self.old) journal.old.past journal.new.past }
         ensures spends { Spends 2 journal.old (H.seen host.old) journal.new (H.seen host.new) }
     {
         if self.gone {
@@ -287,8 +292,8 @@ impl JobTask {
         last: Option<Flag>,
         journal: &mut Journal,
     ) -> Result<Ticket, Memory>
-        requires stands { TaskStands self.old journal.old.past }
-        ensures stands { TaskStands self.new journal.new.past }
+        requires stands { TaskKeeps self.old journal.old.past }
+        ensures stands { TaskKeeps self.new journal.new.past }
         ensures job { SameJob self.old self.new }
         ensures gone { gone_of self.new ≡ gone_of self.old }
         ensures ticket { IfOk result (λ ticket. IsTicketOf self.old last ticket) }
@@ -320,8 +325,8 @@ impl JobTask {
     /// Takes room for two controls more to wait, and for all that wait then to be parked. It fails only for want of
     /// memory.
     fn make_room(&mut self, journal: &mut Journal) -> Result<(), Memory>
-        requires stands { TaskStands self.old journal.old.past }
-        ensures stands { TaskStands self.new journal.new.past }
+        requires stands { TaskKeeps self.old journal.old.past }
+        ensures stands { TaskKeeps self.new journal.new.past }
         ensures task { SameTask self.old self.new }
         ensures past { journal.new.past ≡ journal.old.past }
         ensures room { OnOk result (MayWait 2 self.new journal.new) }
@@ -345,10 +350,10 @@ impl JobTask {
 
     /// A control waits at a level.
     fn ask(&mut self, control: Control, level: Level, done: Flag, journal: &mut Journal)
-        requires stands { TaskStands self.old journal.old.past }
+        requires stands { TaskKeeps self.old journal.old.past }
         requires here { self.old.gone ≡ false }
         requires room { MayWait 1 self.old journal.old }
-        ensures stands { TaskStands self.new journal.new.past }
+        ensures stands { TaskKeeps self.new journal.new.past }
         ensures follows { (k : Plan) → PlanFollowsAlone (asks self.old.id level control k) journal.old.past k journal.new.past }
         ensures fields { self.new ≡ record self.old { waiting = self.new.waiting } }
         ensures room { (n : ℕ) → MayWait (n + 1) self.old journal.old → MayWait n self.new journal.new }
@@ -371,11 +376,11 @@ impl JobTask {
         host: &mut H,
         journal: &mut Journal,
     )
-        requires stands { TaskStands self.old journal.old.past }
+        requires stands { TaskKeeps self.old journal.old.past }
         requires runs { child_of self.old.state ≡ child }
         requires here { self.old.gone ≡ false }
         requires room { AreSpare 2 journal.old (H.seen host.old) }
-        ensures stands { TaskStands self.new journal.new.past }
+        ensures stands { TaskKeeps self.new journal.new.past }
         ensures follows { PlanFollowsHost (leave self.old.id child) journal.old.past (H.seen host.old) Done journal.new.past (H.seen host.new) }
         ensures fields { self.new ≡ record self.old { waiting = self.new.waiting; kept = false; gone = true; grace = None; begun = None; parked = self.new.parked } }
         ensures spends { Spends 2 journal.old (H.seen host.old) journal.new (H.seen host.new) }
@@ -404,10 +409,10 @@ impl JobTask {
         hooks: &mut K,
         journal: &mut Journal,
     ) -> Result<Stepped, Memory>
-        requires stands { TaskStands self.old journal.old.past }
+        requires stands { TaskKeeps self.old journal.old.past }
         requires at { moment journal.old.past ≡ at }
         requires room { HaveRoom (10 + parked_count self.old) 4 journal.old (H.seen host.old) (K.seen hooks.old) }
-        ensures stands { TaskStands self.new journal.new.past }
+        ensures stands { TaskKeeps self.new journal.new.past }
         ensures job { SameJob self.old self.new }
         ensures leads { OnOk result (PlanFollows (step_by (closed_of self.old) (id_of self.old) (command_of self.old) journal.old.past) journal.old.past (H.seen host.old) (K.seen hooks.old).told Done journal.new.past (H.seen host.new) (K.seen hooks.new).told) }
         ensures steps { HasStepped result self.old journal.old.past self.new journal.new.past }

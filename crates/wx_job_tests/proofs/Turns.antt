@@ -14,7 +14,7 @@ use Rattle.wx_machine.specs.Leaves.{LeavesOthers}
 use Rattle.wx_job.specs.Stands.{TaskStands, IsEnding, id_of}
 use Rattle.wx_job_tests.specs.Two.{AreTwo}
 use Rattle.wx_machine.proofs.Owners.{self, other-is}
-use Rattle.wx_machine.proofs.Frame.{frame_turn}
+use Rattle.wx_machine.proofs.Frame.{frame_turn, frame_apart}
 use Rattle.wx_job.proofs.StandsLemmas.{stands_history}
 
 -- the turn of a job says nothing of any
@@ -32,14 +32,14 @@ stands_left k id p p' l ne s = stands_history k p p' (l.others (id_of k) ne) s
 pub stands_made : (k : JobTask) (id : Id) (p : List Entry) → id_of k ≢ id → TaskStands k p → TaskStands k (Made id ∷ p)
 stands_made k id p ne s =
     let other = other-is (id_of k) id ne in
-    stands_history k p (Made id ∷ p) (record { lives_same = rw other refl; waits_same = λ l. rw other refl; child_same = rw other refl; kept_same = rw other refl; state_same = rw other refl; previous_same = rw other refl; hook_same = rw other refl; handler_same = rw other refl; begun_same = rw other refl; tag_same = rw other refl; grace_same = rw other refl; parked_same = rw other refl; tickets_later = omega arith; command_same = refl }) s
+    stands_history k p (Made id ∷ p) (frame_apart (id_of k) (Made id) p other refl) s
 
 -- another job is created and made
 pub stands_created : (k : JobTask) (id : Id) (what : Command) (n : ℕ) (names : List ℕ) (acts : List Act) (p : List Entry) → acts ≡ Create id what ∷ [] → id_of k ≢ id → TaskStands k p → TaskStands k (Made id ∷ Hand n names acts ∷ p)
 stands_created k id what n names acts p one ne s =
     let other = other-is (id_of k) id ne in
     let kept : command (id_of k) (Hand n names (Create id what ∷ []) ∷ p) ≡ command (id_of k) p = rw other refl in
-    stands_made k id (Hand n names acts ∷ p) ne (stands_history k p (Hand n names acts ∷ p) (record { lives_same = refl; waits_same = λ l. refl; child_same = refl; kept_same = refl; state_same = refl; previous_same = refl; hook_same = refl; handler_same = refl; begun_same = refl; tag_same = refl; grace_same = refl; parked_same = refl; tickets_later = omega arith; command_same = rw one kept }) s)
+    stands_made k id (Hand n names acts ∷ p) ne (stands_history k p (Hand n names acts ∷ p) (frame_apart (id_of k) (Hand n names acts) p tt (rw one kept)) s)
 
 -- where nothing was created, and where it was
 pub never_created : (id : Id) (what : Command) (p : List Entry) → p ≡ [] → RunsOnly id what p

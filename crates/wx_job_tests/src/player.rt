@@ -10,7 +10,7 @@ use std::process::Abort;
 use wx_control::{Ask, Flag, Id, Job, Ticket};
 use wx_events::ProcessEnd;
 use wx_job::JobTask;
-use wx_journal::{Entry, Journal, put_entry};
+use wx_journal::{Entry, Journal};
 use wx_machine::{CommandState, Stepped};
 use wx_text::{Copies, Memory, Text};
 use wx_words::{Spelled, Words};
@@ -317,7 +317,7 @@ fn put_seen(entry: &Entry, text: &mut Text) -> Result<(), Memory> {
     if text.len() > 0 {
         text.append(b", ")?;
     }
-    put_entry(entry, text)
+    entry.put(text)
 }
 
 /// Appends the entries behind the first `listed`, but turns, with a comma between them.

@@ -10,7 +10,7 @@ use wx_command::{Command, Program, SpawnOptions, Spawnable};
 use wx_control::{Ask, Flag, Id, Job, Ticket};
 use wx_events::ProcessEnd;
 use wx_job::{Host, JobHooks, JobTask, JobTaskContext, Outside, start_job};
-use wx_journal::{Act, Entry, HostFault, Journal, SpawnTag, Turn, TurnKind, put_entry};
+use wx_journal::{Act, Entry, HostFault, Journal, SpawnTag, Turn, TurnKind};
 use wx_machine::{CommandState, Stepped};
 use wx_text::{Copies, List, Memory, Text};
 
@@ -253,7 +253,7 @@ fn put_line(entry: &Entry, text: &mut Text) -> Result<(), Memory> {
     if matches!(entry, Entry::Hand { .. }) {
         return Ok(());
     }
-    put_entry(entry, text)?;
+    entry.put(text)?;
     text.append(b"\n")
 }
 

@@ -1,2 +1,4 @@
+pub mod AtFrontLaws
 pub mod CountLaws
+pub mod EntryLaws
 pub mod LineLaws

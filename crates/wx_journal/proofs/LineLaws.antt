@@ -11,28 +11,13 @@ use Rattle.wx_words.specs.ChoiceLaws.{some_words}
 use Rattle.wx_words.specs.Clean.{IsClean, AllClean}
 use Rattle.wx_words.specs.CleanLaws.{items_clean, words_back, line_back}
 use Rattle.wx_words.specs.EachLaws.{each_append}
-use Rattle.wx_words.specs.ToEndLaws.{all_again}
 use Rattle.wx_journal.specs.declared.entry.Entry.{Entry}
 use Rattle.wx_journal.specs.declared.entry.Entry.TheVariants.{Take, Filter, Hand}
 use Rattle.wx_error.specs.declared.runtime.RuntimeError.{RuntimeError}
-use Rattle.wx_control.specs.Ids.{id}
-use Rattle.wx_journal.specs.Acts.{act, act_has_word}
+use Rattle.wx_journal.specs.Acts.{act}
 use Rattle.wx_journal.specs.Entries.{entry, hand, entry_words, read_entry, EntryFits}
+use Rattle.wx_journal.proofs.EntryLaws.{whole_again}
 use Rattle.wx_journal.specs.Lines.{Answer, AnswerFits, NamesFit, line_of, entry_line, end, end_words}
-
--- ---- each entry is read again from its words
-
--- what begins with the word hand is a Hand
-only_hand : (n : ℕ) (names : List ℕ) (ws : List (List ℕ)) → whole (entry.read (hand.words (n, names) ++ ws)) ≡ None
-unfolding entry
-only_hand n names ws = refl
-
-entry_again : (e : Entry) → EntryFits e → read_entry (entry_words e) ≡ Some e
-entry_again (Hand n names acts) fits =
-    rw (only_hand n names (flat_map act.words acts), hand.form.again (n, names) (flat_map act.words acts) fits.0, all_again act (act_has_word id) acts fits.1) refl
-entry_again e fits =
-    let again : entry.read (entry.words e) ≡ Some (e, []) = ap entry.read (sym (append-nil (entry.words e))) ∙ entry.form.again e [] fits in
-    rw again refl
 
 -- ---- no word has a space or a line feed
 
@@ -51,9 +36,12 @@ end_fits a lost fa fl = (fa, fl)
 
 -- ---- reading lines
 
--- the entry of a line
+-- the entry whose words these are, and that of a line
+abbrev pub in_words : List (List ℕ) → Option Entry
+in_words ws = whole (read_entry ws)
+
 abbrev pub entry_in : List ℕ → Option Entry
-entry_in line = read_entry (words_of line)
+entry_in line = in_words (words_of line)
 
 -- the entries of the first lines, and the lines from the first that is none
 abbrev pub onto_entries : Option Entry → List Entry × List (List ℕ) → List (List ℕ) → List Entry × List (List ℕ)
@@ -80,14 +68,14 @@ end_is_line : (a : Answer) (lost : List ℕ) → AnswerFits a → NamesFit lost 
 end_is_line a lost fa fl = line (end_words a lost) (some_words _ _) (end.clean (a, lost) (end_fits a lost fa fl))
 
 entry_back : (e : Entry) → EntryFits e → entry_in (joined (entry_words e)) ≡ Some e
-entry_back e fits = ap read_entry (entry_is_line e fits).back ∙ entry_again e fits
+entry_back e fits = ap in_words (entry_is_line e fits).back ∙ whole_again e fits
 
-no_entry : (ws : List (List ℕ)) → read_entry (codes "end" ∷ ws) ≡ None
+no_entry : (ws : List (List ℕ)) → in_words (codes "end" ∷ ws) ≡ None
 unfolding entry
 no_entry ws = refl
 
 end_back : (a : Answer) (lost : List ℕ) → AnswerFits a → NamesFit lost → entry_in (joined (end_words a lost)) ≡ None
-end_back a lost fa fl = ap read_entry (end_is_line a lost fa fl).back ∙ no_entry _
+end_back a lost fa fl = ap in_words (end_is_line a lost fa fl).back ∙ no_entry _
 
 -- a printed journal gives its entries and its end line back
 pub printed_back : (es : List Entry) (a : Answer) (lost : List ℕ) → AllByRecursion EntryFits es → AnswerFits a → NamesFit lost → decoded (parts 10 (flat_map entry_line es ++ line_of (end_words a lost))) ≡ (es, joined (end_words a lost) ∷ [] ∷ [])

@@ -4,24 +4,19 @@ use Rattle.std.specs.Prelude.{ℕ, ℤ, Bool, Result, Option, Some, List, [], �
 use Rattle.std.specs.List.{flat_map, AllByRecursion}
 use Rattle.std.specs.Option.{option_or}
 use Rattle.wx_words.specs.Line.{◌>>=◌}
-use Rattle.wx_words.specs.Combine.{whole}
+use Rattle.wx_words.specs.Combine.{Reader}
 use Rattle.wx_words.specs.Spellings.{Spelling}
 use Rattle.wx_words.specs.Choices.{Row, row, Behind, fields}
 use Rattle.wx_words.specs.ChoiceLaws.{MadeAgain, SpeltSo, choice}
-use Rattle.wx_words.specs.Parts.{line, never, both, named, list_of, as_line, number, i32, u32, text, optional}
-use Rattle.wx_words.specs.Switches.{switch}
-use Rattle.wx_words.specs.ToEnd.{all_in}
+use Rattle.wx_words.specs.Parts.{line, never, both, named, list_of, as_line, number, i32, u32, optional}
 use Rattle.wx_text.specs.declared.list.Memory.{Memory}
 use Rattle.wx_events.specs.declared.priority.Priority.{Priority}
 use Rattle.wx_events.specs.declared.event.Event.{Event}
 use Rattle.wx_events.specs.declared.process.ProcessEnd.{ProcessEnd}
 use Rattle.wx_command.specs.Commands.{spawnable}
 use Rattle.wx_command.specs.declared.spawnable.Spawnable.{Spawnable}
-use Rattle.wx_watch.specs.Watched.{watcher, watched}
 use Rattle.wx_error.specs.Runtime.{runtime}
 use Rattle.wx_error.specs.declared.runtime.RuntimeError.{RuntimeError}
-use Rattle.wx_watch.specs.declared.watched.Watcher.{Watcher}
-use Rattle.wx_watch.specs.declared.watched.WatchedPath.{WatchedPath}
 use Rattle.wx_control.specs.Ids.{id}
 use Rattle.wx_control.specs.Levels.{level}
 use Rattle.wx_control.specs.Controls.{control}
@@ -29,6 +24,8 @@ use Rattle.wx_control.specs.declared.id.Id.{Id}
 use Rattle.wx_control.specs.declared.level.Level.{Level}
 use Rattle.wx_control.specs.declared.control.Control.{Control}
 use Rattle.wx_journal.specs.Acts.{JournalAct, act}
+use Rattle.wx_journal.specs.AtFront.{read_front}
+use Rattle.wx_journal.specs.Beginnings.{beginning}
 use Rattle.wx_journal.specs.Answers.{done, waited, verdict, readied, hooked}
 use Rattle.wx_journal.specs.Kinds.{ranked, turn}
 use Rattle.wx_journal.specs.Wishes.{wish}
@@ -42,22 +39,6 @@ use Rattle.wx_journal.specs.declared.entry.Entry.{Entry}
 use Rattle.wx_journal.specs.declared.entry.Entry.TheVariants.{Begin, Sent, Turn as Turned, TurnFault, Offer, Word as Said, Take, Filter, Show, Hand, Made, Asked, Pick, GraceOver, Spawn, Signal, Kill, Wait, Dropped, Raise, Gone, Run, Begun, Poll, Hook, JobError}
 
 -- ---- what stands behind the first word of an entry
-
--- the settings, each behind its name
-abbrev pub limits : Spelling line (ℕ × (ℕ × ℕ))
-limits = both (named (codes "throttle") refl (as_line number)) (both (named (codes "size") refl u32) (named (codes "errors") refl u32))
-
-abbrev pub switches : Spelling line (Bool × (Bool × Bool))
-switches = both (named (codes "keyboard") refl switch) (both (named (codes "follow") refl switch) (named (codes "jobsignals") refl switch))
-
-abbrev pub watch : Spelling line (Watcher × (List ℕ × List WatchedPath))
-watch = both (named (codes "watcher") refl watcher) (both (named (codes "cwd") refl text) (named (codes "paths") refl (list_of watched)))
-
-abbrev pub settings : Spelling line ((ℕ × (ℕ × ℕ)) × ((Bool × (Bool × Bool)) × (Watcher × (List ℕ × List WatchedPath))))
-settings = both limits (both switches watch)
-
-abbrev pub make_begin : (ℕ × (ℕ × ℕ)) × ((Bool × (Bool × Bool)) × (Watcher × (List ℕ × List WatchedPath))) → Entry
-make_begin p = Begin p.0.0 p.0.1.0 p.0.1.1 p.1.0.0 p.1.0.1.0 p.1.0.1.1 p.1.1.0 p.1.1.1.0 p.1.1.1.1
 
 abbrev pub sent : Spelling line (ℕ × (Priority × Event))
 sent = both (as_line number) ranked
@@ -112,7 +93,7 @@ make_hand p = Hand p.0 p.1.0 p.1.1
 
 abbrev pub entry_rows : List (Row line Entry)
 entry_rows =
-    row (codes "begin") settings make_begin
+    row (codes "begin") beginning Begin
     ∷ row (codes "sent") sent (λ p. Sent p.0 p.1.1 p.1.0)
     ∷ row (codes "turn") turn Turned
     ∷ row (codes "turnfault") u32 TurnFault
@@ -141,7 +122,7 @@ entry_rows =
     ∷ []
 
 abbrev pub entry_word : Entry → List ℕ
-entry_word (Begin _ _ _ _ _ _ _ _ _) = codes "begin"
+entry_word (Begin _) = codes "begin"
 entry_word (Sent _ _ _) = codes "sent"
 entry_word (Turned _) = codes "turn"
 entry_word (TurnFault _) = codes "turnfault"
@@ -169,7 +150,7 @@ entry_word (Hook _ _ _) = codes "hook"
 entry_word (JobError _ _ _) = codes "joberror"
 
 abbrev pub entry_behind : Entry → Behind line
-entry_behind (Begin throttle size errors keyboard follow jobsignals how cwd paths) = fields settings ((throttle, (size, errors)), ((keyboard, (follow, jobsignals)), (how, (cwd, paths))))
+entry_behind (Begin b) = fields beginning b
 entry_behind (Sent name event priority) = fields sent (name, (priority, event))
 entry_behind (Turned t) = fields turn t
 entry_behind (TurnFault code) = fields u32 code
@@ -197,7 +178,7 @@ entry_behind (Hook job n answer) = fields hook (job, (n, answer))
 entry_behind (JobError job n code) = fields job_error (job, (n, code))
 
 pub entry_made : MadeAgain entry_rows entry_word entry_behind
-entry_made (Begin throttle size errors keyboard follow jobsignals how cwd paths) = (_, refl, refl)
+entry_made (Begin b) = (_, refl, refl)
 entry_made e = (_, refl, refl)
 
 pub entry_so : SpeltSo entry_rows entry_word entry_behind
@@ -206,17 +187,19 @@ entry_so = search
 unfoldable pub entry : Spelling line Entry
 entry = choice entry_rows entry_word entry_behind entry_made entry_so refl
 
--- ---- a Hand: the number of the handler and the names of the batch, and then the acts, which have no count: they are all
--- words that are left
+-- ---- a Hand: the number of the handler and the names of the batch, and then the acts, which have no count: as many as stand
+-- there
 
 abbrev pub hand : Spelling line (ℕ × List ℕ)
 hand = named (codes "hand") refl (both u32 (list_of (as_line number)))
 
-abbrev pub read_hand : List (List ℕ) → Option Entry
+abbrev pub with_acts : ℕ × List ℕ → List JournalAct × List (List ℕ) → Entry × List (List ℕ)
+with_acts batch acts = (Hand batch.0 batch.1 acts.0, acts.1)
+
+abbrev pub read_hand : Reader Entry
 read_hand ws = do
   batch ← hand.read ws
-  acts ← all_in act.read batch.1
-  Some (Hand batch.0.0 batch.0.1 acts)
+  Some (with_acts batch.0 (read_front act.read batch.1))
 
 -- ---- every entry
 
@@ -224,9 +207,9 @@ abbrev pub entry_words : Entry → List (List ℕ)
 entry_words (Hand n names acts) = hand.words (n, names) ++ flat_map act.words acts
 entry_words e = entry.words e
 
--- the entry whose words these are
-abbrev pub read_entry : List (List ℕ) → Option Entry
-read_entry ws = option_or (whole (entry.read ws)) (read_hand ws)
+-- the entry at the front
+abbrev pub read_entry : Reader Entry
+read_entry ws = option_or (entry.read ws) (read_hand ws)
 
 -- the numbers and texts of an entry are those of the code
 abbrev pub EntryFits : Entry → Type 0

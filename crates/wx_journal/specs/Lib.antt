@@ -9,5 +9,7 @@ pub mod Acts
 pub mod Kinds
 pub mod Tags
 pub mod Words
+pub mod Beginnings
+pub mod AtFront
 pub mod Entries
 pub mod Lines

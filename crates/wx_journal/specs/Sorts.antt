@@ -38,7 +38,7 @@ abbrev pub columns : Callee → Naming → Subject → Bool → Sort
 columns callee naming subject fault = record { callee = callee; naming = naming; subject = subject; fault = fault }
 
 abbrev pub sort : Entry → Sort
-sort (Begin throttle size errors keyboard follow jobsignals watcher cwd paths) = columns OnNobody NoName OfRun false
+sort (Begin beginning) = columns OnNobody NoName OfRun false
 sort (Sent name event priority) = columns OnNobody (NewEvent name) OfEvents false
 sort (Turned t) = columns OnWorld NoName OfTurn false
 sort (TurnFault code) = columns OnWorld NoName OfTurn false

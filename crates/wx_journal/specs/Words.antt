@@ -1,12 +1,10 @@
--- The values of one word that stand in an entry, and the entries that are written apart.
+-- The values of one word that stand in an entry.
 use Rattle.std.proofs.Common.{refl}
-use Rattle.std.specs.Prelude.{ℕ, Bool, true, false, List, [], ◌∷◌, codes}
+use Rattle.std.specs.Prelude.{ℕ, List, [], ◌∷◌, codes}
 use Rattle.wx_words.specs.Spellings.{Spelling}
 use Rattle.wx_words.specs.Parts.{line, HasWords, keyword}
 use Rattle.wx_journal.specs.declared.entry.Offered.{Offered}
 use Rattle.wx_journal.specs.declared.entry.Offered.TheVariants.{Queued, Full, Closed}
-use Rattle.wx_journal.specs.declared.entry.Entry.{Entry}
-use Rattle.wx_journal.specs.declared.entry.Entry.TheVariants.{Begin}
 use Rattle.wx_journal.specs.declared.entry.Word.{Word}
 use Rattle.wx_journal.specs.declared.entry.Word.TheVariants.{Idle, Ignored, Later}
 
@@ -41,9 +39,3 @@ said_found Later = refl
 
 unfoldable pub said : Spelling line Word
 said = keyword said_word said_all said_found refl
-
--- ---- the entries that are written apart
-
-abbrev pub is_begin : Entry → Bool
-is_begin (Begin throttle size errors keyboard follow jobsignals how cwd paths) = true
-is_begin (_) = false

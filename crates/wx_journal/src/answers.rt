@@ -1,7 +1,7 @@
 // What a call on a child answers, and what a filter and a spawn hook do, as words.
 ghost use Rattle.std.specs.Prelude.{IfOk};
 ghost use Rattle.wx_words.specs.Line.{Reads};
-ghost use Rattle.wx_journal.specs.Answers.{AreReadAgain, done, waited, verdict, readied, hooked};
+ghost use Rattle.wx_journal.specs.Answers.{AreReadAgain, done, waited, verdict, readied, memory, hooked};
 
 use crate::child::HostFault;
 use std::alloc::Global;
@@ -87,6 +87,17 @@ impl<'a> Fields for ReadyRef<'a> {
     }
 }
 
+/// Takes whether a begun function is ready, or loses the place.
+#[tactic(auto, unfolding(crate::specs::Answers::readied))]
+pub fn read_ready(alloc: Global, line: &mut Words) -> Result<Option<bool>, Memory>
+    ensures { IfOk result (λ x. Reads line.new x (readied.read line.old)) }
+{
+    read_rows!(alloc, line;
+        b"ready" => true,
+        b"later" => false,
+    )
+}
+
 /// What a spawn hook answered, lent to be written.
 #[derive(Clone, Copy)]
 pub struct HookedRef<'a> {
@@ -106,6 +117,34 @@ impl<'a> Fields for HookedRef<'a> {
             Ok(what) => what.put_after(out),
             Err(_) => put_word(b"memory", out),
         }
+    }
+}
+
+/// Takes the word of want of memory, or loses the place.
+#[tactic(auto, unfolding(crate::specs::Answers::memory))]
+fn read_memory(alloc: Global, line: &mut Words) -> Result<Option<Memory>, Memory>
+    ensures { IfOk result (λ x. Reads line.new x (memory.read line.old)) }
+{
+    read_rows!(alloc, line;
+        b"memory" => Memory,
+    )
+}
+
+/// Takes what a spawn hook answered, or loses the place.
+pub fn read_hooked(
+    alloc: Global,
+    line: &mut Words,
+) -> Result<Option<Result<Spawnable, Memory>>, Memory>
+    ensures { IfOk result (λ x. Reads line.new x (hooked.read line.old)) }
+{
+    let mut ahead = line.fork();
+    if let Some(what) = Spawnable::read(alloc, &mut ahead)? {
+        *line = ahead;
+        return Ok(Some(Ok(what)));
+    }
+    match read_memory(alloc, line)? {
+        Some(memory) => Ok(Some(Err(memory))),
+        None => Ok(None),
     }
 }
 

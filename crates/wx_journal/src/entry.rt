@@ -1,6 +1,7 @@
 // The entries of a journal.
 ghost use Rattle.std.specs.Prelude.{◌≡◌};
 
+use crate::beginning::Beginning;
 use crate::child::{HostFault, SpawnTag};
 use crate::wish::Wish;
 use std::alloc::Global;
@@ -9,8 +10,6 @@ use wx_control::{Ask, Control, Id, Level};
 use wx_error::RuntimeError;
 use wx_events::{Event, Priority, ProcessEnd};
 use wx_text::{Copies, List, Memory};
-use wx_watch::{WatchedPath, Watcher};
-use wx_words::TextPath;
 
 /// What a turn brings.
 #[derive(Drop, Debug)]
@@ -77,17 +76,7 @@ pub struct Named {
 #[derive(Drop, Debug)]
 pub enum Entry {
     /// The run begins with these settings.
-    Begin {
-        throttle: u64,
-        size: u32,
-        errors: u32,
-        keyboard: bool,
-        follow: bool,
-        jobsignals: bool,
-        watcher: Watcher,
-        cwd: TextPath,
-        paths: List<WatchedPath>,
-    },
+    Begin(Beginning),
     /// An event was sent before the run.
     Sent {
         name: u64,

@@ -3,18 +3,22 @@
 
 mod acts;
 mod answers;
+mod beginning;
 mod child;
 mod entry;
 mod journal;
 mod kinds;
 mod lines;
+mod reading;
 mod wish;
 mod words;
 
-pub use answers::{HookedRef, ReadyRef, VerdictRef, answers_are_read_again, read_verdict};
+pub use answers::{
+    HookedRef, ReadyRef, VerdictRef, answers_are_read_again, read_ready, read_verdict,
+};
+pub use beginning::Beginning;
 pub use child::{HostFault, SpawnTag};
 pub use entry::{Act, Entry, Named, Offered, Turn, TurnKind, Word};
 pub use journal::{Entries, Journal};
 pub use lines::{put_end, put_lines};
 pub use wish::Wish;
-pub use words::put_entry;

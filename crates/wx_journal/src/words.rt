@@ -1,16 +1,19 @@
-// How entries are written.
-ghost use Rattle.std.specs.Prelude.{◌≡◌, ◌++◌, true, OnOk, OnErr};
-ghost use Rattle.wx_words.specs.Line.{joined};
-ghost use Rattle.wx_journal.specs.Entries.{entry_words, EntryFits};
+// Entries as words.
+ghost use Rattle.std.specs.Prelude.{◌≡◌, ◌++◌, ℕ, List, true, OnOk, OnErr, IfOk, IfSome, IfNone};
+ghost use Rattle.wx_words.specs.Forms.{Stood};
+ghost use Rattle.wx_words.specs.Line.{joined, Taken};
+ghost use Rattle.wx_words.specs.Texts.{text_in};
+ghost use Rattle.wx_journal.specs.Entries.{entry_words, read_entry, EntryFits};
 ghost use Rattle.wx_journal.specs.Sorts.{is_of_job};
-ghost use Rattle.wx_journal.specs.Words.{is_begin};
+ghost use Rattle.wx_journal.specs.declared.entry.Entry.{Entry as AnEntry};
 ghost use Rattle.wx_journal.specs.declared.entry.Entry.TheVariants.{Hand};
 
 use crate::answers::{HookedRef, ReadyRef, VerdictRef};
 use crate::entry::{Act, Entry, Offered, Word};
+use crate::reading::read_entry;
 use std::alloc::Global;
 use wx_text::{List, Memory, Text};
-use wx_words::{ResultRef, Spelled, Words, begin_row, named, put_items, put_word, read_rows};
+use wx_words::{ResultRef, Spelled, Words, begin_row, put_items, put_word, read_rows};
 
 #[tactic(auto, unfolding(crate::specs::Words::offered))]
 impl Spelled for Offered {
@@ -66,54 +69,6 @@ fn put_hand(n: u32, names: &List<u64>, acts: &List<Act>, out: &mut Text) -> Resu
 {
     begin_row(b"hand", &(&n, names), out)?;
     put_items(acts.as_slice(), out)
-}
-
-/// Appends the words of an entry with one space between them. It fails only for want of memory, and leaves the text as
-/// it was then.
-pub fn put_entry(entry: &Entry, out: &mut Text) -> Result<(), Memory>
-    ensures ok { OnOk result (out.new ≡ out.old ++ joined (entry_words entry.now)) }
-    ensures fits { OnOk result (EntryFits entry.now) }
-    ensures err { OnErr result (out.new ≡ out.old) }
-{
-    let mut spelled = Text::new(out.allocator());
-    append_entry(entry, &mut spelled)?;
-    out.append(spelled.as_slice())
-}
-
-/// Appends the words of the beginning.
-#[tactic(auto, unfolding(crate::specs::Entries::entry, wx_words::specs::Parts::both))]
-fn put_begin(entry: &Entry, out: &mut Text) -> Result<(), Memory>
-    requires { is_begin entry.now ≡ true }
-    ensures text { OnOk result (out.new ≡ out.old ++ joined (entry_words entry.now)) }
-    ensures fits { OnOk result (EntryFits entry.now) }
-{
-    let Entry::Begin {
-        throttle,
-        size,
-        errors,
-        keyboard,
-        follow,
-        jobsignals,
-        watcher,
-        cwd,
-        paths,
-    } = entry
-    else {
-        return Ok(());
-    };
-    let limits = (
-        named!(b"throttle", throttle),
-        (named!(b"size", size), named!(b"errors", errors)),
-    );
-    let switches = (
-        named!(b"keyboard", keyboard),
-        (named!(b"follow", follow), named!(b"jobsignals", jobsignals)),
-    );
-    let watch = (
-        named!(b"watcher", watcher),
-        (named!(b"cwd", cwd), named!(b"paths", paths)),
-    );
-    begin_row(b"begin", &(limits, (switches, watch)), out)
 }
 
 /// Appends the words of an entry of a job.
@@ -180,7 +135,7 @@ pub fn append_entry(entry: &Entry, out: &mut Text) -> Result<(), Memory>
     ensures fits { OnOk result (EntryFits entry.now) }
 {
     match entry {
-        Entry::Begin { .. } => put_begin(entry, out),
+        Entry::Begin(beginning) => begin_row(b"begin", &beginning, out),
         Entry::Sent {
             name,
             event,
@@ -218,5 +173,37 @@ pub fn append_entry(entry: &Entry, out: &mut Text) -> Result<(), Memory>
         | Entry::Poll { .. }
         | Entry::Hook { .. }
         | Entry::JobError { .. } => put_job_entry(entry, out),
+    }
+}
+
+impl Entry {
+    /// Appends the words of the entry with one space between them. It fails only for want of memory, and leaves the
+    /// text as it was then.
+    pub fn put(&self, out: &mut Text) -> Result<(), Memory>
+        ensures ok { OnOk result (out.new ≡ out.old ++ joined (entry_words self.now)) }
+        ensures fits { OnOk result (EntryFits self.now) }
+        ensures err { OnErr result (out.new ≡ out.old) }
+    {
+        let mut spelled = Text::new(out.allocator());
+        append_entry(self, &mut spelled)?;
+        out.append(spelled.as_slice())
+    }
+
+    /// Takes the entry at the front, and leaves the line where none stands there: what is taken spells the entry, and
+    /// nothing else does. A `Hand` takes as many acts as stand behind it. It leaves the line as it was where memory runs
+    /// out.
+    #[tactic(auto, using(crate::proofs::EntryLaws::entry_spelt, crate::proofs::EntryLaws::none_stands))]
+    pub fn take(alloc: Global, line: &mut Words) -> Result<Option<Entry>, Memory>
+        ensures exact { IfOk result (λ o. Taken line.old line.new o (read_entry line.old)) }
+        ensures some { IfOk result (λ o. IfSome o (λ e. EntryFits e × Stood text_in (entry_words e) line.old line.new)) }
+        ensures none { IfOk result (λ o. IfNone o ((e : AnEntry) (rest : List (List ℕ)) → EntryFits e → line.old ≡ entry_words e ++ rest → ⊥)) }
+        ensures err { OnErr result (line.new ≡ line.old) }
+    {
+        let mut ahead = line.fork();
+        let found = read_entry(alloc, &mut ahead)?;
+        if found.is_some() {
+            *line = ahead;
+        }
+        Ok(found)
     }
 }

@@ -2,4 +2,6 @@
 #![tactic(auto)]
 
 #[cfg(test)]
+mod entry_tests;
+#[cfg(test)]
 mod tests;

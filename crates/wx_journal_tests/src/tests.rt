@@ -7,7 +7,7 @@ use wx_control::{Ask, Control, Id, Level};
 use wx_error::RuntimeError;
 use wx_events::{Event, Priority, ProcessEnd, Signal};
 use wx_journal::{
-    Act, Entry, HostFault, Journal, Offered, SpawnTag, Turn, TurnKind, VerdictRef, Word, put_entry,
+    Act, Beginning, Entry, HostFault, Journal, Offered, SpawnTag, Turn, TurnKind, VerdictRef, Word,
     read_verdict,
 };
 use wx_text::{Copies, List, Memory, Text};
@@ -17,7 +17,7 @@ use wx_words::{Fields, ResultRef, Spelled, TextPath, Words, read_result};
 /// The line of an entry.
 fn line_of(alloc: Global, entry: &Entry) -> Result<Text, Memory> {
     let mut line = Text::new(alloc);
-    put_entry(entry, &mut line)?;
+    entry.put(&mut line)?;
     Ok(line)
 }
 
@@ -29,7 +29,7 @@ fn expect_line(rt: &impl Abort, alloc: Global, entry: Entry, want: &[u8]) {
 }
 
 /// Ends the test where the answer isn't yes, and says at which line.
-fn expect_yes(rt: &impl Abort, answer: Result<bool, Memory>, line: &str) {
+pub(crate) fn expect_yes(rt: &impl Abort, answer: Result<bool, Memory>, line: &str) {
     assert!(rt; answer == Ok(true), "at {line}");
 }
 
@@ -96,7 +96,7 @@ fn watched(alloc: Global) -> Result<List<WatchedPath>, Memory> {
 fn begin(alloc: Global) -> Result<Entry, Memory> {
     let paths = watched(alloc)?;
     let cwd = path(alloc, b"/")?;
-    Ok(Entry::Begin {
+    Ok(Entry::Begin(Beginning {
         throttle: 50_000_000,
         size: 4096,
         errors: 64,
@@ -106,7 +106,7 @@ fn begin(alloc: Global) -> Result<Entry, Memory> {
         watcher: Watcher::Poll(5),
         cwd,
         paths,
-    })
+    }))
 }
 
 /// A control that was asked of job 3, with this ticket.
@@ -625,7 +625,7 @@ fn answers_by_value(rt: HostRuntime) {
 fn text_of(alloc: Global, journal: &Journal) -> Result<Text, Memory> {
     let mut text = Text::new(alloc);
     for entry in journal.iter() {
-        put_entry(entry, &mut text)?;
+        entry.put(&mut text)?;
         text.append(b",")?;
     }
     Ok(text)

@@ -1,9 +1,10 @@
 -- The jobs of a run: their names, their commands, their children, and the plans that are followed for them.
-use Rattle.std.proofs.Common.{◌≡◌, ℕ, ◌≤◌, ◌<◌, Bool, true, false, cond, List, [], ◌∷◌, ◌++◌, inl, inr, arith, refl, ap, sym, subst, ◌∙◌, eq-eqb, ne_eqb}
-use Rattle.std.specs.Prelude.{Option, None, Some, ◌||◌, not, T, nat_lt, ◌⊎◌}
-use Rattle.std.specs.List.{AllByRecursion, filter}
-use Rattle.std.proofs.lemmas.Bool.{eqb-true, and_parts, or_right, le-ltb}
-use Rattle.wx_words.specs.EachLaws.{each_append, each_weaker, each_filter}
+use Rattle.std.proofs.Common.{◌≡◌, ◌≢◌, ℕ, ◌≤◌, ◌<◌, Bool, true, false, cond, List, [], ◌∷◌, ◌++◌, inl, inr, arith, refl, ap, sym, subst, ◌∙◌, eq-eqb, ne_eqb}
+use Rattle.std.specs.Prelude.{Option, None, Some, ◌||◌, not, nat_lt, ◌⊎◌}
+use Rattle.std.specs.List.{AllByRecursion, filter, list_any}
+use Rattle.std.proofs.Math.Arith.{lt_of_le-ne}
+use Rattle.std.proofs.lemmas.Bool.{eqb-true, eqb-false, ltb-true, ltb-false, and_parts, or_left, or_right}
+use Rattle.wx_words.specs.EachLaws.{each_weaker, each_filter}
 use Rattle.wx_words.specs.OptionLaws.{neither}
 use Rattle.wx_command.specs.declared.command.Command.{Command}
 use Rattle.wx_control.specs.declared.id.Id.{Id}
@@ -17,24 +18,25 @@ use Rattle.wx_journal.specs.declared.entry.Entry.{Entry}
 use Rattle.wx_journal.specs.declared.entry.Entry.TheVariants.{Turn as Turned, TurnFault, Hand, Made, Gone}
 use Rattle.wx_journal.specs.Names.{creates, is_created, above, next_job, NamesItsOwn}
 use Rattle.wx_journal.specs.Told.{tell_if, is_world, is_hooks, is_turn}
-use Rattle.wx_machine.specs.History.{same, lives, child, is_child, creation, or_else, command}
+use Rattle.wx_machine.specs.History.{same, lives, child, is_child, creation, or_else, command, JobHistory}
+use Rattle.wx_machine.specs.Leaves.{SameHistory}
 use Rattle.wx_machine.specs.Table.{Plan, Done, step_plan, ask_second, ask_plan, end_plan}
-use Rattle.wx_machine.specs.Case.{PlanAdmits, is_of_plan, next, PlanLeads, PlanHere, PlanThen}
-use Rattle.wx_machine.proofs.Owners.{either, same-is, children_named, child_owner}
+use Rattle.wx_machine.specs.Case.{PlanAdmits, next, PlanLeads, PlanHere, PlanThen}
+use Rattle.wx_machine.proofs.Owners.{either, self, same-is, children_named, child_owner}
 use Rattle.wx_machine.proofs.Always.{Always, always_now, always_next, always_also}
 use Rattle.wx_machine.proofs.Sound.{Fits, IsSound, Sound, sound_step, sound_end}
 use Rattle.wx_machine.specs.Start.{Start}
-use Rattle.wx_machine.specs.Jobs.{insert, set, jobs, parent_among, parent, AreLawful, AreRising, AreBelow}
-use Rattle.wx_machine.specs.Due.{Agenda, plans, rest, unplanned, is_quitting, settle, agenda, Admits, Due}
+use Rattle.wx_machine.specs.Jobs.{with_id, set, is_seen, UnseenRunNone, jobs, parent_among, parent, AreLawful, AreRising, AreBelow}
+use Rattle.wx_machine.specs.Due.{Agenda, Admits, plans, rest, is_quitting, settle, agenda, Due}
 use Rattle.wx_machine.specs.RunLaws.{was_made, AreMadeOnce}
 use Rattle.wx_machine.specs.Kept.{StaysQuiet, More}
 use Rattle.wx_machine.specs.Leads.{Follows, Then}
 use Rattle.wx_machine.specs.Turns.{SameTurns, StaysInTurn}
-use Rattle.wx_machine.proofs.PlanLaws.{lawful_now, plan_fit}
-use Rattle.wx_machine.proofs.Lawful.{IsOfPlan, MadeInOrder, Lawful}
-use Rattle.wx_machine.proofs.Orderly.{IsFit, IsOrderly}
+use Rattle.wx_machine.proofs.PlanLaws.{plan_fit}
+use Rattle.wx_machine.proofs.Lawful.{IsOfPlan, MadeInOrder}
+use Rattle.wx_machine.proofs.Orderly.{IsOrderly}
 use Rattle.wx_machine.proofs.SettleLaws.{quitting_over}
-use Rattle.wx_machine.proofs.RunLaws.{orderly_more}
+use Rattle.wx_machine.proofs.RunLaws.{follow_plan}
 
 -- ---- names in lists
 
@@ -42,36 +44,57 @@ abbrev pub IsIn : Id → List Id → Type 0
 IsIn id [] = ⊥
 IsIn id (job ∷ ids) = (job ≡ id) ⊎ IsIn id ids
 
--- where a job was inserted, it and the others are
-in_new : (id : Id) (xs : List Id) (job : Id) → job ≡ id → IsIn id (insert job xs)
+-- where a job has its place, it and the others are there
+new_at : (id x : Id) (xs : List Id) (job : Id) (b c : Bool) → same x job ≡ c → job ≡ id → IsIn id (with_id job xs) → IsIn id (cond b (x ∷ with_id job xs) (cond c (x ∷ xs) (job ∷ x ∷ xs)))
+new_at id x xs job true c is e h = inr h
+new_at id x xs job false true is e h = inl (same-is x job is ∙ e)
+new_at id x xs job false false is e h = inl e
+
+in_new : (id : Id) (xs : List Id) (job : Id) → job ≡ id → IsIn id (with_id job xs)
 in_new id [] job e = inl e
-in_new id (x ∷ xs) job e = either (IsIn id) (nat_lt job.0 x.0) (job ∷ x ∷ xs) (x ∷ insert job xs) (inl e) (inr (in_new id xs job e))
+in_new id (x ∷ xs) job e = new_at id x xs job (nat_lt x.0 job.0) (same x job) refl e (in_new id xs job e)
 
-in_others : (id : Id) (xs : List Id) (job : Id) → IsIn id xs → IsIn id (insert job xs)
+others_at : (id x : Id) (xs ys : List Id) (job : Id) (b c : Bool) → (IsIn id xs → IsIn id ys) → IsIn id (x ∷ xs) → IsIn id (cond b (x ∷ ys) (cond c (x ∷ xs) (job ∷ x ∷ xs)))
+others_at id x xs ys job true c more (inl e) = inl e
+others_at id x xs ys job true c more (inr h) = inr (more h)
+others_at id x xs ys job false true more h = h
+others_at id x xs ys job false false more h = inr h
+
+in_others : (id : Id) (xs : List Id) (job : Id) → IsIn id xs → IsIn id (with_id job xs)
 in_others id [] job h = absurd h
-in_others id (x ∷ xs) job (inl e) = either (IsIn id) (nat_lt job.0 x.0) (job ∷ x ∷ xs) (x ∷ insert job xs) (inr (inl e)) (inl e)
-in_others id (x ∷ xs) job (inr h) = either (IsIn id) (nat_lt job.0 x.0) (job ∷ x ∷ xs) (x ∷ insert job xs) (inr (inr h)) (inr (in_others id xs job h))
+in_others id (x ∷ xs) job h = others_at id x xs (with_id job xs) job (nat_lt x.0 job.0) (same x job) (λ g. in_others id xs job g) h
 
-of_two : (id job : Id) (b : Bool) (x : Id) (xs ys : List Id) → (IsIn id ys → IsIn id xs ⊎ (job ≡ id)) → IsIn id (cond b (job ∷ x ∷ xs) (x ∷ ys)) → IsIn id (x ∷ xs) ⊎ (job ≡ id)
-of_two id job true x xs ys more (inl e) = inr e
-of_two id job true x xs ys more (inr h) = inl h
-of_two id job false x xs ys more (inl e) = inl (inl e)
-of_two id job false x xs ys more (inr h) = elim (more h) [ inl g ↦ inl (inr g) | inr e ↦ inr e ]
+of_two : (id job : Id) (b c : Bool) (x : Id) (xs ys : List Id) → (IsIn id ys → IsIn id xs ⊎ (job ≡ id)) → IsIn id (cond b (x ∷ ys) (cond c (x ∷ xs) (job ∷ x ∷ xs))) → IsIn id (x ∷ xs) ⊎ (job ≡ id)
+of_two id job true c x xs ys more (inl e) = inl (inl e)
+of_two id job true c x xs ys more (inr h) = elim (more h) [ inl g ↦ inl (inr g) | inr e ↦ inr e ]
+of_two id job false true x xs ys more h = inl h
+of_two id job false false x xs ys more (inl e) = inr e
+of_two id job false false x xs ys more (inr h) = inl h
 
-of_insert : (id : Id) (xs : List Id) (job : Id) → IsIn id (insert job xs) → IsIn id xs ⊎ (job ≡ id)
-of_insert id [] job (inl e) = inr e
-of_insert id [] job (inr h) = absurd h
-of_insert id (x ∷ xs) job h = of_two id job (nat_lt job.0 x.0) x xs (insert job xs) (λ g. of_insert id xs job g) h
+of_with : (id : Id) (xs : List Id) (job : Id) → IsIn id (with_id job xs) → IsIn id xs ⊎ (job ≡ id)
+of_with id [] job (inl e) = inr e
+of_with id [] job (inr h) = absurd h
+of_with id (x ∷ xs) job h = of_two id job (nat_lt x.0 job.0) (same x job) x xs (with_id job xs) (λ g. of_with id xs job g) h
 
 -- what is known of each and of the new one is known of all
-pub each_insert : (P : Id → Type 0) (job : Id) (xs : List Id) → P job → AllByRecursion P xs → AllByRecursion P (insert job xs)
-each_insert P job [] h all = (h, tt)
-each_insert P job (x ∷ xs) h all = either (AllByRecursion P) (nat_lt job.0 x.0) (job ∷ x ∷ xs) (x ∷ insert job xs) (h, all) (all.0, each_insert P job xs h all.1)
+pub each_with : (P : Id → Type 0) (job : Id) (xs : List Id) → P job → AllByRecursion P xs → AllByRecursion P (with_id job xs)
+each_with P job [] h all = (h, tt)
+each_with P job (x ∷ xs) h all = either (AllByRecursion P) (nat_lt x.0 job.0) (x ∷ with_id job xs) _ (all.0, each_with P job xs h all.1) (either (AllByRecursion P) (same x job) (x ∷ xs) (job ∷ x ∷ xs) all (h, all))
 
--- a job above all others comes last
-pub insert_last : (job : Id) (xs : List Id) → AreBelow job.0 xs → insert job xs ≡ xs ++ job ∷ []
-insert_last job [] below = refl
-insert_last job (x ∷ xs) below = let later : nat_lt job.0 x.0 ≡ false = le-ltb job.0 x.0 (omega (arith, below.0)) in rw later (ap (λ ids. x ∷ ids) (insert_last job xs below.1))
+-- a job that is in the set is seen
+pub any_in : (id : Id) (ids : List Id) → IsIn id ids → list_any (λ job. same job id) ids ≡ true
+any_in id [] none = absurd none
+any_in id (job ∷ ids) (inl is) = rw (is, self id) refl
+any_in id (job ∷ ids) (inr later) = ap (λ b. same job id || b) (any_in id ids later) ∙ or_right (same job id) true refl
+
+-- one that is seen is in it
+first_or : (job id : Id) (ids : List Id) (b t : Bool) → same job id ≡ b → (t ≡ true → IsIn id ids) → (b || t) ≡ true → IsIn id (job ∷ ids)
+first_or job id ids true t is more e = inl (same-is job id is)
+first_or job id ids false t is more e = inr (more e)
+
+seen_in : (id : Id) (ids : List Id) → list_any (λ job. same job id) ids ≡ true → IsIn id ids
+seen_in id [] e = absurd cc
+seen_in id (job ∷ ids) e = first_or job id ids (same job id) (list_any (λ other. same other id) ids) refl (λ g. seen_in id ids g) e
 
 in_kept : (id : Id) (b : Bool) (x : Id) (xs : List Id) → IsIn id xs → IsIn id (cond b (x ∷ xs) xs)
 in_kept id true x xs h = inr h
@@ -99,7 +122,7 @@ all_in P id (x ∷ xs) all (inr h) = all_in P id xs all.1 h
 
 -- ---- a job that lives is in the set
 
-in_made : (id job : Id) (b : Bool) (p : List Entry) → same job id ≡ b → (lives id p ≡ true → IsIn id (set p)) → (b || lives id p) ≡ true → IsIn id (insert job (set p))
+in_made : (id job : Id) (b : Bool) (p : List Entry) → same job id ≡ b → (lives id p ≡ true → IsIn id (set p)) → (b || lives id p) ≡ true → IsIn id (with_id job (set p))
 in_made id job true p is more e = in_new id (set p) job (same-is job id is)
 in_made id job false p is more e = in_others id (set p) job (more e)
 
@@ -124,9 +147,16 @@ above_others n m id lt = omega arith
 below_rise : (n : ℕ) (job : Id) (ids : List Id) → AreBelow n ids → AreBelow (above n job) ids
 below_rise n job ids h = each_weaker (λ id. id.0 < n) (λ id. id.0 < above n job) (λ id lt. above_others n id.0 job lt) ids h
 
-rising_last : (ids : List Id) (id : Id) → AreRising ids → AreBelow id.0 ids → AreRising (ids ++ id ∷ [])
-rising_last [] id r b = (tt, tt)
-rising_last (x ∷ ids) id r b = (each_append (λ job. x.0 < job.0) ids (id ∷ []) r.0 (b.0, tt), rising_last ids id r.1 b.1)
+rising_at : (x : Id) (xs : List Id) (job : Id) (b c : Bool) → nat_lt x.0 job.0 ≡ b → same x job ≡ c → AreRising (x ∷ xs) → AreRising (with_id job xs) → AreRising (cond b (x ∷ with_id job xs) (cond c (x ∷ xs) (job ∷ x ∷ xs)))
+rising_at x xs job true c lt is r h = (each_with (λ j. x.0 < j.0) job xs (ltb-true x.0 job.0 lt) r.0, h)
+rising_at x xs job false true lt is r h = r
+rising_at x xs job false false lt is r h =
+    let below : job.0 < x.0 = lt_of_le-ne (ltb-false x.0 job.0 lt) (λ e. eqb-false x.0 job.0 is (sym e)) in
+    ((below, each_weaker (λ j. x.0 < j.0) (λ j. job.0 < j.0) (λ j more. omega (arith, below, more)) xs r.0), r)
+
+rising_with : (job : Id) (xs : List Id) → AreRising xs → AreRising (with_id job xs)
+rising_with job [] r = (tt, tt)
+rising_with job (x ∷ xs) r = rising_at x xs job (nat_lt x.0 job.0) (same x job) refl refl r (rising_with job xs r.1)
 
 rising_kept : (b : Bool) (x : Id) (xs : List Id) → AllByRecursion (λ job. x.0 < job.0) xs → AreRising xs → AreRising (cond b (x ∷ xs) xs)
 rising_kept true x xs h r = (h, r)
@@ -140,27 +170,20 @@ pub record IsRising (p : List Entry) : Type 0 where
   pub rising : AreRising (set p)
   pub below : AreBelow (next_job p) (set p)
 
-made_rising : (p : List Entry) → MadeInOrder p → IsRising p
-made_rising [] made = record { rising = tt; below = tt }
-made_rising (Made id ∷ p) made =
-    let h = made_rising p made.1 in
-    let lower : AreBelow id.0 (set p) = subst (λ n. AreBelow n (set p)) (sym made.0) h.below in record {
-      rising = rw (insert_last id (set p) lower) (rising_last (set p) id h.rising lower);
-      below = each_insert (λ job. job.0 < above (next_job p) id) id (set p) (above_one (next_job p) id) (below_rise (next_job p) id (set p) h.below);
+-- so it is of each journal, whatever it names
+pub set_rising : (p : List Entry) → IsRising p
+set_rising [] = record { rising = tt; below = tt }
+set_rising (Made id ∷ p) =
+    let h = set_rising p in record {
+      rising = rising_with id (set p) h.rising;
+      below = each_with (λ job. job.0 < above (next_job p) id) id (set p) (above_one (next_job p) id) (below_rise (next_job p) id (set p) h.below);
     }
-made_rising (Hand n names acts ∷ p) made =
-    let h = made_rising p made.1 in record {
+set_rising (Hand n names acts ∷ p) =
+    let h = set_rising p in record {
       rising = rising_filter (λ id. lives id p) (set p) h.rising;
       below = each_filter (λ id. id.0 < next_job p) (λ id. lives id p) (set p) h.below;
     }
-made_rising (_ ∷ p) made = let h = made_rising p made.1 in record { rising = h.rising; below = h.below }
-
-pub set_rising : (s : Start) (p : List Entry) → IsOrderly s p → IsRising p
-set_rising s p o = made_rising p o.in_order
-
--- a job that is made is above all others of the set
-pub made_above : (s : Start) (p : List Entry) (id : Id) → IsOrderly s p → IsOrderly s (Made id ∷ p) → AreBelow id.0 (set p)
-made_above s p id before o = subst (λ n. AreBelow n (set p)) (sym o.in_order.0) (set_rising s p before).below
+set_rising (_ ∷ p) = let h = set_rising p in record { rising = h.rising; below = h.below }
 
 -- ---- ids made are distinct
 
@@ -186,16 +209,16 @@ creation_none n id [] l lt = refl
 creation_none n id (Create job command ∷ acts) l lt = rw (ne_eqb job.0 id.0 (λ e. let is : job.0 ≡ n = l.0 in absurd (omega arith))) (creation_none (above n job) id acts l.1 (above_others n id.0 job lt))
 creation_none n id (_ ∷ acts) l lt = creation_none n id acts l lt
 
-pub command_kept : (s : Start) (p : List Entry) (n : ℕ) (names : List ℕ) (acts : List Act) (id : Id) → IsOrderly s p → AreLawful (next_job p) acts → IsIn id (set p) → command id (Hand n names acts ∷ p) ≡ command id p
-command_kept s p n names acts id o lawful here = ap (λ o. or_else o (command id p)) (creation_none (next_job p) id acts lawful (all_in (λ job. job.0 < next_job p) id (set p) (set_rising s p o).below here))
+pub command_kept : (p : List Entry) (n : ℕ) (names : List ℕ) (acts : List Act) (id : Id) → AreLawful (next_job p) acts → IsIn id (set p) → command id (Hand n names acts ∷ p) ≡ command id p
+command_kept p n names acts id lawful here = ap (λ o. or_else o (command id p)) (creation_none (next_job p) id acts lawful (all_in (λ job. job.0 < next_job p) id (set p) (set_rising p).below here))
 
 created_in : (id : Id) (p : List Entry) → NamesItsOwn p → IsIn id (set p) → is_created id p ≡ true
 created_in id [] own h = absurd h
-created_in id (Made job ∷ p) own h = elim (of_insert id (set p) job h) [ inl g ↦ created_in id p own.1 g | inr e ↦ subst (λ j. is_created j p ≡ true) e own.0 ]
+created_in id (Made job ∷ p) own h = elim (of_with id (set p) job h) [ inl g ↦ created_in id p own.1 g | inr e ↦ subst (λ j. is_created j p ≡ true) e own.0 ]
 created_in id (Hand n names acts ∷ p) own h = or_right (creates id acts) (is_created id p) (created_in id p own.1 (of_filter (λ job. lives job p) id (set p) h).0)
 created_in id (_ ∷ p) own h = created_in id p own.1 h
 
-abbrev IsThere : Option Command → Type 0
+abbrev pub IsThere : Option Command → Type 0
 IsThere o = (c : Command) × (o ≡ Some c)
 
 there_first : (b : Bool) (c : Command) (o : Option Command) → (b ≡ false → IsThere o) → IsThere (cond b (Some c) o)
@@ -222,10 +245,29 @@ command_of_hand : (id : Id) (acts : List Act) (b c : Bool) (before : Option Comm
 command_of_hand id acts true c before is h e = there_made (creation id acts) before (creation_there id acts is)
 command_of_hand id acts false c before is h e = there_else (creation id acts) before (h e)
 
-created_command : (id : Id) (p : List Entry) → is_created id p ≡ true → IsThere (command id p)
+pub created_command : (id : Id) (p : List Entry) → is_created id p ≡ true → IsThere (command id p)
 created_command id [] e = absurd cc
 created_command id (Hand n names acts ∷ p) e = command_of_hand id acts (creates id acts) (is_created id p) (command id p) refl (λ g. created_command id p g) e
 created_command id (_ ∷ p) e = created_command id p e
+
+-- one that runs something was created
+creates_or : (b : Bool) (command c : Command) (o : Option Command) (t : Bool) → (o ≡ Some c → t ≡ true) → cond b (Some command) o ≡ Some c → (b || t) ≡ true
+creates_or true command c o t h e = refl
+creates_or false command c o t h e = h e
+
+creates_by : (id : Id) (acts : List Act) (c : Command) → creation id acts ≡ Some c → creates id acts ≡ true
+creates_by id [] c e = absurd cc
+creates_by id (Create job command ∷ acts) c e = creates_or (same job id) command c (creation id acts) (creates id acts) (λ g. creates_by id acts c g) e
+creates_by id (_ ∷ acts) c e = creates_by id acts c e
+
+created_or : (a b : Option Command) (c : Command) (x y : Bool) → (a ≡ Some c → x ≡ true) → (b ≡ Some c → y ≡ true) → or_else a b ≡ Some c → (x || y) ≡ true
+created_or None b c x y f g e = or_right x y (g e)
+created_or (Some d) b c x y f g e = or_left x y (f e)
+
+pub commanded_created : (id : Id) (p : List Entry) (c : Command) → command id p ≡ Some c → is_created id p ≡ true
+commanded_created id [] c e = absurd cc
+commanded_created id (Hand n names acts ∷ p) c e = created_or (creation id acts) (command id p) c (creates id acts) (is_created id p) (λ g. creates_by id acts c g) (λ g. commanded_created id p c g) e
+commanded_created id (_ ∷ p) c e = commanded_created id p c e
 
 -- ---- the job whose child it is
 
@@ -262,15 +304,42 @@ none_of c id (job ∷ ids) p e (inr h) runs = none_of c id ids p (neither (is_ch
 pub parent_none : (c : ℕ) (id : Id) (p : List Entry) → parent c p ≡ None → IsIn id (set p) → child id p ≡ Some c → ⊥
 parent_none c id p e here runs = none_of c id (set p) p e here runs
 
--- ---- entries of plans
+-- ---- no child runs of a job that isn't seen
 
-taken : (b : Bool) (more other : Agenda) → T b → cond b more other ≡ more
-taken true more other o = refl
-taken false more other o = absurd o
+-- where the set is as it was, and all jobs but one that is seen
+pub unseen_others : (id : Id) (p p' : List Entry) → IsIn id (set p) → set p' ≡ set p → ((other : Id) → other ≢ id → SameHistory other p p') → UnseenRunNone p → UnseenRunNone p'
+unseen_others id p p' here kept others idle other none =
+    let unseen : is_seen other p ≡ false = ap (λ (ids : List Id). list_any (λ job. same job other) ids) (sym kept) ∙ none in
+    let apart : other ≢ id = λ e. (let both : true ≡ false = sym (any_in other (set p) (subst (λ j. IsIn j (set p)) (sym e) here)) ∙ unseen in absurd cc) in
+    ap (λ (h : JobHistory). h.child) (others other apart).history_same ∙ idle other unseen
+
+-- one that is made runs none
+unseen_before : (other id : Id) (p : List Entry) (b : Bool) → is_seen other p ≡ b → is_seen other (Made id ∷ p) ≡ false → is_seen other p ≡ false
+unseen_before other id p true is none = let both : true ≡ false = sym (any_in other (with_id id (set p)) (in_others other (set p) id (seen_in other (set p) is))) ∙ none in absurd cc
+unseen_before other id p false is none = is
+
+unseen_of : (other id : Id) (b : Bool) (p : List Entry) → same id other ≡ b → (is_seen other p ≡ false → child other p ≡ None) → is_seen other (Made id ∷ p) ≡ false → cond b None (child other p) ≡ None
+unseen_of other id true p is idle none = refl
+unseen_of other id false p is idle none = idle (unseen_before other id p (is_seen other p) refl none)
+
+pub unseen_made : (id : Id) (p : List Entry) → UnseenRunNone p → UnseenRunNone (Made id ∷ p)
+unseen_made id p idle other none = unseen_of other id (same id other) p refl (idle other) none
+
+-- where those that are gone leave the set, and none of their children runs
+left_unseen : (id : Id) (p : List Entry) (seen alive : Bool) → is_seen id p ≡ seen → lives id p ≡ alive → UnseenRunNone p → (IsIn id (set p) → lives id p ≡ false → child id p ≡ None) → list_any (λ job. same job id) (filter (λ job. lives job p) (set p)) ≡ false → child id p ≡ None
+left_unseen id p false alive is l idle gone none = idle id is
+left_unseen id p true false is l idle gone none = gone (seen_in id (set p) is) l
+left_unseen id p true true is l idle gone none =
+    let both : true ≡ false = sym (any_in id (filter (λ job. lives job p) (set p)) (in_filter (λ job. lives job p) id (set p) (seen_in id (set p) is) l)) ∙ none in absurd cc
+
+pub unseen_hand : (n : ℕ) (names : List ℕ) (acts : List Act) (p : List Entry) → UnseenRunNone p → ((id : Id) → IsIn id (set p) → lives id p ≡ false → child id p ≡ None) → UnseenRunNone (Hand n names acts ∷ p)
+unseen_hand n names acts p idle gone id none = left_unseen id p (is_seen id p) (lives id p) refl refl idle (gone id) none
+
+-- ---- entries of plans
 
 -- an entry of a plan takes from what is owed
 pub agenda_plan : (s : Start) (p : List Entry) (e : Entry) → IsOfPlan e → agenda s (e ∷ p) ≡ settle (e ∷ p) (rest e (agenda s p))
-agenda_plan s p e o = ap (settle (e ∷ p)) (taken (is_of_plan e) (rest e (agenda s p)) (unplanned s e p (agenda s p)) o)
+agenda_plan s p e o = ap (settle (e ∷ p)) (follow_plan s p e (rest e (agenda s p)) o)
 
 -- a plan without calls on the hooks
 abbrev pub CallsNone : List Entry → Plan → Type 0
@@ -307,9 +376,13 @@ command_plan (_) id p o = refl
 
 -- ---- a plan that is owed leads on in the run
 
+-- each entry that this plan brings is an entry of plans
+abbrev pub AreOfPlan : List Entry → Plan → Type 0
+AreOfPlan p k = Always (λ q e j. IsOfPlan e) p k
+
 -- what is known of a journal to which a plan led that was owed before these agendas
 pub record IsLed (s : Start) (more : Agenda) (k : Plan) (p : List Entry) (host hooks : Option (List Entry)) (k' : Plan) (p' : List Entry) (host' hooks' : Option (List Entry)) : Type 0 where
-  pub orderly : IsOrderly s p'
+  pub of_plan : AreOfPlan p' k'
   pub due : agenda s p' ≡ settle p' (plans k' more)
   pub quits : is_quitting p' ≡ is_quitting p
   pub follows : Follows s p host hooks p' host' hooks'
@@ -325,15 +398,11 @@ rest_plans : (p : List Entry) (k : Plan) (more : Agenda) (e : Entry) → PlanAdm
 rest_plans p Done more e d = absurd d
 rest_plans p (k) more e d = refl
 
-fit_lawful : (p : List Entry) (k : Plan) (more : Agenda) → IsFit p (settle p (plans k more)) → Lawful p k
-fit_lawful p Done more f = record { each = tt; placed = tt }
-fit_lawful p (k) more f = f.0
-
 led_one : (s : Start) (more : Agenda) (k₀ : Plan) (p : List Entry) (host hooks : Option (List Entry)) (k : Plan) (q : List Entry) (host' hooks' : Option (List Entry)) (e : Entry) → PlanAdmits q k e → IsLed s more k₀ p host hooks k q host' hooks' → IsLed s more k₀ p host hooks (next k e) (e ∷ q) (tell_if (is_world q e) e host') (tell_if (is_hooks e) e hooks')
 led_one s more k₀ p host hooks k q host' hooks' e d h =
-    let kind = (lawful_now q k e d (fit_lawful q k more (subst (IsFit q) h.due h.orderly.fit))).of_plan in
+    let kind : IsOfPlan e = always_now (λ r x i. IsOfPlan x) q k e d h.of_plan in
     let due : Due s q e = subst (λ (j : Agenda). Admits s q j e) (sym h.due) (admits_plans s q k more e d) in record {
-      orderly = orderly_more s e q due h.orderly;
+      of_plan = always_next (λ r x i. IsOfPlan x) q k e d h.of_plan;
       due = agenda_plan s q e kind ∙ ap (λ (j : Agenda). settle (e ∷ q) (rest e j)) h.due ∙ ap (settle (e ∷ q)) (rest_plans q k more e d);
       quits = quitting_over e q kind ∙ h.quits;
       follows = λ p₀ world₀ hooks₀ l. Then e q host' hooks' (h.follows p₀ world₀ hooks₀ l) due;
@@ -345,9 +414,9 @@ led_one s more k₀ p host hooks k q host' hooks' e d h =
       commands = λ id. command_plan e id q kind ∙ h.commands id;
     }
 
-pub plans_lead : (s : Start) (more : Agenda) (k : Plan) (p : List Entry) (host hooks : Option (List Entry)) (n : ℕ) (k' : Plan) (p' : List Entry) (host' hooks' : Option (List Entry)) (n' : ℕ) → PlanLeads k p host hooks n k' p' host' hooks' n' → IsOrderly s p → agenda s p ≡ settle p (plans k more) → IsLed s more k p host hooks k' p' host' hooks'
-plans_lead s more k p host hooks n k' p' host' hooks' n' l o due = elim l as (λ k' p' host' hooks' n' _. IsLed s more k p host hooks k' p' host' hooks') [
-  | PlanHere ↦ record { orderly = o; due = due; quits = refl; follows = λ p₀ world₀ hooks₀ l. l; quiet = λ none. (none, λ p₀ a. a); turns = λ p₀ t. t; commands = λ id. refl }
+pub plans_lead : (s : Start) (more : Agenda) (k : Plan) (p : List Entry) (host hooks : Option (List Entry)) (n : ℕ) (k' : Plan) (p' : List Entry) (host' hooks' : Option (List Entry)) (n' : ℕ) → PlanLeads k p host hooks n k' p' host' hooks' n' → AreOfPlan p k → agenda s p ≡ settle p (plans k more) → IsLed s more k p host hooks k' p' host' hooks'
+plans_lead s more k p host hooks n k' p' host' hooks' n' l of_plan due = elim l as (λ k' p' host' hooks' n' _. IsLed s more k p host hooks k' p' host' hooks') [
+  | PlanHere ↦ record { of_plan = of_plan; due = due; quits = refl; follows = λ p₀ world₀ hooks₀ l. l; quiet = λ none. (none, λ p₀ a. a); turns = λ p₀ t. t; commands = λ id. refl }
   | PlanThen e k₁ p₁ host₁ hooks₁ n₁ n₂ (l → h) d counts ↦ led_one s more k p host hooks k₁ p₁ host₁ hooks₁ e d h
 ]
 
@@ -360,6 +429,13 @@ IsOfJob (e) = IsOfPlan e
 
 abbrev pub MakesNone : List Entry → Plan → Type 0
 MakesNone p k = Always (λ q e j. IsOfJob e) p k
+
+of_job : (e : Entry) → IsOfJob e → IsOfPlan e
+of_job (Made id) h = absurd h
+of_job (_) h = h
+
+pub none_of_plan : (p : List Entry) (k : Plan) → MakesNone p k → AreOfPlan p k
+none_of_plan p k none = always_also (λ q. Unit {0}) (λ q e j. IsOfJob e) (λ q e j. IsOfPlan e) (λ q e j u s. (of_job e s, tt)) p k tt none
 
 job_fit : (id : Id) (e : Entry) (p : List Entry) → Fits id p e → IsOfJob e
 job_fit id (Made job) p s = s

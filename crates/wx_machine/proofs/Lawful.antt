@@ -2,14 +2,16 @@
 use Rattle.std.specs.Prelude.{◌≡◌, true, T, List, [], ◌∷◌, None, Some}
 use Rattle.wx_control.specs.declared.id.Id.{Id}
 use Rattle.wx_journal.specs.declared.entry.Entry.{Entry}
-use Rattle.wx_journal.specs.declared.entry.Entry.TheVariants.{Made, Spawn, Dropped, Gone}
+use Rattle.wx_journal.specs.declared.entry.Entry.TheVariants.{Made, Asked, GraceOver, Spawn, Signal, Dropped, Gone}
 use Rattle.wx_journal.specs.Sorts.{sort}
 use Rattle.wx_journal.specs.Names.{Names, next_job, IsNextJob}
-use Rattle.wx_machine.specs.History.{lives, child}
+use Rattle.wx_machine.specs.History.{lives, child, grace}
+use Rattle.wx_machine.specs.declared.grace.Grace.{Grace}
 use Rattle.wx_machine.specs.Table.{Plan}
+use Rattle.wx_machine.specs.Afterwards.{IsAtLevel}
 use Rattle.wx_machine.specs.Case.{is_of_plan}
 use Rattle.wx_machine.proofs.Always.{Always}
-use Rattle.wx_machine.proofs.Sound.{RunsIn, Goes}
+use Rattle.wx_machine.proofs.Sound.{RunsIn, IsUngraced, Goes}
 use Rattle.wx_machine.proofs.Placing.{Placing}
 
 -- the entries of plans
@@ -23,10 +25,14 @@ IsOfEnd (Gone job) = Unit {0}
 IsOfEnd (_) = ⊥
 
 -- where a child is spawned its job lives and no child of it runs, one that is sent a signal, killed, waited for or let go runs, and where
--- a job is gone no child of it runs
+-- a job is gone no child of it runs, and where a grace is over one
+-- stands; a control is asked at its level
 abbrev pub IsFree : List Entry → Entry → Type 0
 IsFree p (Spawn c job tag what answer) = (lives job p ≡ true) × (child job p ≡ None)
 IsFree p (Gone job) = child job p ≡ None
+IsFree p (GraceOver job) = (g : Grace) × (grace job p ≡ Some g)
+IsFree p (Signal c number answer) = (id : Id) × (child id p ≡ Some c) × IsUngraced id p
+IsFree p (Asked ticket job level control) = IsAtLevel level control
 IsFree p (e) = RunsIn p (sort e).subject
 
 -- where a child is let go its job is gone next

@@ -1,3 +1,4 @@
+pub mod AfterwardsLemmas
 pub mod Always
 pub mod BagLaws
 pub mod CaseLemmas
@@ -5,6 +6,8 @@ pub mod CutLaws
 pub mod EndLaws
 pub mod FaultLaws
 pub mod Frame
+pub mod FunctionLaws
+pub mod Functions
 pub mod Graces
 pub mod Holders
 pub mod AllJobs
@@ -12,6 +15,7 @@ pub mod KeptLemmas
 pub mod Lawful
 pub mod LifeLaws
 pub mod Moves
+pub mod OneJob
 pub mod Orderly
 pub mod Owners
 pub mod PlacedPlans
@@ -19,6 +23,7 @@ pub mod Places
 pub mod Placing
 pub mod PlanLaws
 pub mod ReapLaws
+mod Rejects
 pub mod RunLaws
 pub mod SettleLaws
 pub mod Sound

@@ -1,5 +1,5 @@
 -- Entries that move tickets: a history begins or ends, and a control is asked, picked, or its ticket is raised.
-use Rattle.std.proofs.Common.{◌≡◌, ◌≢◌, ℕ, ◌+◌, ◌≤◌, ◌<◌, Bool, true, false, cond, List, [], ◌∷◌, ◌++◌, Option, Some, None, refl, arith, sym, ◌∙◌, ne_eqb}
+use Rattle.std.proofs.Common.{◌≡◌, ◌≢◌, ℕ, ◌+◌, ◌≤◌, ◌<◌, Bool, true, false, cond, List, [], ◌∷◌, ◌++◌, Option, Some, refl, arith, ◌∙◌, ne_eqb}
 use Rattle.std.specs.Prelude.{◌==◌, ◌-◌, ◌&&◌, ◌||◌, not}
 use Rattle.std.proofs.lemmas.Bool.{eqb-true}
 use Rattle.wx_control.specs.declared.id.Id.{Id}
@@ -16,7 +16,7 @@ use Rattle.wx_machine.specs.declared.grace.Grace.{Grace}
 use Rattle.wx_machine.specs.History.{same, lives, waits, state, grace, begun, picked_control, parked, in_hand, takes, without_ticket, asked_of}
 use Rattle.wx_machine.specs.JobLaws.{NamesTickets}
 use Rattle.wx_machine.specs.Held.{once, times, times_waiting}
-use Rattle.wx_machine.specs.TicketLaws.{raises_of, is_asked, spots, IsPlaced}
+use Rattle.wx_machine.specs.TicketLaws.{raises_of, is_asked, spots, is_of, AllWait, IsPlaced}
 use Rattle.wx_machine.proofs.Owners.{same-is, either}
 use Rattle.wx_machine.proofs.Tickets.{asked_below}
 use Rattle.wx_machine.proofs.Times.{joined_times, times_without, picked_waits, picked_times, takes_more, IsFirst}
@@ -31,8 +31,8 @@ made_spots i id p u = by_test (same id i) refl
     by_test true is = rw is refl
     by_test false is = rw is refl
 
-pub placed_made : (id : Id) (p : List Entry) → IsPlaced p → IsPlaced (Made id ∷ p)
-placed_made id p h =
+pub placed_made : (id : Id) (p : List Entry) → AllWait is_of p (Made id) → IsPlaced p → IsPlaced (Made id ∷ p)
+placed_made id p wait h =
     let o = one_now p h in record {
       children = h.children;
       tickets = h.tickets;
@@ -49,7 +49,7 @@ placed_made id p h =
       begins = λ i. (held i).functions;
       last = h.last;
       pressing = h.pressing;
-      polled = h.polled;
+      polled = (wait, h.polled);
     }
   where
     by_test : (i : Id) (u : ℕ) (b : Bool) → (b || lives i p) ≡ true → cond b false (is_asked i u p) ≡ true → cond b 0 (spots i u p) + raises_of u p ≡ 1
@@ -63,7 +63,7 @@ placed_made id p h =
     held : HoldsTickets (Made id ∷ p)
     held i = gone_held (same id i) (grace i p) (begun i p) (in_hand i p) (held_of p h i)
 
-gone_spots : (i id : Id) (p : List Entry) (u : ℕ) → spots i u (Gone id ∷ p) ≡ cond (same id i) 0 (spots i u p)
+pub gone_spots : (i id : Id) (p : List Entry) (u : ℕ) → spots i u (Gone id ∷ p) ≡ cond (same id i) 0 (spots i u p)
 gone_spots i id p u = by_test (same id i) refl
   where
     by_test : (b : Bool) → same id i ≡ b → spots i u (Gone id ∷ p) ≡ cond b 0 (spots i u p)
@@ -88,7 +88,7 @@ placed_gone id p h =
       begins = λ i. (held i).functions;
       last = h.last;
       pressing = h.pressing;
-      polled = h.polled;
+      polled = (λ i mine f is. tt, h.polled);
     }
   where
     by_test : (i : Id) (u : ℕ) (b : Bool) → (not b && lives i p) ≡ true → is_asked i u p ≡ true → cond b 0 (spots i u p) + raises_of u p ≡ 1
@@ -112,7 +112,7 @@ asked_level i t u control at level p a = by_test (a && rank at == rank level && 
     by_test true = joined_times t u control (waits i level p)
     by_test false = omega arith
 
-asked_spots : (i id : Id) (t u : ℕ) (at : Level) (control : Control) (p : List Entry) → spots i u (Asked t id at control ∷ p) ≡ spots i u p + once (same id i && lives i p && t == u)
+pub asked_spots : (i id : Id) (t u : ℕ) (at : Level) (control : Control) (p : List Entry) → spots i u (Asked t id at control ∷ p) ≡ spots i u p + once (same id i && lives i p && t == u)
 asked_spots i id t u at control p =
     let urgent = asked_level i t u control at Urgent p (same id i) in
     let high = asked_level i t u control at High p (same id i) in
@@ -169,7 +169,7 @@ placed_asked id level control p h =
       begins = h.begins;
       last = h.last;
       pressing = h.pressing;
-      polled = h.polled;
+      polled = (λ i mine f is. tt, h.polled);
     }
   where
     new : (i : Id) (u : ℕ) → ticket_count p ≡ u → (is_asked i u p ≡ false) × (spots i u p ≡ 0) × (raises_of u p ≡ 0)
@@ -177,7 +177,7 @@ placed_asked id level control p h =
 
 -- ---- a control is picked
 
-pick_spots : (i id : Id) (t u : ℕ) (p : List Entry) → (same id i ≡ true → 1 ≤ times_waiting t (waits i Urgent p) + times_waiting t (waits i High p) + times_waiting t (waits i Normal p)) → spots i u (Pick id t ∷ p) ≡ spots i u p
+pub pick_spots : (i id : Id) (t u : ℕ) (p : List Entry) → (same id i ≡ true → 1 ≤ times_waiting t (waits i Urgent p) + times_waiting t (waits i High p) + times_waiting t (waits i Normal p)) → spots i u (Pick id t ∷ p) ≡ spots i u p
 pick_spots i id t u p waits_it = by_test (same id i) refl
   where
     by_test : (b : Bool) → same id i ≡ b → spots i u (Pick id t ∷ p) ≡ spots i u p
@@ -188,14 +188,14 @@ pick_spots i id t u p waits_it = by_test (same id i) refl
     by_test false is = rw is refl
 
 -- more in hand
-more_held : (o : Option Grace) (function : Option Function) (hand more : List ℕ) → ((u : ℕ) → times u hand ≤ times u more) → AreHeld o function hand → AreHeld o function more
+pub more_held : (o : Option Grace) (function : Option Function) (hand more : List ℕ) → ((u : ℕ) → times u hand ≤ times u more) → AreHeld o function hand → AreHeld o function more
 more_held o function hand more le h = record {
   graces = λ g e. (let was = h.graces g e in let now = le g.ticket in omega (arith, was, now));
   functions = λ f e. (let was = h.functions f e in let now = le f.ticket in omega (arith, was, now));
 }
 
-pub placed_pick : (id : Id) (t : ℕ) (control : Control) (p : List Entry) → IsFirst t control (waits id Urgent p) (waits id High p) (waits id Normal p) (grace id p) → begun id p ≡ None → IsPlaced p → IsPlaced (Pick id t ∷ p)
-placed_pick id t control p first free h =
+pub placed_pick : (id : Id) (t : ℕ) (control : Control) (p : List Entry) → IsFirst t control (waits id Urgent p) (waits id High p) (waits id Normal p) (grace id p) → AllWait is_of p (Pick id t) → IsPlaced p → IsPlaced (Pick id t ∷ p)
+placed_pick id t control p first wait h =
     let o = one_now p h in record {
       children = h.children;
       tickets = h.tickets;
@@ -212,7 +212,7 @@ placed_pick id t control p first free h =
       begins = λ i. (held i).functions;
       last = h.last;
       pressing = (first.presses, h.pressing);
-      polled = (free, h.polled);
+      polled = (wait, h.polled);
     }
   where
     still : (i : Id) (u : ℕ) → spots i u (Pick id t ∷ p) ≡ spots i u p
@@ -239,7 +239,8 @@ pub record IsRaisable (id : Id) (t : ℕ) (p : List Entry) : Type 0 where
   pub alive : lives id p ≡ true
   pub there : 1 ≤ times t (in_hand id p) + times t (parked id p)
   pub unheld : (g : Grace) → grace id p ≡ Some g → t ≢ g.ticket
-  pub free : begun id p ≡ None
+  pub free : (f : Function) → begun id p ≡ Some f → ⊥
+  pub wait : AllWait is_of p (Raise t)
 
 pub placed_raise : (id : Id) (t : ℕ) (p : List Entry) → IsRaisable id t p → IsPlaced (Raise t ∷ p)
 placed_raise id t p r =
@@ -253,7 +254,7 @@ placed_raise id t p r =
       begins = λ i. (held i).functions;
       last = h.last;
       pressing = h.pressing;
-      polled = h.polled;
+      polled = (r.wait, h.polled);
     }
   where
     its : asked_of t p ≡ Some id
@@ -293,5 +294,5 @@ placed_raise id t p r =
     held : HoldsTickets (Raise t ∷ p)
     held i = record {
       graces = λ g e. stays i g.ticket (r.placed.held i g e) (λ mine. r.unheld g (rw mine e));
-      functions = λ f e. stays i f.ticket (r.placed.begins i f e) (λ mine. (let is : begun id p ≡ Some f = rw mine e in let none : None ≡ Some f = sym r.free ∙ is in absurd cc));
+      functions = λ f e. stays i f.ticket (r.placed.begins i f e) (λ mine. absurd (r.free f (rw mine e)));
     }

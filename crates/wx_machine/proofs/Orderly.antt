@@ -2,12 +2,14 @@
 use Rattle.std.specs.Prelude.{◌≡◌, ◌<◌, false, None, List, length}
 use Rattle.wx_control.specs.declared.id.Id.{Id}
 use Rattle.wx_journal.specs.declared.entry.Entry.{Entry}
-use Rattle.wx_journal.specs.Names.{event_count, NamesItsOwn}
+use Rattle.wx_journal.specs.declared.entry.Entry.TheVariants.{Begin, Sent, Offer, Word as Said, Take, Filter, Show, Hand}
+use Rattle.wx_journal.specs.Names.{event_count, next_job, NamesItem, NamesItsOwn}
 use Rattle.wx_machine.specs.History.{lives, child}
 use Rattle.wx_machine.specs.TicketLaws.{IsPlaced}
 use Rattle.wx_machine.specs.Start.{Start}
-use Rattle.wx_machine.specs.Journal.{passes_unseen, closed, window}
-use Rattle.wx_machine.specs.Due.{Agenda, Begins, Sends, Open, Offers, Says, Takes, Filters, Shows, Hands, Plans, Ends, Breaks, agenda, is_quitting}
+use Rattle.wx_machine.specs.Jobs.{AreLawful}
+use Rattle.wx_machine.specs.Journal.{passes_unseen, closed, bag, offered, window}
+use Rattle.wx_machine.specs.Due.{IsGreatest, Point, PointAnswer, brings, Agenda, Open, Comes, Plans, Ends, agenda, is_quitting}
 use Rattle.wx_machine.proofs.Lawful.{MadeInOrder, Lawful}
 
 -- nothing, or the end
@@ -16,21 +18,33 @@ IsQuiet Open = Unit {0}
 IsQuiet Ends = Unit {0}
 IsQuiet (_) = ⊥
 
--- Behind an offer, a word and a plan is nothing, or the end. A plan is lawful. A window that is to be handed isn't empty. An
--- event that is to be shown has a name, and doesn't pass unseen.
-abbrev pub IsFit : List Entry → Agenda → Type 0
-IsFit p (Offers event priority more) = IsQuiet more
-IsFit p (Says word more) = IsQuiet more
-IsFit p (Plans k more) = Lawful p k × IsQuiet more
-IsFit p Hands = 0 < length (window p)
-IsFit p Begins = Unit {0}
-IsFit p (Sends event priority more) = Unit {0}
-IsFit p Open = Unit {0}
-IsFit p Takes = closed p ≡ false
-IsFit p (Filters name) = (name < event_count p) × (passes_unseen name p ≡ false) × (closed p ≡ false)
-IsFit p (Shows error) = closed p ≡ false
-IsFit p Ends = Unit {0}
-IsFit p Breaks = Unit {0}
+-- What is known of each entry that a point of a run brings. None brings another.
+abbrev pub IsBrought : Start → List Entry → Entry → Type 0
+IsBrought s p (Begin beginning) = Unit {0}
+IsBrought s p (Sent name event priority) = name ≡ event_count p
+IsBrought s p (Offer name item result event priority) = (name ≡ event_count p) × NamesItem item × (result ≡ offered s p)
+IsBrought s p (Said word) = Unit {0}
+IsBrought s p (Take name) = IsGreatest name (bag p) × (closed p ≡ false)
+IsBrought s p (Filter n name answer) = (name < event_count p) × (passes_unseen name p ≡ false) × (closed p ≡ false)
+IsBrought s p (Show n error wish) = closed p ≡ false
+IsBrought s p (Hand n names acts) = (names ≡ window p) × AreLawful (next_job p) acts × (0 < length (window p))
+IsBrought s p (_) = ⊥
+
+-- each entry that this point may bring behind these is such, whatever is answered
+abbrev pub AllBrought : Start → List Entry → Point → Type 0
+AllBrought s p x = (a : PointAnswer p x) → IsBrought s p (brings s p x a)
+
+-- what may stand behind points: it fits whatever comes before it
+abbrev pub IsLasting : Start → Agenda → Type 0
+IsLasting s (Comes x more) = ((p : List Entry) → AllBrought s p x) × IsLasting s more
+IsLasting s (Plans k more) = ⊥
+IsLasting s (_) = Unit {0}
+
+-- What a point brings is such, and what stands behind it lasts. A plan is lawful, and behind it is nothing, or the end.
+abbrev pub IsFit : Start → List Entry → Agenda → Type 0
+IsFit s p (Comes x more) = AllBrought s p x × IsLasting s more
+IsFit s p (Plans k more) = Lawful p k × IsQuiet more
+IsFit s p (_) = Unit {0}
 
 -- Where something else than a plan or the end is owed the end wasn't asked for.
 abbrev pub IsGoing : List Entry → Agenda → Type 0
@@ -50,5 +64,5 @@ pub record IsOrderly (s : Start) (p : List Entry) : Type 0 where
   pub in_order : MadeInOrder p
   pub idle : GoneRunNone p
   pub placed : IsPlaced p
-  pub fit : IsFit p (agenda s p)
+  pub fit : IsFit s p (agenda s p)
   pub going : IsGoing p (agenda s p)

@@ -66,7 +66,7 @@ unless_some c (Some x) d e = by_test (x == c) e
     by_test true h = cc
     by_test false h = h
 
-still_some : (over running : Option ℕ) (d : ℕ) → still_running over running ≡ Some d → running ≡ Some d
+pub still_some : (over running : Option ℕ) (d : ℕ) → still_running over running ≡ Some d → running ≡ Some d
 still_some None running d e = e
 still_some (Some c) running d e = unless_some c running d e
 

@@ -1,28 +1,25 @@
 -- What one entry leaves of the places of tickets.
-use Rattle.std.proofs.Common.{◌≡◌, ℕ, ◌+◌, ◌≤◌, Bool, true, false, cond, List, [], ◌∷◌, Option, Some, None, Result, Ok, Err, refl, arith, ap, eq-eqb}
+use Rattle.std.proofs.Common.{◌≡◌, ℕ, ◌≤◌, Bool, true, false, cond, List, [], ◌∷◌, Option, Some, None, Result, Ok, Err, refl, arith, ap, sym, ◌∙◌}
 use Rattle.std.specs.Prelude.{◌==◌, ◌&&◌, ◌||◌, not, T, ℤ}
 use Rattle.wx_text.specs.declared.list.Memory.{Memory}
 use Rattle.wx_events.specs.declared.process.ProcessEnd.{ProcessEnd}
 use Rattle.wx_command.specs.declared.spawnable.Spawnable.{Spawnable}
 use Rattle.wx_control.specs.declared.id.Id.{Id}
-use Rattle.wx_control.specs.declared.control.Control.{Control}
-use Rattle.wx_control.specs.declared.control.Control.TheVariants.{GracefulStop, TryGracefulRestart}
 use Rattle.wx_journal.specs.declared.child.HostFault.{HostFault}
 use Rattle.wx_journal.specs.declared.child.SpawnTag.{SpawnTag}
 use Rattle.wx_journal.specs.declared.entry.Entry.{Entry}
 use Rattle.wx_journal.specs.declared.entry.Entry.TheVariants.{Word as Said, Made, Asked, Pick, GraceOver, Spawn, Signal, Kill, Wait, Dropped, Raise, Gone, Run, Begun, Poll, Hook, JobError}
-use Rattle.wx_journal.specs.Sorts.{is_of_job}
+use Rattle.wx_journal.specs.Sorts.{Subject, OfJob, OfChild, OfTicket, sort, is_job, is_of_job}
 use Rattle.wx_journal.specs.Names.{ticket_count, child_count, moment}
 use Rattle.wx_machine.specs.declared.function.Function.{Function}
 use Rattle.wx_machine.specs.declared.grace.Grace.{Grace}
-use Rattle.wx_machine.specs.declared.state.CommandState.{CommandState}
-use Rattle.wx_machine.specs.History.{same, lives, child, is_child, state, grace, begun, begun_with, just_picked, begins_by, with_ticket, picked_control, in_hand, takes, asked_of, owner}
+use Rattle.wx_machine.specs.History.{same, lives, child, is_child, grace, begun, begun_with, picked_last, begins_by, in_hand, asked_of, owner}
 use Rattle.wx_machine.specs.JobLaws.{NamesChildren, NamesTickets}
 use Rattle.wx_machine.specs.Held.{times}
-use Rattle.wx_machine.specs.TicketLaws.{Throughout, raises_of, is_asked, spots, AreInOnePlace, case_ticket, IsUnraised, IsUnraisedOf, AreRaisedLast, HasNoFunction, WaitForFunctions, IsPlaced}
+use Rattle.wx_machine.specs.TicketLaws.{Throughout, raises_of, is_asked, spots, AreInOnePlace, case_ticket, IsUnraised, IsUnraisedOf, AreRaisedLast, is_of, AllWait, IsPlaced}
 use Rattle.wx_machine.proofs.Owners.{self, same-is, either, child_owner}
 use Rattle.wx_machine.proofs.Tickets.{asked_kept}
-use Rattle.wx_machine.proofs.Times.{times_append}
+use Rattle.wx_machine.proofs.Frame.{not_its}
 
 -- ---- what is known of a journal whose tickets are in place
 
@@ -122,15 +119,14 @@ record Leaves (e : Entry) (p : List Entry) : Type 0 where
   children : NamesChildren (e ∷ p)
   held : HoldsTickets (e ∷ p)
   last : AreRaisedLast (e ∷ p)
-  polled : WaitForFunctions (e ∷ p)
 
-placed_still : (e : Entry) (p : List Entry) → is_still e ≡ true → Leaves e p → IsPlaced p → IsPlaced (e ∷ p)
-placed_still (Made job) p s l h = absurd cc
-placed_still (Asked ticket job level control) p s l h = absurd cc
-placed_still (Pick job ticket) p s l h = absurd cc
-placed_still (Raise ticket) p s l h = absurd cc
-placed_still (Gone job) p s l h = absurd cc
-placed_still (_) p s l h =
+placed_still : (e : Entry) (p : List Entry) → is_still e ≡ true → Leaves e p → AllWait is_of p e → IsPlaced p → IsPlaced (e ∷ p)
+placed_still (Made job) p s l w h = absurd cc
+placed_still (Asked ticket job level control) p s l w h = absurd cc
+placed_still (Pick job ticket) p s l w h = absurd cc
+placed_still (Raise ticket) p s l w h = absurd cc
+placed_still (Gone job) p s l w h = absurd cc
+placed_still (_) p s l w h =
     let o = one_now p h in record {
       children = l.children;
       tickets = h.tickets;
@@ -141,7 +137,7 @@ placed_still (_) p s l h =
       begins = λ i. (l.held i).functions;
       last = l.last;
       pressing = h.pressing;
-      polled = l.polled;
+      polled = (w, h.polled);
     }
 
 -- entries that are of no job
@@ -156,35 +152,48 @@ silent_leaves : (e : Entry) (p : List Entry) → IsSilent e → IsPlaced p → H
 silent_leaves (Said word) p s h held = search
 silent_leaves (_) p s h held = search
 
+not_job : (b : Bool) → T (not b) → b ≡ false
+not_job true s = absurd s
+not_job false s = refl
+
+not_of : (id : Id) (p : List Entry) (subject : Subject) → is_job subject ≡ false → is_of id p subject ≡ false
+not_of id p (OfJob job) e = absurd cc
+not_of id p (OfChild c) e = absurd cc
+not_of id p (OfTicket t) e = absurd cc
+not_of id p (_) e = refl
+
+silent_waits : (e : Entry) (p : List Entry) → IsSilent e → AllWait is_of p e
+silent_waits e p s id mine = let other = not_of id p (sort e).subject (not_job (is_of_job e) s) in let both : true ≡ false = sym mine ∙ other in absurd cc
+
 pub placed_silent : (e : Entry) (p : List Entry) → IsSilent e → IsPlaced p → IsPlaced (e ∷ p)
-placed_silent e p s h = placed_still e p (silent_still e s) (silent_leaves e p s h (held_of p h)) h
+placed_silent e p s h = placed_still e p (silent_still e s) (silent_leaves e p s h (held_of p h)) (silent_waits e p s) h
 
 -- an entry that ends a grace leaves the others
-pub placed_over : (id : Id) (p : List Entry) → begun id p ≡ None → IsPlaced p → IsPlaced (GraceOver id ∷ p)
-placed_over id p free h = placed_still (GraceOver id) p refl (record { children = h.children; held = λ i. ended_held (same id i) (grace i p) (begun i p) (in_hand i p) (held_of p h i); last = h.last; polled = (free, h.polled) }) h
+pub placed_over : (id : Id) (p : List Entry) → AllWait is_of p (GraceOver id) → IsPlaced p → IsPlaced (GraceOver id ∷ p)
+placed_over id p wait h = placed_still (GraceOver id) p refl (record { children = h.children; held = λ i. ended_held (same id i) (grace i p) (begun i p) (in_hand i p) (held_of p h i); last = h.last }) wait h
 
 pub placed_dropped : (c : ℕ) (p : List Entry) → IsPlaced p → IsPlaced (Dropped c ∷ p)
-placed_dropped c p h = placed_still (Dropped c) p refl (record { children = h.children; held = λ i. ended_held (is_child c (child i p)) (grace i p) (begun i p) (in_hand i p) (held_of p h i); last = h.last; polled = h.polled }) h
+placed_dropped c p h = placed_still (Dropped c) p refl (record { children = h.children; held = λ i. ended_held (is_child c (child i p)) (grace i p) (begun i p) (in_hand i p) (held_of p h i); last = h.last }) (λ id mine f is. tt) h
 
 -- ---- calls of a job, where the ticket of its case wasn't raised
 
-pub placed_spawn : (id : Id) (tag : SpawnTag) (what : Spawnable) (a : Result (Unit {0}) HostFault) (p : List Entry) → IsUnraised (case_ticket id p) p → begun id p ≡ None → IsPlaced p → IsPlaced (Spawn (child_count p) id tag what a ∷ p)
-placed_spawn id tag what a p un free h = placed_still (Spawn (child_count p) id tag what a) p refl (record { children = (refl, h.children); held = held_of p h; last = (un, h.last); polled = (free, h.polled) }) h
+pub placed_spawn : (id : Id) (tag : SpawnTag) (what : Spawnable) (a : Result (Unit {0}) HostFault) (p : List Entry) → IsUnraised (case_ticket id p) p → AllWait is_of p (Spawn (child_count p) id tag what a) → IsPlaced p → IsPlaced (Spawn (child_count p) id tag what a ∷ p)
+placed_spawn id tag what a p un wait h = placed_still (Spawn (child_count p) id tag what a) p refl (record { children = (refl, h.children); held = held_of p h; last = (un, h.last) }) wait h
 
-pub placed_hook : (id : Id) (n : ℕ) (a : Result Spawnable Memory) (p : List Entry) → IsUnraised (case_ticket id p) p → IsPlaced p → IsPlaced (Hook id n a ∷ p)
-placed_hook id n a p un h = placed_still (Hook id n a) p refl (record { children = h.children; held = held_of p h; last = (un, h.last); polled = h.polled }) h
+pub placed_hook : (id : Id) (n : ℕ) (a : Result Spawnable Memory) (p : List Entry) → IsUnraised (case_ticket id p) p → AllWait is_of p (Hook id n a) → IsPlaced p → IsPlaced (Hook id n a ∷ p)
+placed_hook id n a p un wait h = placed_still (Hook id n a) p refl (record { children = h.children; held = held_of p h; last = (un, h.last) }) wait h
 
-pub placed_shown : (id : Id) (n code : ℕ) (p : List Entry) → IsUnraised (case_ticket id p) p → IsPlaced p → IsPlaced (JobError id n code ∷ p)
-placed_shown id n code p un h = placed_still (JobError id n code) p refl (record { children = h.children; held = held_of p h; last = (un, h.last); polled = h.polled }) h
+pub placed_shown : (id : Id) (n code : ℕ) (p : List Entry) → IsUnraised (case_ticket id p) p → AllWait is_of p (JobError id n code) → IsPlaced p → IsPlaced (JobError id n code ∷ p)
+placed_shown id n code p un wait h = placed_still (JobError id n code) p refl (record { children = h.children; held = held_of p h; last = (un, h.last) }) wait h
 
-pub placed_run : (id : Id) (n : ℕ) (p : List Entry) → IsUnraised (case_ticket id p) p → IsPlaced p → IsPlaced (Run id n ∷ p)
-placed_run id n p un h = placed_still (Run id n) p refl (record { children = h.children; held = held_of p h; last = (un, h.last); polled = h.polled }) h
+pub placed_run : (id : Id) (n : ℕ) (p : List Entry) → IsUnraised (case_ticket id p) p → AllWait is_of p (Run id n) → IsPlaced p → IsPlaced (Run id n ∷ p)
+placed_run id n p un wait h = placed_still (Run id n) p refl (record { children = h.children; held = held_of p h; last = (un, h.last) }) wait h
 
--- a function is begun, where the ticket is in hand that was just picked, and that it holds
-pub placed_begun : (id : Id) (n : ℕ) (p : List Entry) → IsUnraised (case_ticket id p) p → AreHeld (grace id p) (begun_with n (just_picked id p)) (in_hand id p) → IsPlaced p → IsPlaced (Begun id n ∷ p)
-placed_begun id n p un held h = placed_still (Begun id n) p refl (record { children = h.children; held = λ i. by_test i (same id i) refl; last = (un, h.last); polled = h.polled }) h
+-- a function is begun, where the ticket is in hand that was picked last, and that it holds
+pub placed_begun : (id : Id) (n : ℕ) (p : List Entry) → IsUnraised (case_ticket id p) p → AreHeld (grace id p) (begun_with n (picked_last id p)) (in_hand id p) → AllWait is_of p (Begun id n) → IsPlaced p → IsPlaced (Begun id n ∷ p)
+placed_begun id n p un held wait h = placed_still (Begun id n) p refl (record { children = h.children; held = λ i. by_test i (same id i) refl; last = (un, h.last) }) wait h
   where
-    by_test : (i : Id) (b : Bool) → same id i ≡ b → AreHeld (grace i p) (cond b (begun_with n (just_picked i p)) (begun i p)) (in_hand i p)
+    by_test : (i : Id) (b : Bool) → same id i ≡ b → AreHeld (grace i p) (cond b (begun_with n (picked_last i p)) (begun i p)) (in_hand i p)
     by_test i true is = let mine : id ≡ i = same-is id i is in rw (← mine) held
     by_test i false is = held_of p h i
 
@@ -193,8 +202,8 @@ poll_held id n true p held i = ready_held (same id i) (grace i p) (begun i p) (i
 poll_held id n false p held i = held i
 
 -- a begun function is polled
-pub placed_poll : (id : Id) (f : Function) (n : ℕ) (ready : Bool) (p : List Entry) → lives id p ≡ true → begun id p ≡ Some f → IsPlaced p → IsPlaced (Poll id n ready ∷ p)
-placed_poll id f n ready p alive is h = placed_still (Poll id n ready) p refl (record { children = h.children; held = poll_held id n ready p (held_of p h); last = (unraised, h.last); polled = h.polled }) h
+pub placed_poll : (id : Id) (f : Function) (n : ℕ) (ready : Bool) (p : List Entry) → lives id p ≡ true → begun id p ≡ Some f → AllWait is_of p (Poll id n ready) → IsPlaced p → IsPlaced (Poll id n ready ∷ p)
+placed_poll id f n ready p alive is wait h = placed_still (Poll id n ready) p refl (record { children = h.children; held = poll_held id n ready p (held_of p h); last = (unraised, h.last) }) wait h
   where
     unraised : IsUnraised (case_ticket id (Poll id n ready ∷ p)) (Poll id n ready ∷ p)
     unraised = rw (self id, is) (hand_unraised id f.ticket p h alive (h.begins id f is))
@@ -203,47 +212,31 @@ placed_poll id f n ready p alive is h = placed_still (Poll id n ready) p refl (r
 of_owner : (id : Id) (c : ℕ) (p q : List Entry) → NamesChildren p → child id p ≡ Some c → IsUnraised (case_ticket id q) q → IsUnraisedOf (owner c p) q
 of_owner id c p q named runs un = let its : owner c p ≡ Some id = child_owner id c p named runs in rw its un
 
--- and no function of it is begun
-free_owner : (id : Id) (c : ℕ) (p : List Entry) → NamesChildren p → child id p ≡ Some c → begun id p ≡ None → HasNoFunction (owner c p) p
-free_owner id c p named runs free = let its : owner c p ≡ Some id = child_owner id c p named runs in rw its free
-
-pub placed_kill : (id : Id) (c : ℕ) (a : Result (Unit {0}) HostFault) (p : List Entry) → child id p ≡ Some c → IsUnraised (case_ticket id p) p → begun id p ≡ None → IsPlaced p → IsPlaced (Kill c a ∷ p)
-placed_kill id c a p runs un free h = placed_still (Kill c a) p refl (record { children = h.children; held = held_of p h; last = (of_owner id c p p h.children runs un, h.last); polled = (free_owner id c p h.children runs free, h.polled) }) h
+pub placed_kill : (id : Id) (c : ℕ) (a : Result (Unit {0}) HostFault) (p : List Entry) → child id p ≡ Some c → IsUnraised (case_ticket id p) p → AllWait is_of p (Kill c a) → IsPlaced p → IsPlaced (Kill c a ∷ p)
+placed_kill id c a p runs un wait h = placed_still (Kill c a) p refl (record { children = h.children; held = held_of p h; last = (of_owner id c p p h.children runs un, h.last) }) wait h
 
 wait_held : (c : ℕ) (a : Result ProcessEnd HostFault) (p : List Entry) → HoldsTickets p → HoldsTickets (Wait c a ∷ p)
 wait_held c (Ok status) p held i = ended_held (is_child c (child i p)) (grace i p) (begun i p) (in_hand i p) (held i)
 wait_held c (Err fault) p held i = held i
 
-pub placed_wait : (id : Id) (c : ℕ) (a : Result ProcessEnd HostFault) (p : List Entry) → child id p ≡ Some c → IsUnraised (case_ticket id (Wait c a ∷ p)) (Wait c a ∷ p) → begun id p ≡ None → IsPlaced p → IsPlaced (Wait c a ∷ p)
-placed_wait id c a p runs un free h =
-    placed_still (Wait c a) p refl (record { children = h.children; held = wait_held c a p (held_of p h); last = (of_owner id c p (Wait c a ∷ p) h.children runs un, h.last); polled = (free_owner id c p h.children runs free, h.polled) }) h
+pub placed_wait : (id : Id) (c : ℕ) (a : Result ProcessEnd HostFault) (p : List Entry) → child id p ≡ Some c → IsUnraised (case_ticket id (Wait c a ∷ p)) (Wait c a ∷ p) → AllWait is_of p (Wait c a) → IsPlaced p → IsPlaced (Wait c a ∷ p)
+placed_wait id c a p runs un wait h =
+    placed_still (Wait c a) p refl (record { children = h.children; held = wait_held c a p (held_of p h); last = (of_owner id c p (Wait c a ∷ p) h.children runs un, h.last) }) wait h
 
 -- ---- a signal, which may begin a grace
 
--- the ticket of a control that begins a grace was just taken in hand
-taken_held : (t : ℕ) (o : Option Control) (at : ℕ) (before : Option Grace) (g : Grace) (now : CommandState) (hand : List ℕ) → (before ≡ Some g → 1 ≤ times g.ticket (takes o t now hand)) → begins_by (with_ticket t o) at before ≡ Some g → 1 ≤ times g.ticket (takes o t now hand)
-taken_held t (Some (GracefulStop signal grace)) at before g now hand were e = let is : record { ends = at + grace; ticket = t; restarts = false } ≡ g = cc in rw (← is) (rw (times_append t t hand, eq-eqb t t refl) (omega arith))
-taken_held t (Some (TryGracefulRestart signal grace)) at before g now hand were e = let is : record { ends = at + grace; ticket = t; restarts = true } ≡ g = cc in rw (← is) (rw (times_append t t hand, eq-eqb t t refl) (omega arith))
-taken_held t (_) at before g now hand were e = were e
-
-sent_held : (id : Id) (p : List Entry) (at : ℕ) (before : Option Grace) (g : Grace) → (before ≡ Some g → 1 ≤ times g.ticket (in_hand id p)) → begins_by (just_picked id p) at before ≡ Some g → 1 ≤ times g.ticket (in_hand id p)
-sent_held id [] at before g were e = were e
-sent_held id (Pick job t ∷ p) at before g were e = by_test (same job id) were e
+-- where the grace that it begins has its ticket in hand
+signal_held : (id : Id) (c : ℕ) (number : ℤ) (a : Result (Unit {0}) HostFault) (p : List Entry) → child id p ≡ Some c → ((g : Grace) → begins_by (picked_last id p) (moment p) (grace id p) ≡ Some g → 1 ≤ times g.ticket (in_hand id p)) → IsPlaced p → HoldsTickets (Signal c number a ∷ p)
+signal_held id c number (Ok done) p runs sent h i = by_test (same id i) refl
   where
-    by_test : (b : Bool) → (before ≡ Some g → 1 ≤ times g.ticket (cond b (takes (picked_control id t p) t (state id p) (in_hand id p)) (in_hand id p))) → begins_by (cond b (with_ticket t (picked_control id t p)) None) at before ≡ Some g → 1 ≤ times g.ticket (cond b (takes (picked_control id t p) t (state id p) (in_hand id p)) (in_hand id p))
-    by_test true were e = taken_held t (picked_control id t p) at before g (state id p) (in_hand id p) were e
-    by_test false were e = were e
-sent_held id (_ ∷ p) at before g were e = were e
+    by_test : (b : Bool) → same id i ≡ b → AreHeld (cond (is_child c (child i p)) (begins_by (picked_last i p) (moment p) (grace i p)) (grace i p)) (begun i p) (in_hand i p)
+    by_test true is =
+        let mine : id ≡ i = same-is id i is in
+        rw (← mine) (either (λ o. AreHeld o (begun id p) (in_hand id p)) (is_child c (child id p)) (begins_by (picked_last id p) (moment p) (grace id p)) (grace id p) (record { graces = sent; functions = h.begins id }) (held_of p h id))
+    by_test false is =
+        let other = not_its i id c p (λ e. (let mine : same id id ≡ false = (rw e at is) in let self_is = self id in cc)) h.children runs in
+        rw other (held_of p h i)
+signal_held id c number (Err fault) p runs sent h i = held_of p h i
 
-signal_held : (c : ℕ) (number : ℤ) (a : Result (Unit {0}) HostFault) (p : List Entry) → IsPlaced p → HoldsTickets (Signal c number a ∷ p)
-signal_held c number (Ok done) p h i =
-    either (λ o. AreHeld o (begun i p) (in_hand i p)) (is_child c (child i p)) (begins_by (just_picked i p) (moment p) (grace i p)) (grace i p)
-    (record {
-      graces = λ g e. sent_held i p (moment p) (grace i p) g (h.held i g) e;
-      functions = h.begins i;
-    })
-    (held_of p h i)
-signal_held c number (Err fault) p h i = held_of p h i
-
-pub placed_signal : (id : Id) (c : ℕ) (number : ℤ) (a : Result (Unit {0}) HostFault) (p : List Entry) → child id p ≡ Some c → IsUnraised (case_ticket id p) p → IsPlaced p → IsPlaced (Signal c number a ∷ p)
-placed_signal id c number a p runs un h = placed_still (Signal c number a) p refl (record { children = h.children; held = signal_held c number a p h; last = (of_owner id c p p h.children runs un, h.last); polled = h.polled }) h
+pub placed_signal : (id : Id) (c : ℕ) (number : ℤ) (a : Result (Unit {0}) HostFault) (p : List Entry) → child id p ≡ Some c → ((g : Grace) → begins_by (picked_last id p) (moment p) (grace id p) ≡ Some g → 1 ≤ times g.ticket (in_hand id p)) → IsUnraised (case_ticket id p) p → AllWait is_of p (Signal c number a) → IsPlaced p → IsPlaced (Signal c number a ∷ p)
+placed_signal id c number a p runs sent un wait h = placed_still (Signal c number a) p refl (record { children = h.children; held = signal_held id c number a p runs sent h; last = (of_owner id c p p h.children runs un, h.last) }) wait h

@@ -1,5 +1,5 @@
 -- What the plans of a run let come, and what they name.
-use Rattle.std.proofs.Common.{◌≡◌, ℕ, ◌+◌, Bool, true, false, cond, List, [], ◌∷◌, refl, sym, subst, ◌∙◌, eq-eqb}
+use Rattle.std.proofs.Common.{◌≡◌, ℕ, ◌+◌, ◌≤◌, Bool, true, false, cond, List, [], ◌∷◌, arith, refl, sym, subst, ◌∙◌, eq-eqb}
 use Rattle.std.specs.Prelude.{◌==◌, ◌||◌, T, Option, None, Some}
 use Rattle.std.proofs.lemmas.Bool.{or_right}
 use Rattle.wx_command.specs.declared.command.Command.{Command}
@@ -11,17 +11,20 @@ use Rattle.wx_control.specs.Asks.{sends_of}
 use Rattle.wx_journal.specs.Acts.{JournalAct as Act}
 use Rattle.wx_journal.specs.declared.entry.Act.TheVariants.{Create, Ask, Quit}
 use Rattle.wx_journal.specs.declared.entry.Entry.{Entry}
-use Rattle.wx_journal.specs.declared.entry.Entry.TheVariants.{Word as Said, Made, Asked, Spawn, Dropped, Gone}
+use Rattle.wx_journal.specs.declared.entry.Entry.TheVariants.{Word as Said, Made, Asked, GraceOver, Spawn, Signal, Dropped, Gone}
 use Rattle.wx_journal.specs.Sorts.{Subject, OfRun, OfTurn, OfEvents, sort}
 use Rattle.wx_journal.specs.declared.entry.Word.TheVariants.{Ignored}
 use Rattle.wx_journal.specs.Names.{Names, NamesItsOwn, creates, is_created, next_job, ticket_count}
 use Rattle.wx_machine.specs.History.{same, lives, child}
 use Rattle.wx_machine.specs.Table.{Plan, Done, adds, asks, step_plan, ask_second, ask_plan, drop_plan, end_plan}
 use Rattle.wx_machine.specs.Case.{PlanAdmits, is_planned, next}
-use Rattle.wx_machine.specs.TicketLaws.{IsPlaced}
-use Rattle.wx_machine.proofs.Owners.{either}
+use Rattle.wx_machine.specs.TicketLaws.{is_of, AllWait, IsPlaced}
+use Rattle.wx_machine.proofs.Owners.{same-is, either}
+use Rattle.wx_machine.proofs.Functions.{begun_none, new_dead}
 use Rattle.wx_machine.proofs.Always.{Always, always_now, always_next, always_also}
 use Rattle.wx_machine.proofs.Sound.{IsOwn, Fits, own_fit, own_runs, IsSound, Sound, sound_step, sound_ask, sound_end}
+use Rattle.wx_machine.specs.Afterwards.{IsAtLevel}
+use Rattle.wx_machine.proofs.AfterwardsLemmas.{AreAtLevel, sends_first, sends_second}
 use Rattle.wx_machine.proofs.Places.{placed_silent, placed_dropped}
 use Rattle.wx_machine.proofs.Moves.{placed_made, placed_gone}
 use Rattle.wx_machine.proofs.Placing.{Placing}
@@ -57,6 +60,9 @@ plan_fit id e p s = own_planned id p (sort e).subject (own_fit id e p s)
 free_fit : (id : Id) (e : Entry) (k : Plan) (p : List Entry) → IsSound id p e k → IsFree p e
 free_fit id (Spawn c job tag what answer) k p s = rw s.fits.0 (s.alive, s.fits.1)
 free_fit id (Gone job) k p s = rw s.fits.0 s.fits.1
+free_fit id (GraceOver job) k p s = rw s.fits.0 (s.fits.1, s.fits.2)
+free_fit id (Signal c number answer) k p s = (id, s.fits.0, s.fits.1)
+free_fit id (Asked t job level control) k p s = s.fits.2
 free_fit id (e) k p s = own_runs id p (sort e).subject (own_fit id e p s.fits)
 
 go_fit : (id : Id) (e : Entry) (k : Plan) (p : List Entry) → IsSound id p e k → LetsGo p e k
@@ -77,12 +83,12 @@ lawful_ask id ask p own h alive = record { each = each_sound id p (ask_plan id (
 
 -- ---- the plan of acts
 
-each_asked : (id : Id) (level : Level) (first : Control) (second : Option Control) (k : Plan) (p : List Entry) → Always IsLawful (Asked (ticket_count p) id level first ∷ p) k → ((c : Control) → Always IsLawful (Asked (ticket_count p + 1) id level c ∷ Asked (ticket_count p) id level first ∷ p) k)
+each_asked : (id : Id) (level : Level) (first : Control) (second : Option Control) (k : Plan) (p : List Entry) → IsAtLevel level first → AreAtLevel level second → Always IsLawful (Asked (ticket_count p) id level first ∷ p) k → ((c : Control) → Always IsLawful (Asked (ticket_count p + 1) id level c ∷ Asked (ticket_count p) id level first ∷ p) k)
     → Always IsLawful p (asks id level first (ask_second id level second k))
-each_asked id level first None k p one two = λ a. (record { names = refl; in_order = tt; free = tt; of_plan = tt; lets_go = tt }, one)
-each_asked id level first (Some c) k p one two = λ a. (
-  record { names = refl; in_order = tt; free = tt; of_plan = tt; lets_go = tt },
-  λ b. (record { names = refl; in_order = tt; free = tt; of_plan = tt; lets_go = tt }, two c),
+each_asked id level first None k p at also one two = λ a. (record { names = refl; in_order = tt; free = at; of_plan = tt; lets_go = tt }, one)
+each_asked id level first (Some c) k p at also one two = λ a. (
+  record { names = refl; in_order = tt; free = at; of_plan = tt; lets_go = tt },
+  λ b. (record { names = refl; in_order = tt; free = also; of_plan = tt; lets_go = tt }, two c),
 )
 
 each_acts : (there : Id → Bool) (acts : List Act) (p : List Entry) → ((id : Id) → creates id acts ≡ true → is_created id p ≡ true) → AreLawful (next_job p) acts → Always IsLawful p (act_plan there acts)
@@ -93,40 +99,41 @@ each_acts there (Create id command ∷ acts) p h l = λ a. (
 )
 each_acts there (Ask id ask ∷ acts) p h l =
     either (Always IsLawful p) (there id) _ _
-    (each_asked id (sends_of ask).level (sends_of ask).first (sends_of ask).second (act_plan there acts) p (each_acts there acts _ h l) (λ second. each_acts there acts _ h l))
+    (each_asked id (sends_of ask).level (sends_of ask).first (sends_of ask).second (act_plan there acts) p (sends_first ask) (sends_second ask) (each_acts there acts _ h l) (λ second. each_acts there acts _ h l))
     (λ a. (record { names = tt; in_order = tt; free = tt; of_plan = tt; lets_go = tt }, each_acts there acts _ h l))
 each_acts there (Quit ∷ acts) p h l = each_acts there acts p h l
 
 -- tickets stay placed, where what comes behind the asks keeps that
-placed_asked : (id : Id) (level : Level) (first : Control) (second : Option Control) (k : Plan) (p : List Entry) → lives id p ≡ true → IsPlaced p → ((q : List Entry) → ((job : Id) → lives job q ≡ lives job p) → IsPlaced q → Always Placing q k)
+placed_asked : (id : Id) (level : Level) (first : Control) (second : Option Control) (k : Plan) (p : List Entry) → IsPlaced p → ((q : List Entry) → ((job : Id) → lives job q ≡ lives job p) → next_job q ≡ next_job p → IsPlaced q → Always Placing q k)
     → Always Placing p (asks id level first (ask_second id level second k))
-placed_asked id level first None k p alive h rest = placed_asks id level first k p alive h (λ one. rest _ (λ job. refl) one)
-placed_asked id level first (Some c) k p alive h rest = placed_asks id level first (asks id level c k) p alive h (λ one. placed_asks id level c k (Asked (ticket_count p) id level first ∷ p) alive one (λ two. rest _ (λ job. refl) two))
-
-placed_if : (p : List Entry) (b : Bool) (k f : Plan) → (b ≡ true → Always Placing p k) → Always Placing p f → Always Placing p (cond b k f)
-placed_if p true k f h g = h refl
-placed_if p false k f h g = g
+placed_asked id level first None k p h rest = placed_asks id level first k p h (λ one. rest _ (λ job. refl) refl one)
+placed_asked id level first (Some c) k p h rest = placed_asks id level first (asks id level c k) p h (λ one. placed_asks id level c k (Asked (ticket_count p) id level first ∷ p) one (λ two. rest _ (λ job. refl) refl two))
 
 -- a job that is made lives, and so do those that lived
 lives_made : (b there living : Bool) → (b || there) ≡ true → (there ≡ true → living ≡ true) → (b || living) ≡ true
 lives_made true there living e h = refl
 lives_made false there living e h = h e
 
-placed_acts : (there : Id → Bool) (acts : List Act) (p : List Entry) → ((id : Id) → there id ≡ true → lives id p ≡ true) → IsPlaced p → Always Placing p (act_plan there acts)
-placed_acts there [] p living h = tt
-placed_acts there (Create id command ∷ acts) p living h = λ a. (
-  placed_made id p h,
-  placed_acts (λ job. same id job || there job) acts (Made id ∷ p) (λ job e. lives_made (same id job) (there job) (lives job p) e (living job)) (placed_made id p h),
-)
-placed_acts there (Ask id ask ∷ acts) p living h =
+-- a job that is made has no function that is begun: it is new
+new_waits : (id : Id) (p : List Entry) → next_job p ≤ id.0 → AllWait is_of p (Made id)
+new_waits id p new i mine f is =
+    let one : id ≡ i = same-is id i mine in
+    let none : None ≡ Some f = sym (begun_none id p (new_dead id p new)) ∙ rw one is in absurd cc
+
+placed_acts : (there : Id → Bool) (acts : List Act) (p : List Entry) → ((id : Id) → there id ≡ true → lives id p ≡ true) → AreLawful (next_job p) acts → IsPlaced p → Always Placing p (act_plan there acts)
+placed_acts there [] p living l h = tt
+placed_acts there (Create id command ∷ acts) p living l h =
+    let made = placed_made id p (new_waits id p (let new : id.0 ≡ next_job p = l.0 in omega (arith, new))) h in
+    λ a. (made, placed_acts (λ job. same id job || there job) acts (Made id ∷ p) (λ job e. lives_made (same id job) (there job) (lives job p) e (living job)) l.1 made)
+placed_acts there (Ask id ask ∷ acts) p living l h =
     let said = placed_silent (Said Ignored) p tt h in
-    placed_if p (there id) _ _
-    (λ is. placed_asked id (sends_of ask).level (sends_of ask).first (sends_of ask).second (act_plan there acts) p (living id is) h (λ q same_lives asked. placed_acts there acts q (λ job e. same_lives job ∙ living job e) asked))
-    (λ a. (said, placed_acts there acts (Said Ignored ∷ p) living said))
-placed_acts there (Quit ∷ acts) p living h = placed_acts there acts p living h
+    either (Always Placing p) (there id) _ _
+    (placed_asked id (sends_of ask).level (sends_of ask).first (sends_of ask).second (act_plan there acts) p h (λ q same_lives same_next asked. placed_acts there acts q (λ job e. same_lives job ∙ living job e) (rw same_next l) asked))
+    (λ a. (said, placed_acts there acts (Said Ignored ∷ p) living l said))
+placed_acts there (Quit ∷ acts) p living l h = placed_acts there acts p living l h
 
 pub lawful_acts : (acts : List Act) (p : List Entry) → ((id : Id) → creates id acts ≡ true → is_created id p ≡ true) → AreLawful (next_job p) acts → IsPlaced p → Lawful p (act_plan (λ id. lives id p) acts)
-lawful_acts acts p h l placed = record { each = each_acts (λ id. lives id p) acts p h l; placed = placed_acts (λ id. lives id p) acts p (λ id e. e) placed }
+lawful_acts acts p h l placed = record { each = each_acts (λ id. lives id p) acts p h l; placed = placed_acts (λ id. lives id p) acts p (λ id e. e) l placed }
 
 -- ---- the end
 

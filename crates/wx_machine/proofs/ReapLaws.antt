@@ -3,23 +3,26 @@ use Rattle.std.proofs.Common.{◌≡◌, ℕ, Bool, true, false, cond, List, [],
 use Rattle.std.specs.Prelude.{Option, None, Some, ◌&&◌, ◌||◌, not}
 use Rattle.wx_control.specs.declared.id.Id.{Id}
 use Rattle.wx_journal.specs.declared.entry.Entry.{Entry}
-use Rattle.wx_journal.specs.declared.entry.Entry.TheVariants.{Made, Spawn, Dropped, Gone}
+use Rattle.wx_journal.specs.declared.entry.Entry.TheVariants.{Made, Asked, GraceOver, Spawn, Signal, Dropped, Gone}
 use Rattle.wx_journal.specs.Sorts.{sort}
 use Rattle.wx_journal.specs.Names.{NamesItsOwn}
 use Rattle.wx_machine.specs.History.{same, lives, child, unless, reaped_child, still_running, is_child}
 use Rattle.wx_machine.specs.Table.{Plan, Done, adds, drop_plan}
 use Rattle.wx_machine.specs.Case.{PlanAdmits, next}
-use Rattle.wx_machine.specs.JobLaws.{unreaped, AreReaped, IsReaping, AfterFaults}
-use Rattle.wx_machine.proofs.Owners.{self, same-is}
-use Rattle.wx_machine.proofs.Sound.{RunsIn, Goes, goes_gone, gone_child, after_fault}
+use Rattle.wx_machine.specs.JobLaws.{unreaped, AreReaped, IsReaping, AfterFaults, NamesChildren, NamesTickets}
+use Rattle.wx_machine.specs.Afterwards.{GoesOnAfterFaults}
+use Rattle.wx_machine.proofs.Owners.{self, same-is, children_named}
+use Rattle.wx_machine.proofs.Tickets.{tickets_named}
+use Rattle.wx_machine.proofs.Sound.{RunsIn, Goes, goes_gone, gone_child, after_fault, goes_on}
+use Rattle.wx_machine.proofs.AfterwardsLemmas.{GoesBy}
 use Rattle.wx_error.specs.declared.error.CriticalError.TheVariants.{IoError, Memory}
 use Rattle.wx_machine.specs.Start.{Start}
 use Rattle.wx_machine.specs.Jobs.{jobs, first_end}
-use Rattle.wx_machine.specs.Due.{Agenda, Begins, Sends, Open, Offers, Says, Takes, Filters, Shows, Hands, Plans, Ends, Breaks, plans, rest, settle, agenda, Admits, Due, IsRun}
+use Rattle.wx_machine.specs.Due.{Agenda, Open, Comes, Plans, Ends, Breaks, Admits, plans, rest, settle, agenda, Due, IsRun}
 use Rattle.wx_journal.specs.Lines.{Answer}
 use Rattle.wx_machine.specs.Answer.{Dying, Alive, Dies, IsComplete, IsBroken, Wishes, MemoryCuts, Answers}
 use Rattle.wx_machine.proofs.Orderly.{IsFit, GoneRunNone}
-use Rattle.wx_machine.proofs.RunLaws.{orderly, free, free_end}
+use Rattle.wx_machine.proofs.RunLaws.{brought, orderly, free, free_end}
 use Rattle.wx_machine.proofs.AllJobs.{IsIn, in_jobs, is_child_some, one_parent}
 use Rattle.wx_machine.proofs.PlanLaws.{lawful_now, of_end}
 use Rattle.wx_machine.proofs.Lawful.{IsOfEnd, IsFree}
@@ -62,22 +65,15 @@ end_next p (job ∷ ids) c id e own its dropped d =
     let mine : job ≡ id = one_parent c id job p own its runs in
     gone_by_plan (Dropped c ∷ p) job (lives job p) (unless c (child job p)) e (gone_child c (child job p) runs) d ∙ ap (λ j. Gone j) mine
 
-next_dropped : (s : Start) (p : List Entry) (k : Agenda) (c : ℕ) (id : Id) (e : Entry) → NamesItsOwn p → IsFit p k → child id p ≡ Some c → Admits s p k (Dropped c) → Admits s (Dropped c ∷ p) (settle (Dropped c ∷ p) (rest (Dropped c) k)) e → e ≡ Gone id
-next_dropped s p Begins c id e own fit its dropped d = absurd cc
-next_dropped s p (Sends v q more) c id e own fit its dropped d = absurd cc
+next_dropped : (s : Start) (p : List Entry) (k : Agenda) (c : ℕ) (id : Id) (e : Entry) → NamesItsOwn p → IsFit s p k → child id p ≡ Some c → Admits s p k (Dropped c) → Admits s (Dropped c ∷ p) (settle (Dropped c ∷ p) (rest (Dropped c) k)) e → e ≡ Gone id
 next_dropped s p Open c id e own fit its dropped d = absurd dropped
-next_dropped s p (Offers v q more) c id e own fit its dropped d = absurd cc
-next_dropped s p (Says word more) c id e own fit its dropped d = absurd cc
-next_dropped s p Takes c id e own fit its dropped d = let is = dropped.1 in absurd cc
-next_dropped s p (Filters m) c id e own fit its dropped d = let is = dropped.1 in absurd cc
-next_dropped s p (Shows m) c id e own fit its dropped d = let is = dropped.1 in absurd cc
-next_dropped s p Breaks c id e own fit its dropped d = absurd dropped
-next_dropped s p Hands c id e own fit its dropped d = let is = dropped.1 in absurd cc
+next_dropped s p (Comes x more) c id e own fit its dropped d = absurd (brought s p x more (Dropped c) dropped fit)
 next_dropped s p (Plans k more) c id e own fit its dropped d =
     let go = (lawful_now p k (Dropped c) dropped fit.0).lets_go in
     let mine : go.0 ≡ id = one_parent c id go.0 p own its go.1 in
     goes_next s go.0 (next k (Dropped c)) more (Dropped c ∷ p) e go.2 d ∙ ap (λ j. Gone j) mine
 next_dropped s p Ends c id e own fit its dropped d = end_next p (jobs p) c id e own its dropped d
+next_dropped s p Breaks c id e own fit its dropped d = absurd dropped
 
 -- ---- one entry more
 
@@ -111,20 +107,20 @@ another job id other is =
 each_spawned : (s : Start) (p : List Entry) (e : Entry) (job : Id) → (e ≡ Gone job → ⊥) → Due s p e → IsReaped s p → (lives job p ≡ true) × (child job p ≡ None) → (id : Id) → same job id ≡ true → unreaped id p ≡ None
 each_spawned s p e job other d h free id is = subst (λ j. unreaped j p ≡ None) (same-is job id is) (last_before s p e job other d h free.0 ∙ free.1)
 
-reaps_on : (s : Start) (p : List Entry) (e : Entry) → NamesItsOwn p → IsFit p (agenda s p) → Due s p e → IsReaped s p → IsReaped s (e ∷ p)
+reaps_on : (s : Start) (p : List Entry) (e : Entry) → NamesItsOwn p → IsFit s p (agenda s p) → Due s p e → IsReaped s p → IsReaped s (e ∷ p)
 reaps_on s p (Made job) own fit d h = record {
   each = λ id other. h.each id;
   last = λ id alive other. last_made (same job id) (lives id p) (unreaped id p) (child id p) alive (λ l. last_before s p (Made job) id (λ is. cc) d h l);
   next = λ id is. absurd cc;
 }
 reaps_on s p (Spawn c job tag what (Ok done)) own fit d h =
-    let free_is = free s p (agenda s p) (Spawn c job tag what (Ok done)) d fit in record {
+    let free_is = free s p (agenda s p) (Spawn c job tag what (Ok done)) d fit own in record {
       each = λ id. (λ is. each_spawned s p (Spawn c job tag what (Ok done)) job (λ is. cc) d h free_is id is, h.each id);
       last = λ id alive other. ap (cond (same job id) (Some c)) (last_before s p (Spawn c job tag what (Ok done)) id (λ is. cc) d h alive);
       next = λ id is. absurd cc;
     }
 reaps_on s p (Spawn c job tag what (Err fault)) own fit d h =
-    let free_is = free s p (agenda s p) (Spawn c job tag what (Err fault)) d fit in record {
+    let free_is = free s p (agenda s p) (Spawn c job tag what (Err fault)) d fit own in record {
       each = λ id. (λ is. each_spawned s p (Spawn c job tag what (Err fault)) job (λ is. cc) d h free_is id is, h.each id);
       last = λ id alive other. last_before s p (Spawn c job tag what (Err fault)) id (λ is. cc) d h alive;
       next = λ id is. absurd cc;
@@ -153,16 +149,49 @@ run_reaped s (e ∷ p) r = let o = orderly s p r.1 in reaps_on s p e o.own o.fit
 free_runs : (e : Entry) (p : List Entry) → IsFree p e → RunsIn p (sort e).subject
 free_runs (Spawn c job tag what answer) p f = tt
 free_runs (Gone job) p f = tt
+free_runs (GraceOver job) p f = tt
+free_runs (Signal c number answer) p f = (f.0, f.1)
+free_runs (Asked ticket job level control) p f = tt
 free_runs (_) p f = f
 
 run_after_faults : (s : Start) (p : List Entry) → IsRun s p → AfterFaults p
 run_after_faults s [] r = tt
-run_after_faults s (e ∷ p) r = after_fault e p (free_runs e p (free s p (agenda s p) e r.0 (orderly s p r.1).fit)) (run_after_faults s p r.1)
+run_after_faults s (e ∷ p) r = let o = orderly s p r.1 in after_fault e p (free_runs e p (free s p (agenda s p) e r.0 o.fit o.own)) (run_after_faults s p r.1)
 
 dying_after_faults : (q p : List Entry) → Dying q p → AfterFaults q → AfterFaults p
 dying_after_faults q p l start = elim l as (λ p _. AfterFaults p) [
   | Alive ↦ start
   | Dies e p (l → h) d ↦ after_fault e p (free_runs e p (free_end p e d)) h
+]
+
+free_by : (e : Entry) (p : List Entry) → IsFree p e → GoesBy p e
+free_by (GraceOver job) p f = f
+free_by (Signal c number answer) p f = f
+free_by (Asked ticket job level control) p f = f
+free_by (_) p f = tt
+
+run_goes_on : (s : Start) (p : List Entry) → IsRun s p → GoesOnAfterFaults p
+run_goes_on s [] r = record { children = tt; tickets = tt; levels = tt; standing = λ id g e. cc; born = tt; over = tt }
+run_goes_on s (e ∷ p) r =
+    let before = orderly s p r.1 in
+    let f = free s p (agenda s p) e r.0 before.fit before.own in
+    let own = (orderly s (e ∷ p) r).own in
+    goes_on e p (free_runs e p f) (free_by e p f) (children_named (e ∷ p) own) (tickets_named (e ∷ p) own) (run_goes_on s p r.1)
+
+end_children : (e : Entry) (p : List Entry) → IsOfEnd e → NamesChildren p → NamesChildren (e ∷ p)
+end_children (Dropped c) p o h = h
+end_children (Gone job) p o h = h
+end_children (_) p o h = absurd o
+
+end_tickets : (e : Entry) (p : List Entry) → IsOfEnd e → NamesTickets p → NamesTickets (e ∷ p)
+end_tickets (Dropped c) p o h = h
+end_tickets (Gone job) p o h = h
+end_tickets (_) p o h = absurd o
+
+dying_goes_on : (q p : List Entry) → Dying q p → GoesOnAfterFaults q → GoesOnAfterFaults p
+dying_goes_on q p l start = elim l as (λ p _. GoesOnAfterFaults p) [
+  | Alive ↦ start
+  | Dies e p (l → h) d ↦ (let f = free_end p e d in let o = of_end p e d in goes_on e p (free_runs e p f) (free_by e p f) (end_children e p o h.children) (end_tickets e p o h.tickets) h)
 ]
 
 -- ---- after the end
@@ -186,17 +215,18 @@ pub record HasReaped (p : List Entry) : Type 0 where
   pub reaped : (id : Id) → IsReaping id p
   pub none : (id : Id) → child id p ≡ None
   pub failed : AfterFaults p
+  pub afterwards : GoesOnAfterFaults p
 
-has_reaped : (p : List Entry) → ((id : Id) → AreReaped id p) → GoneRunNone p → jobs p ≡ [] → AfterFaults p → HasReaped p
-has_reaped p each gone none failed = record { reaped = λ id. ended p id (each id) gone none; none = λ id. no_child p id gone none; failed = failed }
+has_reaped : (p : List Entry) → ((id : Id) → AreReaped id p) → GoneRunNone p → jobs p ≡ [] → AfterFaults p → GoesOnAfterFaults p → HasReaped p
+has_reaped p each gone none failed afterwards = record { reaped = λ id. ended p id (each id) gone none; none = λ id. no_child p id gone none; failed = failed; afterwards = afterwards }
 
 complete_reaps : (s : Start) (p : List Entry) → IsComplete s p → HasReaped p
-complete_reaps s p c = has_reaped p (run_reaped s p c.run).each (orderly s p c.run).idle c.none (run_after_faults s p c.run)
+complete_reaps s p c = has_reaped p (run_reaped s p c.run).each (orderly s p c.run).idle c.none (run_after_faults s p c.run) (run_goes_on s p c.run)
 
 broken_reaps : (place : List Entry → Type 0) (s : Start) (p : List Entry) → IsBroken place s p → HasReaped p
 broken_reaps place s p b =
     has_reaped p (λ id. dying_each b.before p id b.dying ((run_reaped s b.before b.run).each id)) (dying_none b.before p b.dying (orderly s b.before b.run).idle) b.none
-    (dying_after_faults b.before p b.dying (run_after_faults s b.before b.run))
+    (dying_after_faults b.before p b.dying (run_after_faults s b.before b.run)) (dying_goes_on b.before p b.dying (run_goes_on s b.before b.run))
 
 -- whatever a run answers
 pub ran_reaps : (s : Start) (p : List Entry) (answer : Answer) → Answers s p answer → HasReaped p

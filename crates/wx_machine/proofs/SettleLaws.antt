@@ -4,6 +4,7 @@ use Rattle.wx_journal.specs.declared.entry.Entry.{Entry}
 use Rattle.wx_journal.specs.declared.entry.Entry.TheVariants.{Turn as Turned, Hand}
 use Rattle.wx_machine.specs.Table.{Plan, Done}
 use Rattle.wx_machine.proofs.Owners.{either}
+use Rattle.wx_machine.specs.Start.{Start}
 use Rattle.wx_machine.specs.Due.{Agenda, Open, Plans, Ends, plans, is_quitting, settle}
 use Rattle.wx_machine.proofs.Orderly.{IsQuiet, IsFit, IsGoing}
 use Rattle.wx_machine.proofs.Lawful.{IsOfPlan}
@@ -13,6 +14,11 @@ pub settle_calm : (p : List Entry) (k : Agenda) → is_quitting p ≡ false → 
 settle_calm p Open e = ap (λ (b : Bool). cond b Ends Open) e
 settle_calm p (k) e = refl
 
+-- it goes by whether the end was asked for alone
+pub settle_over : (p' p : List Entry) (k : Agenda) → is_quitting p' ≡ is_quitting p → settle p' k ≡ settle p k
+settle_over p' p Open e = ap (λ (b : Bool). cond b Ends Open) e
+settle_over p' p (k) e = refl
+
 -- an entry of a plan leaves whether the end was asked for
 pub quitting_over : (e : Entry) (p : List Entry) → IsOfPlan e → is_quitting (e ∷ p) ≡ is_quitting p
 quitting_over (Turned t) p o = absurd o
@@ -20,9 +26,9 @@ quitting_over (Hand n names acts) p o = absurd o
 quitting_over (_) p o = refl
 
 -- it leaves what fits
-pub fit_settle : (p : List Entry) (k : Agenda) → IsFit p k → IsFit p (settle p k)
-fit_settle p Open f = either (IsFit p) (is_quitting p) Ends Open tt tt
-fit_settle p (k) f = f
+pub fit_settle : (s : Start) (p : List Entry) (k : Agenda) → IsFit s p k → IsFit s p (settle p k)
+fit_settle s p Open f = either (IsFit s p) (is_quitting p) Ends Open tt tt
+fit_settle s p (k) f = f
 
 -- ---- where something else than a plan or the end is owed no end was asked for
 

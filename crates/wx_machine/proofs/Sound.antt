@@ -15,7 +15,7 @@ use Rattle.wx_control.specs.Asks.{sends_of}
 use Rattle.wx_journal.specs.declared.child.HostFault.{HostFault}
 use Rattle.wx_journal.specs.declared.child.SpawnTag.{SpawnTag}
 use Rattle.wx_journal.specs.declared.entry.Entry.{Entry}
-use Rattle.wx_journal.specs.declared.entry.Entry.TheVariants.{Turn as Turned, Word as Said, Hand, Made, Asked, Pick, GraceOver, Spawn, Signal, Kill, Wait, Dropped, Raise, Gone, Run, Begun, Poll, Hook}
+use Rattle.wx_journal.specs.declared.entry.Entry.TheVariants.{Turn as Turned, Word as Said, Hand, Made, Asked, Pick, GraceOver, Spawn, Signal, Kill, Wait, Dropped, Raise, Gone, Run, Poll, Hook}
 use Rattle.wx_journal.specs.Sorts.{Subject, OfWord, OfJob, OfChild, OfTicket, sort}
 use Rattle.wx_journal.specs.declared.entry.Word.{Word}
 use Rattle.wx_journal.specs.declared.entry.Word.TheVariants.{Idle as TheIdle, Later as TheLater}
@@ -26,15 +26,18 @@ use Rattle.wx_machine.specs.declared.choice.Choice.TheVariants.{Poll as Polled, 
 use Rattle.wx_machine.specs.declared.function.Function.{Function}
 use Rattle.wx_machine.specs.declared.grace.Grace.{Grace}
 use Rattle.wx_events.specs.declared.process.Signal.{Signal as ASignal}
-use Rattle.wx_machine.specs.History.{same, lives, waits, child, kept, begun, grace, unless, reaped_child, still_running, asked_of, SameHistory}
+use Rattle.wx_machine.specs.History.{same, lives, waits, child, kept, begun, grace, unless, reaped_child, still_running, asked_of}
+use Rattle.wx_machine.specs.Leaves.{SameHistory}
 use Rattle.wx_machine.specs.Table.{Words, Given, Left, Call, Adds, Spawns, Signals, Waits, ShowsFault, Plan, Done, GivenUp, Owes, Kit, kit, kit_after, adds, asks, raises, shows, tries, reap, waiters, raise_grace, number_of, signalled, graceful, restart, spawn, fresh_by, fresh, row, fresh_over, over, ended_in, ended_by, polled, pick_by, case, step_by, ask_second, ask_plan, send_plan, end_plan, leave}
 use Rattle.wx_machine.specs.Case.{CallAnswer, entry, PlanAdmits, is_fault, next, IsCut, PlanLeads, PlanHere, PlanThen}
 use Rattle.wx_machine.specs.Faults.{fault_count, Counted}
-use Rattle.wx_machine.specs.JobLaws.{unreaped, Runs, AreReaped, AfterFaults, NamesChildren, NamesTickets}
-use Rattle.wx_machine.proofs.Owners.{self, either, children_named, owner_below, child_owner}
-use Rattle.wx_machine.proofs.Tickets.{tickets_named, asked_below, AreOf, picked_of, parked_of, grace_asked, begun_asked}
-use Rattle.wx_machine.proofs.Frame.{same_history, history_then, frame_pick, frame_asked, frame_spawn_ok, frame_spawn_err, frame_hook, frame_begun, frame_ready, frame_gone, frame_over, frame_raise, frame_silent, frame_signal_ok, frame_signal_err, frame_wait_ok, frame_wait_err, frame_drop}
-use Rattle.wx_machine.proofs.Graces.{over_without}
+use Rattle.wx_machine.specs.Added.{Added, Same, More}
+use Rattle.wx_machine.specs.JobLaws.{unreaped, Runs, AreReaped, AfterFaults, CallsItsChild, NamesChildren, NamesTickets}
+use Rattle.wx_machine.proofs.Owners.{self, other-is, either, children_named, owner_below, child_owner}
+use Rattle.wx_machine.proofs.Tickets.{tickets_named, asked_below, AreOf, picked_of, parked_of, parked_other, grace_asked, begun_asked}
+use Rattle.wx_machine.proofs.Frame.{same_history, history_then, IsOther, other_child, frame_apart}
+use Rattle.wx_machine.specs.Afterwards.{is_signalling, IsAtLevel, AreAtTheirLevels, IsBorn, MayBeOver, AreOverOnce, GoesOnAfterFaults}
+use Rattle.wx_machine.proofs.AfterwardsLemmas.{born, GoesBy, levels_on, standing_on, signal_none, AreAtLevel, sends_first, sends_second}
 use Rattle.wx_machine.proofs.Times.{is_first}
 use Rattle.wx_machine.proofs.PlacedPlans.{MayPick, due}
 use Rattle.wx_machine.proofs.Always.{Always, both, always_now, always_next, always_if}
@@ -48,10 +51,12 @@ IsOwn id p (OfTicket t) = NamesTickets p → asked_of t p ≡ Some id
 IsOwn id p (_) = ⊥
 
 -- What a plan of a job brings: it names this job, its running child, its tickets and what has the next name, spawns and calls a spawn hook
--- only where no child runs, and says that the job is gone only then.
+-- only where no child runs, and says that the job is gone only then, and that a grace is over only where one stands.
 abbrev pub Fits : Id → List Entry → Entry → Type 0
 Fits id p (Made job) = ⊥
-Fits id p (Asked t job level control) = (job ≡ id) × (t ≡ ticket_count p)
+Fits id p (Asked t job level control) = (job ≡ id) × (t ≡ ticket_count p) × IsAtLevel level control
+Fits id p (Signal c number answer) = (child id p ≡ Some c) × (AreAtTheirLevels p → grace id p ≡ None)
+Fits id p (GraceOver job) = (job ≡ id) × (g : Grace) × (grace id p ≡ Some g)
 Fits id p (Spawn c job tag what answer) = (job ≡ id) × (child id p ≡ None) × (c ≡ child_count p)
 Fits id p (Gone job) = (job ≡ id) × (child id p ≡ None)
 Fits id p (Hook job n answer) = (job ≡ id) × (child id p ≡ None)
@@ -61,6 +66,8 @@ Fits id p (e) = IsOwn id p (sort e).subject
 pub own_fit : (id : Id) (e : Entry) (p : List Entry) → Fits id p e → IsOwn id p (sort e).subject
 own_fit id (Made job) p s = absurd s
 own_fit id (Asked t job level control) p s = s.0
+own_fit id (Signal c number answer) p s = s.0
+own_fit id (GraceOver job) p s = s.0
 own_fit id (Spawn c job tag what answer) p s = s.0
 own_fit id (Gone job) p s = s.0
 own_fit id (Hook job n answer) p s = s.0
@@ -173,11 +180,15 @@ sound_reap id handler d t k p is alive asked rest = λ a.
     let last : SoundOn id q (raises t) = raises_on id t q asked in
     (record { alive = alive; fits = is; names = λ own. child_below id d p own is; closes = tt }, both _ (sound_shows id handler (raises t) q alive last) (sound_wait id handler d k (raises t) q is alive last rest))
 
+-- no grace stands, where controls were asked at their levels
+abbrev pub IsUngraced : Id → List Entry → Type 0
+IsUngraced id p = AreAtTheirLevels p → grace id p ≡ None
+
 -- the child that runs is sent a signal
-pub sound_signal : (id : Id) (handler : Option ℕ) (d : ℕ) (signal : ASignal) (k failed : Plan) (p : List Entry) → child id p ≡ Some d → lives id p ≡ true → SoundOn id p failed → SoundOn id p k → Sound id p (tries id handler (Signals d (number_of signal)) k failed)
-sound_signal id handler d signal k failed p is alive bad rest = λ a.
+pub sound_signal : (id : Id) (handler : Option ℕ) (d : ℕ) (signal : ASignal) (k failed : Plan) (p : List Entry) → child id p ≡ Some d → IsUngraced id p → lives id p ≡ true → SoundOn id p failed → SoundOn id p k → Sound id p (tries id handler (Signals d (number_of signal)) k failed)
+sound_signal id handler d signal k failed p is none alive bad rest = λ a.
     let q : List Entry = Signal d (number_of signal) a ∷ p in
-    (record { alive = alive; fits = is; names = λ own. child_below id d p own is; closes = tt }, both _ (sound_shows id handler failed q alive bad) (rest q alive (λ u h. h)))
+    (record { alive = alive; fits = (is, none); names = λ own. child_below id d p own is; closes = tt }, both _ (sound_shows id handler failed q alive bad) (rest q alive (λ u h. h)))
 
 -- the child that runs is let go, where one does, and the job is gone
 pub sound_leave : (id : Id) (c : Option ℕ) (p : List Entry) → child id p ≡ c → lives id p ≡ true → Sound id p (leave id c)
@@ -212,36 +223,36 @@ sound_stop id by d t p is alive asked held =
     sound_reap id by.handler d t (waiters by.parked (raise_grace by.grace (raises t))) p is alive asked
     (sound_parked id by (raise_grace by.grace (raises t)) p held (λ q none alive still. sound_grace id by.grace t q alive (λ g e. still g.ticket (held.grace g e)) (still t asked)))
 
-sound_graceful : (id : Id) (handler : Option ℕ) (signal : ASignal) (t : ℕ) (c : Option ℕ) (p : List Entry) → child id p ≡ c → lives id p ≡ true → IsAsked id t p → Sound id p (graceful id handler signal t c)
-sound_graceful id handler signal t None p is alive asked = sound_raises id t p alive asked
-sound_graceful id handler signal t (Some d) p is alive asked = sound_signal id handler d signal Done (raises t) p is alive (raises_on id t p asked) (λ q alive still. tt)
+sound_graceful : (id : Id) (handler : Option ℕ) (signal : ASignal) (t : ℕ) (c : Option ℕ) (p : List Entry) → child id p ≡ c → IsUngraced id p → lives id p ≡ true → IsAsked id t p → Sound id p (graceful id handler signal t c)
+sound_graceful id handler signal t None p is none alive asked = sound_raises id t p alive asked
+sound_graceful id handler signal t (Some d) p is none alive asked = sound_signal id handler d signal Done (raises t) p is none alive (raises_on id t p asked) (λ q alive still. tt)
 
-sound_signalled : (id : Id) (handler : Option ℕ) (signal : ASignal) (t : ℕ) (c : Option ℕ) (p : List Entry) → child id p ≡ c → lives id p ≡ true → IsAsked id t p → Sound id p (signalled id handler signal t c)
-sound_signalled id handler signal t None p is alive asked = sound_raises id t p alive asked
-sound_signalled id handler signal t (Some d) p is alive asked = sound_signal id handler d signal (raises t) (raises t) p is alive (raises_on id t p asked) (raises_on id t p asked)
+sound_signalled : (id : Id) (handler : Option ℕ) (signal : ASignal) (t : ℕ) (c : Option ℕ) (p : List Entry) → child id p ≡ c → IsUngraced id p → lives id p ≡ true → IsAsked id t p → Sound id p (signalled id handler signal t c)
+sound_signalled id handler signal t None p is none alive asked = sound_raises id t p alive asked
+sound_signalled id handler signal t (Some d) p is none alive asked = sound_signal id handler d signal (raises t) (raises t) p is none alive (raises_on id t p asked) (raises_on id t p asked)
 
-sound_row : (id : Id) (by : Kit) (t : ℕ) (control : Control) (c : Option ℕ) (p : List Entry) → child id p ≡ c → lives id p ≡ true → IsAsked id t p → KitAsked id by p → Sound id p (row id by t control c)
-sound_row id by t Start None p is alive asked held = sound_fresh id by t p is alive asked
-sound_row id by t Stop (Some d) p is alive asked held = sound_stop id by d t p is alive asked held
-sound_row id by t (GracefulStop signal grace) c p is alive asked held = sound_graceful id by.handler signal t c p is alive asked
-sound_row id by t TryRestart (Some d) p is alive asked held = sound_restart id by d t p is alive asked held
-sound_row id by t (TryGracefulRestart signal grace) c p is alive asked held = sound_graceful id by.handler signal t c p is alive asked
-sound_row id by t ContinueTryGracefulRestart None p is alive asked held = sound_fresh id by t p is alive asked
-sound_row id by t ContinueTryGracefulRestart (Some d) p is alive asked held = sound_restart id by d t p is alive asked held
-sound_row id by t (Signalled signal) c p is alive asked held = sound_signalled id by.handler signal t c p is alive asked
-sound_row id by t Delete c p is alive asked held = sound_raise id t (leave id c) p alive asked (sound_leave id c (Raise t ∷ p) is alive)
-sound_row id by t NextEnding c p is alive asked held = either (Sound id p) by.finished (raises t) Done (sound_raises id t p alive asked) tt
-sound_row id by t (SyncFunc n) c p is alive asked held = λ a. (record { alive = alive; fits = refl; names = λ own. tt; closes = tt }, sound_raises id t (Run id n ∷ p) alive asked)
-sound_row id by t (AsyncFunc n) c p is alive asked held = λ a. (record { alive = alive; fits = refl; names = λ own. tt; closes = tt }, tt)
-sound_row id by t (_) (_) p is alive asked held = sound_raises id t p alive asked
+sound_row : (id : Id) (by : Kit) (t : ℕ) (control : Control) (c : Option ℕ) (p : List Entry) → child id p ≡ c → (is_signalling control ≡ true → IsUngraced id p) → lives id p ≡ true → IsAsked id t p → KitAsked id by p → Sound id p (row id by t control c)
+sound_row id by t Start None p is none alive asked held = sound_fresh id by t p is alive asked
+sound_row id by t Stop (Some d) p is none alive asked held = sound_stop id by d t p is alive asked held
+sound_row id by t (GracefulStop signal grace) c p is none alive asked held = sound_graceful id by.handler signal t c p is (none refl) alive asked
+sound_row id by t TryRestart (Some d) p is none alive asked held = sound_restart id by d t p is alive asked held
+sound_row id by t (TryGracefulRestart signal grace) c p is none alive asked held = sound_graceful id by.handler signal t c p is (none refl) alive asked
+sound_row id by t ContinueTryGracefulRestart None p is none alive asked held = sound_fresh id by t p is alive asked
+sound_row id by t ContinueTryGracefulRestart (Some d) p is none alive asked held = sound_restart id by d t p is alive asked held
+sound_row id by t (Signalled signal) c p is none alive asked held = sound_signalled id by.handler signal t c p is (none refl) alive asked
+sound_row id by t Delete c p is none alive asked held = sound_raise id t (leave id c) p alive asked (sound_leave id c (Raise t ∷ p) is alive)
+sound_row id by t NextEnding c p is none alive asked held = either (Sound id p) by.finished (raises t) Done (sound_raises id t p alive asked) tt
+sound_row id by t (SyncFunc n) c p is none alive asked held = λ a. (record { alive = alive; fits = refl; names = λ own. tt; closes = tt }, sound_raises id t (Run id n ∷ p) alive asked)
+sound_row id by t (AsyncFunc n) c p is none alive asked held = λ a. (record { alive = alive; fits = refl; names = λ own. tt; closes = tt }, tt)
+sound_row id by t (_) (_) p is none alive asked held = sound_raises id t p alive asked
 
 sound_fresh_over : (id : Id) (by : Kit) (g : Grace) (p : List Entry) → child id p ≡ None → lives id p ≡ true → IsAsked id g.ticket p → Sound id p (fresh_over id by g)
 sound_fresh_over id by g p none alive asked = either (Sound id p) g.restarts (fresh id by (raises g.ticket)) (raises g.ticket) (sound_fresh id by g.ticket p none alive asked) (sound_raises id g.ticket p alive asked)
 
-sound_over : (id : Id) (by : Kit) (d : ℕ) (g : Grace) (p : List Entry) → child id p ≡ Some d → lives id p ≡ true → IsAsked id g.ticket p → KitAsked id by p → Sound id p (over id by d g)
-sound_over id by d g p is alive asked held = λ a.
+sound_over : (id : Id) (by : Kit) (d : ℕ) (g : Grace) (p : List Entry) → child id p ≡ Some d → lives id p ≡ true → grace id p ≡ Some g → IsAsked id g.ticket p → KitAsked id by p → Sound id p (over id by d g)
+sound_over id by d g p is alive standing asked held = λ a.
     let held' : KitAsked id by (GraceOver id ∷ p) = record { parked = held.parked; grace = held.grace } in (
-      record { alive = alive; fits = refl; names = λ own. tt; closes = tt },
+      record { alive = alive; fits = (refl, g, standing); names = λ own. tt; closes = tt },
       sound_reap id by.handler d g.ticket (waiters by.parked (fresh_over id by g)) (GraceOver id ∷ p) is alive asked
           (sound_parked id by (fresh_over id by g) (GraceOver id ∷ p) held' (λ q none alive still. sound_fresh_over id by g q none alive (still g.ticket asked))),
     )
@@ -270,12 +281,12 @@ sound_polled id f p alive asked = λ a.
 sound_case : (id : Id) (by : Kit) (choice : Choice) (p : List Entry) → lives id p ≡ true → KitAsked id by p
     → MayPick id p choice → Sound id p (case id by (child id p) choice)
 sound_case id by (Polled f) p alive held is = sound_polled id f p alive (λ own. begun_asked id p f own is)
-sound_case id by (Over d g) p alive held is = sound_over id by d g p is.1 alive (λ own. grace_asked id p g own is.2) held
+sound_case id by (Over d g) p alive held is = sound_over id by d g p is.1 alive is.2 (λ own. grace_asked id p g own is.2) held
 sound_case id by (End d) p alive held is = sound_wait id by.handler d (ended_by id by by.grace) Done p is.1 alive (λ q alive still. tt) (sound_ended_by id by by.grace p held.grace held)
 sound_case id by (Next t control) p alive held is =
     let f = is_first t control (waits id Urgent p) (waits id High p) (waits id Normal p) (grace id p) is.1 in
     let asked : IsAsked id t p = λ own. picked_of id p t control own f.found in
-    λ a. (record { alive = alive; fits = refl; names = is_named id t p asked; closes = tt }, sound_row id (kit_after control by) t control (child id p) (Pick id t ∷ p) refl alive asked (record { parked = held.parked; grace = held.grace }))
+    λ a. (record { alive = alive; fits = refl; names = is_named id t p asked; closes = tt }, sound_row id (kit_after control by) t control (child id p) (Pick id t ∷ p) refl (λ signals levels. signal_none id t control p is.1 signals levels) alive asked (record { parked = held.parked; grace = held.grace }))
 sound_case id by Leave p alive held is = sound_leave id (child id p) p refl alive
 sound_case id by Nothing p alive held is = sound_says id TheIdle p alive
 
@@ -287,15 +298,15 @@ sound_step closed id command p =
 
 -- ---- asks, and the end of a job
 
-sound_asks : (id : Id) (level : Level) (control : Control) (k : Plan) (p : List Entry) → lives id p ≡ true → Sound id (Asked (ticket_count p) id level control ∷ p) k → Sound id p (asks id level control k)
-sound_asks id level control k p alive rest = λ a. (record { alive = alive; fits = (refl, refl); names = λ own. refl; closes = tt }, rest)
+sound_asks : (id : Id) (level : Level) (control : Control) (k : Plan) (p : List Entry) → IsAtLevel level control → lives id p ≡ true → Sound id (Asked (ticket_count p) id level control ∷ p) k → Sound id p (asks id level control k)
+sound_asks id level control k p at alive rest = λ a. (record { alive = alive; fits = (refl, refl, at); names = λ own. refl; closes = tt }, rest)
 
-sound_second : (id : Id) (level : Level) (second : Option Control) (p : List Entry) → lives id p ≡ true → Sound id p (ask_second id level second Done)
-sound_second id level None p alive = tt
-sound_second id level (Some control) p alive = sound_asks id level control Done p alive tt
+sound_second : (id : Id) (level : Level) (second : Option Control) (p : List Entry) → AreAtLevel level second → lives id p ≡ true → Sound id p (ask_second id level second Done)
+sound_second id level None p at alive = tt
+sound_second id level (Some control) p at alive = sound_asks id level control Done p at alive tt
 
 pub sound_ask : (id : Id) (ask : Ask) (p : List Entry) → lives id p ≡ true → Sound id p (ask_plan id (sends_of ask) Done)
-sound_ask id ask p alive = sound_asks id (sends_of ask).level (sends_of ask).first (ask_second id (sends_of ask).level (sends_of ask).second Done) p alive (sound_second id (sends_of ask).level (sends_of ask).second _ alive)
+sound_ask id ask p alive = sound_asks id (sends_of ask).level (sends_of ask).first (ask_second id (sends_of ask).level (sends_of ask).second Done) p (sends_first ask) alive (sound_second id (sends_of ask).level (sends_of ask).second _ (sends_second ask) alive)
 
 pub sound_send : (id : Id) (ask : Ask) (p : List Entry) → Sound id p (send_plan id (sends_of ask) p)
 sound_send id ask p = always_if (IsSound id) p (lives id p) (ask_plan id (sends_of ask) Done) (sound_ask id ask p)
@@ -305,27 +316,28 @@ sound_end id p = always_if (IsSound id) p (lives id p) (leave id (child id p)) (
 
 -- ---- one entry
 
+-- a ticket is asked of one job
+other_ticket : (i id : Id) (t u : ℕ) (p : List Entry) → i ≢ id → asked_of t p ≡ Some id → asked_of u p ≡ Some i → t ≢ u
+other_ticket i id t u p ne its mine is = let same_one : asked_of u p ≡ Some id = rw (← is) its in let one : Some id ≡ Some i = sym same_one ∙ mine in ne cc
+
 -- it says nothing of any other job
+other_subject : (i id : Id) (p : List Entry) (subject : Subject) → i ≢ id → NamesChildren p → NamesTickets p → IsOwn id p subject → IsOther i p subject
+other_subject i id p OfWord ne named tickets s = tt
+other_subject i id p (OfJob job) ne named tickets s = rw s (other-is i id ne)
+other_subject i id p (OfChild c) ne named tickets s = other_child i id c p ne named s
+other_subject i id p (OfTicket t) ne named tickets s = (
+  parked_other i id t p ne tickets (s tickets),
+  record {
+    graces = λ g e. other_ticket i id t g.ticket p ne (s tickets) (grace_asked i p g tickets e);
+    functions = λ f e. other_ticket i id t f.ticket p ne (s tickets) (begun_asked i p f tickets e);
+  },
+)
+other_subject i id p (_) ne named tickets s = absurd s
+
 frame : (i id : Id) (e : Entry) (p : List Entry) → i ≢ id → NamesChildren p → NamesTickets p → Fits id p e → SameHistory i p (e ∷ p)
-frame i id (Pick job t) p ne named tickets s = rw s (frame_pick i id t p ne)
-frame i id (Asked t job level control) p ne named tickets s = rw s.0 (frame_asked i id t level control p ne)
-frame i id (GraceOver job) p ne named tickets s = rw s (frame_over i id p ne)
-frame i id (Signal c number (Ok a)) p ne named tickets s = frame_signal_ok i id c number a p ne named s
-frame i id (Signal c number (Err a)) p ne named tickets s = frame_signal_err i c number a p
-frame i id (Raise t) p ne named tickets s = frame_raise i id t p ne tickets (s tickets)
-frame i id (Spawn c job tag what (Ok a)) p ne named tickets s = rw s.0 (frame_spawn_ok i id c tag what a p ne)
-frame i id (Spawn c job tag what (Err a)) p ne named tickets s = rw s.0 (frame_spawn_err i id c tag what a p ne)
-frame i id (Wait c (Ok status)) p ne named tickets s = frame_wait_ok i id c status p ne named s
-frame i id (Wait c (Err a)) p ne named tickets s = frame_wait_err i id c a p ne named s
-frame i id (Dropped c) p ne named tickets s = frame_drop i id c p ne named s
-frame i id (Gone job) p ne named tickets s = rw s.0 (frame_gone i id p ne)
-frame i id (Hook job n answer) p ne named tickets s = rw s.0 (frame_hook i id n answer p ne)
-frame i id (Begun job n) p ne named tickets s = rw s (frame_begun i id n p ne)
-frame i id (Poll job n true) p ne named tickets s = rw s (frame_ready i id n p ne)
 frame i id (Turned t) p ne named tickets s = absurd s
 frame i id (Hand n names acts) p ne named tickets s = absurd s
-frame i id (Made job) p ne named tickets s = absurd s
-frame i id (e) p ne named tickets s = frame_silent i e p refl
+frame i id (e) p ne named tickets s = frame_apart i e p (other_subject i id p (sort e).subject ne named tickets (own_fit id e p s)) refl
 
 -- a child that it spawns has the next name
 children_fit : (id : Id) (e : Entry) (p : List Entry) → Fits id p e → NamesChildren p → NamesChildren (e ∷ p)
@@ -340,10 +352,49 @@ tickets_fit id (_) p s h = h
 -- an entry leaves after a fault what must be left, where a child that it is about runs
 pub after_fault : (e : Entry) (p : List Entry) → RunsIn p (sort e).subject → AfterFaults p → AfterFaults (e ∷ p)
 after_fault (Spawn c id tag what (Err fault)) p r h = (rw (self id) refl, h)
-after_fault (Signal c number (Err fault)) p r h = (r, (λ id. refl), h)
-after_fault (Kill c (Err fault)) p r h = (r, (λ id runs over. over_without id p over), h)
-after_fault (Wait c (Err fault)) p r h = (r, (λ id runs over. over_without id p over), h)
+after_fault (Signal c number (Err fault)) p r h = (r, h)
+after_fault (Kill c (Err fault)) p r h = (r, h)
+after_fault (Wait c (Err fault)) p r h = (r, h)
 after_fault (_) p r h = h
+
+-- it is on the child that runs, and leaves after a fault what must be left
+pub calls_child : (id : Id) (e : Entry) (p : List Entry) → Fits id p e → CallsItsChild id p e
+calls_child id (Spawn c job tag what (Err fault)) p s = rw s.0 (rw (self id) refl)
+calls_child id (Signal c number (Err fault)) p s = (s.0, refl)
+calls_child id (Signal c number (Ok done)) p s = s.0
+calls_child id (Kill c (Err fault)) p s = s
+calls_child id (Kill c (Ok done)) p s = s
+calls_child id (Wait c (Err fault)) p s = s
+calls_child id (Wait c (Ok status)) p s = s
+calls_child id (Dropped c) p s = s
+calls_child id (GraceOver job) p s = ((s.1, s.2), rw s.0 (rw (self id) refl))
+calls_child id (_) p s = tt
+
+-- what a plan of a job brings goes by the journal before it
+fit_by : (id : Id) (e : Entry) (p : List Entry) → Fits id p e → GoesBy p e
+fit_by id (GraceOver job) p s = rw s.0 (s.1, s.2)
+fit_by id (Signal c number answer) p s = (id, s.0, s.1)
+fit_by id (Asked t job level control) p s = s.2
+fit_by id (_) p s = tt
+
+is_born : (p : List Entry) (subject : Subject) → NamesChildren p → RunsIn p subject → IsBorn subject p
+is_born p (OfChild c) named r = born r.0 c p named r.1
+is_born p (_) named r = tt
+
+over_once : (e : Entry) (p : List Entry) → GoesBy p e → MayBeOver p → AreOverOnce p → AreOverOnce (e ∷ p)
+over_once (GraceOver id) p by standing h = (standing id by.0 by.1, h)
+over_once (_) p by standing h = h
+
+-- what comes after faults
+pub goes_on : (e : Entry) (p : List Entry) → RunsIn p (sort e).subject → GoesBy p e → NamesChildren (e ∷ p) → NamesTickets (e ∷ p) → GoesOnAfterFaults p → GoesOnAfterFaults (e ∷ p)
+goes_on e p r by named tickets h = record {
+  children = named;
+  tickets = tickets;
+  levels = levels_on e p by h.levels;
+  standing = standing_on e p by h.children h.tickets h.levels h.standing;
+  born = (is_born p (sort e).subject h.children r, h.born);
+  over = over_once e p by h.standing h.over;
+}
 
 -- where the job is gone next, nothing else comes
 gone_by : (p : List Entry) (call : Call) (a : CallAnswer call) (e : Entry) → call ≡ Adds e → entry p call a ≡ e
@@ -391,22 +442,26 @@ pub record Followed (id : Id) (k : Plan) (p : List Entry) (k' : Plan) (p' : List
   pub children : NamesChildren p → NamesChildren p'
   pub reaps : Reaping id k p → Reaping id k' p'
   pub failing : AfterFaults p → AfterFaults p'
+  pub afterwards : GoesOnAfterFaults p → GoesOnAfterFaults p'
   pub own : NamesItsOwn p → NamesItsOwn p'
   pub tickets : NamesTickets p → NamesTickets p'
   pub others : NamesChildren p → NamesTickets p → (i : Id) → i ≢ id → SameHistory i p p'
+  pub calls : Added (CallsItsChild id) p p'
 
 pub follow : (id : Id) (k : Plan) (p : List Entry) (host hooks : Option (List Entry)) (n : ℕ) (k' : Plan) (p' : List Entry) (host' hooks' : Option (List Entry)) (n' : ℕ) → PlanLeads k p host hooks n k' p' host' hooks' n' → Sound id p k → Followed id k p k' p'
 follow id k p host hooks n k' p' host' hooks' n' l s = elim l as (λ k' p' host' hooks' n' _. Followed id k p k' p') [
-  | PlanHere ↦ record { sound = s; children = λ h. h; reaps = λ r. r; failing = λ r. r; own = λ h. h; tickets = λ h. h; others = λ named tickets i ne. same_history i p }
+  | PlanHere ↦ record { sound = s; children = λ h. h; reaps = λ r. r; failing = λ r. r; afterwards = λ r. r; own = λ h. h; tickets = λ h. h; others = λ named tickets i ne. same_history i p; calls = Same }
   | PlanThen e k₁ p₁ host₁ hooks₁ n₁ n₂ (l → h) d counts ↦
       let o = always_now (IsSound id) p₁ k₁ e d h.sound in record {
         sound = always_next (IsSound id) p₁ k₁ e d h.sound;
         children = λ named. children_fit id e p₁ o.fits (h.children named);
         reaps = λ r. reaps_on id k₁ e (next k₁ e) p₁ d o (h.reaps r);
         failing = λ r. after_fault e p₁ (own_runs id p₁ (sort e).subject (own_fit id e p₁ o.fits)) (h.failing r);
+        afterwards = λ r. (let was = h.afterwards r in goes_on e p₁ (own_runs id p₁ (sort e).subject (own_fit id e p₁ o.fits)) (fit_by id e p₁ o.fits) (children_fit id e p₁ o.fits was.children) (tickets_fit id e p₁ o.fits was.tickets) was);
         own = λ own. (o.names (h.own own), h.own own);
         tickets = λ named. tickets_fit id e p₁ o.fits (h.tickets named);
         others = λ named tickets i ne. history_then i p p₁ (e ∷ p₁) (h.others named tickets i ne) (frame i id e p₁ ne (h.children named) (h.tickets tickets) o.fits);
+        calls = More e p₁ h.calls (calls_child id e p₁ o.fits);
       }
 ]
 

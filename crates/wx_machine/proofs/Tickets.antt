@@ -4,7 +4,7 @@ use Rattle.std.specs.Prelude.{◌==◌, ◌&&◌, not}
 use Rattle.std.specs.List.{AllByRecursion}
 use Rattle.std.proofs.lemmas.Bool.{eqb-true}
 use Rattle.wx_words.specs.EachLaws.{each_append, each_weaker}
-use Rattle.wx_words.specs.OptionLaws.{guarded, refused}
+use Rattle.wx_words.specs.OptionLaws.{refused}
 use Rattle.wx_control.specs.declared.id.Id.{Id}
 use Rattle.wx_control.specs.declared.control.Control.{Control}
 use Rattle.wx_control.specs.declared.control.Control.TheVariants.{GracefulStop, TryGracefulRestart, NextEnding}
@@ -18,7 +18,7 @@ use Rattle.wx_machine.specs.declared.function.Function.{Function}
 use Rattle.wx_machine.specs.declared.grace.Grace.{Grace}
 use Rattle.wx_machine.specs.declared.state.CommandState.{CommandState}
 use Rattle.wx_machine.specs.States.{is_finished}
-use Rattle.wx_machine.specs.History.{same, lives, has_above, without, waits, found, picked_control, state, child, is_child, ended_child, is_ended, with_ticket, just_picked, begun_with, begun, begins, begins_by, grace, without_ticket, parks, parked, asked_of}
+use Rattle.wx_machine.specs.History.{same, lives, has_above, without, waits, found, picked_control, state, child, is_child, ended_child, is_ended, with_ticket, unless_raised, picked_last, begun_with, begun, begins, begins_by, grace, without_ticket, parks, parked, asked_of}
 use Rattle.wx_machine.specs.JobLaws.{NamesTickets}
 use Rattle.wx_machine.proofs.Owners.{same-is, either}
 
@@ -114,20 +114,33 @@ none_without i id p t (u ∷ us) ne its h =
 pub parked_other : (i id : Id) (t : ℕ) (p : List Entry) → i ≢ id → NamesTickets p → asked_of t p ≡ Some id → without_ticket t (parked i p) ≡ parked i p
 parked_other i id t p ne own its = none_without i id p t (parked i p) ne its (parked_of i p own)
 
--- ---- the control that was just picked
+-- ---- the control that was picked last
 
 with_asked : (id : Id) (p : List Entry) (t : ℕ) (o : Option Control) (x : ℕ × Control) → ((control : Control) → o ≡ Some control → asked_of t p ≡ Some id) → with_ticket t o ≡ Some x → asked_of x.0 p ≡ Some id
 with_asked id p t None x asked e = cc
 with_asked id p t (Some control) x asked e = let is : (t, control) ≡ x = cc in rw (← is) (asked control refl)
 
-just_asked : (id : Id) (p : List Entry) (x : ℕ × Control) → NamesTickets p → just_picked id p ≡ Some x → asked_of x.0 p ≡ Some id
-just_asked id [] x own e = cc
-just_asked id (Pick job t ∷ p) x own e = with_asked id p t (picked_control id t p) x (λ control is. picked_of id p t control own is) (guarded (same job id) (with_ticket t (picked_control id t p)) x e).1
-just_asked id (_ ∷ p) x own e = cc
+pub raised_was : (t : ℕ) (o : Option (ℕ × Control)) (x : ℕ × Control) → unless_raised t o ≡ Some x → o ≡ Some x
+raised_was t None x e = cc
+raised_was t (Some y) x e = (refused (y.0 == t) (Some y) x e).1
 
 pub one_of_two : {A : Type 0} (R : Type 0) (b : Bool) (x y : Option A) (z : A) → (x ≡ Some z → R) → (y ≡ Some z → R) → cond b x y ≡ Some z → R
 one_of_two R true x y z h k e = h e
 one_of_two R false x y z h k e = k e
+
+picked_asked : (id : Id) (p : List Entry) (x : ℕ × Control) → NamesTickets p → picked_last id p ≡ Some x → asked_of x.0 p ≡ Some id
+picked_asked id [] x own e = cc
+picked_asked id (Made job ∷ p) x own e = picked_asked id p x own (refused (same job id) (picked_last id p) x e).1
+picked_asked id (Asked t job at control ∷ p) x own e = asked_kept x.0 t id job p own.1 own.0 (picked_asked id p x own.1 e)
+picked_asked id (Pick job t ∷ p) x own e =
+    one_of_two (asked_of x.0 p ≡ Some id) (same job id) (with_ticket t (picked_control id t p)) (picked_last id p) x
+    (λ h. with_asked id p t (picked_control id t p) x (λ control is. picked_of id p t control own is) h) (λ h. picked_asked id p x own h) e
+picked_asked id (GraceOver job ∷ p) x own e = picked_asked id p x own (refused (same job id) (picked_last id p) x e).1
+picked_asked id (Signal c number (Ok a) ∷ p) x own e = picked_asked id p x own (refused (is_child c (child id p)) (picked_last id p) x e).1
+picked_asked id (Begun job n ∷ p) x own e = picked_asked id p x own (refused (same job id) (picked_last id p) x e).1
+picked_asked id (Raise t ∷ p) x own e = picked_asked id p x own (raised_was t (picked_last id p) x e)
+picked_asked id (Gone job ∷ p) x own e = picked_asked id p x own (refused (same job id) (picked_last id p) x e).1
+picked_asked id (_ ∷ p) x own e = picked_asked id p x own e
 
 -- ---- the grace that stands
 
@@ -147,8 +160,8 @@ grace_asked id (Made job ∷ p) g own e = grace_asked id p g own (refused (same 
 grace_asked id (Asked t job at control ∷ p) g own e = asked_kept g.ticket t id job p own.1 own.0 (grace_asked id p g own.1 e)
 grace_asked id (GraceOver job ∷ p) g own e = grace_asked id p g own (refused (same job id) (grace id p) g e).1
 grace_asked id (Signal c number (Ok a) ∷ p) g own e =
-    one_of_two (asked_of g.ticket p ≡ Some id) (is_child c (child id p)) (begins_by (just_picked id p) (moment p) (grace id p)) (grace id p) g
-    (λ h. begins_by_of id p (just_picked id p) (moment p) (grace id p) g (λ x is. just_asked id p x own is) (λ k. grace_asked id p g own k) h) (λ h. grace_asked id p g own h) e
+    one_of_two (asked_of g.ticket p ≡ Some id) (is_child c (child id p)) (begins_by (picked_last id p) (moment p) (grace id p)) (grace id p) g
+    (λ h. begins_by_of id p (picked_last id p) (moment p) (grace id p) g (λ x is. picked_asked id p x own is) (λ k. grace_asked id p g own k) h) (λ h. grace_asked id p g own h) e
 grace_asked id (Gone job ∷ p) g own e = grace_asked id p g own (refused (same job id) (grace id p) g e).1
 grace_asked id (e ∷ p) g own is = grace_asked id p g own (refused (is_ended (ended_child e) (child id p)) (grace id p) g is).1
 
@@ -164,8 +177,8 @@ begun_asked id [] f own e = cc
 begun_asked id (Made job ∷ p) f own e = begun_asked id p f own (refused (same job id) (begun id p) f e).1
 begun_asked id (Asked t job at control ∷ p) f own e = asked_kept f.ticket t id job p own.1 own.0 (begun_asked id p f own.1 e)
 begun_asked id (Begun job n ∷ p) f own e =
-    one_of_two (asked_of f.ticket p ≡ Some id) (same job id) (begun_with n (just_picked id p)) (begun id p) f
-    (λ h. begun_with_of id p n (just_picked id p) f (λ x is. just_asked id p x own is) h) (λ h. begun_asked id p f own h) e
+    one_of_two (asked_of f.ticket p ≡ Some id) (same job id) (begun_with n (picked_last id p)) (begun id p) f
+    (λ h. begun_with_of id p n (picked_last id p) f (λ x is. picked_asked id p x own is) h) (λ h. begun_asked id p f own h) e
 begun_asked id (Poll job n true ∷ p) f own e = begun_asked id p f own (refused (same job id) (begun id p) f e).1
 begun_asked id (Gone job ∷ p) f own e = begun_asked id p f own (refused (same job id) (begun id p) f e).1
 begun_asked id (_ ∷ p) f own e = begun_asked id p f own e

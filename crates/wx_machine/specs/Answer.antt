@@ -7,7 +7,7 @@ use Rattle.wx_machine.specs.Start.{Start}
 use Rattle.wx_error.specs.declared.error.CriticalError.{CriticalError}
 use Rattle.wx_machine.specs.Journal.{turn_fault, wished}
 use Rattle.wx_machine.specs.Jobs.{jobs, end}
-use Rattle.wx_machine.specs.Due.{Agenda, Begins, Sends, Open, Offers, Says, Takes, Filters, Shows, Hands, Plans, Ends, Breaks, agenda, IsTurn, IsRun}
+use Rattle.wx_machine.specs.Due.{Filters, Hands, Agenda, Comes, Ends, agenda, IsTurn, IsRun}
 use Rattle.wx_journal.specs.Lines.{Answer}
 
 -- a run whose end is done: no job lives
@@ -40,18 +40,9 @@ IsBehindTurn (e ∷ p) = IsTurn e
 
 -- no event is to be shown, and no window is to be handed
 abbrev pub NoneIsToGo : Agenda → Type 0
-NoneIsToGo (Filters name) = ⊥
-NoneIsToGo Hands = ⊥
-NoneIsToGo Begins = Unit {0}
-NoneIsToGo (Sends event priority more) = Unit {0}
-NoneIsToGo Open = Unit {0}
-NoneIsToGo (Offers event priority more) = Unit {0}
-NoneIsToGo (Says word more) = Unit {0}
-NoneIsToGo Takes = Unit {0}
-NoneIsToGo (Plans k more) = Unit {0}
-NoneIsToGo (Shows error) = Unit {0}
-NoneIsToGo Ends = Unit {0}
-NoneIsToGo Breaks = Unit {0}
+NoneIsToGo (Comes (Filters name) more) = ⊥
+NoneIsToGo (Comes Hands more) = ⊥
+NoneIsToGo (_) = Unit {0}
 
 -- The places at which want of memory may cut a run: behind a turn, and where no event is to be shown and no window is to be
 -- handed. So there is no cut between a Take and its Filter, nor between the passing of an event and the Hand that it makes due.

@@ -37,17 +37,17 @@ times_begun ticket (Some f) = once (f.ticket == ticket)
 abbrev pub IsInHand : Id → ℕ → List Entry → Type 0
 IsInHand id ticket p = 1 ≤ times ticket (in_hand id p)
 
--- the ticket of this grace is in hand still, where it was
-abbrev pub StaysInHand : Id → Option Grace → List Entry → List Entry → Type 0
-StaysInHand id None p p' = Unit {0}
-StaysInHand id (Some g) p p' = IsInHand id g.ticket p → IsInHand id g.ticket p'
+-- the ticket of the grace that stood, where one did, is in hand
+abbrev pub IsGraceInHand : Id → Option Grace → List Entry → Type 0
+IsGraceInHand id None p = Unit {0}
+IsGraceInHand id (Some g) p = IsInHand id g.ticket p
 
 -- Behind a case that was given up, of what was picked where this grace stood: the ticket that was picked is in hand, and so is
 -- that of the grace, where the case is one of its end or of the child's.
-abbrev pub HasInHand : Id → Option Grace → Choice → List Entry → List Entry → Type 0
-HasInHand id standing (Poll f) p p' = Unit {0}
-HasInHand id standing (Over c g) p p' = StaysInHand id (Some g) p p'
-HasInHand id standing (End c) p p' = StaysInHand id standing p p'
-HasInHand id standing (Next ticket control) p p' = IsInHand id ticket p'
-HasInHand id standing Leave p p' = Unit {0}
-HasInHand id standing Nothing p p' = Unit {0}
+abbrev pub HasInHand : Id → Option Grace → Choice → List Entry → Type 0
+HasInHand id standing (Poll f) p = Unit {0}
+HasInHand id standing (Over c g) p = IsInHand id g.ticket p
+HasInHand id standing (End c) p = IsGraceInHand id standing p
+HasInHand id standing (Next ticket control) p = IsInHand id ticket p
+HasInHand id standing Leave p = Unit {0}
+HasInHand id standing Nothing p = Unit {0}

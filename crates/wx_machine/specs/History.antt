@@ -1,5 +1,5 @@
 -- What a journal says of a job. The history of a job begins at its last Made.
-use Rattle.std.specs.Prelude.{◌≡◌, ℕ, ◌+◌, ◌≤◌, Bool, true, false, not, ◌&&◌, ◌||◌, ◌==◌, if◌then◌else◌, Option, None, Some, Ok, Err, List, [], ◌∷◌, ◌++◌}
+use Rattle.std.specs.Prelude.{◌≡◌, ℕ, ◌+◌, Bool, true, false, not, ◌&&◌, ◌||◌, ◌==◌, if◌then◌else◌, Option, None, Some, Ok, Err, List, [], ◌∷◌, ◌++◌}
 use Rattle.wx_events.specs.declared.process.ProcessEnd.{ProcessEnd}
 use Rattle.wx_command.specs.declared.command.Command.{Command}
 use Rattle.wx_control.specs.declared.id.Id.{Id}
@@ -16,7 +16,7 @@ use Rattle.wx_journal.specs.declared.entry.Entry.{Entry}
 use Rattle.wx_journal.specs.declared.entry.Entry.TheVariants.{Turn as Turned, Hand, Made, Asked, Pick, GraceOver, Spawn, Signal, Wait, Dropped, Raise, Gone, Begun, Poll, Hook}
 use Rattle.wx_journal.specs.declared.entry.TurnKind.TheVariants as turn
 use Rattle.wx_journal.specs.declared.entry.TurnKind.{TurnKind}
-use Rattle.wx_journal.specs.Names.{moment, ticket_count}
+use Rattle.wx_journal.specs.Names.{moment}
 use Rattle.wx_machine.specs.declared.function.Function.{Function}
 use Rattle.wx_machine.specs.declared.grace.Grace.{Grace}
 use Rattle.wx_machine.specs.declared.state.CommandState.{CommandState}
@@ -207,18 +207,30 @@ command id (_ ∷ p) = command id p
 abbrev pub RunsOnly : Id → Command → List Entry → Type 0
 RunsOnly id what p = (created : Command) → command id p ≡ Some created → created ≡ what
 
--- the control that the newest entry picked for the job, with its ticket
 abbrev pub with_ticket : ℕ → Option Control → Option (ℕ × Control)
 with_ticket ticket None = None
 with_ticket ticket (Some control) = Some (ticket, control)
 
-abbrev pub just_picked : Id → List Entry → Option (ℕ × Control)
-just_picked id (Pick job ticket ∷ p) = if same job id then with_ticket ticket (picked_control id ticket p) else None
-just_picked id (_) = None
+abbrev pub unless_raised : ℕ → Option (ℕ × Control) → Option (ℕ × Control)
+unless_raised ticket None = None
+unless_raised ticket (Some x) = if x.0 == ticket then None else Some x
+
+-- The control in whose case the job is, with its ticket: it was picked last. Where its ticket was raised, a signal was sent to the
+-- child or a function begun since, or a grace was over, it is none any longer.
+abbrev pub picked_last : Id → List Entry → Option (ℕ × Control)
+picked_last id [] = None
+picked_last id (Made job ∷ p) = if same job id then None else picked_last id p
+picked_last id (Pick job ticket ∷ p) = if same job id then with_ticket ticket (picked_control id ticket p) else picked_last id p
+picked_last id (GraceOver job ∷ p) = if same job id then None else picked_last id p
+picked_last id (Signal c number (Ok done) ∷ p) = if is_child c (child id p) then None else picked_last id p
+picked_last id (Begun job n ∷ p) = if same job id then None else picked_last id p
+picked_last id (Raise ticket ∷ p) = unless_raised ticket (picked_last id p)
+picked_last id (Gone job ∷ p) = if same job id then None else picked_last id p
+picked_last id (_ ∷ p) = picked_last id p
 
 -- ---- functions
 
--- the function that was begun in the case of the control that was just picked
+-- the function that was begun in the case of the control that was picked
 abbrev pub begun_with : ℕ → Option (ℕ × Control) → Option Function
 begun_with n None = None
 begun_with n (Some x) = Some (record { n = n; ticket = x.0 })
@@ -227,7 +239,7 @@ begun_with n (Some x) = Some (record { n = n; ticket = x.0 })
 abbrev pub begun : Id → List Entry → Option Function
 begun id [] = None
 begun id (Made job ∷ p) = if same job id then None else begun id p
-begun id (Begun job n ∷ p) = if same job id then begun_with n (just_picked id p) else begun id p
+begun id (Begun job n ∷ p) = if same job id then begun_with n (picked_last id p) else begun id p
 begun id (Poll job n true ∷ p) = if same job id then None else begun id p
 begun id (Gone job ∷ p) = if same job id then None else begun id p
 begun id (_ ∷ p) = begun id p
@@ -250,7 +262,7 @@ abbrev pub grace : Id → List Entry → Option Grace
 grace id [] = None
 grace id (Made job ∷ p) = if same job id then None else grace id p
 grace id (GraceOver job ∷ p) = if same job id then None else grace id p
-grace id (Signal c number (Ok done) ∷ p) = if is_child c (child id p) then begins_by (just_picked id p) (moment p) (grace id p) else grace id p
+grace id (Signal c number (Ok done) ∷ p) = if is_child c (child id p) then begins_by (picked_last id p) (moment p) (grace id p) else grace id p
 grace id (Gone job ∷ p) = if same job id then None else grace id p
 grace id (e ∷ p) = if is_ended (ended_child e) (child id p) then None else grace id p
 
@@ -302,19 +314,39 @@ owner c [] = None
 owner c (Spawn d job tag what answer ∷ p) = if d == c then Some job else owner c p
 owner c (_ ∷ p) = owner c p
 
--- all that is asked of the history of a job is the same in both journals
-pub record SameHistory (id : Id) (p p' : List Entry) : Type 0 where
-  pub lives_same : lives id p' ≡ lives id p
-  pub waits_same : (level : Level) → waits id level p' ≡ waits id level p
-  pub child_same : child id p' ≡ child id p
-  pub kept_same : kept id p' ≡ kept id p
-  pub state_same : state id p' ≡ state id p
-  pub previous_same : previous id p' ≡ previous id p
-  pub hook_same : hook id p' ≡ hook id p
-  pub handler_same : handler id p' ≡ handler id p
-  pub begun_same : begun id p' ≡ begun id p
-  pub tag_same : tag id p' ≡ tag id p
-  pub command_same : command id p' ≡ command id p
-  pub grace_same : grace id p' ≡ grace id p
-  pub parked_same : parked id p' ≡ parked id p
-  pub tickets_later : ticket_count p ≤ ticket_count p'
+-- ---- all of it
+
+-- what is kept of a job: all that a step of it goes by
+pub record JobHistory : Type 0 where
+  pub lives : Bool
+  pub urgent : List (ℕ × Control)
+  pub high : List (ℕ × Control)
+  pub normal : List (ℕ × Control)
+  pub child : Option ℕ
+  pub kept : Bool
+  pub state : CommandState
+  pub previous : Option CommandState
+  pub hook : Option ℕ
+  pub handler : Option ℕ
+  pub tag : SpawnTag
+  pub begun : Option Function
+  pub grace : Option Grace
+  pub parked : List ℕ
+
+abbrev pub history : Id → List Entry → JobHistory
+history id p = record {
+  lives = lives id p;
+  urgent = waits id Urgent p;
+  high = waits id High p;
+  normal = waits id Normal p;
+  child = child id p;
+  kept = kept id p;
+  state = state id p;
+  previous = previous id p;
+  hook = hook id p;
+  handler = handler id p;
+  tag = tag id p;
+  begun = begun id p;
+  grace = grace id p;
+  parked = parked id p;
+}

@@ -1,14 +1,15 @@
 -- What holds of the history of every job.
-use Rattle.std.specs.Prelude.{◌≡◌, ℕ, Bool, true, false, not, ◌&&◌, ◌||◌, if◌then◌else◌, Option, None, Some, Ok, Err, List, [], ◌∷◌}
+use Rattle.std.specs.Prelude.{◌≡◌, ℕ, Bool, true, false, if◌then◌else◌, Option, None, Some, Ok, Err, List, [], ◌∷◌}
 use Rattle.wx_command.specs.declared.command.Command.{Command}
 use Rattle.wx_control.specs.declared.id.Id.{Id}
 use Rattle.wx_control.specs.declared.ask.Ask.{Ask}
 use Rattle.wx_control.specs.Asks.{sends_of}
 use Rattle.wx_journal.specs.declared.entry.Entry.{Entry}
-use Rattle.wx_journal.specs.declared.entry.Entry.TheVariants.{Turn as Turned, Made, Asked, Pick, GraceOver, Spawn, Signal, Kill, Wait}
+use Rattle.wx_journal.specs.declared.entry.Entry.TheVariants.{Made, Asked, GraceOver, Spawn, Signal, Kill, Wait, Dropped}
 use Rattle.wx_journal.specs.Sorts.{Subject, OfJob, OfChild, sort}
 use Rattle.wx_journal.specs.Names.{ticket_count, child_count}
 use Rattle.wx_machine.specs.declared.state.CommandState.TheVariants.{Pending}
+use Rattle.wx_machine.specs.declared.grace.Grace.{Grace}
 use Rattle.wx_machine.specs.History.{same, lives, child, state, grace, reaped_child, still_running, owner}
 use Rattle.wx_machine.specs.Table.{Plan, Done, step_by, send_plan, end_plan}
 use Rattle.wx_machine.specs.Case.{PlanLeads, IsCut}
@@ -38,32 +39,29 @@ pub record IsReaping (id : Id) (p : List Entry) : Type 0 where
 abbrev pub Runs : ℕ → List Entry → Type 0
 Runs c p = (id : Id) × (child id p ≡ Some c)
 
--- the case of this job is that of the end of its grace: this is the newest of what begins a case, and no turn came since
-abbrev pub ends_grace : Id → List Entry → Bool
-ends_grace id [] = false
-ends_grace id (Turned t ∷ p) = false
-ends_grace id (Made job ∷ p) = not (same job id) && ends_grace id p
-ends_grace id (Pick job ticket ∷ p) = not (same job id) && ends_grace id p
-ends_grace id (GraceOver job ∷ p) = same job id || ends_grace id p
-ends_grace id (_ ∷ p) = ends_grace id p
-
--- no grace stands behind this call on a child in the case of the end of a grace
-abbrev pub LeavesNoGrace : ℕ → Entry → List Entry → Type 0
-LeavesNoGrace c e p = (id : Id) → child id p ≡ Some c → ends_grace id p ≡ true → grace id (e ∷ p) ≡ None
-
--- each job has the grace behind this call that it had before
-abbrev pub BeginsNoGrace : Entry → List Entry → Type 0
-BeginsNoGrace e p = (id : Id) → grace id (e ∷ p) ≡ grace id p
-
--- After each failed spawn the state of its job is Pending. After each failed signal, kill or wait the child still runs, after a
--- failed signal no grace was begun, and after a failed kill or wait in the case of the end of a grace none stands.
+-- After each failed spawn the state of its job is Pending. After each failed signal, kill or wait the child still runs.
 abbrev pub AfterFaults : List Entry → Type 0
 AfterFaults [] = Unit {0}
 AfterFaults (Spawn c id tag what (Err fault) ∷ p) = (state id (Spawn c id tag what (Err fault) ∷ p) ≡ Pending) × AfterFaults p
-AfterFaults (Signal c number (Err fault) ∷ p) = Runs c (Signal c number (Err fault) ∷ p) × BeginsNoGrace (Signal c number (Err fault)) p × AfterFaults p
-AfterFaults (Kill c (Err fault) ∷ p) = Runs c (Kill c (Err fault) ∷ p) × LeavesNoGrace c (Kill c (Err fault)) p × AfterFaults p
-AfterFaults (Wait c (Err fault) ∷ p) = Runs c (Wait c (Err fault) ∷ p) × LeavesNoGrace c (Wait c (Err fault)) p × AfterFaults p
+AfterFaults (Signal c number (Err fault) ∷ p) = Runs c (Signal c number (Err fault) ∷ p) × AfterFaults p
+AfterFaults (Kill c (Err fault) ∷ p) = Runs c (Kill c (Err fault) ∷ p) × AfterFaults p
+AfterFaults (Wait c (Err fault) ∷ p) = Runs c (Wait c (Err fault) ∷ p) × AfterFaults p
 AfterFaults (_ ∷ p) = AfterFaults p
+
+-- What calls on a child of the job come to. They are on the child that runs. After a failed spawn the state is Pending. After a failed
+-- signal, kill or wait the child still runs, and a failed signal begins no grace. A grace is over only where one stands: so not after
+-- a failed signal, and only once, also where the kill or the wait at its end fails.
+abbrev pub CallsItsChild : Id → List Entry → Entry → Type 0
+CallsItsChild id p (Spawn c job tag what (Err fault)) = state id (Spawn c job tag what (Err fault) ∷ p) ≡ Pending
+CallsItsChild id p (Signal c number (Err fault)) = (child id (Signal c number (Err fault) ∷ p) ≡ Some c) × (grace id (Signal c number (Err fault) ∷ p) ≡ grace id p)
+CallsItsChild id p (Kill c (Err fault)) = child id (Kill c (Err fault) ∷ p) ≡ Some c
+CallsItsChild id p (Wait c (Err fault)) = child id (Wait c (Err fault) ∷ p) ≡ Some c
+CallsItsChild id p (Signal c number (Ok done)) = child id p ≡ Some c
+CallsItsChild id p (Kill c (Ok done)) = child id p ≡ Some c
+CallsItsChild id p (Wait c (Ok status)) = child id p ≡ Some c
+CallsItsChild id p (Dropped c) = child id p ≡ Some c
+CallsItsChild id p (GraceOver job) = ((g : Grace) × (grace id p ≡ Some g)) × (grace id (GraceOver job ∷ p) ≡ None)
+CallsItsChild id p (_) = Unit {0}
 
 -- a child of this job
 abbrev pub is_owner : Id → Option Id → Bool

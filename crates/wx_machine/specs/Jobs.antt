@@ -1,5 +1,5 @@
 -- What a journal says of the jobs of an engine.
-use Rattle.std.specs.Prelude.{ℕ, ◌<◌, Bool, ◌||◌, nat_lt, if◌then◌else◌, Option, None, Some, List, [], ◌∷◌}
+use Rattle.std.specs.Prelude.{◌≡◌, ℕ, ◌<◌, Bool, false, ◌||◌, ◌==◌, nat_lt, if◌then◌else◌, Option, None, Some, List, [], ◌∷◌}
 use Rattle.std.specs.List.{filter, list_any, AllByRecursion}
 use Rattle.wx_command.specs.declared.command.Command.{Command}
 use Rattle.wx_control.specs.declared.id.Id.{Id}
@@ -13,21 +13,25 @@ use Rattle.wx_journal.specs.Names.{above, IsNextJob}
 use Rattle.wx_machine.specs.History.{same, lives, child, is_child, command}
 use Rattle.wx_machine.specs.Table.{Plan, Done, adds, ask_plan, end_plan}
 
--- a job among others, by rising id
-abbrev pub insert : Id → List Id → List Id
-insert id [] = id ∷ []
-insert id (job ∷ ids) = if nat_lt id.0 job.0 then id ∷ job ∷ ids else job ∷ insert id ids
+-- an id at its place among rising ones, where it stands once
+abbrev pub with_id : Id → List Id → List Id
+with_id id [] = id ∷ []
+with_id id (job ∷ ids) = if nat_lt job.0 id.0 then job ∷ with_id id ids else (if job.0 == id.0 then job ∷ ids else id ∷ job ∷ ids)
 
 -- the jobs that a handler sees, by rising id: those that were made, without those that were gone before a batch was handed
 abbrev pub set : List Entry → List Id
 set [] = []
-set (Made id ∷ p) = insert id (set p)
+set (Made id ∷ p) = with_id id (set p)
 set (Hand n names acts ∷ p) = filter (λ id. lives id p) (set p)
 set (_ ∷ p) = set p
 
 -- a handler sees the job of this name
 abbrev pub is_seen : Id → List Entry → Bool
 is_seen id p = list_any (λ job. same job id) (set p)
+
+-- no child runs of a job that a handler doesn't see
+abbrev pub UnseenRunNone : List Entry → Type 0
+UnseenRunNone p = (id : Id) → is_seen id p ≡ false → child id p ≡ None
 
 -- the jobs that live, in the same order
 abbrev pub jobs : List Entry → List Id

@@ -1,3 +1,5 @@
+pub mod Added
+pub mod Afterwards
 pub mod Answer
 pub mod Case
 pub mod Due

@@ -1,2 +1,3 @@
 pub mod OneSpelling
 pub mod PrintLemmas
+pub mod WindowLemmas

@@ -2,10 +2,7 @@
 use Rattle.std.proofs.Common.{◌≡◌, ℕ, ◌+◌, ◌<◌, Bool, List, [], ◌∷◌, ◌++◌, length, reverse, take, get_or, refl, ap, sym, ◌∙◌}
 use Rattle.std.proofs.lemmas.List.{take_more}
 use Rattle.std.proofs.lemmas.Grind.{reverse_onto}
-use Rattle.std.specs.Prelude.{Option}
 use Rattle.wx_journal.specs.declared.entry.Entry.{Entry}
-use Rattle.wx_machine.specs.Journal.{passes_unseen}
-use Rattle.wx_print.specs.Printed.{or_before}
 
 reverse_snoc : {X : Type 0} (xs : List X) (x : X) → reverse (xs ++ x ∷ []) ≡ x ∷ reverse xs
 reverse_snoc [] x = refl
@@ -14,7 +11,3 @@ reverse_snoc (y ∷ xs) x = reverse_onto (xs ++ x ∷ []) y [] ∙ ap (λ ys. ys
 -- the entries up to one and with it, the newest first
 pub newest_first : (xs : List Entry) (n : ℕ) (e : Entry) → n < length xs → e ≡ get_or xs n e → reverse (take (n + 1) xs) ≡ e ∷ reverse (take n xs)
 newest_first xs n e lt is = ap (λ ys. reverse ys) (take_more xs n e lt) ∙ reverse_snoc (take n xs) (get_or xs n e) ∙ ap (λ x. x ∷ reverse (take n xs)) (sym is)
-
--- one entry further back, where this one doesn't list the event
-pub further_back : (xs : List Entry) (n name : ℕ) (e : Entry) (said : Option Bool) → n < length xs → e ≡ get_or xs n e → ((p : List Entry) → passes_unseen name (e ∷ p) ≡ or_before said (passes_unseen name p)) → passes_unseen name (reverse (take (n + 1) xs)) ≡ or_before said (passes_unseen name (reverse (take n xs)))
-further_back xs n name e said lt is says = ap (passes_unseen name) (newest_first xs n e lt is) ∙ says (reverse (take n xs))

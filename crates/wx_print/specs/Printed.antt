@@ -1,14 +1,9 @@
 -- A journal as text.
-use Rattle.std.specs.Prelude.{ℕ, Bool, Option, None, Some, List, ◌++◌, reverse}
+use Rattle.std.specs.Prelude.{ℕ, List, ◌++◌, reverse}
 use Rattle.std.specs.List.{flat_map}
 use Rattle.wx_journal.specs.declared.entry.Entry.{Entry}
 use Rattle.wx_journal.specs.Lines.{Answer, line_of, entry_line, end_words}
 use Rattle.wx_machine.specs.Journal.{window}
-
--- what an entry says, or else what those before it say
-abbrev pub or_before : Option Bool → Bool → Bool
-or_before None before = before
-or_before (Some here) before = here
 
 -- the lines of a journal, the oldest entry first, and the end line
 abbrev pub printed : List Entry → Answer → List ℕ

@@ -2,5 +2,6 @@
 #![tactic(auto)]
 
 mod printing;
+mod window;
 
 pub use printing::{lost, one_spelling, print_journal};

@@ -1,79 +1,71 @@
 // A journal as text.
-ghost use Rattle.std.specs.Prelude.{◌≡◌, ◌∷◌, not, reverse, List as Listed, OnOk, IfOk};
-ghost use Rattle.wx_machine.specs.Journal.{passes_unseen, is_among, unhanded, window};
-ghost use Rattle.wx_print.specs.Printed.{or_before, printed};
+ghost use Rattle.std.specs.Prelude.{◌≡◌, ◌∷◌, List as Listed, OnOk, IfOk};
+ghost use Rattle.wx_machine.specs.Journal.{window};
+ghost use Rattle.wx_print.specs.Printed.{printed};
+ghost use Rattle.wx_print.specs.Window.{AreNoted, is_noted};
 ghost use Rattle.wx_journal.specs.Lines.{Answer, JournalFits, AnswerFits};
 ghost use Rattle.wx_journal.specs.declared.entry.Entry.{Entry as AnEntry};
 
+use crate::window::Window;
 use std::alloc::Global;
+use std::collections::HashMap;
 use wx_error::CriticalError;
 use wx_journal::{Entry, Journal, put_end, put_lines};
 use wx_machine::is_unseen;
 use wx_text::{List, Memory, Text};
 
-/// Whether this name is none of a batch.
-fn is_left(name: u64, batch: &[u64]) -> bool
-    ensures { result ≡ not (is_among name batch.now) }
+/// Of names that entries list, whether their events pass unseen.
+type Unseen = HashMap<u64, bool>;
+
+/// Whether a table notes that the event of this name passes unseen.
+fn is_noted(unseen: &Unseen, name: u64) -> bool
+    ensures { result ≡ is_noted unseen.now name }
 {
-    !batch.contains(&name)
+    unseen.get(&name).copied().unwrap_or(false)
 }
 
-/// The names of a batch leave.
-fn leave_handed(names: &mut Vec<u64>, batch: &[u64])
-    ensures { names.new.items ≡ unhanded batch.now names.old.items }
-{
-    names.retain(|name| is_left(*name, batch));
-}
-
-/// Whether an entry lists the event of this name, and that passes unseen. Where it lists it not, the answer is none.
-fn lists_unseen(entry: &Entry, name: u64) -> Option<bool>
-    ensures { (p : Listed AnEntry) → passes_unseen name (entry.now ∷ p) ≡ or_before result (passes_unseen name p) }
+/// Notes whether the event that an entry lists passes unseen, where it lists one. It fails only for want of memory.
+fn note_listed(entry: &Entry, unseen: &mut Unseen) -> Result<(), Memory>
+    ensures { OnOk result ((p : Listed AnEntry) → AreNoted unseen.old p → AreNoted unseen.new (entry.now ∷ p)) }
 {
     match entry {
         Entry::Sent {
-            name: listed,
+            name,
             event,
             priority,
-        } if *listed == name => Some(is_unseen(event, *priority)),
+        } => {
+            unseen.insert(*name, is_unseen(event, *priority))?;
+        }
         Entry::Offer {
-            name: listed,
+            name,
             event,
             priority,
             ..
-        } if *listed == name => Some(is_unseen(event, *priority)),
-        _ => None,
-    }
-}
-
-/// Whether the event of this name, which these entries list, passes unseen.
-fn passes_unseen(entries: &[Entry], name: u64) -> bool
-    ensures { result ≡ passes_unseen name (reverse entries.now) }
-{
-    for back in 0..entries.len() {
-        let entry = &entries[entries.len() - 1 - back];
-        if let Some(unseen) = lists_unseen(entry, name) {
-            return unseen;
+        } => {
+            unseen.insert(*name, is_unseen(event, *priority))?;
         }
+        _ => {}
     }
-    false
+    Ok(())
 }
 
-/// Adds an event that joins the window, and drops those that are handed, by an entry and those before it.
-fn follow(before: &[Entry], entry: &Entry, names: &mut Vec<u64>) -> Result<(), Memory>
-    ensures { OnOk result (names.old.items ≡ window (reverse before.now) → names.new.items ≡ window (entry.now ∷ reverse before.now)) }
+/// Adds an event that joins the window, and drops those that are handed, by an entry and those before it. It fails only
+/// for want of memory.
+fn follow(entry: &Entry, unseen: &Unseen, names: &mut Window) -> Result<(), Memory>
+    ensures { OnOk result ((p : Listed AnEntry) → AreNoted unseen.now p → names.old ≡ window p → names.new ≡ window (entry.now ∷ p)) }
 {
     match entry {
         Entry::Take(name) => {
-            if passes_unseen(before, *name) {
-                names.push(*name)?;
+            if is_noted(unseen, *name) {
+                names.join(*name)?;
             }
         }
         Entry::Filter {
             name,
             answer: Ok(true),
             ..
-        } => names.push(*name)?,
-        Entry::Hand { names: batch, .. } => leave_handed(names, batch.as_slice()),
+        } => names.join(*name)?,
+        Entry::Hand { names: batch, .. } => names.hand(batch.as_slice())?,
         _ => {}
     }
     Ok(())
@@ -83,12 +75,14 @@ fn follow(before: &[Entry], entry: &Entry, names: &mut Vec<u64>) -> Result<(), M
 pub fn lost(alloc: Global, journal: &Journal) -> Result<List<u64>, Memory>
     ensures { IfOk result (λ names. names ≡ window journal.now.past) }
 {
-    let mut names = Vec::new(alloc);
+    let mut unseen = HashMap::new(alloc);
+    let mut names = Window::new(alloc);
     let entries = journal.as_slice();
-    for i in 0..entries.len() {
-        follow(&entries[..i], &entries[i], &mut names)?;
+    for entry in entries {
+        follow(entry, &unseen, &mut names)?;
+        note_listed(entry, &mut unseen)?;
     }
-    Ok(List::from_vec(names))
+    names.to_list(alloc)
 }
 
 /// The text of a journal, an entry a line and the oldest first, and of the end line with the answer of the run. Both are

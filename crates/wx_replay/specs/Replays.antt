@@ -1,6 +1,7 @@
 -- What a replay writes, and how it ends.
 use Rattle.std.specs.Prelude.{ℕ, ◌≡◌, ◌<◌, ◌≤◌, ⊤, Option, IfSome, Ok, Err, List, [], ◌∷◌, ◌++◌, length, codes, decimal}
 use Rattle.std.specs.Io.KnownBytes.{Appends, Consumes, IsAtEnd}
+use Rattle.wx_control.specs.Flags.{Flag}
 use Rattle.wx_journal.specs.declared.entry.Entry.{Entry}
 use Rattle.wx_journal.specs.Told.{Rose}
 use Rattle.wx_error.specs.declared.error.CriticalError.TheVariants.{IoError, Memory as NoMemory}
@@ -43,7 +44,8 @@ pub record IsShown (journal : List Entry) (answer : Answer) (text : List ℕ) (s
 pub record IsReplay (s : Script) (text : List ℕ) (status : Status) : Type 0 where
   pub journal : List Entry
   pub answer : Answer
-  pub answers : Answers (start_of s) journal answer
+  pub ready : Flag
+  pub answers : Answers (start_of ready s) journal answer
   pub follows : FollowsScript s journal
   pub fits : JournalFits journal × AnswerFits answer
   pub text_is : text ≡ printed journal answer

@@ -22,7 +22,7 @@ use wx_words::TextPath;
 
 /// The settings that a script states.
 fn config_of(alloc: Global, script: &Script) -> Result<Config, Memory>
-    ensures { IfOk result (λ config. config ≡ record default_config { throttle = script.now.throttle; event_channel_size = script.now.size; error_channel_size = script.now.error_size }) }
+    ensures { IfOk result (λ config. config ≡ record (default_config config.fs_ready) { throttle = script.now.throttle; event_channel_size = script.now.size; error_channel_size = script.now.error_size }) }
 {
     let mut config = Config::new(alloc)?;
     config.throttle.replace(script.throttle);
@@ -34,7 +34,7 @@ fn config_of(alloc: Global, script: &Script) -> Result<Config, Memory>
 /// The engine that a script states, to which all its events were sent.
 fn engine_of(alloc: Global, script: &Script) -> Result<Watchexec, Memory>
     requires { IsScript script.now }
-    ensures { IfOk result (λ engine. engine ≡ start_of script.now) }
+    ensures { IfOk result (λ engine. engine ≡ start_of engine.config.fs_ready script.now) }
 {
     let config = config_of(alloc, script)?;
     let folder = TextPath::new(Text::from_slice(alloc, b"/")?);

@@ -3,6 +3,7 @@ use Rattle.std.specs.Prelude.{◌≡◌, ◌≤◌, true, List, [], ◌∷◌, l
 use Rattle.std.specs.List.{list_all}
 use Rattle.wx_journal.specs.declared.entry.Entry.{Entry}
 use Rattle.wx_config.specs.Defaults.{default_config}
+use Rattle.wx_control.specs.Flags.{Flag}
 use Rattle.wx_machine.specs.Start.{Start, IsSize}
 use Rattle.wx_script.specs.declared.script.Script.{Script}
 use Rattle.wx_script.specs.Turns.{comes, Rises, Given, FollowsGiven}
@@ -18,10 +19,11 @@ pub record IsScript (s : Script) : Type 0 where
   pub comes : list_all comes s.turns ≡ true
   pub rises : Rises s.turns s.last
 
--- what the engine starts from: the default settings but for the throttle and the two sizes, and the topmost folder
-abbrev pub start_of : Script → Start
-start_of s = record {
-  config = record default_config { throttle = s.throttle; event_channel_size = s.size; error_channel_size = s.error_size };
+-- what the engine starts from: the default settings, with this flag, but for the throttle and the two sizes, and the topmost
+-- folder
+abbrev pub start_of : Flag → Script → Start
+start_of ready s = record {
+  config = record (default_config ready) { throttle = s.throttle; event_channel_size = s.size; error_channel_size = s.error_size };
   folder = 47 ∷ [];
   events = s.sends;
 }

@@ -1,7 +1,7 @@
 -- A script as its lines, and the first bad line of what is none.
 use Rattle.std.specs.Prelude.{ℕ, ◌≡◌, ◌⊎◌, ◌+◌, ◌<◌, ◌==◌, ◌&&◌, nat_lt, nat_le, if◌then◌else◌, Option, None, Some, List, [], ◌∷◌, ◌++◌, length}
 use Rattle.wx_words.specs.Line.{parts, ◌>>=◌}
-use Rattle.wx_config.specs.Defaults.{default_config}
+use Rattle.wx_config.specs.Defaults.{default_throttle, default_event_size, default_error_size}
 use Rattle.wx_script.specs.declared.script.Script.{Script}
 use Rattle.wx_script.specs.declared.script.ScriptTurn.TheVariants.{Turn, Fault}
 use Rattle.wx_script.specs.HostCalls.{no_answers}
@@ -11,7 +11,7 @@ use Rattle.wx_script.specs.declared.lines.Line.TheVariants.{Nothing, Throttle, S
 
 -- the script of no lines
 abbrev pub start : Script
-start = record { throttle = default_config.throttle; size = default_config.event_channel_size; error_size = default_config.error_channel_size; sends = []; turns = []; actions = []; filters = []; errors = []; polls = []; hooks = []; answers = no_answers; last = 0 }
+start = record { throttle = default_throttle; size = default_event_size; error_size = default_error_size; sends = []; turns = []; actions = []; filters = []; errors = []; polls = []; hooks = []; answers = no_answers; last = 0 }
 
 -- the script with what one more line says, where that can stand there
 abbrev pub accepts : Script → Line → Option Script

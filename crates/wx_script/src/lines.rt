@@ -3,7 +3,6 @@ ghost use Rattle.std.specs.Prelude.{◌≡◌, if◌then◌else◌, None, IfOk};
 ghost use Rattle.wx_words.specs.Line.{Reads};
 ghost use Rattle.wx_words.specs.Combine.{read_as};
 ghost use Rattle.wx_words.specs.Parts.{list_of, text};
-ghost use Rattle.wx_journal.specs.Answers.{readied};
 ghost use Rattle.wx_script.specs.declared.lines.Line.TheVariants.{Hook};
 ghost use Rattle.wx_script.specs.Lines.{can_bring, is_scripted, if_scripted, read_set, read_form, said_in, line_in};
 
@@ -11,7 +10,7 @@ use crate::script::Wanted;
 use std::alloc::Global;
 use wx_error::RuntimeError;
 use wx_events::{Event, Priority, ProcessEnd};
-use wx_journal::{Act, HostFault, Turn, TurnKind, Wish, read_verdict};
+use wx_journal::{Act, HostFault, Turn, TurnKind, Wish, read_ready, read_verdict};
 use wx_text::{List, Memory, Text};
 use wx_words::{Spelled, Words, read_result, read_rows, read_to_end};
 
@@ -84,17 +83,6 @@ fn take_set(alloc: Global, line: &mut Words) -> Result<Option<Line>, Memory>
     )
 }
 
-/// Takes whether a begun function is ready, or loses the place.
-#[tactic(auto, unfolding(wx_journal::specs::Answers::readied))]
-fn take_ready(alloc: Global, line: &mut Words) -> Result<Option<bool>, Memory>
-    ensures { IfOk result (λ ready. Reads line.new ready (readied.read line.old)) }
-{
-    read_rows!(alloc, line;
-        b"ready" => true,
-        b"later" => false,
-    )
-}
-
 /// Takes the words that a spawn hook appends, or loses the place.
 fn take_words(alloc: Global, line: &mut Words) -> Result<Option<Line>, Memory>
     ensures { IfOk result (λ said. Reads line.new said (read_as Hook (list_of text).read line.old)) }
@@ -118,7 +106,7 @@ fn take_form(alloc: Global, line: &mut Words) -> Result<Option<Line>, Memory>
         b"turnfault" (code) => Line::Fault(code),
         b"filter" (answer = read_verdict) => Line::Filter(answer),
         b"error" (wish) => Line::Wishes(wish),
-        b"poll" (ready = take_ready) => Line::Poll(ready),
+        b"poll" (ready = read_ready) => Line::Poll(ready),
         b"hook" (said = take_words) => said,
         b"spawn" (answer = read_result) => Line::Spawn(answer),
         b"signal" (answer = read_result) => Line::Signal(answer),

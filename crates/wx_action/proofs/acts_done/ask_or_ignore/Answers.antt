@@ -43,7 +43,7 @@ done g c rest more owes =
     let l = lent g.start c.args.worker.now c.args.journal.now.past c.args.id c.task_mut-task.result.now c.requires.1 c.task_mut-task.ensures.task in
     let alive : lives c.args.id c.args.journal.now.past ≡ true = sym (alive_is g.start c.args.worker.now c.args.journal.now.past c.args.id c.requires.1) ∙ sym c.lives.ensures ∙ c.if-not-lives.false in
     asked_one g.start c.args.worker.now _ c.args.id c.task_mut-task.result.now c.send.new.self c.args.ask c.args.done rest more c.args.journal.now.past c.send.new.journal.past owes c.requires.1 alive l refl refl c.send.ensures.job c.send.ensures.stands
-    (rw c.in-Ok.ensures.same at (c.send.ensures.leaves.others (rw c.in-Ok.ensures.same c.requires.1.orderly.own)))
+    (rw c.in-Ok.ensures.same at (c.send.ensures.leaves.others (rw c.in-Ok.ensures.same c.requires.1.own)))
     (rw c.in-Ok.ensures.same at c.in_ok-ticket.ensures.leads)
 
 pub returns-clause-grows : goal.returns-clause-grows

@@ -1,4 +1,4 @@
-use Rattle.std.proofs.Common.{◌≡◌, ◌+◌, ◌*◌, List, ◌∷◌, length, length-append, arith, refl, ap, ◌∙◌}
+use Rattle.std.proofs.Common.{◌*◌, List, ◌∷◌, arith, refl, ap}
 use Rattle.wx_hooks.specs.declared.handler.Todo.{Todo}
 use Rattle.wx_hooks.specs.declared.handler.Todo.TheVariants as todo
 use Rattle.wx_machine.specs.Due.{Agenda}
@@ -30,7 +30,7 @@ pub returns-clause-performs : goal.returns-clause-performs
 returns-clause-performs g c =
     let o = c.requires.1.0 in
     let d = done g c o.0 o.1 o.2 in
-    let count : length c.add.new.self ≡ length c.args.worker.now.jobs + 1 = ap length c.in_ok-add.ensures.added ∙ length-append _ _ in
+    let count = c.in_ok-add.ensures.len in
     record { ready = record { stands = d.stands; room = record { in_journal = omega (arith, ap (λ n. 2 * n) count, c.in-Ok.ensures.room, c.push.ensures.room); in_host = omega (arith, ap (λ n. 2 * n) count, c.in-Ok.ensures.host_room) } }; adds = adds _ _ _ d.follows d.quiet d.turns; rest = c.reserve_job.ensures.rest }
 
 pub returns-clause-does : goal.returns-clause-does

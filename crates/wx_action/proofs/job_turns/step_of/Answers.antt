@@ -42,7 +42,7 @@ stopped : (g : _) (c : goal.After-from_residual g) → StepStopped g.start (reco
 stopped g c =
     let l = lent g.start c.args.worker.now c.args.journal.now.past c.args.id c.task_mut-task.result.now c.requires.1.1.1.0 c.task_mut-task.ensures.task in
     step_stopped (λ h. g.W.Outside.seen h) (λ x. (g.H.JobHooks.seen x).told) g.start c.args.worker.now _ c.args.at c.args.id c.task_mut-task.result.now c.step.new.self c.args.journal.now c.step.new.journal c.args.host.now c.step.new.host c.args.hooks.now c.step.new.hooks c.requires.1.1.1.0 c.requires.1.1.0 l refl refl
-    c.step.ensures.job c.step.ensures.stands (c.step.ensures.leaves.others c.requires.1.1.1.0.orderly.own) c.in_err-step.ensures.err
+    c.step.ensures.job c.step.ensures.stands (c.step.ensures.leaves.others c.requires.1.1.1.0.own) c.in_err-step.ensures.err
 
 pub returns-in_err-step-clause-continues : goal.returns-in_err-step-clause-continues
 returns-in_err-step-clause-continues g c = let d = stopped g c in record {
@@ -60,7 +60,7 @@ done : (g : _) (c : goal.In_ok-step g) → JobDone g.start (record c.args.worker
 done g c =
     let l = lent g.start c.args.worker.now c.args.journal.now.past c.args.id c.task_mut-task.result.now c.requires.1.1.1.0 c.task_mut-task.ensures.task in
     step_done g.start c.args.worker.now _ c.args.at c.args.id c.task_mut-task.result.now c.step.new.self c.args.journal.now.past c.step.new.journal.past _ _ _ _ _ _ c.requires.1.1.1.0 c.requires.1.1.0 l refl refl
-    c.step.ensures.job c.step.ensures.stands (c.step.ensures.leaves.others c.requires.1.1.1.0.orderly.own) c.in_ok-step.ensures.leads.led
+    c.step.ensures.job c.step.ensures.stands (c.step.ensures.leaves.others c.requires.1.1.1.0.own) c.in_ok-step.ensures.leads.led
 
 pub returns-clause-continues : goal.returns-clause-continues
 returns-clause-continues g c = let d = done g c in record {

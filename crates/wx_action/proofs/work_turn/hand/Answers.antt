@@ -1,8 +1,7 @@
 use Rattle.std.proofs.Common.{arith}
-use Rattle.wx_machine.specs.RunLaws.{NoneUrgentWaits}
 use Rattle.wx_machine.specs.Due.{after_acts}
 use Rattle.wx_action.specs.Serves.{Continues}
-use Rattle.wx_action.proofs.HandLemmas.{works_by, calm_acts, on_err, none_to_go}
+use Rattle.wx_action.proofs.HandLemmas.{works_by, on_err, none_to_go}
 use Rattle.wx_action.proofs.work_turn.hand.Goals.{After-perform}
 use Rattle.wx_action.proofs.Serving.{serves_both, keeps_adds}
 use Rattle.wx_action.proofs.work_turn.hand.Goals as goal
@@ -12,23 +11,11 @@ perform-requires g c = λ κs lives. (
   lives,
   (
     (after_acts c.hand_batch-ends.result.0, c.hand_batch-ends.ensures.owes),
-    record { stands = c.hand_batch-ends.ensures.grows.stands; room = record { in_journal = c.hand_batch-ends.ensures.room; in_host = (let fewer = c.hand_batch-ends.ensures.end_room in let room = c.requires.1.1.1.1 in omega arith) } },
+    record { stands = c.hand_batch-ends.ensures.grows.stands; room = record { in_journal = c.hand_batch-ends.ensures.room; in_host = (let fewer = c.hand_batch-ends.ensures.end_room in let room = c.requires.1.1.1.1.1 in omega arith) } },
   ),
 )
 
--- ---- what holds of a batch that was handed, where all that its acts ask for was done and where memory ran out before
-
-calm : (g : _) (c : After-perform g) → NoneUrgentWaits c.perform.new.journal.past
-calm g c = let o = c.perform.ensures.owes (after_acts c.hand_batch-ends.result.0) c.hand_batch-ends.ensures.owes in
-    calm_acts g.start c.hand_batch-ends.new.worker c.hand_batch-ends.new.journal.past c.perform.new.journal.past _ o.0 c.hand_batch-ends.result.0 c.hand_batch-ends.ensures.grows.stands c.hand_batch-ends.ensures.calm c.hand_batch-ends.ensures.owes c.perform.ensures.performs.adds.follows o.1
-
 -- ---- the goals
-
-pub returns-clause-calm : goal.returns-clause-calm
-returns-clause-calm g c = calm g (goal.at.returns-clause-calm g c).After-perform
-
-pub returns-in_err-perform-clause-calm : goal.returns-in_err-perform-clause-calm
-returns-in_err-perform-clause-calm g c = calm g (goal.at.returns-in_err-perform-clause-calm g c).After-perform
 
 pub returns-in_err-perform-clause-cut : goal.returns-in_err-perform-clause-cut
 returns-in_err-perform-clause-cut g c = on_err c.from_residual.result (none_to_go g.start c.perform.new.journal.past _ (after_acts c.hand_batch-ends.result.0) (c.perform.ensures.owes (after_acts c.hand_batch-ends.result.0) c.hand_batch-ends.ensures.owes).1)

@@ -1,13 +1,15 @@
-use Rattle.std.proofs.Common.{arith, ◌∙◌}
+use Rattle.std.proofs.Common.{arith, ap, ◌∙◌}
+use Rattle.wx_machine.specs.Due.{Open, is_quitting}
+use Rattle.wx_machine.proofs.SettleLaws.{settle_calm}
 use Rattle.wx_action.proofs.BreakLemmas.{collects_shown}
-use Rattle.wx_action.proofs.Serving.{within_more, hand_then}
+use Rattle.wx_action.proofs.Serving.{within_more, hand_then, promised_grown}
 use Rattle.wx_action.proofs.TurnLaws.{at_turn}
 use Rattle.wx_action.specs.Serves.{GrowsWithin}
 use Rattle.wx_action.proofs.work_turn.throttle_collect.Goals.{After-show}
 use Rattle.wx_action.proofs.work_turn.throttle_collect.Goals as goal
 
 pub collect-requires : goal.collect-requires
-collect-requires g c = λ κs lives. let h = at_turn g.start c.args.worker.now c.args.at _ c.args.journal.now.past tt c.requires.1 in (lives, record { stands = h.stands; due = h.due; now = h.now })
+collect-requires g c = λ κs lives. let h = at_turn g.start c.args.worker.now c.args.at _ c.args.journal.now.past tt c.requires.1 in (lives, record { stands = h.stands; due = h.due; now = h.now; going = h.going })
 
 -- ---- what holds where none was shown
 
@@ -57,4 +59,35 @@ returns-in_ok-show-in-Failed-clause-kept_room g c = λ h. omega (arith, (rw c.in
 pub returns-in_ok-show-in-Failed-clause-collected : goal.returns-in_ok-show-in-Failed-clause-collected
 returns-in_ok-show-in-Failed-clause-collected g c =
     let found = rw c.in-Failed.is at c.in_ok-collect.ensures.found in
-    collects_shown g.start c.args.journal.now.past c.collect.new.journal.past c.show.new.journal.past c.in_ok-error-in-Failed.field-0 found.0 (rw c.in_ok-error-in-Failed.was at found.1) c.show.ensures.adds c.in_ok-show-in-Failed.ensures.done
+    let at = at_turn g.start c.args.worker.now c.args.at _ c.args.journal.now.past tt c.requires.1 in
+    let done = c.in_ok-show-in-Failed.ensures.done Open (rw c.in_ok-error-in-Failed.was at found.1) ∙ settle_calm c.collect.new.journal.past Open (ap is_quitting found.0.shown ∙ at.going) in
+    collects_shown g.start c.args.journal.now.past c.collect.new.journal.past c.show.new.journal.past found.0 c.show.ensures.adds done
+
+-- ---- what hooks promise
+
+pub returns-in_err-collect-clause-promised : goal.returns-in_err-collect-clause-promised
+returns-in_err-collect-clause-promised g c = let d = c.collect.ensures.within in promised_grown (λ h. g.H.JobHooks.seen h) (λ plan. g.H.JobHooks.rule plan) (λ h. g.H.JobHooks.stands h) g.start _ _ _ _ _ (λ h. g.met.H.JobHooks.stands_other h) d.grows.stands d.grows.keeps
+
+pub returns-in-Stop-clause-promised : goal.returns-in-Stop-clause-promised
+returns-in-Stop-clause-promised g c = let d = c.collect.ensures.within in promised_grown (λ h. g.H.JobHooks.seen h) (λ plan. g.H.JobHooks.rule plan) (λ h. g.H.JobHooks.stands h) g.start _ _ _ _ _ (λ h. g.met.H.JobHooks.stands_other h) d.grows.stands d.grows.keeps
+
+pub returns-in-Hand-clause-promised : goal.returns-in-Hand-clause-promised
+returns-in-Hand-clause-promised g c = let d = c.collect.ensures.within in promised_grown (λ h. g.H.JobHooks.seen h) (λ plan. g.H.JobHooks.rule plan) (λ h. g.H.JobHooks.stands h) g.start _ _ _ _ _ (λ h. g.met.H.JobHooks.stands_other h) d.grows.stands d.grows.keeps
+
+pub returns-in-Idle-clause-promised : goal.returns-in-Idle-clause-promised
+returns-in-Idle-clause-promised g c = let d = c.collect.ensures.within in promised_grown (λ h. g.H.JobHooks.seen h) (λ plan. g.H.JobHooks.rule plan) (λ h. g.H.JobHooks.stands h) g.start _ _ _ _ _ (λ h. g.met.H.JobHooks.stands_other h) d.grows.stands d.grows.keeps
+
+pub returns-in-Kept-clause-promised : goal.returns-in-Kept-clause-promised
+returns-in-Kept-clause-promised g c = let d = c.collect.ensures.within in promised_grown (λ h. g.H.JobHooks.seen h) (λ plan. g.H.JobHooks.rule plan) (λ h. g.H.JobHooks.stands h) g.start _ _ _ _ _ (λ h. g.met.H.JobHooks.stands_other h) d.grows.stands d.grows.keeps
+
+pub returns-in-Dropped-clause-promised : goal.returns-in-Dropped-clause-promised
+returns-in-Dropped-clause-promised g c = let d = c.collect.ensures.within in promised_grown (λ h. g.H.JobHooks.seen h) (λ plan. g.H.JobHooks.rule plan) (λ h. g.H.JobHooks.stands h) g.start _ _ _ _ _ (λ h. g.met.H.JobHooks.stands_other h) d.grows.stands d.grows.keeps
+
+pub returns-in_err-error-in-Failed-clause-promised : goal.returns-in_err-error-in-Failed-clause-promised
+returns-in_err-error-in-Failed-clause-promised g c = let d = c.collect.ensures.within in promised_grown (λ h. g.H.JobHooks.seen h) (λ plan. g.H.JobHooks.rule plan) (λ h. g.H.JobHooks.stands h) g.start _ _ _ _ _ (λ h. g.met.H.JobHooks.stands_other h) d.grows.stands d.grows.keeps
+
+pub returns-in_err-show-in-Failed-clause-promised : goal.returns-in_err-show-in-Failed-clause-promised
+returns-in_err-show-in-Failed-clause-promised g c = let d = returns-in_err-show-in-Failed-clause-within g c in promised_grown (λ h. g.H.JobHooks.seen h) (λ plan. g.H.JobHooks.rule plan) (λ h. g.H.JobHooks.stands h) g.start _ _ _ _ _ (λ h. g.met.H.JobHooks.stands_other h) d.grows.stands d.grows.keeps
+
+pub returns-in_ok-show-in-Failed-clause-promised : goal.returns-in_ok-show-in-Failed-clause-promised
+returns-in_ok-show-in-Failed-clause-promised g c = let d = returns-in_ok-show-in-Failed-clause-within g c in promised_grown (λ h. g.H.JobHooks.seen h) (λ plan. g.H.JobHooks.rule plan) (λ h. g.H.JobHooks.stands h) g.start _ _ _ _ _ (λ h. g.met.H.JobHooks.stands_other h) d.grows.stands d.grows.keeps

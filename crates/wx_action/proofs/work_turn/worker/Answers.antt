@@ -1,12 +1,10 @@
 use Rattle.std.proofs.Common.{inr}
-use Rattle.std.specs.Prelude.{None}
-use Rattle.wx_journal.specs.declared.entry.TurnKind.TheVariants.{Work}
 use Rattle.wx_action.specs.Serves.{Continues}
-use Rattle.wx_action.proofs.TurnLaws.{at_turn, calm_after}
-use Rattle.wx_action.proofs.HandLemmas.{Unhanded, unhanded}
-use Rattle.wx_action.proofs.BreakLemmas.{behind, breaks_want, breaks_on, breaks_fails, calm_fails}
-use Rattle.wx_action.proofs.work_turn.worker.Goals.{In_default, After-hand}
-use Rattle.wx_action.proofs.Serving.{continues_room, continues_after, continues_grown, continues_hand}
+use Rattle.wx_action.proofs.TurnLaws.{at_turn}
+use Rattle.wx_action.proofs.HandLemmas.{works_unhanded}
+use Rattle.wx_action.proofs.BreakLemmas.{behind, breaks_want, breaks_on, breaks_fails}
+use Rattle.wx_action.proofs.work_turn.worker.Goals.{After-hand}
+use Rattle.wx_action.proofs.Serving.{continues_room, continues_after, continues_grown, continues_hand, promised_grown}
 use Rattle.wx_action.proofs.work_turn.worker.Goals as goal
 
 -- ---- what holds where no room was there
@@ -26,26 +24,14 @@ returns-in_err-found-clause-breaks g c =
     breaks_on g.start c.throttle_collect.new.journal.past c.from_residual-in_err-found.result c.in_err-found.field-0.0 c.from_residual-in_err-found.ensures.1
     (breaks_fails g.start c.args.worker.now c.args.at c.args.journal.now.past c.reserve_calls.new.journal.past c.throttle_collect.new.journal.past c.in_err-found.field-0.0 c.requires.1.1 c.reserve_calls.ensures.same c.in_err-found.ensures.fails)
 
-pub returns-in_err-found-clause-calm : goal.returns-in_err-found-clause-calm
-returns-in_err-found-clause-calm g c =
-    calm_fails g.start c.args.worker.now c.args.at c.args.journal.now.past c.reserve_calls.new.journal.past c.throttle_collect.new.journal.past c.in_err-found.field-0.0 (g.H.JobHooks.seen c.reserve_calls.new.hooks).told (g.H.JobHooks.seen c.throttle_collect.new.hooks).told
-    c.requires.1.1 c.reserve_calls.ensures.same c.throttle_collect.ensures.within.grows.adds.follows c.in_err-found.ensures.fails
-
 pub returns-in_err-found-clause-continues : goal.returns-in_err-found-clause-continues
 returns-in_err-found-clause-continues g c =
     continues_after _ _ _ _ _ _ _ _ _ _ _ _ _ _ _ c.reserve_calls.ensures.same c.reserve_calls.ensures.kept c.reserve_calls.ensures.host c.reserve_calls.ensures.hooks (continues_grown _ _ _ _ _ _ _ _ _ _ _ _ _ c.throttle_collect.ensures.within c.throttle_collect.ensures.kept_room)
 
 -- ---- what holds where the window isn't due
 
-left : (g : _) (c : In_default g) → Unhanded g.start c.in_ok-found.found c.throttle_collect.new.journal.past
-left g c = unhanded g.start c.reserve_calls.new.journal.past c.throttle_collect.new.journal.past c.in_ok-found.found c.in_default.not-Hand c.in_ok-found.ensures.collected
-
 pub returns-in_default-clause-works : goal.returns-in_default-clause-works
-returns-in_default-clause-works g c = rw c.without_hand.ensures (left g (goal.at.returns-in_default-clause-works g c).In_default).works
-
-pub returns-in_default-clause-calm : goal.returns-in_default-clause-calm
-returns-in_default-clause-calm g c =
-    calm_after g.start c.args.worker.now c.args.at Work c.args.journal.now.past c.throttle_collect.new.journal.past None _ None _ c.requires.1.1 (rw c.reserve_calls.ensures.same at (c.throttle_collect.ensures.within.grows.adds.follows None)) (left g (goal.at.returns-in_default-clause-calm g c).In_default).none
+returns-in_default-clause-works g c = rw c.without_hand.ensures (works_unhanded g.start c.reserve_calls.new.journal.past c.throttle_collect.new.journal.past c.in_ok-found.found c.in_default.not-Hand c.in_ok-found.ensures.collected)
 
 pub returns-in_default-clause-continues : goal.returns-in_default-clause-continues
 returns-in_default-clause-continues g c =
@@ -64,3 +50,20 @@ returns-in_ok-hand-in-Hand-clause-continues g c = continues g (goal.at.returns-i
 
 pub returns-in_err-hand-in-Hand-clause-breaks : goal.returns-in_err-hand-in-Hand-clause-breaks
 returns-in_err-hand-in-Hand-clause-breaks g c = breaks_want g.start c.hand.new.journal.past c.from_residual-in_err-hand-in-Hand.result c.from_residual-in_err-hand-in-Hand.ensures.1 (inr c.in_err-hand-in-Hand.ensures.cut)
+
+-- ---- what hooks promise
+
+pub returns-in_err-reserve_calls-clause-promised : goal.returns-in_err-reserve_calls-clause-promised
+returns-in_err-reserve_calls-clause-promised g c = let d = returns-in_err-reserve_calls-clause-continues g c in promised_grown (λ h. g.H.JobHooks.seen h) (λ plan. g.H.JobHooks.rule plan) (λ h. g.H.JobHooks.stands h) g.start _ _ _ _ _ (λ h. g.met.H.JobHooks.stands_other h) d.stands d.keeps
+
+pub returns-in_err-found-clause-promised : goal.returns-in_err-found-clause-promised
+returns-in_err-found-clause-promised g c = let d = returns-in_err-found-clause-continues g c in promised_grown (λ h. g.H.JobHooks.seen h) (λ plan. g.H.JobHooks.rule plan) (λ h. g.H.JobHooks.stands h) g.start _ _ _ _ _ (λ h. g.met.H.JobHooks.stands_other h) d.stands d.keeps
+
+pub returns-in_default-clause-promised : goal.returns-in_default-clause-promised
+returns-in_default-clause-promised g c = let d = returns-in_default-clause-continues g c in promised_grown (λ h. g.H.JobHooks.seen h) (λ plan. g.H.JobHooks.rule plan) (λ h. g.H.JobHooks.stands h) g.start _ _ _ _ _ (λ h. g.met.H.JobHooks.stands_other h) d.stands d.keeps
+
+pub returns-in_err-hand-in-Hand-clause-promised : goal.returns-in_err-hand-in-Hand-clause-promised
+returns-in_err-hand-in-Hand-clause-promised g c = let d = returns-in_err-hand-in-Hand-clause-continues g c in promised_grown (λ h. g.H.JobHooks.seen h) (λ plan. g.H.JobHooks.rule plan) (λ h. g.H.JobHooks.stands h) g.start _ _ _ _ _ (λ h. g.met.H.JobHooks.stands_other h) d.stands d.keeps
+
+pub returns-in_ok-hand-in-Hand-clause-promised : goal.returns-in_ok-hand-in-Hand-clause-promised
+returns-in_ok-hand-in-Hand-clause-promised g c = let d = returns-in_ok-hand-in-Hand-clause-continues g c in promised_grown (λ h. g.H.JobHooks.seen h) (λ plan. g.H.JobHooks.rule plan) (λ h. g.H.JobHooks.stands h) g.start _ _ _ _ _ (λ h. g.met.H.JobHooks.stands_other h) d.stands d.keeps

@@ -8,7 +8,7 @@ use Rattle.wx_machine.specs.Leads.{Here}
 use Rattle.wx_machine.proofs.RunLaws.{orderly, run_led, run_is_batched, run_has_batches}
 use Rattle.wx_engine.proofs.MainLaws.{leads_world, leads_hooks, dying_hooks, answered_ran, ran_is_batched, ran_has_batches}
 use Rattle.wx_engine.proofs.BeginLemmas.{begun_run}
-use Rattle.wx_engine.proofs.RunLemmas.{stopped, caused_by, broken, wants}
+use Rattle.wx_engine.proofs.RunLemmas.{stopped, caused_by, broken, wants, calm_stops, calm_begun}
 use Rattle.wx_engine.proofs.running.run.Goals as goal
 
 pub returns-in_err-about-clause-answers : goal.returns-in_err-about-clause-answers
@@ -44,7 +44,7 @@ returns-in_err-state-clause-lists g c =
 pub returns-in_err-state-clause-laws : goal.returns-in_err-state-clause-laws
 returns-in_err-state-clause-laws g c =
     let run = begun_run g.start _ _ c.requires.1.1.1 c.begin.ensures.adds in
-    record { batched = run_is_batched g.start _ run; batches = run_has_batches g.start _ run; calm = c.begin.ensures.calm; rise = ((rw c.requires.1.1.1 at c.begin.ensures.adds).turns [] (same_turns [])).rise tt }
+    record { batched = run_is_batched g.start _ run; batches = run_has_batches g.start _ run; calm = calm_begun g.start _ run c.in_err-state.ensures.cut; rise = ((rw c.requires.1.1.1 at c.begin.ensures.adds).turns [] (same_turns [])).rise tt }
 
 pub returns-in_err-state-clause-promised : goal.returns-in_err-state-clause-promised
 returns-in_err-state-clause-promised g c =
@@ -64,7 +64,6 @@ serve_turns-answer-requires g c = λ κs lives.
             rests = record {
               stands = c.in_ok-state.ensures.stands;
               room = record { in_journal = omega (arith, c.in_ok-state.ensures.room); in_host = omega (arith, c.in_ok-state.ensures.room) };
-              calm = c.begin.ensures.calm;
               rise = same.rise tt;
             };
             open_is = c.in_ok-state.ensures.open;
@@ -103,16 +102,17 @@ returns-clause-lists g c =
 
 pub returns-clause-laws : goal.returns-clause-laws
 returns-clause-laws g c =
+    let run = run_led g.start _ _ _ _ _ _ c.serve_turns-answer.ensures.serves.follows (begun_run g.start _ _ c.requires.1.1.1 c.begin.ensures.adds) in
     let ran = answered_ran g.start _ c.serve_turns-answer.result (returns-clause-answers g c) in
     record {
       batched = ran_is_batched g.start _ ran;
       batches = ran_has_batches g.start _ ran;
-      calm = (dying_keeps g.start _ _ c.end_jobs.ensures.dying).calm c.serve_turns-answer.ensures.rests.calm;
+      calm = (dying_keeps g.start _ _ c.end_jobs.ensures.dying).calm (calm_stops g.start _ c.serve_turns-answer.result run c.serve_turns-answer.ensures.stops);
       rise = (dying_turns g.start _ _ c.end_jobs.ensures.dying).rise c.serve_turns-answer.ensures.rests.rise;
     }
 
 pub returns-clause-promised : goal.returns-clause-promised
 returns-clause-promised g c =
     let ended = dying_keeps g.start c.serve_turns-answer.new.journal.past c.end_jobs.new.journal.past c.end_jobs.ensures.dying in
-    promised (λ h. g.H.JobHooks.seen h) (λ plan. g.H.JobHooks.rule plan) (λ h. g.H.JobHooks.stands h) c.args.hooks.now [] c.serve_turns-answer.new.hooks c.end_jobs.new.journal.past (λ h. g.met.H.JobHooks.stands_other h) (ended.own c.serve_turns-answer.ensures.rests.stands.orderly.own)
+    promised (λ h. g.H.JobHooks.seen h) (λ plan. g.H.JobHooks.rule plan) (λ h. g.H.JobHooks.stands h) c.args.hooks.now [] c.serve_turns-answer.new.hooks c.end_jobs.new.journal.past (λ h. g.met.H.JobHooks.stands_other h) (ended.own c.serve_turns-answer.ensures.rests.stands.own)
     (Past _ _ _ (c.serve_turns-answer.ensures.keeps _ _ (Past _ _ _ Still ((rw c.requires.1.1.1 at c.begin.ensures.adds).quiet [] Same))) (ended.quiet _ Same))

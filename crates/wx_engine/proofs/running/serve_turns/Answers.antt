@@ -4,14 +4,14 @@ use Rattle.wx_journal.specs.Told.{tell}
 use Rattle.wx_machine.specs.Seen.{Shown}
 use Rattle.wx_machine.specs.Faults.{CountsOn}
 use Rattle.wx_machine.proofs.AllJobs.{same_turns}
-use Rattle.wx_machine.specs.RunLaws.{NoneUrgentWaits, MomentsRise}
+use Rattle.wx_machine.specs.RunLaws.{MomentsRise}
 use Rattle.wx_machine.specs.Journal.{early_count}
 use Rattle.wx_machine.specs.Kept.{KeepsOn, Past}
 use Rattle.wx_machine.specs.Leads.{Follows}
 use Rattle.wx_action.specs.Stands.{HasEndRoom}
 use Rattle.wx_machine.specs.Told.{is_last}
 use Rattle.wx_engine.specs.Run.{Rests, ServesTurns}
-use Rattle.wx_engine.proofs.TurnLemmas.{Drawn, turn_drawn, fault_drawn, drawn_follows, drawn_quiet, drawn_counts, turn_calm, fault_calm, early_drawn, served, turn_stands, fault_stands, turns_then}
+use Rattle.wx_engine.proofs.TurnLemmas.{Drawn, turn_drawn, fault_drawn, drawn_follows, drawn_quiet, drawn_counts, early_drawn, served, turn_stands, fault_stands, turns_then}
 use Rattle.wx_engine.proofs.running.serve_turns.Goals.{After-push-in-turns, After-serve}
 use Rattle.wx_engine.proofs.running.serve_turns.Goals as goal
 
@@ -38,9 +38,6 @@ early : (g : _) (c : After-push-in-turns g) → early_count c.push-in-turns.new.
 early g c =
     rw (rw c.in_ok-make_room.ensures.same at c.push-in-turns.ensures.past) (early_drawn c.in-Ok.given.turn c.turns.journal.past _ _ _ c.in-Ok.ensures.falls (omega (arith, c.turns.invariant.early, ap (λ k. k.left) c.in_ok-make_room.ensures.rest.steady.progress_kept)))
 
-listed_calm : (g : _) (c : After-push-in-turns g) → NoneUrgentWaits c.push-in-turns.new.self.past
-listed_calm g c = turn_calm c.in-Ok.given.turn c.turns.journal.past _ c.turns.invariant.calm (rw c.in_ok-make_room.ensures.same at c.push-in-turns.ensures.past)
-
 listed_rise : (g : _) (c : After-push-in-turns g) → MomentsRise c.push-in-turns.new.self.past
 listed_rise g c =
     rw (rw c.in_ok-make_room.ensures.same at c.push-in-turns.ensures.past) (omega (arith, c.turns.invariant.now, c.in-Ok.ensures.later, ap (λ k. k.moment) c.in_ok-make_room.ensures.rest.steady.progress_kept), c.turns.invariant.rise)
@@ -64,11 +61,10 @@ listed g c =
 
 -- ---- and served
 
-rests : (g : _) (c : After-serve g) → HasEndRoom c.turns.state c.push-in-turns.new.self.spare (g.W.Outside.seen c.turn.new.self).spare → MomentsRise c.push-in-turns.new.self.past → NoneUrgentWaits c.push-in-turns.new.self.past → Rests g.start c.serve.new.state c.serve.new.journal (g.W.Outside.seen c.serve.new.world)
-rests g c room rise calm = record {
+rests : (g : _) (c : After-serve g) → HasEndRoom c.turns.state c.push-in-turns.new.self.spare (g.W.Outside.seen c.turn.new.self).spare → MomentsRise c.push-in-turns.new.self.past → Rests g.start c.serve.new.state c.serve.new.journal (g.W.Outside.seen c.serve.new.world)
+rests g c room rise = record {
   stands = c.serve.ensures.continues.stands;
   room = c.serve.ensures.continues.room room;
-  calm = c.serve.ensures.calm calm;
   rise = (c.serve.ensures.continues.serves.turns c.push-in-turns.new.self.past (same_turns c.push-in-turns.new.self.past)).rise rise;
 }
 
@@ -77,7 +73,7 @@ rests g c room rise calm = record {
 pub returns-in_err-make_room-clause-rests : goal.returns-in_err-make_room-clause-rests
 returns-in_err-make_room-clause-rests g c =
     let same = c.in_err-make_room.ensures.same in
-    record { stands = rw same c.turns.invariant.stands; room = c.in_err-make_room.ensures.room; calm = rw same c.turns.invariant.calm; rise = rw same c.turns.invariant.rise }
+    record { stands = rw same c.turns.invariant.stands; room = c.in_err-make_room.ensures.room; rise = rw same c.turns.invariant.rise }
 
 pub returns-in_err-make_room-clause-serves : goal.returns-in_err-make_room-clause-serves
 returns-in_err-make_room-clause-serves g c =
@@ -100,9 +96,8 @@ pub returns-in-Err-clause-rests : goal.returns-in-Err-clause-rests
 returns-in-Err-clause-rests g c =
     let grown = rw c.in_ok-make_room.ensures.same at c.push.ensures.past in
     record {
-      stands = fault_stands g.start c.turns.state c.in-Err.fault.0 c.turns.journal.past c.push.new.self.past c.turns.invariant.stands c.turns.invariant.open_is grown;
+      stands = fault_stands g.start c.turns.state c.in-Err.fault.0 c.turns.journal.past c.push.new.self.past c.turns.invariant.stands grown;
       room = record { in_journal = omega (arith, c.in_ok-make_room.ensures.journal_room, c.push.ensures.room); in_host = omega (arith, c.in_ok-make_room.ensures.world_room, c.in-Err.ensures.gives.room) };
-      calm = fault_calm c.in-Err.fault.0 c.turns.journal.past _ c.turns.invariant.calm grown;
       rise = rw grown c.turns.invariant.rise;
     }
 
@@ -129,7 +124,6 @@ returns-in_err-kind-clause-rests g c =
     record {
       stands = turn_stands g.start c.turns.state c.in-Ok.given.turn c.turns.journal.past c.push-in-turns.new.self.past c.turns.invariant.stands (rw c.in_ok-make_room.ensures.same at c.push-in-turns.ensures.past) (rw c.in_err-kind.was at c.kind_again-kind.ensures.no_end);
       room = listed_room g at;
-      calm = listed_calm g at;
       rise = listed_rise g at;
     }
 
@@ -140,7 +134,7 @@ pub returns-in_err-kind-clause-keeps : goal.returns-in_err-kind-clause-keeps
 returns-in_err-kind-clause-keeps g c = keeps g (goal.at.returns-in_err-kind-clause-keeps g c).After-push-in-turns
 
 pub returns-in_err-serve-clause-rests : goal.returns-in_err-serve-clause-rests
-returns-in_err-serve-clause-rests g c = let at = goal.at.returns-in_err-serve-clause-rests g c in rests g at.After-serve (listed_room g at.After-push-in-turns) (listed_rise g at.After-push-in-turns) (listed_calm g at.After-push-in-turns)
+returns-in_err-serve-clause-rests g c = let at = goal.at.returns-in_err-serve-clause-rests g c in rests g at.After-serve (listed_room g at.After-push-in-turns) (listed_rise g at.After-push-in-turns)
 
 pub returns-in_err-serve-clause-serves : goal.returns-in_err-serve-clause-serves
 returns-in_err-serve-clause-serves g c = turns_then g.start _ _ _ _ _ _ _ _ _ (listed g (goal.at.returns-in_err-serve-clause-serves g c).After-push-in-turns) c.serve.ensures.continues.serves
@@ -149,7 +143,7 @@ pub returns-in_err-serve-clause-keeps : goal.returns-in_err-serve-clause-keeps
 returns-in_err-serve-clause-keeps g c = λ x₀ p₀ k. c.serve.ensures.continues.keeps x₀ p₀ (keeps g (goal.at.returns-in_err-serve-clause-keeps g c).After-push-in-turns x₀ p₀ k)
 
 pub returns-in-End-clause-rests : goal.returns-in-End-clause-rests
-returns-in-End-clause-rests g c = let at = goal.at.returns-in-End-clause-rests g c in rests g at.After-serve (listed_room g at.After-push-in-turns) (listed_rise g at.After-push-in-turns) (listed_calm g at.After-push-in-turns)
+returns-in-End-clause-rests g c = let at = goal.at.returns-in-End-clause-rests g c in rests g at.After-serve (listed_room g at.After-push-in-turns) (listed_rise g at.After-push-in-turns)
 
 pub returns-in-End-clause-serves : goal.returns-in-End-clause-serves
 returns-in-End-clause-serves g c = turns_then g.start _ _ _ _ _ _ _ _ _ (listed g (goal.at.returns-in-End-clause-serves g c).After-push-in-turns) c.serve.ensures.continues.serves
@@ -176,7 +170,6 @@ turns-preserved g c =
     record {
       about = c.turns.invariant.about;
       stands = c.serve.ensures.continues.stands;
-      calm = c.serve.ensures.calm (listed_calm g at.After-push-in-turns);
       room = c.serve.ensures.continues.room (listed_room g at.After-push-in-turns);
       open_is = rw c.in-On.is at c.in_ok-serve.ensures.works;
       fault = v.fault ∙ c.turns.invariant.fault;

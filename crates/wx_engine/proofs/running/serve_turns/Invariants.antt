@@ -4,7 +4,7 @@ use Rattle.wx_journal.specs.Names.{moment}
 use Rattle.wx_machine.specs.Journal.{turn_count, early_count, turn_fault}
 use Rattle.wx_machine.specs.Due.{agenda, Open}
 use Rattle.wx_machine.specs.Faults.{CountsOn}
-use Rattle.wx_machine.specs.RunLaws.{NoneUrgentWaits, MomentsRise}
+use Rattle.wx_machine.specs.RunLaws.{MomentsRise}
 use Rattle.wx_machine.specs.Kept.{KeepsOn}
 use Rattle.wx_machine.specs.Leads.{Follows}
 use Rattle.wx_action.specs.Stands.{Stands, HasEndRoom}
@@ -18,7 +18,6 @@ abbrev pub invariant-turns : goal.invariant-turns
 invariant-turns g l = record {
   about : l.about ≡ codes "turn";
   stands : Stands g.start l.state l.journal.past;
-  calm : NoneUrgentWaits l.journal.past;
   room : HasEndRoom l.state l.journal.spare (g.W.Outside.seen l.world).spare;
   open_is : agenda g.start l.journal.past ≡ Open;
   fault : turn_fault l.journal.past ≡ None;

@@ -1,10 +1,8 @@
-use Rattle.std.proofs.Common.{List, ap, sym, ◌∙◌}
-use Rattle.wx_journal.specs.declared.entry.Entry.{Entry}
-use Rattle.wx_machine.specs.Journal.{window}
+use Rattle.std.proofs.Common.{arith}
 use Rattle.wx_print.proofs.PrintLemmas.{newest_first}
 use Rattle.wx_print.proofs.printing.lost.Goals as goal
 
-pub loop-i-preserved : goal.loop-i-preserved
-loop-i-preserved c =
-    let order = c.as_slice-entries.ensures.in_order in
-    rw (← order) (c.in_ok-follow.ensures (rw order c.loop-i.invariant) ∙ ap (λ (es : List Entry). window es) (sym (newest_first c.as_slice-entries.result.now c.loop-i.i c.index-entries-i.result c.loop-i-test.true c.index-entries-i.is)))
+pub loop-entry-preserved : goal.loop-entry-preserved
+loop-entry-preserved c =
+    let step = newest_first c.as_slice-entries.result.now c.loop-entry.entry-index c.entry-item.result (omega arith) c.entry-item.is in
+    rw step (c.in_ok-note_listed.ensures _ c.loop-entry.invariant.0, c.in_ok-follow.ensures _ c.loop-entry.invariant.0 c.loop-entry.invariant.1)

@@ -1,7 +1,9 @@
 use Rattle.std.proofs.lemmas.Result.{IfOk-weaker}
-use Rattle.std.proofs.Common.{◌∙◌, sym, ap, Some, List}
+use Rattle.std.proofs.Common.{◌∙◌, sym, ap, subst, Some, List}
 use Rattle.wx_journal.specs.declared.entry.Entry.{Entry}
 use Rattle.wx_journal.specs.Told.{tells, is_turn, is_world, anywhere}
+use Rattle.wx_machine.specs.Answer.{Answers}
+use Rattle.wx_machine.specs.Start.{Start}
 use Rattle.wx_print.proofs.OneSpelling.{one_spelling}
 use Rattle.wx_script.specs.FollowLaws.{follows_turns, follows_answers, wished_follows}
 use Rattle.wx_script.specs.Turns.{turns_of}
@@ -16,7 +18,8 @@ returns-clause-text c = IfOk-weaker c.shown-out.result _ (λ r. IsReplay c.args.
     record {
       journal = j;
       answer = c.main-answer.result;
-      answers = rw c.in_ok-engine.ensures at c.main-answer.ensures.answer;
+      ready = _;
+      answers = subst (λ (s : Start). Answers s j c.main-answer.result) c.in_ok-engine.ensures c.main-answer.ensures.answer;
       follows = record {
         turns = follows_turns c.args.script.now _ c.main-answer.new.world.told.past j
             (c.main-answer.ensures.world_plan ∙ c.in_ok-world.ensures.plan)

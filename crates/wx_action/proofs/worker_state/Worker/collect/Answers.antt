@@ -1,7 +1,7 @@
 use Rattle.std.proofs.Common.{◌≡◌, false, length, arith, refl}
 use Rattle.std.specs.Prelude.{◌==◌}
 use Rattle.wx_machine.specs.Journal.{bag}
-use Rattle.wx_machine.specs.Due.{agenda, Takes}
+use Rattle.wx_machine.specs.Due.{Takes, Open, Comes, agenda}
 use Rattle.wx_action.specs.declared.work_turn.Found.TheVariants.{Idle}
 use Rattle.wx_action.specs.Stands.{Stands}
 use Rattle.wx_action.proofs.ArriveLemmas.{steps_add}
@@ -46,7 +46,7 @@ returns-in_err-reserve-2-clause-within g c = record {
 
 done : (g : _) (c : After-push g) → TakeDone g.start c.args.self.now c.args.journal.now.past c.push.new.self.past Idle
 done g c =
-    idle_done g.start c.args.self.now c.args.journal.now.past c.push.new.self.past c.args.at c.requires.1.stands c.requires.1.due c.requires.1.now (rw c.is_closed.ensures at c.if-is_closed.false) (rw c.is_over.ensures at c.if-is_over.false) (rw c.is_empty.ensures at c.if-is_empty.true) (rw c.in_ok-reserve.ensures.same at c.push.ensures.past)
+    idle_done g.start c.args.self.now c.args.journal.now.past c.push.new.self.past c.args.at c.requires.1 (rw c.is_closed.ensures at c.if-is_closed.false) (rw c.is_over.ensures at c.if-is_over.false) (rw c.is_empty.ensures at c.if-is_empty.true) (rw c.in_ok-reserve.ensures.same at c.push.ensures.past)
 
 pub returns-then-is_empty-clause-within : goal.returns-then-is_empty-clause-within
 returns-then-is_empty-clause-within g c = let d = done g c in record {
@@ -61,7 +61,7 @@ returns-then-is_empty-clause-found g c = (done g c).collected
 
 -- ---- an event was taken
 
-is_due : (g : _) (c : After-reserve-3 g) → (agenda g.start c.args.journal.now.past ≡ Takes) × ((length (bag c.args.journal.now.past) == 0) ≡ false)
+is_due : (g : _) (c : After-reserve-3 g) → (agenda g.start c.args.journal.now.past ≡ Comes Takes Open) × ((length (bag c.args.journal.now.past) == 0) ≡ false)
 is_due g c = takes_due g.start c.args.self.now c.args.journal.now.past c.args.at c.requires.1.stands c.requires.1.due (rw c.is_closed.ensures at c.if-is_closed.false) (rw c.is_over.ensures at c.if-is_over.false) (rw c.is_empty.ensures at c.if-is_empty.false)
 
 -- the worker with room for it
@@ -72,7 +72,7 @@ pub take-requires : goal.take-requires
 take-requires g c = λ κs lives.
     let at = (goal.at.take-requires g c).After-reserve-3 in
     let same = c.in_ok-reserve.ensures.same in
-    (lives, (rw same (record { stands = ready g at; due = (is_due g at).0; now = c.requires.1.now }), (rw same (is_due g at).1, (record { in_journal = omega (arith, c.in_ok-reserve.ensures.room); in_hooks = omega (arith, c.in_ok-reserve-3.ensures.room) }, c.in_ok-reserve-2.ensures.room))))
+    (lives, (rw same (record { stands = ready g at; due = (is_due g at).0; now = c.requires.1.now; going = c.requires.1.going }), (rw same (is_due g at).1, (record { in_journal = omega (arith, c.in_ok-reserve.ensures.room); in_hooks = omega (arith, c.in_ok-reserve-3.ensures.room) }, c.in_ok-reserve-2.ensures.room))))
 
 pub returns-in_err-reserve-3-clause-within : goal.returns-in_err-reserve-3-clause-within
 returns-in_err-reserve-3-clause-within g c = record {

@@ -1,4 +1,5 @@
 use Rattle.std.proofs.Common.{refl, ap, arith}
+use Rattle.wx_machine.proofs.RunLaws.{listed_below}
 use Rattle.wx_action.specs.Stands.{end_room}
 use Rattle.wx_action.proofs.WorkLemmas.{FilterDone, called_grows, filter_follows, filter_passed, filter_dropped, no_exit}
 use Rattle.wx_action.proofs.worker_state.Worker.judge.Goals.{After-join, After-reject}
@@ -10,7 +11,7 @@ passed : (g : _) (c : After-join g) → FilterDone g.start c.join.new.self c.arg
 passed g c =
     let passes = rw c.lets_pass.ensures at c.if-lets_pass.true in
     filter_passed g.start c.args.self.now c.join.new.self c.args.journal.now.past c.push.new.self.past c.args.at c.args.self.now.config.filterer c.args.item.name c.args.item.event c.args.priority c.check_event-answer.result c.join.result
-    c.requires.1.0.stands c.requires.1.0.due c.requires.1.0.now c.requires.1.1.0 refl passes (no_exit c.check_event-answer.result passes) c.join.ensures.same c.join.ensures.first c.join.ensures.names c.join.ensures.events c.join.ensures.found c.push.ensures.past
+    c.requires.1.0 c.requires.1.1.0 refl passes (no_exit c.check_event-answer.result passes) c.join.ensures.same c.join.ensures.first c.join.ensures.names c.join.ensures.events c.join.ensures.found c.push.ensures.past
 
 pub returns-then-lets_pass-clause-within : goal.returns-then-lets_pass-clause-within
 returns-then-lets_pass-clause-within g c = record {
@@ -29,8 +30,8 @@ returns-then-lets_pass-clause-judged g c = (passed g c).judged
 
 dropped : (g : _) (c : After-reject g) → FilterDone g.start c.reject.new.self c.args.journal.now.past c.args.self.now.config.filterer c.args.item.name c.check_event-answer.result c.reject.result c.reject.new.journal.past
 dropped g c =
-    filter_dropped g.start c.args.self.now c.reject.new.self c.args.journal.now.past c.reject.new.journal.past c.args.self.now.config.filterer c.args.item.name c.check_event-answer.result c.reject.result
-    c.requires.1.0.stands c.requires.1.0.due refl (rw c.lets_pass.ensures at c.if-lets_pass.false) c.reject.ensures.found c.reject.ensures.same c.reject.ensures.items c.reject.ensures.size c.reject.ensures.closed c.reject.ensures.past
+    filter_dropped g.start c.args.self.now c.reject.new.self c.args.journal.now.past c.reject.new.journal.past c.args.at c.args.self.now.config.filterer c.args.item.name c.check_event-answer.result c.reject.result
+    c.requires.1.0 (listed_below c.args.item.name c.args.journal.now.past (c.args.item.event, c.args.priority) c.requires.1.0.stands.own c.requires.1.1.0) refl (rw c.lets_pass.ensures at c.if-lets_pass.false) c.reject.ensures.found c.reject.ensures.same c.reject.ensures.items c.reject.ensures.size c.reject.ensures.closed c.reject.ensures.past
 
 pub returns-clause-within : goal.returns-clause-within
 returns-clause-within g c =

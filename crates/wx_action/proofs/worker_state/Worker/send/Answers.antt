@@ -35,4 +35,4 @@ returns-clause-grows g c = grows _ _ _ _ _ (done g c) refl (omega (arith, c.in-O
 
 pub returns-clause-done : goal.returns-clause-done
 returns-clause-done g c =
-    sent_then g.start c.args.journal.now.past c.push.new.self.past c.args.self.now.named c.args.event c.args.priority c.args.event c.args.priority c.requires.0.0 c.requires.0.1.stands.orderly c.requires.0.1.due (rw (c.in-Ok.ensures.same, c.in_ok-event.ensures.0) at c.push.ensures.past)
+    sent_then g.start c.args.journal.now.past c.push.new.self.past c.args.self.now.named c.args.event c.args.priority c.args.event c.args.priority (rw (c.in-Ok.ensures.same, c.in_ok-event.ensures.0) at c.push.ensures.past)

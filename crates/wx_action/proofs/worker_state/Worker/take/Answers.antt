@@ -15,7 +15,7 @@ done : (g : _) (c : After-join g) → TakeDone g.start c.join.new.self c.args.jo
 done g c =
     rw c.join.ensures.same
     (take_done g.start c.args.self.now c.args.journal.now.past c.push.new.self.past c.args.at c.join.new.self.first (c.in-Some.item, c.in-Some.priority) c.try_recv.new.self c.join.new.self.batch c.join.result
-    c.requires.1.0.stands c.requires.1.0.due c.requires.1.0.now c.in-Some.ensures.taken c.in-Some.ensures.greatest c.try_recv.ensures.size c.try_recv.ensures.closed
+    c.requires.1.0 c.in-Some.ensures.taken c.in-Some.ensures.greatest c.try_recv.ensures.size c.try_recv.ensures.closed
     (rw c.is_unseen.ensures at c.if-is_unseen.true) c.join.ensures.first c.join.ensures.names c.join.ensures.events c.join.ensures.found c.push.ensures.past)
 
 pub returns-then-is_unseen-clause-within : goal.returns-then-is_unseen-clause-within
@@ -34,14 +34,14 @@ returns-then-is_unseen-clause-found g c = (done g c).collected
 shows : (g : _) (c : Else-is_unseen g) → TakenToShow g.start (record c.args.self.now { queue = c.try_recv.new.self }) c.args.journal.now.past c.push.new.self.past c.args.at (c.in-Some.item, c.in-Some.priority)
 shows g c =
     to_show g.start c.args.self.now c.args.journal.now.past c.push.new.self.past c.args.at (c.in-Some.item, c.in-Some.priority) c.try_recv.new.self
-    c.requires.1.0.stands c.requires.1.0.due c.requires.1.0.now c.in-Some.ensures.taken c.in-Some.ensures.greatest c.try_recv.ensures.size c.try_recv.ensures.closed
+    c.requires.1.0 c.in-Some.ensures.taken c.in-Some.ensures.greatest c.try_recv.ensures.size c.try_recv.ensures.closed
     (rw c.is_unseen.ensures at c.if-is_unseen.false) c.push.ensures.past
 
 pub judge-requires : goal.judge-requires
 judge-requires g c = λ κs lives.
     let s = shows g (goal.at.judge-requires g c).Else-is_unseen in
     let room = c.requires.1.1.1.0 in
-    (lives, (record { stands = s.steps.stands; due = s.due; now = s.now }, (s.is_listed, (record { in_journal = omega (arith, room.in_journal, c.push.ensures.room); in_hooks = room.in_hooks }, c.requires.1.1.1.1))))
+    (lives, (record { stands = s.steps.stands; due = s.due; now = s.now; going = s.going }, (s.is_listed, (record { in_journal = omega (arith, room.in_journal, c.push.ensures.room); in_hooks = room.in_hooks }, c.requires.1.1.1.1))))
 
 pub returns-clause-within : goal.returns-clause-within
 returns-clause-within g c = let s = shows g (goal.at.returns-clause-within g c).Else-is_unseen in record {

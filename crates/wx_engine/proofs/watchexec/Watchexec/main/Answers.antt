@@ -1,5 +1,5 @@
 use Rattle.wx_machine.proofs.ReapLaws.{ran_reaps}
-use Rattle.wx_engine.proofs.MainLaws.{answered_ran, ran_shows, ran_shows_open, completed, ran_makes_once, ran_is_served, ran_is_placed, graces_have_children}
+use Rattle.wx_engine.proofs.MainLaws.{answered_ran, ran_shows, ran_shows_open, completed, ran_makes_once, ran_is_served, ran_is_placed, ran_waits, graces_have_children}
 use Rattle.wx_engine.proofs.OfferLaws.{ran_offers}
 use Rattle.wx_engine.proofs.WishLaws.{answered_granted}
 use Rattle.wx_engine.proofs.watchexec.Watchexec.main.Goals as goal
@@ -15,6 +15,9 @@ returns-clause-none_runs g c = (ran_reaps c.args.self _ c.run.result c.run.ensur
 
 pub returns-clause-after_faults : goal.returns-clause-after_faults
 returns-clause-after_faults g c = (ran_reaps c.args.self _ c.run.result c.run.ensures.answers).failed
+
+pub returns-clause-afterwards : goal.returns-clause-afterwards
+returns-clause-afterwards g c = (ran_reaps c.args.self _ c.run.result c.run.ensures.answers).afterwards
 
 pub returns-clause-shown : goal.returns-clause-shown
 returns-clause-shown g c = ran_shows c.args.self _ (answered_ran c.args.self _ c.run.result c.run.ensures.answers)
@@ -50,4 +53,4 @@ pub returns-clause-pressing : goal.returns-clause-pressing
 returns-clause-pressing g c = (ran_is_placed c.args.self _ (answered_ran c.args.self _ c.run.result c.run.ensures.answers)).pressing
 
 pub returns-clause-functions : goal.returns-clause-functions
-returns-clause-functions g c = (ran_is_placed c.args.self _ (answered_ran c.args.self _ c.run.result c.run.ensures.answers)).polled
+returns-clause-functions g c = ran_waits c.args.self _ (answered_ran c.args.self _ c.run.result c.run.ensures.answers)

@@ -4,3 +4,6 @@ use Rattle.wx_job.proofs.task.JobTask.begin.Goals as goal
 
 pub returns-clause-served : goal.returns-clause-served
 returns-clause-served g c = let stands = c.requires.ready.stands in let here = c.requires.ready.here in record { stood = search (rules, steps); keeps = search (rules, steps); uses = search (rules, steps) }
+
+pub returns-clause-begun : goal.returns-clause-begun
+returns-clause-begun g c = search (rules, steps)

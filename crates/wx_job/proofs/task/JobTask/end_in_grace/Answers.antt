@@ -7,3 +7,6 @@ returns-clause-done g c = search (rules, steps)
 
 pub returns-clause-served : goal.returns-clause-served
 returns-clause-served g c = record { stood = search (rules, steps); keeps = search (rules, steps); uses = search (rules, steps) }
+
+pub returns-then-grace-clause-served : goal.returns-then-grace-clause-served
+returns-then-grace-clause-served g c = record { stood = search (rules, steps); keeps = search (rules, steps); uses = search (rules, steps) }

@@ -1,7 +1,8 @@
 use Rattle.std.proofs.Common.{◌≡◌, refl, arith, ap, rules}
 use Rattle.wx_machine.specs.States.{child_of}
 use Rattle.wx_job.specs.Parkings.{Tickets}
-use Rattle.wx_job.proofs.DoneLemmas.{done_picked}
+use Rattle.wx_job.specs.Stands.{kit_of}
+use Rattle.wx_job.proofs.DoneLemmas.{done_picked, done_parked, parked_row}
 use Rattle.wx_job.proofs.Sets.{steps}
 use Rattle.wx_job.proofs.StandsLemmas.{row-is}
 use Rattle.wx_job.proofs.task.JobTask.next.Goals as goal
@@ -17,3 +18,6 @@ returns-in-Some-clause-served g c =
     let same : c.pick.new.self.parked.tickets ≡ c.args.self.now.parked.tickets = ap (λ (parking : Tickets). parking.tickets) c.in-Some.ensures.kept in
     let uses = rw same at c.control.ensures.served.uses in
     record { stood = c.control.ensures.served.stood; keeps = search (rules, steps); uses = record { steady = uses.steady; now = rw c.pick.ensures.entry at uses.now; in_journal = omega (arith, uses); in_host = omega (arith, uses); in_hooks = uses.in_hooks } }
+
+pub returns-in-None-clause-done : goal.returns-in-None-clause-done
+returns-in-None-clause-done g c = done_parked c.pick.new.self _ c.args.self.now.id c.args.ticket _ _ _ _ _ (parked_row c.args.self.now.id (kit_of c.args.self.now) c.args.ticket c.args.control (child_of c.args.self.now.state) c.args.self.now.state c.in-None.ensures.parks refl) c.pick.ensures.entry

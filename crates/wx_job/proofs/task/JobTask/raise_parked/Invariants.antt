@@ -5,12 +5,12 @@ use Rattle.wx_machine.specs.Table.{Plan, waiters}
 use Rattle.wx_machine.specs.Case.{PlanFollowsHost}
 use Rattle.wx_machine.specs.Kept.{Quiet}
 use Rattle.wx_machine.specs.Steady.{IsSteady}
-use Rattle.wx_job.specs.Stands.{TaskStands, holds}
+use Rattle.wx_job.specs.Stands.{TaskKeeps, holds}
 use Rattle.wx_job.proofs.task.JobTask.raise_parked.Given as goal
 
 abbrev pub invariant-loop-parked : goal.invariant-loop-parked
 invariant-loop-parked g l = record {
-  stands : TaskStands l.self l.journal.past;
+  stands : TaskKeeps l.self l.journal.past;
   follows : (k : Plan) → PlanFollowsHost (waiters l.fn.self.parked.tickets k) l.fn.journal.past (g.H.Outside.seen l.fn.host) (waiters l.self.parked.tickets k) l.journal.past (g.H.Outside.seen l.host);
   fields : l.self ≡ record l.fn.self { parked = l.self.parked };
   held : (t : ℕ) → holds t l.self ≤ holds t l.fn.self;

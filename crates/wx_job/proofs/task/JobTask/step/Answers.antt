@@ -10,6 +10,12 @@ done g c = stepped (λ h. g.H.Outside.seen h) (λ x. (g.K.JobHooks.seen x).told)
 pub returns-clause-leaves : goal.returns-clause-leaves
 returns-clause-leaves g c = (done g c).left.leaves
 
+pub returns-clause-adds : goal.returns-clause-adds
+returns-clause-adds g c = (done g c).left.adds c.requires.stands.placed
+
+pub returns-clause-stands : goal.returns-clause-stands
+returns-clause-stands g c = record { keeps = c.walk.ensures.stands; placed = rw c.walk.ensures.job.same_id ((done g c).left.tickets c.requires.stands.placed) }
+
 pub returns-clause-faults : goal.returns-clause-faults
 returns-clause-faults g c = (done g c).counted
 

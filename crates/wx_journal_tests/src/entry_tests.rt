@@ -1,0 +1,142 @@
+// Tests of reading entries.
+use crate::tests::expect_yes;
+use std::alloc::Global;
+use std::process::Abort;
+use wx_journal::Entry;
+use wx_text::{Memory, Text};
+use wx_words::Words;
+
+/// The words of an entry, where there is one.
+fn entry_words(alloc: Global, found: &Option<Entry>) -> Result<Text, Memory> {
+    let mut text = Text::new(alloc);
+    if let Some(entry) = found {
+        entry.put(&mut text)?;
+    }
+    Ok(text)
+}
+
+/// The words of the entry at the front, which is taken. It is dropped by generic code, which is quicker to prove.
+fn take_words(alloc: Global, words: &mut Words) -> Result<Text, Memory> {
+    let found = Entry::take(alloc, words)?;
+    let written = entry_words(alloc, &found);
+    drop(found);
+    written
+}
+
+/// Whether this whole line is an entry, and is written so again.
+fn is_entry(alloc: Global, line: &str) -> Result<bool, Memory> {
+    let mut words = Words::new(line.as_bytes());
+    let written = take_words(alloc, &mut words)?;
+    Ok(words.is_done() && written.as_slice() == line.as_bytes())
+}
+
+/// Whether no entry stands at the front of this line, and the line is left as it was.
+fn is_left(alloc: Global, line: &str) -> Result<bool, Memory> {
+    let mut words = Words::new(line.as_bytes());
+    let found = Entry::take(alloc, &mut words)?;
+    let none = found.is_none();
+    drop(found);
+    Ok(none && words.next() == Words::new(line.as_bytes()).next())
+}
+
+const ENTRIES: &str = "\
+begin throttle 50000000 size 4096 errors 64 keyboard off follow on jobsignals off watcher poll 5 cwd / paths 2 r /a n /b%20c
+begin throttle 0 size 1 errors 2 keyboard on follow off jobsignals on watcher native cwd /a paths 0
+sent 0 urgent 0
+turn 7 ask 3 start
+turnfault 5
+offer 1 - full low 0
+offer 2 7 queued high 0
+word later
+take 1
+filter 1 3 reject
+filter 1 3 fail filterer glob bad%20rule
+show 2 memory elevate
+hand 0 1 0
+hand 0 1 0 create 0 exec ---- 2 1 a ask 0 start quit
+made 3
+asked 4 3 high stop
+pick 3 4
+grace 7
+spawn 2 3 default g--- 2 sh a%20b ok
+signal 2 -3 fault 3
+kill 2 ok
+wait 2 error.7
+wait 2 fault 4294967295
+drop 2
+raise 4
+gone 3
+run 3 7
+begun 3 7
+poll 3 7 ready
+poll 3 7 later
+hook 3 2 ---- 2 sh a%20b
+hook 3 2 memory
+joberror 3 7 4294967295
+";
+
+const NO_ENTRIES: &str = "
+begin
+begin throttle 0 size 1 errors 2 keyboard on follow off jobsignals on watcher native cwd /a
+begin size 1 throttle 0 errors 2 keyboard on follow off jobsignals on watcher native cwd /a paths 0
+sent 0 0 urgent
+turn work
+turnfault 4294967296
+offer 1 full low 0
+word done
+take -1
+filter 1 3
+show 2 memory
+hand
+hand 0
+hand 0 2 0 quit
+made x
+asked 4 3 stop high
+pick 3
+grace
+spawn 2 3 default g--- 2 sh a%20b
+signal 2 -3
+kill 2 success
+wait 2 ok
+drop
+raise 18446744073709551616
+gone 4294967296
+run 3
+begun 7
+poll 3 7
+hook 3 2
+joberror 3 7
+end ok lost 0
+Made 3
+";
+
+#[test]
+fn entries_are_read_again(rt: HostRuntime) {
+    for line in ENTRIES.lines() {
+        expect_yes(&rt, is_entry(rt.alloc(), line), line);
+    }
+}
+
+#[test]
+fn what_is_no_entry_is_left(rt: HostRuntime) {
+    for line in NO_ENTRIES.lines() {
+        expect_yes(&rt, is_left(rt.alloc(), line), line);
+    }
+}
+
+/// Takes the entry at the front, and holds its words to be these.
+fn expect_taken(rt: &impl Abort, alloc: Global, words: &mut Words, want: &[u8]) {
+    let taken = take_words(alloc, words).expect(rt, "words");
+    assert!(rt; taken.as_slice() == want, "at {want:?}");
+}
+
+#[test]
+fn what_stands_behind_an_entry_is_left(rt: HostRuntime) {
+    let alloc = rt.alloc();
+    let mut words = Words::new(b"hand 0 1 0 ask 0 start quit made 3 hand 0 0 x");
+    expect_taken(&rt, alloc, &mut words, b"hand 0 1 0 ask 0 start quit");
+    expect_taken(&rt, alloc, &mut words, b"made 3");
+    expect_taken(&rt, alloc, &mut words, b"hand 0 0");
+    expect_taken(&rt, alloc, &mut words, b"");
+    assert!(rt; words.next() == Some(b"x".as_slice()));
+}
