@@ -1,0 +1,5 @@
+mod ComponentLemmas
+mod JoinLemmas
+mod LawLemmas
+mod SharedLemmas
+mod SpellLemmas
