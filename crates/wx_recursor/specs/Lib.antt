@@ -1,0 +1,12 @@
+pub mod Calls
+pub mod Guarding
+pub mod Holding
+pub mod Identities
+pub mod Owners
+pub mod Owning
+pub mod Rebuilds
+pub mod Seen
+pub mod Sound
+pub mod States
+pub mod Steps
+pub mod Written

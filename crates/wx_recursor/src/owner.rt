@@ -1,0 +1,19 @@
+// Who owns what, and what guards a root.
+use crate::known::Identity;
+use wx_tree::{Place, Root};
+
+/// A path that a root owns, and whether the root has seen it since the last reconcile.
+#[derive(Drop, Debug)]
+pub struct Owner {
+    pub root: Root,
+    pub path: Place,
+    pub seen: bool,
+}
+
+/// A directory that is watched until the root is there.
+#[derive(Drop, Debug)]
+pub struct GuardWatch {
+    pub root: Root,
+    pub path: Place,
+    pub identity: Identity,
+}

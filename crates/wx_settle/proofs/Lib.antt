@@ -1,0 +1,9 @@
+pub mod Calls
+pub mod Calm
+pub mod Pieces
+pub mod Reach
+pub mod Right
+pub mod Shows
+pub mod Simple
+pub mod Steps
+pub mod Still

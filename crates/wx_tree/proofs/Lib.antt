@@ -1,0 +1,4 @@
+pub mod ListLemmas
+pub mod PathLemmas
+pub mod PlaceLemmas
+pub mod Reaching

@@ -1,0 +1,40 @@
+-- The bytes of a path lead back to it.
+use Rattle.std.proofs.Common.{◌≡◌, ℕ, true, List, [], ◌∷◌, ◌++◌, refl, ap, sym, ◌∙◌, inl, inr, append_assoc}
+use Rattle.std.specs.Prelude.{◌==◌, not}
+use Rattle.std.proofs.lemmas.Bool.{cases_Bool, and_parts}
+use Rattle.wx_tree.specs.Paths.{Part, Path}
+use Rattle.wx_tree.specs.Places.{slash, push_part, place_from, place, parts_spelled, spelled, has_no_slash, is_part, AreParts}
+
+nil_right : (xs : List ℕ) → xs ++ [] ≡ xs
+nil_right [] = refl
+nil_right (y ∷ xs) = ap (λ z. y ∷ z) (nil_right xs)
+
+part-read : (x bytes part : List ℕ) (path : Path) → has_no_slash x ≡ true → place_from (x ++ bytes) part path ≡ place_from bytes (part ++ x) path
+part-read [] bytes part path h = ap (λ c. place_from bytes c path) (sym (nil_right part))
+part-read (b ∷ x) bytes part path h =
+    let a = and_parts (not (b == slash)) (has_no_slash x) h in
+    elim (cases_Bool (b == slash)) [
+      | inl e ↦ absurd (let k : not (b == slash) ≡ true = a.0 in let m : not true ≡ true = (rw e at k) in cc)
+      | inr e ↦ rw e (part-read x bytes (part ++ b ∷ []) path a.1 ∙ ap (λ c. place_from bytes c path) (append_assoc part (b ∷ []) x))
+    ]
+
+part-pushed : (x : Part) (path : Path) → is_part x ≡ true → push_part x path ≡ x ∷ path
+part-pushed [] path h = cc
+part-pushed (b ∷ x) path h = refl
+
+part-clean : (x : Part) → is_part x ≡ true → has_no_slash x ≡ true
+part-clean [] h = cc
+part-clean (b ∷ x) h = h
+
+parts-read : (p : Path) (bytes : List ℕ) → AreParts p → place_from (parts_spelled p ++ slash ∷ bytes) [] [] ≡ place_from bytes [] p
+parts-read [] bytes g = refl
+parts-read (x ∷ p) bytes g =
+    let a : (parts_spelled p ++ slash ∷ x) ++ slash ∷ bytes ≡ parts_spelled p ++ slash ∷ (x ++ slash ∷ bytes) = append_assoc (parts_spelled p) (slash ∷ x) (slash ∷ bytes) in
+    rw a (parts-read p (x ++ slash ∷ bytes) g.1 ∙ (part-read x (slash ∷ bytes) [] p (part-clean x g.0) ∙ ap (λ q. place_from bytes [] q) (part-pushed x p g.0)))
+
+pub place_spelled : (p : Path) → AreParts p → place (spelled p) ≡ p
+place_spelled [] g = refl
+place_spelled (x ∷ p) g =
+    let a : has_no_slash x ≡ true = part-clean x g.0 in
+    let b : place_from (x ++ []) [] p ≡ place_from [] x p = part-read x [] [] p a in
+    parts-read p x g.1 ∙ (ap (λ y. place_from y [] p) (sym (nil_right x)) ∙ (b ∙ part-pushed x p g.0))

@@ -1,0 +1,10 @@
+pub mod Bound
+pub mod Guards
+pub mod Kept
+pub mod More
+pub mod Moves
+pub mod OwnerLemmas
+pub mod Reached
+pub mod Registered
+pub mod Settled
+pub mod WatchedLemmas

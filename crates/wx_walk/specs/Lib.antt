@@ -1,0 +1,3 @@
+pub mod Machine
+pub mod Reached
+pub mod Wanted
