@@ -1,8 +1,6 @@
 // Paths by the rules of their components: the expected values are worked out by hand.
-//
-// Cases stand in tables that are texts, a case a line, with `|` between its fields.
+use crate::cases::expect_yes;
 use std::alloc::Global;
-use std::process::Abort;
 use wx_paths::{common_prefix, components, normalize, parent, path_of, starts_with};
 use wx_text::{List, Memory, Text};
 use wx_words::TextPath;
@@ -29,11 +27,6 @@ fn put_path(path: &Option<TextPath>, out: &mut Text) -> Result<(), Memory> {
         Some(path) => out.append(path.text().as_slice()),
         None => out.append(b"none"),
     }
-}
-
-/// Ends the test where the answer isn't yes, and says at which case.
-fn expect_yes(rt: &impl Abort, answer: Result<bool, Memory>, case: &str) {
-    assert!(rt; answer == Ok(true), "at {case}");
 }
 
 /// Whether the case is its path, the components of it, its normal form and its parent.

@@ -1,0 +1,4 @@
+mod MapLemmas
+mod OrderLemmas
+mod PairLemmas
+mod SetLemmas
