@@ -1,0 +1,5 @@
+mod Results
+mod Looks
+mod Added
+mod Released
+mod Acts

@@ -1,0 +1,26 @@
+use Rattle.std.proofs.Common.{refl, false}
+use Rattle.wx_recursor.specs.declared.answers.AddResult.TheVariants.{LeftOut, Stands, TryAgain, Vanished}
+use Rattle.wx_holding.specs.Holding.{state_of}
+use Rattle.wx_holding.proofs.Results.{ok_map}
+use Rattle.wx_holding.proofs.Acts.{guards_by}
+use Rattle.wx_holding.proofs.held.Held.guard_by.Goals as goal
+
+pub returns-in-Stands-clause-state : goal.returns-in-Stands-clause-state
+returns-in-Stands-clause-state g c =
+    let a = c.in_ok-add.ensures.state in
+    ok_map c.put_and_look.result _ _ (λ h. guards_by c.args.root.now c.args.path c.args.identity (state_of c.args.self.now) (state_of c.add.new.self) (state_of c.put_and_look.new.self) a.0 a.1 _ Stands h.0 a.2 a.3 c.in-Stands.is h.1) c.put_and_look.ensures.state
+
+pub returns-in-Vanished-clause-state : goal.returns-in-Vanished-clause-state
+returns-in-Vanished-clause-state g c =
+    let a = c.in_ok-add.ensures.state in
+    ok_map c.keep_retry.result _ _ (λ h. guards_by c.args.root.now c.args.path c.args.identity (state_of c.args.self.now) (state_of c.add.new.self) (state_of c.keep_retry.new.self) a.0 a.1 _ Vanished false a.2 a.3 c.in-Vanished.is h) c.keep_retry.ensures
+
+pub returns-in-TryAgain-clause-state : goal.returns-in-TryAgain-clause-state
+returns-in-TryAgain-clause-state g c =
+    let a = c.in_ok-add.ensures.state in
+    ok_map c.queue_guard.result _ _ (λ h. guards_by c.args.root.now c.args.path c.args.identity (state_of c.args.self.now) (state_of c.add.new.self) (state_of c.queue_guard.new.self) a.0 a.1 _ TryAgain false a.2 a.3 c.in-TryAgain.is h) c.queue_guard.ensures
+
+pub returns-in-LeftOut-clause-state : goal.returns-in-LeftOut-clause-state
+returns-in-LeftOut-clause-state g c =
+    let a = c.in_ok-add.ensures.state in
+    guards_by c.args.root.now c.args.path c.args.identity (state_of c.args.self.now) (state_of c.add.new.self) (state_of c.add.new.self) a.0 a.1 _ LeftOut false a.2 a.3 c.in-LeftOut.is refl

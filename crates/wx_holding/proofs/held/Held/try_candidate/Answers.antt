@@ -1,0 +1,26 @@
+use Rattle.std.proofs.Common.{refl}
+use Rattle.wx_holding.specs.Holding.{state_of}
+use Rattle.wx_holding.proofs.Results.{ok_map}
+use Rattle.wx_holding.proofs.Acts.{tries_any, tries_here}
+use Rattle.wx_holding.proofs.held.Held.try_candidate.Goals as goal
+
+pub returns-in-Missing-clause-state : goal.returns-in-Missing-clause-state
+returns-in-Missing-clause-state g c = ok_map c.miss_candidate.result _ _ (λ h. tries_any c.args.root.now c.args.path.now c.args.found _ (state_of c.args.self.now) _ c.in-Missing.is h) c.miss_candidate.ensures
+
+pub returns-in-Barred-clause-state : goal.returns-in-Barred-clause-state
+returns-in-Barred-clause-state g c = tries_any c.args.root.now c.args.path.now c.args.found _ (state_of c.args.self.now) _ c.in-Barred.is c.lose.ensures
+
+pub returns-in-Rejected-clause-state : goal.returns-in-Rejected-clause-state
+returns-in-Rejected-clause-state g c = tries_any c.args.root.now c.args.path.now c.args.found _ (state_of c.args.self.now) _ c.in-Rejected.is c.lose-in-Rejected.ensures
+
+pub returns-in-Fault-clause-state : goal.returns-in-Fault-clause-state
+returns-in-Fault-clause-state g c = ok_map c.show_fault.result _ _ (λ h. tries_any c.args.root.now c.args.path.now c.args.found _ (state_of c.args.self.now) _ c.in-Fault.is h) c.show_fault.ensures
+
+pub returns-in-Refused-clause-state : goal.returns-in-Refused-clause-state
+returns-in-Refused-clause-state g c = ok_map c.show_filter.result _ _ (λ h. tries_any c.args.root.now c.args.path.now c.args.found _ (state_of c.args.self.now) _ c.in-Refused.is h) c.show_filter.ensures
+
+pub returns-in-Here-clause-state : goal.returns-in-Here-clause-state
+returns-in-Here-clause-state g c = ok_map c.own_candidate.result _ _ (λ h. tries_here c.args.root.now c.args.path.now c.args.found c.in-Here.identity (state_of c.args.self.now) _ c.in-Here.is h) c.own_candidate.ensures.state
+
+pub returns-clause-state : goal.returns-clause-state
+returns-clause-state g c = tries_any c.args.root.now c.args.path.now c.args.found _ (state_of c.args.self.now) _ c.in-Entries.is refl

@@ -1,0 +1,25 @@
+use Rattle.std.proofs.Common.{arith, refl, ◌∙◌, [], ◌∷◌}
+use Rattle.std.proofs.lemmas.Grind.{common_steps}
+use Rattle.wx_holding.specs.Holding.{state_of}
+use Rattle.wx_holding.proofs.Added.{unwatched_end, unwatched_more}
+use Rattle.wx_holding.proofs.Looks.{more_looks, no_looks}
+use Rattle.wx_holding.proofs.held.Held.unwatch_each.Goals as goal
+
+pub loop-rest-init : goal.loop-rest-init
+loop-rest-init g c = record { looked = no_looks _; others = refl; place = refl; rest = λ vs. (vs, refl) }
+
+pub loop-rest-preserved : goal.loop-rest-preserved
+loop-rest-preserved g c = record {
+  looked = more_looks _ _ _ c.loop-rest.invariant.looked c.in_ok-unwatch.ensures.looked;
+  others = c.in_ok-unwatch.ensures.rest ∙ c.loop-rest.invariant.others;
+  place = c.in_ok-unwatch.ensures.place ∙ c.loop-rest.invariant.place;
+  rest = λ vs.
+      let u = c.in_ok-unwatch.ensures.state in
+      let h = c.loop-rest.invariant.rest (u.0 ∷ vs) in
+      (h.0, unwatched_more c.loop-rest.rest.now c.first-item.result _ u.0 vs (state_of c.loop-rest.self) (state_of c.unwatch.new.self) _ c.in-len1-up.len_at_least (grind (arith, common_steps)) (grind (arith, common_steps)) u.1 h.1);
+}
+
+pub returns-clause-state : goal.returns-clause-state
+returns-clause-state g c =
+    let h = c.loop-rest.invariant.rest [] in
+    (h.0, unwatched_end c.loop-rest.rest.now (state_of c.loop-rest.self) _ c.in_default.len_below h.1)

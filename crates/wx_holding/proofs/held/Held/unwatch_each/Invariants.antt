@@ -1,0 +1,19 @@
+use Rattle.std.proofs.Common.{◌≡◌, length}
+use Rattle.std.specs.Prelude.{List, Option}
+use Rattle.wx_watch.specs.declared.notify_fault.NotifyFault.{NotifyFault}
+use Rattle.wx_scan.specs.Looked.{OnlyLooks}
+use Rattle.wx_recursor.specs.Steps.{unwatch_each}
+use Rattle.wx_holding.specs.Holding.{state_of}
+use Rattle.wx_holding.proofs.held.Held.unwatch_each.Given as goal
+
+abbrev pub invariant-loop-rest : goal.invariant-loop-rest
+invariant-loop-rest g l =
+    record {
+      looked : OnlyLooks (g.S.Looks.looked l.fn.scan) (g.S.Looks.looked l.scan);
+      others : g.S.Looks.rest l.scan ≡ g.S.Looks.rest l.fn.scan;
+      place : g.S.Looks.place l.scan ≡ g.S.Looks.place l.fn.scan;
+      rest : (vs : List (Option NotifyFault)) → (us : List (Option NotifyFault)) × (unwatch_each l.rest vs (state_of l.self) ≡ unwatch_each l.fn.idle us (state_of l.fn.self));
+    }
+
+abbrev pub decreases-loop-rest : goal.decreases-loop-rest
+decreases-loop-rest g l = length l.rest

@@ -1,0 +1,26 @@
+use Rattle.std.proofs.Common.{refl}
+use Rattle.wx_holding.specs.Holding.{state_of}
+use Rattle.wx_holding.proofs.Results.{ok_map}
+use Rattle.wx_holding.proofs.Acts.{visits_barred, visits_fault, visits_here, visits_missing, visits_none}
+use Rattle.wx_holding.proofs.held.Held.visit.Goals as goal
+
+pub returns-in-Missing-clause-state : goal.returns-in-Missing-clause-state
+returns-in-Missing-clause-state g c = ok_map c.guard.result _ _ (λ h. visits_missing c.args.root.now c.args.found (state_of c.args.self.now) (state_of c.miss_root.new.self) (state_of c.guard.new.self) c.in-Missing.is c.in_ok-miss_root-in-Missing.ensures h) c.guard.ensures.state
+
+pub returns-in-Barred-clause-state : goal.returns-in-Barred-clause-state
+returns-in-Barred-clause-state g c = ok_map c.guard-in-Barred.result _ _ (λ h. visits_barred c.args.root.now c.args.found (state_of c.args.self.now) (state_of c.lose.new.self) _ c.in-Barred.is c.lose.ensures h) c.guard-in-Barred.ensures.state
+
+pub returns-in-Fault-clause-state : goal.returns-in-Fault-clause-state
+returns-in-Fault-clause-state g c = ok_map c.guard-in-Fault.result _ _ (λ h. visits_fault c.args.root.now c.args.found c.in-Fault.at c.in-Fault.code (state_of c.args.self.now) (state_of c.show_fault.new.self) _ c.in-Fault.is c.in_ok-show_fault-in-Fault.ensures h) c.guard-in-Fault.ensures.state
+
+pub returns-in-Here-clause-state : goal.returns-in-Here-clause-state
+returns-in-Here-clause-state g c = ok_map c.own_root.result _ _ (λ h. visits_here c.args.root.now c.args.found c.in-Here.identity (state_of c.args.self.now) _ c.in-Here.is h) c.own_root.ensures.state
+
+pub returns-in-Rejected-clause-state : goal.returns-in-Rejected-clause-state
+returns-in-Rejected-clause-state g c = visits_none c.args.root.now c.args.found _ (state_of c.args.self.now) c.in-Rejected.is (λ e. refl)
+
+pub returns-in-Refused-clause-state : goal.returns-in-Refused-clause-state
+returns-in-Refused-clause-state g c = visits_none c.args.root.now c.args.found _ (state_of c.args.self.now) c.in-Refused.is (λ e. refl)
+
+pub returns-clause-state : goal.returns-clause-state
+returns-clause-state g c = visits_none c.args.root.now c.args.found _ (state_of c.args.self.now) c.in-Entries.is (λ e. refl)

@@ -1,0 +1,15 @@
+use Rattle.std.proofs.Common.{◌≡◌, ◌≤◌, length}
+use Rattle.wx_scan.specs.Looked.{OnlyLooks}
+use Rattle.wx_holding.proofs.looking.find_last.Given as goal
+
+abbrev pub invariant-loop-level : goal.invariant-loop-level
+invariant-loop-level g l =
+    record {
+      looked : OnlyLooks (g.S.Looks.looked l.fn.scan) (g.S.Looks.looked l.scan);
+      rest : g.S.Looks.rest l.scan ≡ g.S.Looks.rest l.fn.scan;
+      place : g.S.Looks.place l.scan ≡ g.S.Looks.place l.fn.scan;
+      within : l.level ≤ length l.fn.path;
+    }
+
+abbrev pub decreases-loop-level : goal.decreases-loop-level
+decreases-loop-level g l = l.level

@@ -1,0 +1,110 @@
+// How what serves nothing is let go.
+ghost use Rattle.std.specs.Prelude.{◌≡◌, IfOk, OnOk};
+ghost use Rattle.wx_scan.specs.Looked.{OnlyLooks};
+ghost use Rattle.wx_recursor.specs.Holding.{still_known};
+ghost use Rattle.wx_recursor.specs.Steps.{asked_for_lost, idle_registrations, serving_registrations};
+ghost use Rattle.wx_holding.specs.Effects.{Releases, UnwatchesEach};
+ghost use Rattle.wx_holding.specs.Holding.{state_of};
+
+use crate::held::Held;
+use std::alloc::Global;
+use wx_recursor::Known;
+use wx_recursor_lists::{has_new, idle_registrations, keep_known, keep_serving, lost_paths};
+use wx_scan::{Backend, Scanner};
+use wx_text::Memory;
+
+impl Held {
+    /// What has no owner is known no more.
+    fn forget_unowned(&mut self)
+        ensures { state_of self.new ≡ record (state_of self.old) { known = still_known (state_of self.old).owners (state_of self.old).known } }
+    {
+        keep_known(self.owners.as_slice(), &mut self.known);
+    }
+
+    fn idle(&self, alloc: Global) -> Result<Vec<Known>, Memory>
+        ensures { IfOk result (λ idle. idle.items ≡ idle_registrations (state_of self.now).known (state_of self.now).guards (state_of self.now).registrations) }
+    {
+        idle_registrations(
+            alloc,
+            self.known.as_slice(),
+            self.guards.as_slice(),
+            self.registrations.as_slice(),
+        )
+    }
+
+    /// Registrations stay where they serve.
+    fn trim(&mut self)
+        ensures { state_of self.new ≡ record (state_of self.old) {
+          registrations = serving_registrations (state_of self.old).known (state_of self.old).guards (state_of self.old).registrations;
+          waiting = serving_registrations (state_of self.old).known (state_of self.old).guards (state_of self.old).waiting;
+        } }
+    {
+        keep_serving(
+            self.known.as_slice(),
+            self.guards.as_slice(),
+            &mut self.registrations,
+        );
+        keep_serving(
+            self.known.as_slice(),
+            self.guards.as_slice(),
+            &mut self.waiting,
+        );
+    }
+
+    /// A representative that is lost, and wasn't before, asks for a rebuild.
+    fn ask_for_lost(&mut self, alloc: Global) -> Result<(), Memory>
+        ensures { OnOk result (state_of self.new ≡ asked_for_lost (state_of self.old)) }
+    {
+        let lost = lost_paths(
+            alloc,
+            self.known.as_slice(),
+            self.guards.as_slice(),
+            self.registrations.as_slice(),
+        )?;
+        if has_new(lost.as_slice(), self.lost.as_slice()) {
+            self.asks_rebuild = true;
+        }
+        self.lost = lost;
+        Ok(())
+    }
+
+    /// These are unwatched, in order.
+    fn unwatch_each<B: Backend, S: Scanner>(
+        &mut self,
+        alloc: Global,
+        idle: &[Known],
+        back: &mut B,
+        scan: &mut S,
+    ) -> Result<(), Memory>
+        ensures looked { OnlyLooks (S.looked scan.old) (S.looked scan.new) }
+        ensures rest { S.rest scan.new ≡ S.rest scan.old }
+        ensures place { S.place scan.new ≡ S.place scan.old }
+        ensures state { OnOk result (UnwatchesEach idle.now (state_of self.old) (state_of self.new)) }
+    {
+        let mut rest = idle;
+        while let [first, after @ ..] = rest {
+            self.unwatch(alloc, &first.path, back, scan)?;
+            rest = after;
+        }
+        Ok(())
+    }
+
+    /// A path without owner goes. A registration that serves nothing is unwatched, the deepest path first.
+    pub fn release<B: Backend, S: Scanner>(
+        &mut self,
+        alloc: Global,
+        back: &mut B,
+        scan: &mut S,
+    ) -> Result<(), Memory>
+        ensures looked { OnlyLooks (S.looked scan.old) (S.looked scan.new) }
+        ensures rest { S.rest scan.new ≡ S.rest scan.old }
+        ensures place { S.place scan.new ≡ S.place scan.old }
+        ensures state { OnOk result (Releases (state_of self.old) (state_of self.new)) }
+    {
+        self.forget_unowned();
+        let idle = self.idle(alloc)?;
+        self.unwatch_each(alloc, idle.as_slice(), back, scan)?;
+        self.trim();
+        self.ask_for_lost(alloc)
+    }
+}

@@ -1,0 +1,86 @@
+// What the tree answers to each look.
+ghost use Rattle.std.specs.Prelude.{◌≡◌, false, true};
+ghost use Rattle.wx_scan.specs.Told.{IsCanonical, IsKind, IsListed, IsStamp, SpellsPath, Unlinked, is_fault};
+ghost use Rattle.wx_tree.specs.Paths.{Path};
+ghost use Rattle.wx_mem_tree.specs.Entries.{are_once, stamp_at, tree_of};
+
+use crate::entry::{MemEntry, entries_of};
+use crate::links::found;
+use std::alloc::Global;
+use wx_scan::{EntryKind, ScanError};
+use wx_text::List;
+use wx_tree::Node;
+use wx_words::TextPath;
+
+/// The code of the system for what is no directory (ENOTDIR).
+const NO_DIRECTORY: u32 = 20;
+
+/// Whether this is a fault: neither that nothing is there, nor want of memory.
+pub fn is_fault<T>(answer: &Result<T, ScanError>) -> bool
+    ensures { result ≡ is_fault answer.now }
+{
+    match answer {
+        Ok(_) => false,
+        Err(ScanError::NotFound) => false,
+        Err(ScanError::Io(_)) => true,
+        Err(ScanError::Memory) => false,
+    }
+}
+
+/// What stands at a path.
+pub fn kind_at(
+    alloc: Global,
+    path: &TextPath,
+    follow: bool,
+    entries: &[MemEntry],
+) -> Result<EntryKind, ScanError>
+    ensures { follow ≡ false → (p : Path) → SpellsPath (tree_of entries.now) p path.now → is_fault result ≡ false → IsKind result (tree_of entries.now) p }
+{
+    let entry = found(alloc, path, follow, entries)?;
+    match entry.node {
+        Node::Dir => Ok(EntryKind::Directory(entry.path.path(alloc)?)),
+        Node::File(_) => Ok(EntryKind::Other),
+        Node::Link(_) => Ok(EntryKind::NonFollowedSymlink),
+    }
+}
+
+/// The same path without links.
+pub fn canonical_at(
+    alloc: Global,
+    path: &TextPath,
+    entries: &[MemEntry],
+) -> Result<TextPath, ScanError>
+    ensures { (p : Path) → SpellsPath (tree_of entries.now) p path.now → is_fault result ≡ false → Unlinked (IsCanonical result) (tree_of entries.now) p }
+{
+    let entry = found(alloc, path, true, entries)?;
+    Ok(entry.path.path(alloc)?)
+}
+
+/// The entries of a directory.
+pub fn listed_at(
+    alloc: Global,
+    path: &TextPath,
+    entries: &[MemEntry],
+) -> Result<List<TextPath>, ScanError>
+    requires { are_once entries.now ≡ true }
+    ensures { (p : Path) → SpellsPath (tree_of entries.now) p path.now → is_fault result ≡ false → Unlinked (IsListed result) (tree_of entries.now) p }
+{
+    let entry = found(alloc, path, true, entries)?;
+    match entry.node {
+        Node::Dir => Ok(entries_of(alloc, &entry.path, entries)?),
+        Node::File(_) => Err(ScanError::Io(NO_DIRECTORY)),
+        Node::Link(_) => Err(ScanError::Io(NO_DIRECTORY)),
+    }
+}
+
+/// The stamp of a file.
+pub fn stamp_at(alloc: Global, path: &TextPath, entries: &[MemEntry]) -> Result<u64, ScanError>
+    ensures { (p : Path) → SpellsPath (tree_of entries.now) p path.now → is_fault result ≡ false → Unlinked (IsStamp (stamp_at entries.now) result) (tree_of entries.now) p }
+{
+    let entry = found(alloc, path, true, entries)?;
+    match entry.node {
+        Node::File(stamp) => Ok(stamp),
+        Node::Dir => Ok(0),
+        Node::Link(_) => Ok(0),
+    }
+}

@@ -1,0 +1,9 @@
+use Rattle.std.proofs.Common.{◌≡◌, length, ◌++◌}
+use Rattle.wx_recursor.specs.Calls.{queued_roots}
+use Rattle.wx_recursor_lists.proofs.queued.queue_roots.Given as goal
+
+abbrev pub invariant-loop-rest : goal.invariant-loop-rest
+invariant-loop-rest l = l.queue.items ++ queued_roots l.rest ≡ l.fn.queue.items ++ queued_roots l.fn.roots
+
+abbrev pub decreases-loop-rest : goal.decreases-loop-rest
+decreases-loop-rest l = length l.rest

@@ -1,0 +1,3 @@
+pub mod Looked
+pub mod Told
+pub mod Backings
