@@ -1,5 +1,5 @@
 -- An event is offered to the queue, or listed as sent, or a word is said.
-use Rattle.std.proofs.Common.{◌≡◌, ℕ, ◌+◌, ◌<◌, ◌≤◌, true, false, List, ◌∷◌, length, arith, refl, ap, sym, subst, ◌∙◌}
+use Rattle.std.proofs.Common.{◌≡◌, ℕ, ◌+◌, ◌<◌, ◌≤◌, true, false, List, [], ◌∷◌, length, arith, refl, ap, sym, subst, ◌∙◌}
 use Rattle.std.specs.Prelude.{None, Result, Ok, Err, OnOk, OnErr}
 use Rattle.wx_events.specs.declared.event.Event.{Event}
 use Rattle.wx_events.specs.declared.priority.Priority.{Priority}
@@ -7,7 +7,7 @@ use Rattle.prio_channel.specs.Channel.{Channel}
 use Rattle.prio_channel.proofs.BagLaws.{same-length}
 use Rattle.std.proofs.lemmas.Bool.{eqb-true}
 use Rattle.wx_journal.specs.declared.entry.Entry.{Entry}
-use Rattle.wx_journal.specs.declared.entry.Entry.TheVariants.{Sent, Offer, Word as Said}
+use Rattle.wx_journal.specs.declared.entry.Entry.TheVariants.{Sent, Offer, Word as Said, Changed}
 use Rattle.wx_journal.specs.declared.entry.Named.{Named}
 use Rattle.wx_journal.specs.declared.entry.Word.{Word}
 use Rattle.wx_journal.specs.declared.entry.Offered.{Offered}
@@ -16,6 +16,9 @@ use Rattle.wx_journal.specs.Names.{event_count}
 use Rattle.wx_journal.specs.Written.{Written}
 use Rattle.wx_action.specs.declared.worker_state.Worker.{Worker}
 use Rattle.wx_machine.specs.Start.{Start}
+use Rattle.wx_config.specs.declared.change.Change.{Change}
+use Rattle.wx_config.specs.declared.config.Config.{Config}
+use Rattle.wx_machine.specs.Settings.{pending, first_changed, settings}
 use Rattle.wx_machine.specs.Journal.{closed, bag}
 use Rattle.wx_machine.specs.Due.{Point, Sends, Offers, Says, Agenda, Open, Comes, rest, is_quitting, settle, agenda, Due}
 use Rattle.wx_machine.proofs.SettleLaws.{settle_calm, settle_over}
@@ -26,7 +29,7 @@ use Rattle.wx_action.specs.Serves.{AddsAlone, Grows, OwesRest, Settles}
 use Rattle.wx_action.proofs.ServesLaws.{adds, adds_none}
 use Rattle.wx_machine.proofs.AllJobs.{turns_over}
 use Rattle.wx_action.specs.Stands.{Stands, IsOffered, end_room}
-use Rattle.wx_action.proofs.StandsLemmas.{stands_behind, offered_is, stands_offered, stands_sent}
+use Rattle.wx_action.proofs.StandsLemmas.{same_size, stands_behind, offered_is, stands_offered, stands_sent}
 
 -- a worker goes on to this one, over one entry
 pub record StepsOver (s : Start) (w : Worker) (p p' : List Entry) : Type 0 where
@@ -89,6 +92,16 @@ offer_done s w p p' event priority more new result stands due is size closed gro
       turns = turns_over _ _ refl;
     }))
 
+-- no change sets the size of the queue
+size_first : (changes : List Change) (c : Config) → (first_changed changes c).event_channel_size ≡ c.event_channel_size
+size_first [] c = refl
+size_first (change ∷ changes) c = same_size change c
+
+size_stays : (s : Start) (p : List Entry) → (settings s p).event_channel_size ≡ s.config.event_channel_size
+size_stays s [] = refl
+size_stays s (Changed named ∷ p) = size_first (pending p) (settings s p) ∙ size_stays s p
+size_stays s (_ ∷ p) = size_stays s p
+
 pub send_done : (s : Start) (w : Worker) (p p' : List Entry) (event : Event) (priority : Priority) (more : Agenda) (new : Channel Named) (result : Offered) → Stands s w p → agenda s p ≡ Comes (Sends event priority) more
     → length (bag p) < s.config.event_channel_size → closed p ≡ false → IsOffered w.queue (record { name = w.named; event = event }, priority) new result → new.size ≡ w.queue.size → new.closed ≡ w.queue.closed → p' ≡ Sent w.named event priority ∷ p
     → StepsOver s (record w { queue = new; named = w.named + 1 }) p p'
@@ -106,5 +119,6 @@ send_done s w p p' event priority more new Queued stands due fits takes is size 
 send_done s w p p' event priority more new Full stands due fits takes is size same_closed grown =
     let n : length w.queue.items ≡ length (bag p) = same-length w.queue.items (bag p) stands.queue_kept in
     let full : length w.queue.items ≡ w.queue.size = eqb-true _ _ is.1 in
+    let size_is = size_stays s p in
     absurd (omega (arith, stands.size_kept))
 send_done s w p p' event priority more new Closed stands due fits takes is size same_closed grown = let both : true ≡ false = sym is.1 ∙ stands.closed_kept ∙ takes in absurd cc

@@ -8,7 +8,7 @@ use Rattle.wx_control.specs.declared.id.Id.{Id}
 use Rattle.wx_journal.specs.declared.entry.Entry.{Entry}
 use Rattle.wx_journal.specs.declared.entry.Entry.TheVariants.{Hand}
 use Rattle.wx_journal.specs.Acts.{JournalAct as Act}
-use Rattle.wx_journal.specs.declared.entry.Act.TheVariants.{Create, Ask, Quit}
+use Rattle.wx_journal.specs.declared.entry.Act.TheVariants.{Create, Ask, Change, Quit}
 use Rattle.wx_journal.specs.Names.{event_count, next_job}
 use Rattle.wx_journal.specs.Told.{tell}
 use Rattle.wx_machine.specs.History.{lives, child, creation, or_else, command}
@@ -20,7 +20,8 @@ use Rattle.wx_action.specs.declared.work_turn.Collected.{Collected}
 use Rattle.wx_action.specs.declared.work_turn.Collected.TheVariants as collected
 use Rattle.wx_action.specs.declared.work_turn.Worked.TheVariants.{On, End}
 use Rattle.wx_machine.specs.Start.{Start}
-use Rattle.wx_machine.specs.Journal.{settings, window}
+use Rattle.wx_machine.specs.Settings.{settings, revision, MayChange}
+use Rattle.wx_machine.specs.Journal.{window}
 use Rattle.wx_machine.specs.Jobs.{set, act_plan, AreLawful}
 use Rattle.wx_machine.specs.Answer.{NoneIsToGo}
 use Rattle.wx_machine.specs.Due.{Hands, Agenda, Open, Comes, plans, has_quit, after_acts, is_quitting, settle, agenda, Due}
@@ -39,8 +40,8 @@ use Rattle.wx_action.proofs.StandsLemmas.{over_hand}
 use Rattle.wx_job.proofs.StandsLemmas.{lives-kept, child-kept}
 
 -- the entry of a batch that was due
-pub hand_due : (s : Start) (p : List Entry) (n : ℕ) (names : List ℕ) (acts : List Act) → agenda s p ≡ Comes Hands Open → n ≡ (settings s p).action_handler → names ≡ window p → AreLawful (next_job p) acts → Due s p (Hand n names acts)
-hand_due s p n names acts due number is lawful = rw (due, number, is) ((acts, lawful), refl)
+pub hand_due : (s : Start) (p : List Entry) (n : ℕ) (names : List ℕ) (acts : List Act) → agenda s p ≡ Comes Hands Open → n ≡ (settings s p).action_handler → names ≡ window p → AreLawful (next_job p) acts → MayChange (revision s p) acts → Due s p (Hand n names acts)
+hand_due s p n names acts due number is lawful may = rw (due, number, is) ((acts, lawful, may), refl)
 
 pub hand_follows : (s : Start) (p p' : List Entry) (n : ℕ) (names : List ℕ) (acts : List Act) (hooks hooks' : Option (List Entry)) → Due s p (Hand n names acts) → p' ≡ Hand n names acts ∷ p → hooks' ≡ tell (Hand n names acts) hooks → FollowsHooks s p hooks p' hooks'
 hand_follows s p p' n names acts hooks hooks' due grown told = rw (grown, told) (λ world p₀ world₀ hooks₀ l. Then (Hand n names acts) p world hooks l due)
@@ -89,15 +90,16 @@ all_commanded p n m names acts before (Create id what ∷ after) is l =
     let made : creation id acts ≡ Some what = rw is (creation_is m before id what after (rw is at l)) in
     (ap (λ (o : Option Command). or_else o (command id p)) made, all_commanded p n m names acts (before ++ Create id what ∷ []) after (is ∙ sym (append_assoc before (Create id what ∷ []) after)) l)
 all_commanded p n m names acts before (Ask id ask ∷ after) is l = all_commanded p n m names acts (before ++ Ask id ask ∷ []) after (is ∙ sym (append_assoc before (Ask id ask ∷ []) after)) l
+all_commanded p n m names acts before (Change change ∷ after) is l = all_commanded p n m names acts (before ++ Change change ∷ []) after (is ∙ sym (append_assoc before (Change change ∷ []) after)) l
 all_commanded p n m names acts before (Quit ∷ after) is l = all_commanded p n m names acts (before ++ Quit ∷ []) after (is ∙ sym (append_assoc before (Quit ∷ []) after)) l
 
 pub record Handed (s : Start) (w' : Worker) (p' : List Entry) (todos : List Todo) (ends : Bool) : Type 0 where
   pub stands : Stands s w' p'
   pub owes : OwesActs s p' todos (after_acts ends)
 
-pub handed : (s : Start) (w w' : Worker) (n : ℕ) (names : List ℕ) (acts : List Act) (todos : List Todo) (ends : Bool) (p p' : List Entry) → Stands s w p → names ≡ window p → AreLawful (next_job p) acts → AreTodo acts todos → ends ≡ has_quit acts
+pub handed : (s : Start) (w w' : Worker) (n : ℕ) (names : List ℕ) (acts : List Act) (todos : List Todo) (ends : Bool) (p p' : List Entry) → Stands s w p → names ≡ window p → AreLawful (next_job p) acts → MayChange (revision s p) acts → AreTodo acts todos → ends ≡ has_quit acts
     → w' ≡ record w { batch = w'.batch; jobs = w'.jobs } → w'.batch.names ≡ [] → w'.batch.events ≡ [] → w'.jobs ≡ filter is_here w.jobs → p' ≡ Hand n names acts ∷ p → Handed s w' p' todos ends
-handed s w w' n names acts todos ends p p' stands whole lawful todo_is quits fields names_none events_none items grown =
+handed s w w' n names acts todos ends p p' stands whole lawful may todo_is quits fields names_none events_none items grown =
     let none : window (Hand n names acts ∷ p) ≡ [] = window_handed n names acts p whole in
     let tasks = tasks_hand p n names acts w.jobs lawful (λ id g. rw stands.jobs_kept at g) stands.tasks_kept in
     let stood : Stands s (record w { batch = w'.batch; jobs = w'.jobs }) (Hand n names acts ∷ p) = record {
@@ -116,7 +118,7 @@ handed s w w' n names acts todos ends p p' stands whole lawful todo_is quits fie
     } in
     rw grown (record {
       stands = rw fields stood;
-      owes = record { acts = acts; lawful = lawful; is_todo = todo_is; commanded = all_commanded p n (next_job p) names acts [] acts refl lawful; due = refl; then = ap after_acts (sym quits) };
+      owes = record { acts = acts; lawful = lawful; may_change = may; is_todo = todo_is; commanded = all_commanded p n (next_job p) names acts [] acts refl lawful; waiting = refl; due = refl; then = ap after_acts (sym quits) };
     })
 
 -- what was collected, where this isn't a window that is due, says whether the run goes on
@@ -142,7 +144,7 @@ none_of_plans p Done = none_after (is_quitting p)
 none_of_plans p (k) = tt
 
 pub none_to_go : (s : Start) (p : List Entry) (todo : List Todo) (more : Agenda) → OwesActs s p todo more → NoneIsToGo (agenda s p)
-none_to_go s p todo more owes = rw owes.due (none_of_plans p (act_plan (λ id. lives id p) owes.acts))
+none_to_go s p todo more owes = rw owes.due (none_of_plans p (act_plan (λ id. lives id p) (revision s p) owes.acts))
 
 -- what is worked by a batch
 pub works_by : (s : Start) (p : List Entry) (quits : Bool) → agenda s p ≡ after_acts quits → Works s (cond quits End On) p

@@ -1,5 +1,5 @@
 -- The turns of jobs.
-use Rattle.std.proofs.Common.{◌≡◌, ℕ, Bool, true, false, cond, List, [], ◌∷◌, inl, inr, refl, ap, sym, subst, ◌∙◌, eq-eqb}
+use Rattle.std.proofs.Common.{◌≡◌, ◌≢◌, ℕ, ◌+◌, Bool, true, false, cond, List, [], ◌∷◌, inl, inr, refl, ap, sym, subst, ◌∙◌, eq-eqb, ne_eqb}
 use Rattle.std.specs.Prelude.{Option, None, Some, Result, Ok, Err, is_some, option_map, map, not}
 use Rattle.std.specs.List.{AllByRecursion, find}
 use Rattle.wx_words.specs.OptionLaws.{refused}
@@ -8,7 +8,7 @@ use Rattle.wx_control.specs.declared.id.Id.{Id}
 use Rattle.wx_control.specs.declared.ask.Ask.{Ask}
 use Rattle.wx_control.specs.Asks.{sends_of}
 use Rattle.wx_journal.specs.declared.entry.Entry.{Entry}
-use Rattle.wx_journal.specs.declared.entry.Entry.TheVariants.{Turn as Turned}
+use Rattle.wx_journal.specs.declared.entry.Entry.TheVariants.{Turn as Turned, Changed}
 use Rattle.wx_journal.specs.declared.entry.TurnKind.TheVariants.{Ended}
 use Rattle.wx_journal.specs.declared.entry.Word.TheVariants.{Ignored}
 use Rattle.wx_journal.specs.Names.{NamesItsOwn, moment}
@@ -24,21 +24,26 @@ use Rattle.wx_machine.proofs.Owners.{self, same-is}
 use Rattle.wx_hooks.specs.declared.held.Held.{Held}
 use Rattle.wx_action.specs.declared.worker_state.Worker.{Worker}
 use Rattle.wx_machine.specs.Start.{Start}
-use Rattle.wx_machine.specs.Jobs.{set, living, parent}
-use Rattle.wx_machine.specs.Due.{Open, Plans, plans, says, ask_turn, job_turn, ended_turn, is_quitting, agenda}
+use Rattle.wx_config.specs.Changes.{changed as changed_by, last_revision}
+use Rattle.wx_config.specs.declared.change.Change.{Change}
+use Rattle.wx_config.specs.declared.config.Config.{Config}
+use Rattle.wx_machine.specs.Settings.{pending, first_changed, settings, revision}
+use Rattle.wx_machine.proofs.PlanLaws.{raised}
+use Rattle.wx_machine.specs.Jobs.{set, living, parent, change_plan}
+use Rattle.wx_machine.specs.Due.{Agenda, Open, Plans, Admits, Due, plans, says, ask_turn, change_turn, job_turn, ended_turn, after_acts, is_quitting, settle, rest, agenda}
 use Rattle.wx_machine.proofs.SettleLaws.{settle_calm}
-use Rattle.wx_machine.specs.Kept.{StaysQuiet}
-use Rattle.wx_machine.specs.Leads.{FollowsAlone, Follows}
+use Rattle.wx_machine.specs.Kept.{StaysQuiet, More}
+use Rattle.wx_machine.specs.Leads.{FollowsAlone, Follows, Then}
 use Rattle.wx_action.specs.Serves.{LeavesOff, Steps, Settles}
 use Rattle.wx_machine.specs.Turns.{StaysInTurn}
-use Rattle.wx_machine.proofs.AllJobs.{calls_none_ask, IsIn, is_child_some, none_by_ask, none_by_step, parent_is, parent_is_none}
+use Rattle.wx_machine.proofs.AllJobs.{turns_over, calls_none_ask, IsIn, is_child_some, none_by_ask, none_by_step, parent_is, parent_is_none}
 use Rattle.wx_action.proofs.TurnLaws.{at_end_of_none, other_over_end}
 use Rattle.wx_hooks.specs.HeldJobs.{is_of, runs_child, handle_id, task_of, with_task, parked_in, parked_at}
 use Rattle.wx_action.specs.Stands.{Stands, AtTurn, IsStepOf}
 use Rattle.wx_hooks.specs.JobsStand.{HeldStands, held_id}
 use Rattle.wx_hooks.proofs.JobListLemmas.{placed, with_put, none_at, also, some_alive, held_some, task_held, id_held, none_held}
 use Rattle.wx_action.proofs.ShownLemmas.{alive_is}
-use Rattle.wx_action.proofs.StandsLemmas.{rest_over, stands_rest}
+use Rattle.wx_action.proofs.StandsLemmas.{rest_over, stands_rest, stands_changed}
 use Rattle.wx_hooks.proofs.JobsLemmas.{held_at, is_in_place, tasks_put, ids_put}
 use Rattle.wx_action.proofs.PlanLemmas.{JobDone, jobs_stand, plan_done, same_done}
 use Rattle.wx_hooks.proofs.JobsLemmas.{Changes}
@@ -118,6 +123,23 @@ ask_done s w w' id task task' ask p p' stands going due alive l fields jobs same
       turns = one.turns;
       done = one.done;
     }
+
+-- ---- a change of the settings
+
+pub change_done : (s : Start) (w w' : Worker) (change : Change) (p p' : List Entry) → Stands s w p → is_quitting p ≡ false → agenda s p ≡ change_turn (revision s p) → pending p ≡ change ∷ [] → revision s p ≢ last_revision → w' ≡ record w { config = w'.config } → w'.config ≡ changed_by change w.config → p' ≡ Changed w'.config.change_signal ∷ p → AskDone s w' p p'
+change_done s w w' change p p' stands going due waits other fields config grown =
+    let raises : w'.config.change_signal ≡ revision s p + 1 = ap (λ (c : Config). c.change_signal) (config ∙ ap (changed_by change) stands.config_kept) ∙ raised change (settings s p) in
+    let is : p' ≡ Changed (revision s p + 1) ∷ p = grown ∙ ap (λ n. Changed n ∷ p) raises in
+    let owed : agenda s p ≡ plans (change_plan (revision s p) Done) Open = due ∙ ap (λ (b : Bool). cond b (says Ignored) (plans (change_plan (revision s p) Done) Open)) (ne_eqb (revision s p) last_revision other) in
+    let d : Due s p (Changed (revision s p + 1)) = subst (λ (a : Agenda). Admits s p a (Changed (revision s p + 1))) (sym owed) (tt, refl) in
+    let after : settings s (Changed (revision s p + 1) ∷ p) ≡ changed_by change (settings s p) = ap (λ (cs : List Change). first_changed cs (settings s p)) waits in
+    rw is (record {
+      stands = stands_changed s w w' change (revision s p + 1) p stands fields (config ∙ ap (changed_by change) stands.config_kept ∙ sym after) after;
+      follows = λ world hooks p₀ world₀ hooks₀ l. Then (Changed (revision s p + 1)) p world hooks l d;
+      quiet = λ p₀ a. More (Changed (revision s p + 1)) p a refl;
+      turns = turns_over _ _ refl;
+      done = ap (λ (a : Agenda). settle (Changed (revision s p + 1) ∷ p) (rest (Changed (revision s p + 1)) a)) owed ∙ ap after_acts going;
+    })
 
 -- ---- a step
 

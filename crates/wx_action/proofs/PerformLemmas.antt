@@ -1,5 +1,5 @@
 -- What the acts of a batch ask for is done.
-use Rattle.std.proofs.Common.{◌≡◌, ◌≢◌, ℕ, ◌<◌, ◌+◌, Bool, true, false, cond, List, [], ◌∷◌, length, inl, inr, arith, refl, ap, sym, subst, ◌∙◌}
+use Rattle.std.proofs.Common.{◌≡◌, ◌≢◌, ℕ, ◌<◌, ◌≤◌, ◌+◌, Bool, true, false, cond, List, [], ◌∷◌, length, inl, inr, arith, refl, ap, sym, subst, ◌∙◌}
 use Rattle.std.specs.Prelude.{Option, None, Some, map, ◌||◌, ◌⊎◌}
 use Rattle.std.specs.List.{AllByRecursion}
 use Rattle.wx_words.specs.EachLaws.{each_weaker}
@@ -11,9 +11,9 @@ use Rattle.wx_control.specs.declared.control.Control.{Control}
 use Rattle.wx_control.specs.declared.level.Level.{Level}
 use Rattle.wx_control.specs.Asks.{sends_of}
 use Rattle.wx_journal.specs.Acts.{JournalAct as Act}
-use Rattle.wx_journal.specs.declared.entry.Act.TheVariants.{Create, Ask, Quit}
+use Rattle.wx_journal.specs.declared.entry.Act.TheVariants.{Create, Ask, Change, Quit}
 use Rattle.wx_journal.specs.declared.entry.Entry.{Entry}
-use Rattle.wx_journal.specs.declared.entry.Entry.TheVariants.{Word as Said, Made, Asked}
+use Rattle.wx_journal.specs.declared.entry.Entry.TheVariants.{Word as Said, Made, Asked, Changed}
 use Rattle.wx_journal.specs.declared.entry.Word.TheVariants.{Ignored}
 use Rattle.wx_journal.specs.Names.{above, ticket_count, next_job, IsNextJob}
 use Rattle.wx_machine.specs.History.{same, lives, command, RunsOnly}
@@ -29,7 +29,12 @@ use Rattle.wx_hooks.specs.declared.handler.Todo.TheVariants as todo
 use Rattle.wx_hooks.specs.declared.held.Held.{Held}
 use Rattle.wx_action.specs.declared.worker_state.Worker.{Worker}
 use Rattle.wx_machine.specs.Start.{Start}
-use Rattle.wx_machine.specs.Jobs.{with_id, set, act_plan, AreLawful, AreBelow}
+use Rattle.wx_config.specs.Changes.{changed as changed_by, last_revision}
+use Rattle.wx_config.specs.declared.change.Change.{Change as AChange}
+use Rattle.wx_config.specs.declared.config.Config.{Config}
+use Rattle.wx_machine.specs.Settings.{changes, later, pending, first_changed, settings, revision, MayChange}
+use Rattle.wx_machine.proofs.PlanLaws.{raised}
+use Rattle.wx_machine.specs.Jobs.{with_id, set, change_plan, act_plan, AreLawful, AreBelow}
 use Rattle.wx_machine.specs.Due.{Agenda, Open, settle, agenda, plans, rest, after_acts, is_quitting, Admits, Due}
 use Rattle.wx_hooks.specs.Todo.{IsNew, AreTodo}
 use Rattle.wx_action.specs.Perform.{AreCommanded, OwesActs}
@@ -41,7 +46,7 @@ use Rattle.wx_hooks.proofs.JobListLemmas.{all_with, ids_with}
 use Rattle.wx_machine.proofs.AllJobs.{set_rising, unseen_made, commanded_created, none_by_ask, turns_over}
 use Rattle.wx_action.specs.Stands.{Stands}
 use Rattle.wx_hooks.specs.JobsStand.{HeldStands, held_id}
-use Rattle.wx_action.proofs.StandsLemmas.{stands_rest, stands_behind}
+use Rattle.wx_action.proofs.StandsLemmas.{stands_rest, stands_behind, stands_changed}
 use Rattle.wx_hooks.proofs.JobsLemmas.{same_held}
 use Rattle.wx_action.proofs.PlanLemmas.{jobs_stand, idle_then}
 use Rattle.wx_hooks.proofs.JobsLemmas.{jobs_change}
@@ -52,6 +57,7 @@ commanded_same : (p p' : List Entry) (acts : List Act) → ((i : Id) → command
 commanded_same p p' [] same h = tt
 commanded_same p p' (Create id what ∷ acts) same h = (same id ∙ h.0, commanded_same p p' acts same h.1)
 commanded_same p p' (Ask id ask ∷ acts) same h = commanded_same p p' acts same h
+commanded_same p p' (Change change ∷ acts) same h = commanded_same p p' acts same h
 commanded_same p p' (Quit ∷ acts) same h = commanded_same p p' acts same h
 
 -- one act was done for a worker
@@ -75,13 +81,16 @@ record FirstMake (s : Start) (p : List Entry) (held : Held) (rest : List Todo) :
   is_todo : AreTodo acts rest
   commanded : command id p ≡ Some what
   later : AreCommanded p acts
-  due : agenda s p ≡ settle p (plans (adds (Made id) (act_plan (λ job. same id job || lives job p) acts)) Open)
+  may_change : MayChange (revision s p) acts
+  waiting : pending p ≡ changes acts
+  due : agenda s p ≡ settle p (plans (adds (Made id) (act_plan (λ job. same id job || lives job p) (revision s p) acts)) Open)
 
-first_make : (s : Start) (p : List Entry) (held : Held) (rest : List Todo) (acts : List Act) → AreLawful (next_job p) acts → AreTodo acts (todo.Create held ∷ rest) → AreCommanded p acts → agenda s p ≡ settle p (plans (act_plan (λ id. lives id p) acts) Open) → FirstMake s p held rest
-first_make s p held rest [] l t k d = absurd t
-first_make s p held rest (Create id what ∷ acts) l t k d = record { id = id; what = what; acts = acts; is_new = t.0; is_next = l.0; lawful = l.1; is_todo = t.1; commanded = k.0; later = k.1; due = d }
-first_make s p held rest (Ask id ask ∷ acts) l t k d = absurd t
-first_make s p held rest (Quit ∷ acts) l t k d = first_make s p held rest acts l t k d
+first_make : (s : Start) (p : List Entry) (held : Held) (rest : List Todo) (acts : List Act) → AreLawful (next_job p) acts → MayChange (revision s p) acts → AreTodo acts (todo.Create held ∷ rest) → AreCommanded p acts → pending p ≡ changes acts → agenda s p ≡ settle p (plans (act_plan (λ id. lives id p) (revision s p) acts) Open) → FirstMake s p held rest
+first_make s p held rest [] l m t k w d = absurd t
+first_make s p held rest (Create id what ∷ acts) l m t k w d = record { id = id; what = what; acts = acts; is_new = t.0; is_next = l.0; lawful = l.1; is_todo = t.1; commanded = k.0; later = k.1; may_change = m; waiting = w; due = d }
+first_make s p held rest (Ask id ask ∷ acts) l m t k w d = absurd t
+first_make s p held rest (Change change ∷ acts) l m t k w d = absurd t
+first_make s p held rest (Quit ∷ acts) l m t k w d = first_make s p held rest acts l m t k w d
 
 over_made : (i id : Id) (p : List Entry) → i ≢ id → SameHistory i p (Made id ∷ p)
 over_made i id p ne = frame_apart i (Made id) p (other-is i id ne) refl
@@ -130,12 +139,12 @@ made_by s w w' held rests more p f then stands fields items =
       follows = λ world hooks p₀ world₀ hooks₀ l. Then (Made f.id) p world hooks l due;
       quiet = λ p₀ a. More (Made f.id) p a refl;
       turns = turns_over _ _ refl;
-      owes = record { acts = f.acts; lawful = f.lawful; is_todo = f.is_todo; commanded = commanded_same p (Made f.id ∷ p) f.acts (λ i. refl) f.later; due = ap (λ (a : Agenda). settle (Made f.id ∷ p) (rest (Made f.id) a)) f.due; then = then };
+      owes = record { acts = f.acts; lawful = f.lawful; may_change = f.may_change; is_todo = f.is_todo; commanded = commanded_same p (Made f.id ∷ p) f.acts (λ i. refl) f.later; waiting = f.waiting; due = ap (λ (a : Agenda). settle (Made f.id ∷ p) (rest (Made f.id) a)) f.due; then = then };
     }
 
 pub made : (s : Start) (w w' : Worker) (held : Held) (rests : List Todo) (more : Agenda) (p p' : List Entry) → OwesActs s p (todo.Create held ∷ rests) more → Stands s w p → w' ≡ record w { jobs = w'.jobs } → w'.jobs ≡ with_held held w.jobs → p' ≡ Made held.handle.id ∷ p → OneDone s w' rests more p p'
 made s w w' held rests more p p' owes stands fields items grown =
-    let f = first_make s p held rests owes.acts owes.lawful owes.is_todo owes.commanded owes.due in
+    let f = first_make s p held rests owes.acts owes.lawful owes.may_change owes.is_todo owes.commanded owes.waiting owes.due in
     let is : p' ≡ Made f.id ∷ p = grown ∙ ap (λ (i : Id). Made i ∷ p) f.is_new.handle_id in
     rw is (made_by s w w' held rests more p f owes.then stands fields items)
 
@@ -146,25 +155,28 @@ record FirstAsk (s : Start) (p : List Entry) (id : Id) (ask : AnAsk) (rest : Lis
   lawful : AreLawful (next_job p) acts
   is_todo : AreTodo acts rest
   commanded : AreCommanded p acts
-  due : agenda s p ≡ settle p (plans (cond (lives id p) (ask_plan id (sends_of ask) (act_plan (λ job. lives job p) acts)) (adds (Said Ignored) (act_plan (λ job. lives job p) acts))) Open)
+  may_change : MayChange (revision s p) acts
+  waiting : pending p ≡ changes acts
+  due : agenda s p ≡ settle p (plans (cond (lives id p) (ask_plan id (sends_of ask) (act_plan (λ job. lives job p) (revision s p) acts)) (adds (Said Ignored) (act_plan (λ job. lives job p) (revision s p) acts))) Open)
 
-first_ask : (s : Start) (p : List Entry) (id : Id) (ask : AnAsk) (done : Flag) (rest : List Todo) (acts : List Act) → AreLawful (next_job p) acts → AreTodo acts (todo.Ask id ask done ∷ rest) → AreCommanded p acts → agenda s p ≡ settle p (plans (act_plan (λ id. lives id p) acts) Open) → FirstAsk s p id ask rest
-first_ask s p id ask done rest [] l t k d = absurd t
-first_ask s p id ask done rest (Create job what ∷ acts) l t k d = absurd t
-first_ask s p id ask done rest (Ask job asked ∷ acts) l t k d = record { acts = acts; lawful = l; is_todo = t.2; commanded = k; due = rw (t.0, t.1) d }
-first_ask s p id ask done rest (Quit ∷ acts) l t k d = first_ask s p id ask done rest acts l t k d
+first_ask : (s : Start) (p : List Entry) (id : Id) (ask : AnAsk) (done : Flag) (rest : List Todo) (acts : List Act) → AreLawful (next_job p) acts → MayChange (revision s p) acts → AreTodo acts (todo.Ask id ask done ∷ rest) → AreCommanded p acts → pending p ≡ changes acts → agenda s p ≡ settle p (plans (act_plan (λ id. lives id p) (revision s p) acts) Open) → FirstAsk s p id ask rest
+first_ask s p id ask done rest [] l m t k w d = absurd t
+first_ask s p id ask done rest (Create job what ∷ acts) l m t k w d = absurd t
+first_ask s p id ask done rest (Ask job asked ∷ acts) l m t k w d = record { acts = acts; lawful = l; is_todo = t.2; commanded = k; may_change = m; waiting = w; due = rw (t.0, t.1) d }
+first_ask s p id ask done rest (Change change ∷ acts) l m t k w d = absurd t
+first_ask s p id ask done rest (Quit ∷ acts) l m t k w d = first_ask s p id ask done rest acts l m t k w d
 
 pub ignored_one : (s : Start) (w : Worker) (id : Id) (ask : AnAsk) (done : Flag) (rests : List Todo) (more : Agenda) (p p' : List Entry) → OwesActs s p (todo.Ask id ask done ∷ rests) more → Stands s w p → lives id p ≡ false → p' ≡ Said Ignored ∷ p → OneDone s w rests more p p'
 ignored_one s w id ask done rests more p p' owes stands gone grown =
-    let f = first_ask s p id ask done rests owes.acts owes.lawful owes.is_todo owes.commanded owes.due in
-    let owed : agenda s p ≡ settle p (plans (adds (Said Ignored) (act_plan (λ job. lives job p) f.acts)) Open) = f.due ∙ ap (λ (b : Bool). settle p (plans (cond b (ask_plan id (sends_of ask) (act_plan (λ job. lives job p) f.acts)) (adds (Said Ignored) (act_plan (λ job. lives job p) f.acts))) Open)) gone in
+    let f = first_ask s p id ask done rests owes.acts owes.lawful owes.may_change owes.is_todo owes.commanded owes.waiting owes.due in
+    let owed : agenda s p ≡ settle p (plans (adds (Said Ignored) (act_plan (λ job. lives job p) (revision s p) f.acts)) Open) = f.due ∙ ap (λ (b : Bool). settle p (plans (cond b (ask_plan id (sends_of ask) (act_plan (λ job. lives job p) (revision s p) f.acts)) (adds (Said Ignored) (act_plan (λ job. lives job p) (revision s p) f.acts))) Open)) gone in
     let due : Due s p (Said Ignored) = subst (λ (a : Agenda). Admits s p a (Said Ignored)) (sym owed) (tt, refl) in
     rw grown (record {
       stands = stands_behind s w (Said Ignored) p refl tt stands;
       follows = λ world hooks p₀ world₀ hooks₀ l. Then (Said Ignored) p world hooks l due;
       quiet = λ p₀ a. More (Said Ignored) p a refl;
       turns = turns_over _ _ refl;
-      owes = record { acts = f.acts; lawful = f.lawful; is_todo = f.is_todo; commanded = commanded_same p (Said Ignored ∷ p) f.acts (λ i. refl) f.commanded; due = ap (λ (a : Agenda). settle (Said Ignored ∷ p) (rest (Said Ignored) a)) owed; then = owes.then };
+      owes = record { acts = f.acts; lawful = f.lawful; may_change = f.may_change; is_todo = f.is_todo; commanded = commanded_same p (Said Ignored ∷ p) f.acts (λ i. refl) f.commanded; waiting = f.waiting; due = ap (λ (a : Agenda). settle (Said Ignored ∷ p) (rest (Said Ignored) a)) owed; then = owes.then };
     })
 
 -- the entries of an ask: one for each of its controls
@@ -215,7 +227,9 @@ record Asks (s : Start) (k : Plan) (p p' : List Entry) : Type 0 where
   quits : is_quitting p' ≡ is_quitting p
   commands : (i : Id) → command i p' ≡ command i p
   next_same : next_job p' ≡ next_job p
-  acts_same : (acts : List Act) → act_plan (λ job. lives job p') acts ≡ act_plan (λ job. lives job p) acts
+  acts_same : (acts : List Act) → act_plan (λ job. lives job p') (revision s p') acts ≡ act_plan (λ job. lives job p) (revision s p) acts
+  revision_same : revision s p' ≡ revision s p
+  pending_same : pending p' ≡ pending p
 
 asks_one : (s : Start) (p : List Entry) (id : Id) (level : Level) (control : Control) (k : Plan) → agenda s p ≡ settle p (plans (asks id level control k) Open) → Asks s k p (Asked (ticket_count p) id level control ∷ p)
 asks_one s p id level control k owed =
@@ -229,6 +243,8 @@ asks_one s p id level control k owed =
       commands = λ i. refl;
       next_same = refl;
       acts_same = λ acts. refl;
+      revision_same = refl;
+      pending_same = refl;
     }
 
 asks_then : (s : Start) (k k' : Plan) (p q r : List Entry) → Asks s k p q → Asks s k' q r → Asks s k' p r
@@ -241,6 +257,8 @@ asks_then s k k' p q r a b = record {
   commands = λ i. b.commands i ∙ a.commands i;
   next_same = b.next_same ∙ a.next_same;
   acts_same = λ acts. b.acts_same acts ∙ a.acts_same acts;
+  revision_same = b.revision_same ∙ a.revision_same;
+  pending_same = b.pending_same ∙ a.pending_same;
 }
 
 asks_all : (s : Start) (p : List Entry) (id : Id) (level : Level) (first : Control) (second : Option Control) (k : Plan) → agenda s p ≡ settle p (plans (asks id level first (ask_second id level second k)) Open) → Asks s k p (asked_all id level first second p)
@@ -253,9 +271,9 @@ asks_all s p id level first (Some second) k owed =
 pub asked_one : (s : Start) (w w' : Worker) (id : Id) (task task' : JobTask) (ask : AnAsk) (done : Flag) (rests : List Todo) (more : Agenda) (p p' : List Entry) → OwesActs s p (todo.Ask id ask done ∷ rests) more → Stands s w p → lives id p ≡ true → Lent p w.jobs id task → w' ≡ record w { jobs = w'.jobs }
     → w'.jobs ≡ with_task id w.jobs task' → SameJob task task' → TaskStands task' p' → LeavesOthers (id_of task) p p' → PlanFollowsAlone (send_plan (id_of task) (sends_of ask) p) p Done p' → OneDone s w' rests more p p'
 asked_one s w w' id task task' ask done rests more p p' owes stands alive l fields jobs same task_stands leaves follows =
-    let f = first_ask s p id ask done rests owes.acts owes.lawful owes.is_todo owes.commanded owes.due in
+    let f = first_ask s p id ask done rests owes.acts owes.lawful owes.may_change owes.is_todo owes.commanded owes.waiting owes.due in
     let sends = sends_of ask in
-    let k : Plan = act_plan (λ job. lives job p) f.acts in
+    let k : Plan = act_plan (λ job. lives job p) (revision s p) f.acts in
     let change = changed p p' w.jobs w'.jobs id task task' l jobs same task_stands in
     let id_is : id_of task ≡ id = ap id_of (sym l.task_is) ∙ l.id_is in
     let owed : agenda s p ≡ settle p (plans (ask_plan id sends k) Open) = f.due ∙ ap (λ (b : Bool). settle p (plans (cond b (ask_plan id sends k) (adds (Said Ignored) k)) Open)) alive in
@@ -276,6 +294,8 @@ asked_one s w w' id task task' ask done rests more p p' owes stands alive l fiel
       owes = record {
         acts = f.acts;
         lawful = rw ran.next_same f.lawful;
+        may_change = rw ran.revision_same f.may_change;
+        waiting = ran.pending_same ∙ f.waiting;
         is_todo = f.is_todo;
         commanded = commanded_same p (asked_all id sends.level sends.first sends.second p) f.acts ran.commands f.commanded;
         due = ran.due ∙ ap (λ (i : Plan). settle (asked_all id sends.level sends.first sends.second p) (plans i Open)) (sym (ran.acts_same f.acts));
@@ -283,14 +303,66 @@ asked_one s w w' id task task' ask done rests more p p' owes stands alive l fiel
       };
     })
 
+-- ---- a setting is changed
+
+record FirstChange (s : Start) (p : List Entry) (change : AChange) (rest : List Todo) : Type 0 where
+  acts : List Act
+  lawful : AreLawful (next_job p) acts
+  is_todo : AreTodo acts rest
+  commanded : AreCommanded p acts
+  may_change : revision s p + 1 + length (changes acts) ≤ last_revision
+  waiting : pending p ≡ change ∷ changes acts
+  due : agenda s p ≡ settle p (plans (change_plan (revision s p) (act_plan (λ job. lives job p) (revision s p + 1) acts)) Open)
+
+first_change : (s : Start) (p : List Entry) (change : AChange) (rest : List Todo) (acts : List Act) → AreLawful (next_job p) acts → MayChange (revision s p) acts → AreTodo acts (todo.Change change ∷ rest) → AreCommanded p acts → pending p ≡ changes acts → agenda s p ≡ settle p (plans (act_plan (λ id. lives id p) (revision s p) acts) Open) → FirstChange s p change rest
+first_change s p change rest [] l m t k w d = absurd t
+first_change s p change rest (Create job what ∷ acts) l m t k w d = absurd t
+first_change s p change rest (Ask job asked ∷ acts) l m t k w d = absurd t
+first_change s p change rest (Change asked ∷ acts) l m t k w d = record { acts = acts; lawful = l; is_todo = t.1; commanded = k; may_change = (let fits = m (omega arith) in omega arith); waiting = rw t.0 w; due = d }
+first_change s p change rest (Quit ∷ acts) l m t k w d = first_change s p change rest acts l m t k w d
+
+first_of : (s : Start) (p : List Entry) (change : AChange) (rest : List Todo) (more : Agenda) → OwesActs s p (todo.Change change ∷ rest) more → FirstChange s p change rest
+first_of s p change rest more owes = first_change s p change rest owes.acts owes.lawful owes.may_change owes.is_todo owes.commanded owes.waiting owes.due
+
+-- the revision can be raised
+pub change_fits : (s : Start) (p : List Entry) (change : AChange) (rest : List Todo) (more : Agenda) → OwesActs s p (todo.Change change ∷ rest) more → revision s p < last_revision
+change_fits s p change rest more owes = let f = first_of s p change rest more owes in let fits = f.may_change in omega arith
+
+pub changed_one : (s : Start) (w w' : Worker) (change : AChange) (rests : List Todo) (more : Agenda) (p p' : List Entry) → OwesActs s p (todo.Change change ∷ rests) more → Stands s w p → w' ≡ record w { config = w'.config } → w'.config ≡ changed_by change w.config → p' ≡ Changed w'.config.change_signal ∷ p → OneDone s w' rests more p p'
+changed_one s w w' change rests more p p' owes stands fields config grown =
+    let f = first_of s p change rests more owes in
+    let now : w'.config ≡ changed_by change (settings s p) = config ∙ ap (changed_by change) stands.config_kept in
+    let raises : w'.config.change_signal ≡ revision s p + 1 = ap (λ (c : Config). c.change_signal) now ∙ raised change (settings s p) in
+    let is : p' ≡ Changed (revision s p + 1) ∷ p = grown ∙ ap (λ n. Changed n ∷ p) raises in
+    let due : Due s p (Changed (revision s p + 1)) = subst (λ (a : Agenda). Admits s p a (Changed (revision s p + 1))) (sym f.due) (tt, refl) in
+    let after : settings s (Changed (revision s p + 1) ∷ p) ≡ changed_by change (settings s p) = ap (λ (cs : List AChange). first_changed cs (settings s p)) f.waiting in
+    let next : revision s (Changed (revision s p + 1) ∷ p) ≡ revision s p + 1 = ap (λ (c : Config). c.change_signal) after ∙ raised change (settings s p) in
+    rw is (record {
+      stands = stands_changed s w w' change (revision s p + 1) p stands fields (config ∙ ap (changed_by change) stands.config_kept ∙ sym after) after;
+      follows = λ world hooks p₀ world₀ hooks₀ l. Then (Changed (revision s p + 1)) p world hooks l due;
+      quiet = λ p₀ a. More (Changed (revision s p + 1)) p a refl;
+      turns = turns_over _ _ refl;
+      owes = record {
+        acts = f.acts;
+        lawful = f.lawful;
+        may_change = λ some. rw next f.may_change;
+        is_todo = f.is_todo;
+        commanded = commanded_same p (Changed (revision s p + 1) ∷ p) f.acts (λ i. refl) f.commanded;
+        waiting = ap later f.waiting;
+        due = rw next (ap (λ (a : Agenda). settle (Changed (revision s p + 1) ∷ p) (rest (Changed (revision s p + 1)) a)) f.due);
+        then = owes.then;
+      };
+    })
+
 -- ---- nothing is left to be done
 
-quits_alone : (there : Id → Bool) (acts : List Act) → AreTodo acts [] → act_plan there acts ≡ Done
-quits_alone there [] t = refl
-quits_alone there (Create id what ∷ acts) t = absurd t
-quits_alone there (Ask id ask ∷ acts) t = absurd t
-quits_alone there (Quit ∷ acts) t = quits_alone there acts t
+quits_alone : (there : Id → Bool) (n : ℕ) (acts : List Act) → AreTodo acts [] → act_plan there n acts ≡ Done
+quits_alone there n [] t = refl
+quits_alone there n (Create id what ∷ acts) t = absurd t
+quits_alone there n (Ask id ask ∷ acts) t = absurd t
+quits_alone there n (Change change ∷ acts) t = absurd t
+quits_alone there n (Quit ∷ acts) t = quits_alone there n acts t
 
 pub nothing_left : (s : Start) (p : List Entry) (todos : List Todo) (more : Agenda) → length todos ≡ 0 → OwesActs s p todos more → agenda s p ≡ more
-nothing_left s p [] more none owes = owes.due ∙ ap (λ (k : Plan). settle p (plans k Open)) (quits_alone (λ id. lives id p) owes.acts owes.is_todo) ∙ owes.then
+nothing_left s p [] more none owes = owes.due ∙ ap (λ (k : Plan). settle p (plans k Open)) (quits_alone (λ id. lives id p) (revision s p) owes.acts owes.is_todo) ∙ owes.then
 nothing_left s p (x ∷ todos) more none owes = absurd (omega arith)

@@ -9,7 +9,7 @@ use Rattle.prio_channel.specs.SameBag.{SameBag}
 use Rattle.prio_channel.proofs.BagLaws.{same-trans, add-bag, same-length}
 use Rattle.wx_control.specs.declared.id.Id.{Id}
 use Rattle.wx_journal.specs.declared.entry.Entry.{Entry}
-use Rattle.wx_journal.specs.declared.entry.Entry.TheVariants.{Sent, Offer, Turn as Turned, TurnFault, Word as Said, Hand}
+use Rattle.wx_journal.specs.declared.entry.Entry.TheVariants.{Sent, Offer, Turn as Turned, TurnFault, Word as Said, Hand, Changed}
 use Rattle.wx_journal.specs.declared.entry.Named.{Named}
 use Rattle.wx_journal.specs.declared.entry.Offered.{Offered}
 use Rattle.wx_journal.specs.declared.entry.Offered.TheVariants.{Queued, Full, Closed}
@@ -20,7 +20,12 @@ use Rattle.wx_machine.specs.Leaves.{SameHistory}
 use Rattle.wx_hooks.specs.declared.held.Held.{Held}
 use Rattle.wx_action.specs.declared.worker_state.Worker.{Worker}
 use Rattle.wx_machine.specs.Start.{Start}
-use Rattle.wx_machine.specs.Journal.{settings, closed, bag, offered, window}
+use Rattle.wx_config.specs.Changes.{changed}
+use Rattle.wx_config.specs.declared.change.Change.{Change}
+use Rattle.wx_config.specs.declared.change.Change.TheVariants.{Signal, Pathset, FileWatcher, FollowSymlinks, KeyboardEvents, Throttle, Filterer, OnError, OnAction}
+use Rattle.wx_config.specs.declared.config.Config.{Config}
+use Rattle.wx_machine.specs.Settings.{settings}
+use Rattle.wx_machine.specs.Journal.{closed, bag, offered, window}
 use Rattle.wx_machine.specs.Jobs.{set, UnseenRunNone}
 use Rattle.wx_hooks.specs.Handled.{AreEvents, lookup}
 use Rattle.wx_machine.proofs.Frame.{is_silent, frame_silent, frame_apart}
@@ -51,9 +56,9 @@ IsStill (Said word) = Unit {0}
 IsStill (_) = ⊥
 
 pub rest_over : (e : Entry) (p : List Entry) → IsStill e → SameRest p (e ∷ p)
-rest_over (Turned t) p h = record { bag_same = refl; closed_same = refl; count_same = refl; window_same = refl; lookup_same = refl; first_same = refl; set_same = refl; commands_same = λ i. refl }
-rest_over (TurnFault code) p h = record { bag_same = refl; closed_same = refl; count_same = refl; window_same = refl; lookup_same = refl; first_same = refl; set_same = refl; commands_same = λ i. refl }
-rest_over (Said word) p h = record { bag_same = refl; closed_same = refl; count_same = refl; window_same = refl; lookup_same = refl; first_same = refl; set_same = refl; commands_same = λ i. refl }
+rest_over (Turned t) p h = record { bag_same = refl; closed_same = refl; count_same = refl; window_same = refl; lookup_same = refl; first_same = refl; set_same = refl; commands_same = λ i. refl; settings_same = λ s. refl }
+rest_over (TurnFault code) p h = record { bag_same = refl; closed_same = refl; count_same = refl; window_same = refl; lookup_same = refl; first_same = refl; set_same = refl; commands_same = λ i. refl; settings_same = λ s. refl }
+rest_over (Said word) p h = record { bag_same = refl; closed_same = refl; count_same = refl; window_same = refl; lookup_same = refl; first_same = refl; set_same = refl; commands_same = λ i. refl; settings_same = λ s. refl }
 rest_over (_) p h = absurd h
 
 -- they name nothing, and no child runs because of one
@@ -77,9 +82,9 @@ pub stands_rest : (s : Start) (w w' : Worker) (p p' : List Entry) → Stands s w
 stands_rest s w w' p p' stands own idle q fields ids tasks =
     let stood : Stands s (record w { jobs = w'.jobs }) p' = record {
       own = own;
-      config_kept = stands.config_kept;
+      config_kept = stands.config_kept ∙ sym (q.settings_same s);
       queue_kept = rw q.bag_same stands.queue_kept;
-      size_kept = stands.size_kept;
+      size_kept = stands.size_kept ∙ sym (ap (λ (c : Config). c.event_channel_size) (q.settings_same s));
       closed_kept = stands.closed_kept ∙ sym q.closed_same;
       named_kept = stands.named_kept ∙ sym q.count_same;
       names_kept = stands.names_kept ∙ sym q.window_same;
@@ -96,6 +101,39 @@ pub stands_behind : (s : Start) (w : Worker) (e : Entry) (p : List Entry) → is
 stands_behind s w e p silent still stands =
     let q = rest_over e p still in
     stands_rest s w w p (e ∷ p) stands (own_still e p still stands.own) (idle_still e p still stands.idle_kept) q refl (stands.jobs_kept ∙ sym q.set_same) (tasks_silent e p w.jobs silent stands.tasks_kept)
+
+-- ---- a setting is changed
+
+-- no change sets the size of the queue
+pub same_size : (change : Change) (c : Config) → (changed change c).event_channel_size ≡ c.event_channel_size
+same_size Signal c = refl
+same_size (Pathset paths) c = refl
+same_size (FileWatcher watcher) c = refl
+same_size (FollowSymlinks on) c = refl
+same_size (KeyboardEvents on) c = refl
+same_size (Throttle throttle) c = refl
+same_size (Filterer n) c = refl
+same_size (OnError n) c = refl
+same_size (OnAction n) c = refl
+
+-- the worker with the settings that stand behind the change
+pub stands_changed : (s : Start) (w w' : Worker) (change : Change) (named : ℕ) (p : List Entry) → Stands s w p → w' ≡ record w { config = w'.config } → w'.config ≡ settings s (Changed named ∷ p) → settings s (Changed named ∷ p) ≡ changed change (settings s p) → Stands s w' (Changed named ∷ p)
+stands_changed s w w' change named p stands fields config after =
+    let stood : Stands s (record w { config = w'.config }) (Changed named ∷ p) = record {
+      own = (tt, stands.own);
+      config_kept = config;
+      queue_kept = stands.queue_kept;
+      size_kept = stands.size_kept ∙ sym (same_size change (settings s p)) ∙ sym (ap (λ (c : Config). c.event_channel_size) after);
+      closed_kept = stands.closed_kept;
+      named_kept = stands.named_kept;
+      names_kept = stands.names_kept;
+      events_kept = stands.events_kept;
+      first_kept = stands.first_kept;
+      jobs_kept = stands.jobs_kept;
+      tasks_kept = tasks_silent (Changed named) p w.jobs refl stands.tasks_kept;
+      idle_kept = stands.idle_kept;
+    } in
+    rw fields stood
 
 -- an event that is listed under a new name leaves the events of the names below
 events-rise : (m : ℕ) (v : Option (Event × Priority)) (look : ℕ → Option (Event × Priority)) (names : List ℕ) (events : List Event) → AllByRecursion (λ name. name < m) names → AreEvents look names events → AreEvents (λ name. cond (m == name) v (look name)) names events

@@ -18,12 +18,15 @@ use Rattle.wx_journal.specs.Names.{event_count, moment}
 use Rattle.wx_journal.specs.Told.{is_turn, tell}
 use Rattle.wx_action.specs.declared.worker_state.Worker.{Worker}
 use Rattle.wx_action.specs.declared.work_turn.Found.{Found}
-use Rattle.wx_action.specs.declared.work_turn.Found.TheVariants.{Hand, Kept}
+use Rattle.wx_action.specs.declared.work_turn.Collected.{Collected}
+use Rattle.wx_action.specs.declared.work_turn.Collected.TheVariants.{Hand, Kept}
+use Rattle.wx_action.specs.declared.work_turn.Collected.TheVariants as collected
 use Rattle.wx_action.specs.declared.work_turn.Found.TheVariants as outcome
 use Rattle.wx_journal.specs.declared.entry.Word.TheVariants.{Idle}
 use Rattle.wx_hooks.specs.Batch.{Waiting}
 use Rattle.wx_machine.specs.Start.{Start}
-use Rattle.wx_machine.specs.Journal.{settings, listed, is_urgent_in, is_urgent_named, is_unseen, is_unseen_in, passes_unseen, lets_pass, is_exit, is_close, closed, ending, wished, one_if, and_one, begun, without, bag, window, first, is_over, is_over_of}
+use Rattle.wx_machine.specs.Settings.{settings}
+use Rattle.wx_machine.specs.Journal.{listed, is_urgent_in, is_urgent_named, is_unseen, is_unseen_in, passes_unseen, lets_pass, is_exit, is_close, closed, ending, wished, one_if, and_one, begun, without, bag, window, first, is_over, is_over_of}
 use Rattle.wx_machine.specs.Due.{Takes as TakesNext, Filters, Shows as ShowsNext, Hands, Agenda, Open, Comes, rest, says, work, after_pass, after_take, after_drop, after_show, after_filter, is_quitting, settle, agenda, Due}
 use Rattle.wx_hooks.specs.Handled.{lookup}
 use Rattle.wx_machine.specs.Kept.{More, Keeps, Called}
@@ -31,7 +34,7 @@ use Rattle.wx_machine.specs.Seen.{Hooked}
 use Rattle.wx_action.specs.Serves.{GrowsHand}
 use Rattle.wx_action.proofs.ServesLaws.{adds_hand}
 use Rattle.wx_machine.specs.Leads.{FollowsHooks, Then}
-use Rattle.wx_action.specs.Stands.{Stands, OwesAt, OwesHand, AddsTake, HasTaken, HasPassed, IsDropped, LeavesRoom, Finds, Judges, IsJudged}
+use Rattle.wx_action.specs.Stands.{Stands, OwesAt, OwesHand, AddsTake, HasTaken, HasPassed, IsDropped, LeavesRoom, Collects, Finds, Judges, IsJudged}
 use Rattle.wx_machine.proofs.BagLaws.{IsTaken, is_taken}
 use Rattle.wx_machine.proofs.RunLaws.{listed_below, window_some, joined_if, some-append, below_taken}
 use Rattle.wx_machine.proofs.AllJobs.{turns_over}
@@ -49,15 +52,15 @@ not_empty s w p stands none some =
 -- ---- an event was taken
 
 -- where it passed unseen
-pub record TakeDone (s : Start) (w : Worker) (p p' : List Entry) (found : Found) : Type 0 where
+pub record TakeDone (s : Start) (w : Worker) (p p' : List Entry) (found : Collected) : Type 0 where
   pub steps : StepsOver s w p p'
-  pub collected : Finds s p found p'
+  pub collects : Collects s p found p'
 
 -- a window that an event joined isn't empty
 owes_joined : (s : Start) (p p' : List Entry) (name : ℕ) → window p' ≡ window p ++ name ∷ [] → agenda s p' ≡ Comes Hands Open → OwesHand s p'
 owes_joined s p p' name joined due = record { due = due; some = rw joined (some-append (window p) name) }
 
-collects_take : (s : Start) (p p' : List Entry) (due : Bool) → HasPassed p p' → agenda s p' ≡ cond due (Comes Hands Open) Open → Finds s p (cond due Hand Kept) p'
+collects_take : (s : Start) (p p' : List Entry) (due : Bool) → HasPassed p p' → agenda s p' ≡ cond due (Comes Hands Open) Open → Collects s p (cond due Hand Kept) p'
 collects_take s p p' true passed e = owes_joined s p p' passed.name passed.joined e
 collects_take s p p' false passed e = (passed, e)
 
@@ -67,7 +70,7 @@ has_taken p p' x rest unseen is t shows left = record { taken = rw is shows; was
 after_take_is : (s : Start) (p : List Entry) (name : ℕ) → is_quitting p ≡ false → agenda s p ≡ Comes TakesNext Open → agenda s (Take name ∷ p) ≡ after_take s name p Open
 after_take_is s p name going due = ap (λ (k : Agenda). settle (Take name ∷ p) (after_take s name p (rest (Take name) k))) due ∙ settle_calm (Take name ∷ p) _ going
 
-pub take_done : (s : Start) (w : Worker) (p p' : List Entry) (at start : ℕ) (x : Named × Priority) (queue : Channel Named) (batch : Waiting) (found : Found) → OwesAt s w at p (Comes TakesNext Open)
+pub take_done : (s : Start) (w : Worker) (p p' : List Entry) (at start : ℕ) (x : Named × Priority) (queue : Channel Named) (batch : Waiting) (found : Collected) → OwesAt s w at p (Comes TakesNext Open)
     → Takes w.queue.items x queue.items → AllAtMost x.1 w.queue.items → queue.size ≡ w.queue.size → queue.closed ≡ w.queue.closed → is_unseen x.0.event x.1 ≡ true → start ≡ cond (length w.batch.names == 0) at w.first
     → batch.names ≡ w.batch.names ++ x.0.name ∷ [] → batch.events ≡ w.batch.events ++ x.0.event ∷ [] → found ≡ cond (is_urgent x.1 || is_over_of w.config.throttle batch.names start at) Hand Kept → p' ≡ Take x.0.name ∷ p
     → TakeDone s (record w { queue = queue; batch = batch; first = start }) p p' found
@@ -103,7 +106,7 @@ take_done s w p p' at start x queue batch found owes takes most size same_closed
         quiet = λ p₀ a. More _ p a refl;
         turns = turns_over _ _ refl;
       });
-      collected = rw is_found (collects_take s p p' _ (record { name = x.0.name; taken = has_taken p p' x queue.items true unseen t grown (ap (λ q. bag q) grown); joined = ap (λ q. window q) grown ∙ window_is }) (ap (agenda s) grown ∙ after));
+      collects = rw is_found (collects_take s p p' _ (record { name = x.0.name; taken = has_taken p p' x queue.items true unseen t grown (ap (λ q. bag q) grown); joined = ap (λ q. window q) grown ∙ window_is }) (ap (agenda s) grown ∙ after));
     }
 
 -- where it is to be shown to the filter
@@ -126,12 +129,12 @@ collects_judged s p q p'' x rest found is t grown same j = go found j.judged
     taken = has_taken p p'' x rest false is t (j.n, j.answer, inl whole) (ap (λ r. bag r) whole)
 
     go : (found : Found) → Judges s q x.0.name found p'' → Finds s p found p''
-    go outcome.Hand h = h
-    go outcome.Kept h = (record { name = x.0.name; taken = taken; joined = h.0 ∙ ap (λ ns. ns ++ x.0.name ∷ []) same }, h.1)
-    go outcome.Dropped h = (record { name = x.0.name; taken = taken; stays = h.0 ∙ same }, h.1)
+    go (outcome.Done collected.Hand) h = h
+    go (outcome.Done collected.Kept) h = (record { name = x.0.name; taken = taken; joined = h.0 ∙ ap (λ ns. ns ++ x.0.name ∷ []) same }, h.1)
+    go (outcome.Done collected.Dropped) h = (record { name = x.0.name; taken = taken; stays = h.0 ∙ same }, h.1)
     go (outcome.Failed error) h = (record { name = x.0.name; n = j.n; answer = j.answer; seen = is; shown = whole; was = taken.was; left = taken.left; stays = h.0 ∙ same }, h.1)
-    go outcome.Stop h = absurd h
-    go outcome.Idle h = absurd h
+    go (outcome.Done collected.Stop) h = absurd h
+    go (outcome.Done collected.Idle) h = absurd h
 
 pub to_show : (s : Start) (w : Worker) (p p' : List Entry) (at : ℕ) (x : Named × Priority) (queue : Channel Named) → OwesAt s w at p (Comes TakesNext Open)
     → Takes w.queue.items x queue.items → AllAtMost x.1 w.queue.items → queue.size ≡ w.queue.size → queue.closed ≡ w.queue.closed → is_unseen x.0.event x.1 ≡ false → p' ≡ Take x.0.name ∷ p
@@ -204,15 +207,15 @@ pub record FilterDone (s : Start) (w : Worker) (p : List Entry) (n name : ℕ) (
 after_filter_is : (s : Start) (p : List Entry) (n name : ℕ) (answer : Result Bool RuntimeError) → is_quitting p ≡ false → agenda s p ≡ Comes (Filters name) Open → agenda s (Filter n name answer ∷ p) ≡ after_filter s name answer (Filter n name answer ∷ p) Open
 after_filter_is s p n name answer going due = ap (λ (k : Agenda). settle (Filter n name answer ∷ p) (after_filter s name answer (Filter n name answer ∷ p) (rest (Filter n name answer) k))) due ∙ settle_calm (Filter n name answer ∷ p) _ going
 
-judges_passed : (s : Start) (p p' : List Entry) (name : ℕ) (due : Bool) → window p' ≡ window p ++ name ∷ [] → agenda s p' ≡ cond due (Comes Hands Open) Open → Judges s p name (cond due Hand Kept) p'
+judges_passed : (s : Start) (p p' : List Entry) (name : ℕ) (due : Bool) → window p' ≡ window p ++ name ∷ [] → agenda s p' ≡ cond due (Comes Hands Open) Open → Judges s p name (outcome.Done (cond due Hand Kept)) p'
 judges_passed s p p' name true joined e = owes_joined s p p' name joined e
 judges_passed s p p' name false joined e = (joined, e)
 
 -- it passed
-pub filter_passed : (s : Start) (w w' : Worker) (p p' : List Entry) (at n name : ℕ) (event : Event) (priority : Priority) (answer : Result Bool RuntimeError) (found : Found) → OwesAt s w at p (Comes (Filters name) Open)
+pub filter_passed : (s : Start) (w w' : Worker) (p p' : List Entry) (at n name : ℕ) (event : Event) (priority : Priority) (answer : Result Bool RuntimeError) (found : Collected) → OwesAt s w at p (Comes (Filters name) Open)
     → listed name p ≡ Some (event, priority) → n ≡ w.config.filterer → lets_pass answer ≡ true → is_exit answer ≡ false → w' ≡ record w { batch = w'.batch; first = w'.first } → w'.first ≡ cond (length w.batch.names == 0) at w.first
     → w'.batch.names ≡ w.batch.names ++ name ∷ [] → w'.batch.events ≡ w.batch.events ++ event ∷ [] → found ≡ cond (is_urgent priority || is_over_of w.config.throttle w'.batch.names w'.first at) Hand Kept → p' ≡ Filter n name answer ∷ p
-    → FilterDone s w' p n name answer found p'
+    → FilterDone s w' p n name answer (outcome.Done found) p'
 filter_passed s w w' p p' at n name event priority answer found owes is_listed number passes stays fields began names events is_found grown =
     let stands = owes.stands in
     let due = owes.due in
@@ -340,17 +343,17 @@ empty_is (x ∷ xs) e = let none : length (x ∷ xs) ≡ 0 = eqb-true _ _ e in a
 
 -- there was nothing to take
 pub idle_done : (s : Start) (w : Worker) (p p' : List Entry) (at : ℕ) → OwesAt s w at p (work s p at) → w.queue.closed ≡ false → is_over_of w.config.throttle w.batch.names w.first at ≡ false → (length w.queue.items == 0) ≡ true → p' ≡ Said Idle ∷ p
-    → TakeDone s w p p' outcome.Idle
+    → TakeDone s w p p' collected.Idle
 idle_done s w p p' at owes is_open over empty grown =
     let stands = owes.stands in
     let later : is_over s p at ≡ false = rw (← stands.config_kept, ← stands.names_kept, ← stands.first_kept) over in
     let takes : closed p ≡ false = sym stands.closed_kept ∙ is_open in
     let none : (length (bag p) == 0) ≡ true = rw (← same-length w.queue.items (bag p) stands.queue_kept) empty in
     let owed : agenda s p ≡ says Idle = owes.due ∙ rw (takes, later, none) refl in
-    record { steps = said_done s w p p' Idle Open stands owed grown; collected = (record { early = rw owes.now later; none = empty_is (bag p) none; said = grown }, said_then s p p' Idle grown Open owed ∙ settle_calm p Open owes.going) }
+    record { steps = said_done s w p p' Idle Open stands owed grown; collects = (record { early = rw owes.now later; none = empty_is (bag p) none; said = grown }, said_then s p p' Idle grown Open owed ∙ settle_calm p Open owes.going) }
 
 -- the queue was closed
-pub stop_done : (s : Start) (w : Worker) (p : List Entry) (at : ℕ) → Stands s w p → agenda s p ≡ work s p at → w.queue.closed ≡ true → Finds s p outcome.Stop p
+pub stop_done : (s : Start) (w : Worker) (p : List Entry) (at : ℕ) → Stands s w p → agenda s p ≡ work s p at → w.queue.closed ≡ true → Collects s p collected.Stop p
 stop_done s w p at stands due shut = let is : closed p ≡ true = sym stands.closed_kept ∙ shut in (record { is_closed = is; same = refl }, due ∙ rw is refl)
 
 -- the window is due

@@ -32,7 +32,8 @@ use Rattle.wx_action.specs.declared.work_turn.Found.TheVariants as found
 use Rattle.wx_action.specs.declared.work_turn.Worked.{Worked}
 use Rattle.wx_action.specs.declared.work_turn.Worked.TheVariants as worked
 use Rattle.wx_machine.specs.Start.{Start}
-use Rattle.wx_machine.specs.Journal.{settings, passes_unseen, closed, named, bag, window, first, is_over}
+use Rattle.wx_machine.specs.Settings.{settings}
+use Rattle.wx_machine.specs.Journal.{passes_unseen, closed, named, bag, window, first, is_over}
 use Rattle.wx_machine.specs.Due.{Shows, Hands, Agenda, Open, Comes, Ends, plans, is_quitting, agenda}
 use Rattle.wx_hooks.specs.Handled.{AreEvents, lookup}
 use Rattle.wx_hooks.specs.JobsStand.{HeldStands, held_id}
@@ -178,8 +179,8 @@ FoundFailed error (found.Failed (Err want)) = Unit {0}
 FoundFailed error (_) = ⊥
 
 abbrev pub IsDropped : Result Bool RuntimeError → Found → Type 0
-IsDropped (Ok passes) f = f ≡ found.Dropped
-IsDropped (Err Exit) f = f ≡ found.Dropped
+IsDropped (Ok passes) f = f ≡ found.Done collected.Dropped
+IsDropped (Err Exit) f = f ≡ found.Done collected.Dropped
 IsDropped (Err error) f = FoundFailed error f
 
 -- beside what the end takes there is room for the entry of an error that is to be shown
@@ -189,22 +190,18 @@ LeavesRoom (_) ends journal hooks = Unit {0}
 
 -- The same before the error of a filter is shown: then this is due.
 abbrev pub Finds : Start → List Entry → Found → List Entry → Type 0
-Finds s p found.Stop p' = Collects s p collected.Stop p'
-Finds s p found.Hand p' = Collects s p collected.Hand p'
-Finds s p found.Idle p' = Collects s p collected.Idle p'
-Finds s p found.Kept p' = Collects s p collected.Kept p'
-Finds s p found.Dropped p' = Collects s p collected.Dropped p'
+Finds s p (found.Done c) p' = Collects s p c p'
 Finds s p (found.Failed error) p' = HasFailed p p' × IsToShow s error p'
 
 -- What became of an event that was shown to the filter, behind its Filter: the window is due with it, or it waits there, or
 -- it was dropped, and maybe the error of the filter is to be shown.
 abbrev pub Judges : Start → List Entry → ℕ → Found → List Entry → Type 0
-Judges s p name found.Hand p' = OwesHand s p'
-Judges s p name found.Kept p' = (window p' ≡ window p ++ name ∷ []) × (agenda s p' ≡ Open)
-Judges s p name found.Dropped p' = (window p' ≡ window p) × (agenda s p' ≡ Open)
+Judges s p name (found.Done collected.Hand) p' = OwesHand s p'
+Judges s p name (found.Done collected.Kept) p' = (window p' ≡ window p ++ name ∷ []) × (agenda s p' ≡ Open)
+Judges s p name (found.Done collected.Dropped) p' = (window p' ≡ window p) × (agenda s p' ≡ Open)
 Judges s p name (found.Failed error) p' = (window p' ≡ window p) × IsToShow s error p'
-Judges s p name found.Stop p' = ⊥
-Judges s p name found.Idle p' = ⊥
+Judges s p name (found.Done collected.Stop) p' = ⊥
+Judges s p name (found.Done collected.Idle) p' = ⊥
 
 pub record IsJudged (s : Start) (p : List Entry) (name : ℕ) (found : Found) (p' : List Entry) : Type 0 where
   pub n : ℕ

@@ -11,6 +11,7 @@ ghost use Rattle.wx_action.specs.Stands.{Stands, Ready, end_room};
 
 use crate::worker_state::Worker;
 use std::alloc::Global;
+use wx_config::Change;
 use wx_control::{Ask, Flag, Id};
 use wx_hooks::{Held, Todo};
 use wx_job::Host;
@@ -84,6 +85,22 @@ fn ask_or_ignore(
     Ok(())
 }
 
+/// Changes the settings as an act asked. It fails only for want of memory, and adds no entry then.
+fn change(worker: &mut Worker, change: Change, journal: &mut Journal) -> Result<(), Memory>
+    ghost start: { Start }
+    requires owes { IsFirst start journal.old.past (todo.Change change) }
+    requires stands { Stands start worker.old journal.old.past }
+    ensures grows { Grows start worker.old journal.old worker.new journal.new }
+    ensures does { Does result start journal.old.past (todo.Change change) journal.new.past }
+{
+    let Ok(()) = worker.reserve(1, journal) else {
+        drop(change);
+        return Err(Memory);
+    };
+    worker.change(change, journal);
+    Ok(())
+}
+
 /// Does what an act asks for. It fails only for want of memory, and adds no entry then.
 fn perform_one<W: Host>(
     alloc: Global,
@@ -101,6 +118,7 @@ fn perform_one<W: Host>(
     match todo {
         Todo::Create(held) => make(worker, held, host, journal),
         Todo::Ask { job, ask, done } => ask_or_ignore(alloc, worker, job, ask, done, journal),
+        Todo::Change(asked) => change(worker, asked, journal),
     }
 }
 

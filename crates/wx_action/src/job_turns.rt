@@ -1,6 +1,6 @@
 // The turns of jobs.
 ghost use Rattle.std.specs.Prelude.{◌≡◌, ℕ, ◌+◌, IfSome, IfNone, IfOk};
-ghost use Rattle.wx_journal.specs.declared.entry.TurnKind.TheVariants.{Ask as AsksTurn, Job as JobTurn, Ended as EndedTurn};
+ghost use Rattle.wx_journal.specs.declared.entry.TurnKind.TheVariants.{Ask as AsksTurn, Change as ChangeTurn, Job as JobTurn, Ended as EndedTurn};
 ghost use Rattle.wx_journal.specs.declared.entry.Word.TheVariants.{Ignored};
 ghost use Rattle.wx_machine.specs.Kept.{Promised};
 ghost use Rattle.wx_machine.specs.Steady.{HaveRoom};
@@ -13,6 +13,7 @@ ghost use Rattle.wx_action.specs.Stands.{Stands, Ready, AtTurn, IsStepOf, end_ro
 
 use crate::worker_state::Worker;
 use std::alloc::Global;
+use wx_config::Change;
 use wx_control::{Ask, Flag, Id};
 use wx_hooks::Hooks;
 use wx_job::Host;
@@ -41,6 +42,26 @@ pub fn ask_turn(
     let task = worker.jobs.task_mut(id);
     let ticket = task.send(alloc, ask, last, journal)?;
     drop(ticket);
+    Ok(())
+}
+
+/// A turn that changes the settings: it says so with the new revision, and where this can't be raised that the turn is ignored.
+/// It fails only for want of memory, and adds no entry then.
+pub fn change_turn(worker: &mut Worker, change: Change, journal: &mut Journal) -> Result<(), Memory>
+    ghost start: { Start }
+    requires turn { (at : ℕ) × AtTurn start worker.old at (ChangeTurn change) journal.old.past }
+    ensures grows { Grows start worker.old journal.old worker.new journal.new }
+    ensures settles { Settles result start journal.old.past journal.new.past }
+{
+    if worker.config.change_signal == u64::MAX {
+        drop(change);
+        return worker.ignored(journal);
+    }
+    let Ok(()) = worker.reserve(1, journal) else {
+        drop(change);
+        return Err(Memory);
+    };
+    worker.change(change, journal);
     Ok(())
 }
 

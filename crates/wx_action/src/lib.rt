@@ -6,7 +6,7 @@ mod job_turns;
 mod work_turn;
 mod worker_state;
 
-pub use job_turns::{ask_turn, end_jobs, ended_turn, job_turn, keep_end};
+pub use job_turns::{ask_turn, change_turn, end_jobs, ended_turn, job_turn, keep_end};
 pub use work_turn::{Collected, Worked, throttle_collect, worker};
 pub use worker_state::Worker;
 pub use wx_hooks::{

@@ -60,23 +60,20 @@ fn begun(is_empty: bool, at: u64, first: u64) -> u64
 /// What a Work turn found, before the error of a filter is shown.
 #[derive(Drop)]
 pub(crate) enum Found {
-    Stop,
-    Hand,
-    Idle,
-    Kept,
-    Dropped,
+    /// This was collected, and no error is to be shown.
+    Done(Collected),
     /// An event was dropped, since the filter failed. Its error is to be shown, or there was no memory for a copy of it.
     Failed(Result<RuntimeError, Memory>),
 }
 
 /// What an event that passed leads to.
-fn due_or_kept(is_urgent: bool, is_over: bool) -> Found
-    ensures { result ≡ (if is_urgent || is_over then Found.Hand else Found.Kept) }
+fn due_or_kept(is_urgent: bool, is_over: bool) -> Collected
+    ensures { result ≡ (if is_urgent || is_over then Collected.Hand else Collected.Kept) }
 {
     if is_urgent || is_over {
-        Found::Hand
+        Collected::Hand
     } else {
-        Found::Kept
+        Collected::Kept
     }
 }
 
@@ -125,7 +122,7 @@ fn dropped(alloc: Global, answer: &Result<bool, RuntimeError>) -> Found
     ensures { IsDropped answer.now result }
 {
     match answer {
-        Ok(_) | Err(RuntimeError::Exit) => Found::Dropped,
+        Ok(_) | Err(RuntimeError::Exit) => Found::Done(Collected::Dropped),
         Err(error) => Found::Failed(error.copy(alloc)),
     }
 }
@@ -165,13 +162,13 @@ fn close_where(ends: bool, queue: &mut PrioQueue<Named>)
 
 impl Worker {
     /// Adds an event that passed to the window, in room that was taken. It answers whether the window is due now.
-    fn join(&mut self, item: Named, priority: Priority, at: u64) -> Found
+    fn join(&mut self, item: Named, priority: Priority, at: u64) -> Collected
         requires { 1 ≤ self.old.batch.room }
         ensures same { self.new ≡ record self.old { batch = self.new.batch; first = self.new.first } }
         ensures names { self.new.batch.names ≡ self.old.batch.names ++ item.name ∷ [] }
         ensures events { self.new.batch.events ≡ self.old.batch.events ++ item.event ∷ [] }
         ensures first { self.new.first ≡ (if length self.old.batch.names == 0 then at else self.old.first) }
-        ensures found { result ≡ (if is_urgent priority || is_over_of self.old.config.throttle self.new.batch.names self.new.first at then Found.Hand else Found.Kept) }
+        ensures found { result ≡ (if is_urgent priority || is_over_of self.old.config.throttle self.new.batch.names self.new.first at then Collected.Hand else Collected.Kept) }
     {
         self.first = begun(self.batch.is_empty(), at, self.first);
         self.batch.push(item);
@@ -203,7 +200,7 @@ impl Worker {
         let answer = hooks.check_event(n, name, &item.event, priority);
         if lets_pass(&answer) {
             journal.push(Entry::Filter { n, name, answer });
-            return self.join(item, priority, at);
+            return Found::Done(self.join(item, priority, at));
         }
         drop(item);
         self.reject(alloc, n, name, answer, journal)
@@ -255,7 +252,7 @@ impl Worker {
         };
         journal.push(Entry::Take(item.name));
         if is_unseen(&item.event, priority) {
-            return self.join(item, priority, at);
+            return Found::Done(self.join(item, priority, at));
         }
         self.judge(alloc, item, priority, at, hooks, journal)
     }
@@ -277,15 +274,15 @@ impl Worker {
         ensures kept_room { end_room self.old ≤ journal.old.spare → end_room self.new ≤ journal.new.spare }
     {
         if self.queue.is_closed() {
-            return Ok(Found::Stop);
+            return Ok(Found::Done(Collected::Stop));
         }
         if self.is_over(at) {
-            return Ok(Found::Hand);
+            return Ok(Found::Done(Collected::Hand));
         }
         self.reserve(3, journal)?;
         if self.queue.is_empty() {
             journal.push(Entry::Word(Word::Idle));
-            return Ok(Found::Idle);
+            return Ok(Found::Done(Collected::Idle));
         }
         self.batch.reserve()?;
         hooks.reserve(2)?;
@@ -346,11 +343,7 @@ pub fn throttle_collect<H: Hooks>(
     ensures kept_room { end_room worker.old ≤ journal.old.spare → end_room worker.new ≤ journal.new.spare }
 {
     match worker.collect(alloc, at, hooks, journal)? {
-        Found::Stop => Ok(Collected::Stop),
-        Found::Hand => Ok(Collected::Hand),
-        Found::Idle => Ok(Collected::Idle),
-        Found::Kept => Ok(Collected::Kept),
-        Found::Dropped => Ok(Collected::Dropped),
+        Found::Done(collected) => Ok(collected),
         Found::Failed(error) => {
             worker.show(alloc, error?, hooks, journal)?;
             Ok(Collected::Dropped)
@@ -394,7 +387,8 @@ fn hand_batch<H: Hooks>(
 {
     let batch = mem::replace(&mut worker.batch, Batch::new(alloc));
     let n = worker.config.action_handler;
-    let mut handler = ActionHandler::new(alloc, journal, &worker.jobs, batch);
+    let revision = worker.config.change_signal;
+    let mut handler = ActionHandler::new(alloc, journal, &worker.jobs, revision, batch);
     hooks.action(n, &mut handler);
     let (names, acts, todo) = handler.into_parts();
     let ends = asks_for_end(acts.as_slice());

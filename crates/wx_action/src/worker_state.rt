@@ -2,6 +2,8 @@
 ghost use Rattle.std.specs.Prelude.{◌≡◌, ◌∷◌, [], ◌+◌, ◌*◌, ◌^◌, ◌<◌, ◌≤◌, false, length, List, IfOk, OnOk, OnErr};
 ghost use Rattle.wx_events.specs.declared.event.Event.{Event as AnEvent};
 ghost use Rattle.wx_events.specs.declared.priority.Priority.{Priority as APriority};
+ghost use Rattle.wx_config.specs.Changes.{changed, last_revision};
+ghost use Rattle.wx_journal.specs.declared.entry.Entry.TheVariants.{Changed};
 ghost use Rattle.wx_journal.specs.declared.entry.Word.TheVariants.{Ignored};
 ghost use Rattle.wx_machine.specs.Steady.{OnlyRoom};
 ghost use Rattle.wx_machine.specs.Kept.{OnlyHooksRoom};
@@ -13,7 +15,7 @@ ghost use Rattle.wx_action.specs.Stands.{Stands, Owes, IsOffered, end_room};
 
 use prio_channel::{PrioQueue, TrySendError};
 use std::alloc::Global;
-use wx_config::Config;
+use wx_config::{Change, Config, RevisionSpent};
 use wx_events::{Event, Priority};
 use wx_hooks::{Batch, JobList, with_copy};
 use wx_job::{Host, JobHooks};
@@ -193,6 +195,21 @@ impl Worker {
         self.reserve(1, journal)?;
         journal.push(Entry::Word(Word::Ignored));
         Ok(())
+    }
+
+    /// Changes the settings, whose revision can be raised, and lists the new revision, in room that was taken.
+    pub(crate) fn change(&mut self, change: Change, journal: &mut Journal)
+        requires room { 1 ≤ journal.old.spare }
+        requires fits { self.old.config.change_signal < last_revision }
+        ensures same { self.new ≡ record self.old { config = self.new.config } }
+        ensures changed { self.new.config ≡ changed change self.old.config }
+        ensures past { journal.new.past ≡ Changed self.new.config.change_signal ∷ journal.old.past }
+        ensures room { journal.new.spare + 1 ≡ journal.old.spare }
+    {
+        match self.config.apply(change) {
+            Ok(()) => journal.push(Entry::Changed(self.config.change_signal)),
+            Err(RevisionSpent) => unreachable!(),
+        }
     }
 }
 

@@ -2,6 +2,7 @@
 -- answer.
 use Rattle.std.specs.Prelude.{◌≡◌, ◌≤◌, ◌⊎◌, ℕ, true, Some, IfSome, Ok, Err, IfOk, List, [], ◌∷◌, slice_get}
 use Rattle.wx_command.specs.declared.command.Command.{Command}
+use Rattle.wx_command.specs.declared.spawnable.Spawnable.{Spawnable}
 use Rattle.wx_command.specs.Spawnables.{spawnable_of}
 use Rattle.wx_error.specs.declared.runtime.RuntimeError.TheVariants.{Memory}
 use Rattle.wx_events.specs.declared.event.Event.{Event}
@@ -20,6 +21,11 @@ pub record Held : Type 0 where
   pub functions : ℕ
   pub hooks : ℕ
 
+-- where they hold no spawn hook under this number, the call of one that was given this left just this, if it didn't want memory
+abbrev pub LeavesUsual : Held → Spawnable → Entry → Type 0
+LeavesUsual held given (Hook job n left) = held.hooks ≤ n → IfOk left (λ what. what ≡ given)
+LeavesUsual held given (_) = Unit {0}
+
 -- Their rule: an entry that is a call under a number under which they hold none is as where nothing is done. The event passes,
 -- nothing is asked for or wished, the function is ready, and a hook that didn't want memory left what the job was created to
 -- run.
@@ -28,7 +34,7 @@ IsUsual held p (Filter n name answer) = held.filters ≤ n → answer ≡ Ok tru
 IsUsual held p (Show n error wish) = held.errors ≤ n → wish ≡ Nothing
 IsUsual held p (Hand n names acts) = held.actions ≤ n → acts ≡ []
 IsUsual held p (Poll job n ready) = held.functions ≤ n → ready ≡ true
-IsUsual held p (Hook job n left) = held.hooks ≤ n → (created : Command) → command job p ≡ Some created → IfOk left (λ what. what ≡ spawnable_of created)
+IsUsual held p (Hook job n left) = (created : Command) → command job p ≡ Some created → LeavesUsual held (spawnable_of created) (Hook job n left)
 IsUsual held p (_) = Unit {0}
 
 -- a filter that may answer so was asked, or wanted memory

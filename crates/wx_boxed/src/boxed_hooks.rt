@@ -5,8 +5,8 @@ ghost use Rattle.wx_error.specs.declared.runtime.RuntimeError.TheVariants.{Memor
 ghost use Rattle.wx_journal.specs.declared.wish.Wish.TheVariants.{Nothing};
 ghost use Rattle.wx_hooks.specs.ErrorHooks.{IsNewHook};
 ghost use Rattle.wx_hooks.specs.Handled.{IsNewHandler};
-ghost use Rattle.wx_boxed.specs.Boxed.{Held, IsUsual, MayAnswer, AreJudged};
-ghost use Rattle.wx_boxed.specs.BoxedLaws.{judged_over};
+ghost use Rattle.wx_boxed.specs.Boxed.{Held, IsUsual, LeavesUsual, MayAnswer, AreJudged};
+ghost use Rattle.wx_boxed.specs.BoxedLaws.{leaves_usual, judged_over};
 
 use crate::interfaces::{OnAction, OnError, OnFault, OnJob, OnSpawn};
 use crate::told::Told;
@@ -77,6 +77,8 @@ impl JobHooks for BoxedHooks {
 
     ghost rule = { λ held p e. IsUsual held p e };
 
+    ghost spawn_rule = { λ held p given e. LeavesUsual held given e };
+
     ghost stands = { λ s p. AreJudged (λ filter event priority answer. (Filterer-box filter).judges filter.value event priority answer) s.filters.items p };
 
     fn reserve(&mut self, n: u64) -> Result<(), Memory> {
@@ -125,6 +127,8 @@ impl JobHooks for BoxedHooks {
         let code = fault.0;
         self.told.push(Entry::JobError { job, n, code });
     }
+
+    ghost spawn_rule_is_rule = { λ held p job n left command runs usual. leaves_usual held p job n left command runs usual };
 
     ghost stands_other = { λ s p e _ other stands. judged_over _ s.filters.items p e other stands };
 }

@@ -15,7 +15,7 @@ use wx_events::{ProcessEnd, Signal};
 use wx_follow::ScriptWorld;
 use wx_hooks::{ActionHandler, TurnFault, Turned, World};
 use wx_job::{Host, Outside};
-use wx_journal::{HostFault, SpawnTag};
+use wx_journal::{HostFault, SpawnTag, TurnKind};
 use wx_script::Script;
 use wx_text::{Copies, List, Memory, Text};
 use wx_trial::{created, root, script_of, text_in};
@@ -88,13 +88,16 @@ fn wait_for(boxed: &StartsAndStops, ticket: Ticket, flag: &Flag) -> Option<()> {
     boxed.spawner.spawn(Awaits { ticket, ready }).ok()
 }
 
-/// A world in which tasks are polled between the turns. It notes before each turn whether the tickets were ready.
+/// A world in which tasks are polled between the turns, and which hands a flag along with each ask, as a handle does. It notes
+/// before each turn whether the tickets were ready, and whether that flag was raised.
 #[derive(Drop)]
 struct Polls<W> {
+    alloc: Global,
     inner: W,
     pool: LocalPool<Awaits>,
     started: Flag,
     stopped: Flag,
+    asked: Flag,
     noted: Text,
 }
 
@@ -149,8 +152,24 @@ impl<W: World> World for Polls<W> {
         self.pool.run_until_stalled(16);
         // a note that found no memory is missed at the end
         let _noted = self.noted.append(note(&self.started, &self.stopped));
-        self.inner.turn()
+        let _asked = self.noted.append(note_of_ask(&self.asked));
+        let mut turned = self.inner.turn()?;
+        if is_ask(&turned) {
+            // and so is a raise of a flag that found none
+            turned.done = self.asked.copy(self.alloc).ok();
+        }
+        Ok(turned)
     }
+}
+
+/// Whether a turn asks something of a job.
+fn is_ask(turned: &Turned) -> bool {
+    matches!(turned.turn.kind, TurnKind::Ask(..))
+}
+
+/// What is noted of the flag of an ask.
+fn note_of_ask(asked: &Flag) -> &'static [u8] {
+    if asked.raised() { b"asked " } else { b"" }
 }
 
 /// What is noted of two tickets, by the flags that were raised once they were ready.
@@ -163,15 +182,16 @@ fn note(started: &Flag, stopped: &Flag) -> &'static [u8] {
     }
 }
 
-/// A batch, and then turns of the job within its grace, past it, and of the worker.
+/// A batch, and then turns of the job within its grace, past it, of the worker, and of a handle that starts the job again.
 const TURNS: &[u8] =
-    b"turn 0 arrive urgent 0\nturn 0 work\nturn 1 job 0\nturn 2 job 0\nturn 3 job 0\nturn 12 job 0\nturn 13 work\n";
+    b"turn 0 arrive urgent 0\nturn 0 work\nturn 1 job 0\nturn 2 job 0\nturn 3 job 0\nturn 12 job 0\nturn 13 work\nturn 13 ask 0 start\nturn 14 job 0\n";
 
 const STOPPED: &[u8] =
-    b"turn 0 arrive urgent 0\noffer 0 - queued urgent 0\nturn 0 work\ntake 0\nhand 0 1 0 create 0 exec ---- 1 make ask 0 start ask 0 gracefulstop terminate 10\nmade 0\nasked 0 0 normal start\nasked 1 0 normal gracefulstop terminate 10\nturn 1 job 0\npick 0 0\nspawn 0 0 default ---- 1 make ok\nraise 0\nturn 2 job 0\npick 0 1\nsignal 0 15 ok\nturn 3 job 0\nword idle\nturn 12 job 0\ngrace 0\nkill 0 ok\nwait 0 success\nraise 1\nturn 13 work\nword idle\nturn 13 last\ngone 0\nend ok lost 0\n";
+    b"turn 0 arrive urgent 0\noffer 0 - queued urgent 0\nturn 0 work\ntake 0\nhand 0 1 0 create 0 exec ---- 1 make ask 0 start ask 0 gracefulstop terminate 10\nmade 0\nasked 0 0 normal start\nasked 1 0 normal gracefulstop terminate 10\nturn 1 job 0\npick 0 0\nspawn 0 0 default ---- 1 make ok\nraise 0\nturn 2 job 0\npick 0 1\nsignal 0 15 ok\nturn 3 job 0\nword idle\nturn 12 job 0\ngrace 0\nkill 0 ok\nwait 0 success\nraise 1\nturn 13 work\nword idle\nturn 13 ask 0 start\nasked 2 0 normal start\nturn 14 job 0\npick 0 2\nspawn 1 0 default ---- 1 make ok\nraise 2\nturn 14 last\ndrop 1\ngone 0\nend ok lost 0\n";
 
-/// Before the first two turns no ticket is there, and before the third none is ready.
-const NOTED: &[u8] = b"none none none started started started both both ";
+/// Before the first two turns no ticket is there, and before the third none is ready. The flag of the ask is raised by the
+/// last turn but one.
+const NOTED: &[u8] = b"none none none started started started both both both both asked ";
 
 /// The text of a run that follows this script, with tasks of this pool between its turns, and what was noted.
 fn text_between(
@@ -184,11 +204,14 @@ fn text_between(
     requires { IsScript script.now }
 {
     let inner = ScriptWorld::new(alloc, script)?;
+    let asked = Flag::new(alloc, false)?;
     let mut world = Polls {
+        alloc,
         inner,
         pool,
         started: flags.0,
         stopped: flags.1,
+        asked,
         noted: Text::new(alloc),
     };
     let engine = Watchexec::new(alloc, 0, root(alloc)?)?;

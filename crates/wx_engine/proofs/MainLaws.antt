@@ -11,10 +11,10 @@ use Rattle.wx_error.specs.declared.error.CriticalError.{CriticalError}
 use Rattle.wx_error.specs.declared.error.CriticalError.TheVariants.{IoError, Memory}
 use Rattle.wx_machine.specs.Answer.{Dying, Alive, Dies, IsBroken, AtAnyPlace, Wishes, MemoryCuts, Answers}
 use Rattle.wx_journal.specs.Lines.{Answer}
-use Rattle.wx_machine.specs.RunLaws.{IsBatched, AreBatches, NoneUnseenIsShown, NoneIsShownClosed, AreMadeOnce, AreServed}
+use Rattle.wx_machine.specs.RunLaws.{IsBatched, AreBatches, NoneUnseenIsShown, NoneIsShownClosed, AreMadeOnce, AreServed, AreRevised}
 use Rattle.wx_machine.specs.Leads.{Leads, Here, Then}
 use Rattle.wx_machine.proofs.AllJobs.{run_makes_once}
-use Rattle.wx_machine.proofs.RunLaws.{orderly, run_is_batched, run_has_batches, run_shows, run_shows_open, run_is_served}
+use Rattle.wx_machine.proofs.RunLaws.{orderly, run_is_batched, run_has_batches, run_shows, run_shows_open, run_is_served, run_is_revised}
 use Rattle.wx_machine.proofs.FunctionLaws.{run_waits, dying_waits}
 use Rattle.wx_machine.proofs.PlanLaws.{of_end}
 use Rattle.wx_machine.proofs.Lawful.{IsOfEnd}
@@ -104,6 +104,11 @@ ran_makes_once s p (inr broken) = (dying_keeps s broken.before p broken.dying).m
 pub ran_is_served : (s : Start) (p : List Entry) → Ran s p → AreServed s p
 ran_is_served s p (inl complete) = run_is_served s p complete.run
 ran_is_served s p (inr broken) = (dying_keeps s broken.before p broken.dying).served (run_is_served s broken.before broken.run)
+
+-- each entry that tells a change names the next revision, and answers a change that waits
+pub ran_is_revised : (s : Start) (p : List Entry) → Ran s p → AreRevised s p
+ran_is_revised s p (inl complete) = run_is_revised s p complete.run
+ran_is_revised s p (inr broken) = (dying_keeps s broken.before p broken.dying).revised (run_is_revised s broken.before broken.run)
 
 -- the tickets of the jobs are placed
 pub ran_is_placed : (s : Start) (p : List Entry) → Ran s p → IsPlaced p

@@ -13,7 +13,7 @@ ghost use Rattle.wx_engine.specs.Run.{HasCause, HasTurnCause, Stops, Rests, IsBe
 
 use crate::watchexec::Watchexec;
 use std::alloc::Global;
-use wx_action::{Worked, Worker, ask_turn, end_jobs, ended_turn, job_turn, worker};
+use wx_action::{Worked, Worker, ask_turn, change_turn, end_jobs, ended_turn, job_turn, worker};
 use wx_config::Config;
 use wx_control::Flag;
 use wx_error::CriticalError;
@@ -137,6 +137,10 @@ fn serve<W: World, H: Hooks>(
             ask_turn(alloc, state, id, ask, done, journal)?;
             Ok(Worked::On)
         }
+        TurnKind::Change(change) => {
+            change_turn(state, change, journal)?;
+            Ok(Worked::On)
+        }
         TurnKind::Last => Ok(Worked::End),
     }
 }
@@ -166,6 +170,7 @@ fn kind_again(alloc: Global, kind: &TurnKind) -> Result<TurnKind, Memory>
         TurnKind::Job(id) => Ok(TurnKind::Job(*id)),
         TurnKind::Ended(child) => Ok(TurnKind::Ended(*child)),
         TurnKind::Ask(id, ask) => Ok(TurnKind::Ask(*id, ask.copy(alloc)?)),
+        TurnKind::Change(change) => Ok(TurnKind::Change(change.copy(alloc)?)),
         TurnKind::Last => Ok(TurnKind::Last),
     }
 }

@@ -7,7 +7,7 @@ ghost use Rattle.wx_machine.specs.Afterwards.{GoesOnAfterFaults};
 ghost use Rattle.wx_machine.specs.JobLaws.{IsReaping, AfterFaults};
 ghost use Rattle.wx_machine.specs.TicketLaws.{Throughout, AreInOnePlace, AreRaisedLast, WaitForGraces, WaitForFunctions, GracesNeedChildren};
 ghost use Rattle.wx_machine.specs.Journal.{turn_count, early_count};
-ghost use Rattle.wx_machine.specs.RunLaws.{IsBatched, AreBatches, NoneUrgentWaits, NoneUnseenIsShown, NoneIsShownClosed, MomentsRise, AreMadeOnce, AreServed};
+ghost use Rattle.wx_machine.specs.RunLaws.{IsBatched, AreBatches, NoneUrgentWaits, NoneUnseenIsShown, NoneIsShownClosed, MomentsRise, AreMadeOnce, AreServed, AreRevised};
 ghost use Rattle.wx_machine.specs.Answer.{Answers};
 ghost use Rattle.wx_machine.specs.Faults.{Counted};
 ghost use Rattle.wx_engine.specs.Run.{HasCause, Ran};
@@ -88,6 +88,7 @@ impl Watchexec {
         ensures offers { AreOffered self journal.new.past }
         ensures ids { AreMadeOnce journal.new.past }
         ensures served { AreServed self journal.new.past }
+        ensures revisions { AreRevised self journal.new.past }
 
         // Where the hooks stood for the empty journal and are not short, each call passes their rule.
         ensures rule { (H.seen hooks.new).short ≡ false → H.stands hooks.old [] → Obeys (H.rule (H.seen hooks.old).plan) [] journal.new.past }

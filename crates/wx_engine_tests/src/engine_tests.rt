@@ -42,13 +42,14 @@ fn hooks_of(alloc: Global, lines: &[u8]) -> Result<ScriptHooks, Fail> {
     Ok(hooks?)
 }
 
-/// The sort of a turn: 0 for an event, 1 for work, 2 for a last turn, 3 for one of a job.
+/// The sort of a turn: 0 for an event, 1 for work, 2 for a last turn, 3 for one of a job, 4 for a change of the settings.
 fn sort(kind: &TurnKind) -> u32 {
     match kind {
         TurnKind::Arrive(_, _) => 0,
         TurnKind::Work => 1,
         TurnKind::Last => 2,
         TurnKind::Job(_) | TurnKind::Ended(_) | TurnKind::Ask(_, _) => 3,
+        TurnKind::Change(_) => 4,
     }
 }
 

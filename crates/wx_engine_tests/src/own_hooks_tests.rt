@@ -62,6 +62,8 @@ impl JobHooks for Own {
 
     ghost rule = { λ _ _ _. Unit {0} };
 
+    ghost spawn_rule = { λ _ _ _ _. Unit {0} };
+
     fn reserve(&mut self, _n: u64) -> Result<(), Memory> {
         Ok(())
     }
@@ -92,6 +94,8 @@ impl JobHooks for Own {
             _ => Ok(()),
         }
     }
+
+    ghost spawn_rule_is_rule = { λ _ _ _ _ _ _ _ _. tt };
 
     ghost stands_other = { λ _ _ _ _ _ _. tt };
 }

@@ -5,11 +5,12 @@ use Rattle.std.specs.Prelude.{Option, None, Some, OnOk, ◌==◌}
 use Rattle.std.specs.List.{find, list_any}
 use Rattle.std.proofs.lemmas.Bool.{eqb-true, or_right}
 use Rattle.wx_command.specs.declared.command.Command.{Command}
+use Rattle.wx_config.specs.declared.change.Change.{Change as AChange}
 use Rattle.wx_control.specs.declared.ask.Ask.{Ask as AnAsk}
 use Rattle.wx_control.specs.declared.id.Id.{Id}
 use Rattle.wx_control.specs.declared.job.Job.{Job}
 use Rattle.wx_journal.specs.Acts.{JournalAct as Act}
-use Rattle.wx_journal.specs.declared.entry.Act.TheVariants.{Create, Ask as Asks, Quit}
+use Rattle.wx_journal.specs.declared.entry.Act.TheVariants.{Create, Ask as Asks, Change, Quit}
 use Rattle.wx_journal.specs.declared.entry.Entry.{Entry}
 use Rattle.wx_journal.specs.Names.{creates}
 use Rattle.wx_machine.specs.History.{same}
@@ -35,6 +36,11 @@ creates_ask id [] job ask = refl
 creates_ask id (Create other command ∷ acts) job ask = ap (λ b. other.0 == id.0 || b) (creates_ask id acts job ask)
 creates_ask id (_ ∷ acts) job ask = creates_ask id acts job ask
 
+creates_change : (id : Id) (acts : List Act) (change : AChange) → creates id (acts ++ Change change ∷ []) ≡ creates id acts
+creates_change id [] change = refl
+creates_change id (Create other command ∷ acts) change = ap (λ b. other.0 == id.0 || b) (creates_change id acts change)
+creates_change id (_ ∷ acts) change = creates_change id acts change
+
 creates_quit : (id : Id) (acts : List Act) → creates id (acts ++ Quit ∷ []) ≡ creates id acts
 creates_quit id [] = refl
 creates_quit id (Create other command ∷ acts) = ap (λ b. other.0 == id.0 || b) (creates_quit id acts)
@@ -55,6 +61,7 @@ made_ask made acts job ask is = λ id. is id ∙ sym (creates_ask id acts job as
 creates_one : (id : Id) (b : Bool) (act : Act) → is_quit act ≡ b → creates id (cond b [] (act ∷ [])) ≡ creates id (act ∷ [])
 creates_one id true (Create job command) is = absurd cc
 creates_one id true (Asks job ask) is = absurd cc
+creates_one id true (Change change) is = absurd cc
 creates_one id true Quit is = refl
 creates_one id false act is = refl
 
@@ -63,7 +70,11 @@ creates_left id [] = refl
 creates_left id (act ∷ []) = creates_one id (is_quit act) act refl
 creates_left id (Create other command ∷ next ∷ acts) = ap (λ b. other.0 == id.0 || b) (creates_left id (next ∷ acts))
 creates_left id (Asks job ask ∷ next ∷ acts) = creates_left id (next ∷ acts)
+creates_left id (Change change ∷ next ∷ acts) = creates_left id (next ∷ acts)
 creates_left id (Quit ∷ next ∷ acts) = creates_left id (next ∷ acts)
+
+pub made_change : (made : List Job) (acts : List Act) (change : AChange) → AreMade made acts → AreMade made (acts ++ Change change ∷ [])
+made_change made acts change is = λ id. is id ∙ sym (creates_change id acts change)
 
 pub made_quit : (made : List Job) (acts : List Act) → AreMade made acts → AreMade made (with_quit acts)
 made_quit made acts is = λ id. is id ∙ sym (creates_quit id (without_last is_quit acts) ∙ creates_left id acts)

@@ -1,17 +1,18 @@
 // Hooks in memory, which follow a script.
 ghost use Rattle.std.specs.Prelude.{◌≡◌, ◌++◌, ◌∷◌, [], ◌+◌, true, false, Some, List, IfOk, OnOk, OnErr, option_map};
 ghost use Rattle.std.specs.List.{find};
-ghost use Rattle.wx_journal.specs.declared.entry.Act.TheVariants.{Ask as Asks};
+ghost use Rattle.wx_journal.specs.declared.entry.Act.TheVariants.{Ask as Asks, Change as Changes};
 ghost use Rattle.wx_journal.specs.declared.wish.Wish.TheVariants.{Nothing};
 ghost use Rattle.wx_journal.specs.Told.{anywhere, is_hooks};
 ghost use Rattle.wx_script.specs.Answered.{AreUsed};
-ghost use Rattle.wx_script.specs.Acted.{is_made, AreMade, performed, with_create, with_ask, with_act, hands, filters, errors, polls, AreHooksUsed, Wished, IsWished};
-ghost use Rattle.wx_script.specs.FollowLaws.{uses_over, hands_among, filters_among, errors_among, polls_among, hooks_over};
+ghost use Rattle.wx_script.specs.Acted.{is_made, AreMade, performed, with_create, with_ask, with_act, hands, filters, errors, polls, LeavesWords, AreHooksUsed, Wished, IsWished};
+ghost use Rattle.wx_script.specs.FollowLaws.{leaves_wished, uses_over, hands_among, filters_among, errors_among, polls_among, hooks_over};
 ghost use Rattle.wx_script.specs.Follows.{wished_of};
 
 use crate::replies::{line, next, passed};
 use std::alloc::Global;
 use wx_command::{Command, Spawnable};
+use wx_config::Change;
 use wx_control::{Ask, Controls, Id, Job};
 use wx_error::RuntimeError;
 use wx_events::{Event, Priority};
@@ -25,8 +26,8 @@ use wx_text::{Copies, List, Memory, Text, copy_twice};
 /// each call of the filter by the next answer of the script, and let every event after them pass. Of each error they wish what
 /// the script does next, and nothing after that. Each poll of a begun function is answered as the script says next, and those
 /// after that find it ready. Each call of a spawn hook appends the next words of the script to those of what is spawned, and
-/// none after them. Functions and error handlers of jobs do nothing. Where memory is wanted for an act they are short, quit,
-/// and leave out the acts behind it. Where it is wanted for an answer they are short, and answer the error `Memory`. Where it
+/// none after them. Functions and error handlers of jobs do nothing. Where memory is wanted for an act, or a change is refused
+/// since the revision can't be raised, they are short, quit, and leave out the acts behind it. Where it is wanted for an answer they are short, and answer the error `Memory`. Where it
 /// is wanted for a wish they are short, and wish nothing. Where it is wanted for what is spawned they are short, leave that as
 /// it was, and answer `Memory`. They tell their entries.
 #[derive(Drop, Debug)]
@@ -92,6 +93,8 @@ impl JobHooks for ScriptHooks {
 
     ghost rule = { λ plan p e. IsWished plan p e };
 
+    ghost spawn_rule = { λ plan p given e. LeavesWords plan.hooks p given e };
+
     ghost stands = { λ s p. AreUsed hands s.actions s.used p × AreUsed filters s.filters s.asked p × AreUsed errors s.errors s.shown p × AreUsed polls s.polls s.polled p × AreHooksUsed s.hooks s.hooked p };
 
     fn reserve(&mut self, n: u64) -> Result<(), Memory> {
@@ -143,6 +146,8 @@ impl JobHooks for ScriptHooks {
             }
         }
     }
+
+    ghost spawn_rule_is_rule = { λ plan p job n left command runs words. leaves_wished plan p job n left command runs words };
 
     ghost stands_other = { λ s p e _ other stands. (uses_over hands (anywhere is_hooks) hands_among s.actions s.used p e other stands.0, uses_over filters (anywhere is_hooks) filters_among s.filters s.asked p e other stands.1, uses_over errors (anywhere is_hooks) errors_among s.errors s.shown p e other stands.2, uses_over polls (anywhere is_hooks) polls_among s.polls s.polled p e other stands.3, hooks_over s.hooks s.hooked p e other stands.4) };
 }
@@ -292,6 +297,7 @@ fn perform_one(
     match act {
         Act::Create(Wanted::New, command) => create(alloc, command, made, handler),
         Act::Ask(id, ask) => ask_or_not(alloc, *id, ask, made.as_slice(), handler),
+        Act::Change(asked) => change(alloc, asked, handler),
         Act::Quit => {
             handler.quit();
             Ok(())
@@ -342,6 +348,17 @@ fn ask_or_not(
     match handler.get_job(alloc, id)? {
         Some(job) => ask_of(alloc, &job, ask, handler),
         None => Ok(()),
+    }
+}
+
+/// Asks for this change of the settings. It fails for want of memory, and where the revision can't be raised.
+fn change(alloc: Global, change: &Change, handler: &mut ActionHandler<'_>) -> Result<(), Memory>
+    ensures done { OnOk result (handler.new ≡ record handler.old { acts = handler.old.acts ++ Changes change.now ∷ [] }) }
+    ensures same { handler.new ≡ record handler.old { acts = handler.new.acts } }
+{
+    match handler.change(alloc, change.copy(alloc)?) {
+        Ok(()) => Ok(()),
+        Err(_) => Err(Memory),
     }
 }
 

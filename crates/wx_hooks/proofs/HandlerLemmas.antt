@@ -1,7 +1,11 @@
 -- What a handler keeps while its acts grow.
-use Rattle.std.proofs.Common.{◌≡◌, ℕ, ◌+◌, ◌-◌, ◌^◌, ◌<◌, ◌≤◌, Bool, true, false, cond, List, [], ◌∷◌, ◌++◌, length, refl, ap, sym, subst, ◌∙◌, arith, length-append}
+use Rattle.std.proofs.Common.{◌≡◌, ◌≢◌, ℕ, ◌+◌, ◌-◌, ◌^◌, ◌<◌, ◌≤◌, Bool, true, false, cond, List, [], ◌∷◌, ◌++◌, length, refl, ap, sym, subst, ◌∙◌, arith, length-append}
 use Rattle.std.specs.Prelude.{Option, None, Some, min, vec_len, vec_capacity}
+use Rattle.std.proofs.lemmas.List.{append-nil}
 use Rattle.wx_events.specs.declared.event.Event.{Event}
+use Rattle.wx_config.specs.Changes.{last_revision}
+use Rattle.wx_config.specs.declared.change.Change.{Change as AChange}
+use Rattle.wx_machine.specs.Settings.{changes}
 use Rattle.wx_command.specs.declared.command.Command.{Command}
 use Rattle.wx_control.specs.declared.id.Id.{Id}
 use Rattle.wx_control.specs.declared.ask.Ask.{Ask as AnAsk}
@@ -9,7 +13,7 @@ use Rattle.wx_control.specs.Flags.{Flag}
 use Rattle.wx_journal.specs.Names.{above, next_job, IsNextJob}
 use Rattle.wx_journal.specs.declared.entry.Entry.{Entry}
 use Rattle.wx_journal.specs.Acts.{JournalAct as Act}
-use Rattle.wx_journal.specs.declared.entry.Act.TheVariants.{Create, Ask, Quit}
+use Rattle.wx_journal.specs.declared.entry.Act.TheVariants.{Create, Ask, Change, Quit}
 use Rattle.wx_hooks.specs.declared.handler.Second.{Second}
 use Rattle.wx_hooks.specs.declared.handler.Todo.{Todo}
 use Rattle.wx_hooks.specs.declared.handler.Todo.TheVariants as todo
@@ -19,96 +23,67 @@ use Rattle.wx_hooks.specs.Handled.{asks_of}
 use Rattle.wx_machine.specs.Quits.{with_quit}
 use Rattle.wx_machine.specs.Jobs.{AreLawful, next_created}
 use Rattle.wx_machine.specs.Last.{last_added, without_last}
-use Rattle.wx_hooks.specs.KeptHandler.{HasSecondRoom, HasQuitRoom, AreTwice, StaysTwice, AddsTwice, QuitsTwice, IsKept, quit_room}
+use Rattle.wx_hooks.specs.KeptHandler.{HasSecondRoom, HasQuitRoom, AreTwice, StaysTwice, AddsTwice, QuitsTwice, IsKept, IsRevisionKept, quit_room}
 use Rattle.wx_hooks.proofs.QuitLemmas.{room_for_quit}
 use Rattle.wx_hooks.specs.Todo.{IsNew, AreTodo}
 
--- ---- one act more
+-- ---- acts behind others
 
-pub next_create : (n : ℕ) (acts : List Act) (id : Id) (command : Command) → next_created n (acts ++ Create id command ∷ []) ≡ above (next_created n acts) id
-next_create n [] id command = refl
-next_create n (Create job other ∷ acts) id command = next_create (above n job) acts id command
-next_create n (Ask job ask ∷ acts) id command = next_create n acts id command
-next_create n (Quit ∷ acts) id command = next_create n acts id command
+next_append : (n : ℕ) (acts more : List Act) → next_created n (acts ++ more) ≡ next_created (next_created n acts) more
+next_append n [] more = refl
+next_append n (Create job other ∷ acts) more = next_append (above n job) acts more
+next_append n (Ask job ask ∷ acts) more = next_append n acts more
+next_append n (Change change ∷ acts) more = next_append n acts more
+next_append n (Quit ∷ acts) more = next_append n acts more
 
-pub next_ask : (n : ℕ) (acts : List Act) (id : Id) (ask : AnAsk) → next_created n (acts ++ Ask id ask ∷ []) ≡ next_created n acts
-next_ask n [] id ask = refl
-next_ask n (Create job other ∷ acts) id ask = next_ask (above n job) acts id ask
-next_ask n (Ask job first ∷ acts) id ask = next_ask n acts id ask
-next_ask n (Quit ∷ acts) id ask = next_ask n acts id ask
+pub asks_append : (acts more : List Act) → asks_of (acts ++ more) ≡ asks_of acts ++ asks_of more
+asks_append [] more = refl
+asks_append (Create job other ∷ acts) more = asks_append acts more
+asks_append (Ask job first ∷ acts) more = ap (λ asks. (job, first) ∷ asks) (asks_append acts more)
+asks_append (Change change ∷ acts) more = asks_append acts more
+asks_append (Quit ∷ acts) more = asks_append acts more
 
-pub next_quit : (n : ℕ) (acts : List Act) → next_created n (acts ++ Quit ∷ []) ≡ next_created n acts
-next_quit n [] = refl
-next_quit n (Create job other ∷ acts) = next_quit (above n job) acts
-next_quit n (Ask job first ∷ acts) = next_quit n acts
-next_quit n (Quit ∷ acts) = next_quit n acts
-
-pub asks_ask : (acts : List Act) (id : Id) (ask : AnAsk) → asks_of (acts ++ Ask id ask ∷ []) ≡ asks_of acts ++ (id, ask) ∷ []
-asks_ask [] id ask = refl
-asks_ask (Create job other ∷ acts) id ask = asks_ask acts id ask
-asks_ask (Ask job first ∷ acts) id ask = ap (λ asks. (job, first) ∷ asks) (asks_ask acts id ask)
-asks_ask (Quit ∷ acts) id ask = asks_ask acts id ask
+pub changes_append : (acts more : List Act) → changes (acts ++ more) ≡ changes acts ++ changes more
+changes_append [] more = refl
+changes_append (Create job other ∷ acts) more = changes_append acts more
+changes_append (Ask job first ∷ acts) more = changes_append acts more
+changes_append (Change change ∷ acts) more = ap (λ rest. change ∷ rest) (changes_append acts more)
+changes_append (Quit ∷ acts) more = changes_append acts more
 
 pub next_grows : (n : ℕ) (acts : List Act) → n ≤ next_created n acts
 next_grows n [] = omega arith
 next_grows n (Create job other ∷ acts) = omega (arith, next_grows (above n job) acts)
 next_grows n (Ask job first ∷ acts) = next_grows n acts
+next_grows n (Change change ∷ acts) = next_grows n acts
 next_grows n (Quit ∷ acts) = next_grows n acts
 
 -- ---- lawful acts stay lawful
 
-pub lawful_create : (n : ℕ) (acts : List Act) (id : Id) (command : Command) → AreLawful n acts → IsNextJob (next_created n acts) id → AreLawful n (acts ++ Create id command ∷ [])
-lawful_create n [] id command l is = (is, tt)
-lawful_create n (Create job other ∷ acts) id command l is = (l.0, lawful_create (above n job) acts id command l.1 is)
-lawful_create n (Ask job first ∷ acts) id command l is = lawful_create n acts id command l is
-lawful_create n (Quit ∷ acts) id command l is = lawful_create n acts id command l is
-
-pub lawful_ask : (n : ℕ) (acts : List Act) (id : Id) (ask : AnAsk) → AreLawful n acts → AreLawful n (acts ++ Ask id ask ∷ [])
-lawful_ask n [] id ask l = tt
-lawful_ask n (Create job other ∷ acts) id ask l = (l.0, lawful_ask (above n job) acts id ask l.1)
-lawful_ask n (Ask job first ∷ acts) id ask l = lawful_ask n acts id ask l
-lawful_ask n (Quit ∷ acts) id ask l = lawful_ask n acts id ask l
-
-pub lawful_quit : (n : ℕ) (acts : List Act) → AreLawful n acts → AreLawful n (acts ++ Quit ∷ [])
-lawful_quit n [] l = tt
-lawful_quit n (Create job other ∷ acts) l = (l.0, lawful_quit (above n job) acts l.1)
-lawful_quit n (Ask job first ∷ acts) l = lawful_quit n acts l
-lawful_quit n (Quit ∷ acts) l = lawful_quit n acts l
+lawful_append : (n : ℕ) (acts more : List Act) → AreLawful n acts → AreLawful (next_created n acts) more → AreLawful n (acts ++ more)
+lawful_append n [] more l m = m
+lawful_append n (Create job other ∷ acts) more l m = (l.0, lawful_append (above n job) acts more l.1 m)
+lawful_append n (Ask job first ∷ acts) more l m = lawful_append n acts more l m
+lawful_append n (Change change ∷ acts) more l m = lawful_append n acts more l m
+lawful_append n (Quit ∷ acts) more l m = lawful_append n acts more l m
 
 -- ---- what has to be done
 
-pub todo_create : (acts : List Act) (rest : List Todo) (id : Id) (command : Command) (held : Held) → AreTodo acts rest → IsNew held id command → AreTodo (acts ++ Create id command ∷ []) (rest ++ todo.Create held ∷ [])
-todo_create [] [] id command held t new = (new, tt)
-todo_create [] (x ∷ rest) id command held t new = absurd t
-todo_create (Create job other ∷ acts) [] id command held t new = absurd t
-todo_create (Create job other ∷ acts) (todo.Create h ∷ rest) id command held t new = (t.0, todo_create acts rest id command held t.1 new)
-todo_create (Create job other ∷ acts) (todo.Ask j a done ∷ rest) id command held t new = absurd t
-todo_create (Ask job first ∷ acts) [] id command held t new = absurd t
-todo_create (Ask job first ∷ acts) (todo.Create h ∷ rest) id command held t new = absurd t
-todo_create (Ask job first ∷ acts) (todo.Ask j a done ∷ rest) id command held t new = (t.0, t.1, todo_create acts rest id command held t.2 new)
-todo_create (Quit ∷ acts) rest id command held t new = todo_create acts rest id command held t new
-
-pub todo_ask : (acts : List Act) (rest : List Todo) (id : Id) (ask : AnAsk) (done : Flag) → AreTodo acts rest → AreTodo (acts ++ Ask id ask ∷ []) (rest ++ todo.Ask id ask done ∷ [])
-todo_ask [] [] id ask done t = (refl, refl, tt)
-todo_ask [] (x ∷ rest) id ask done t = absurd t
-todo_ask (Create job other ∷ acts) [] id ask done t = absurd t
-todo_ask (Create job other ∷ acts) (todo.Create h ∷ rest) id ask done t = (t.0, todo_ask acts rest id ask done t.1)
-todo_ask (Create job other ∷ acts) (todo.Ask j a d ∷ rest) id ask done t = absurd t
-todo_ask (Ask job first ∷ acts) [] id ask done t = absurd t
-todo_ask (Ask job first ∷ acts) (todo.Create h ∷ rest) id ask done t = absurd t
-todo_ask (Ask job first ∷ acts) (todo.Ask j a d ∷ rest) id ask done t = (t.0, t.1, todo_ask acts rest id ask done t.2)
-todo_ask (Quit ∷ acts) rest id ask done t = todo_ask acts rest id ask done t
-
-pub todo_quit : (acts : List Act) (rest : List Todo) → AreTodo acts rest → AreTodo (acts ++ Quit ∷ []) rest
-todo_quit [] [] t = tt
-todo_quit [] (x ∷ rest) t = absurd t
-todo_quit (Create job other ∷ acts) [] t = absurd t
-todo_quit (Create job other ∷ acts) (todo.Create h ∷ rest) t = (t.0, todo_quit acts rest t.1)
-todo_quit (Create job other ∷ acts) (todo.Ask j a d ∷ rest) t = absurd t
-todo_quit (Ask job first ∷ acts) [] t = absurd t
-todo_quit (Ask job first ∷ acts) (todo.Create h ∷ rest) t = absurd t
-todo_quit (Ask job first ∷ acts) (todo.Ask j a d ∷ rest) t = (t.0, t.1, todo_quit acts rest t.2)
-todo_quit (Quit ∷ acts) rest t = todo_quit acts rest t
+todo_append : (acts : List Act) (rest : List Todo) (more : List Act) (others : List Todo) → AreTodo acts rest → AreTodo more others → AreTodo (acts ++ more) (rest ++ others)
+todo_append [] [] more others t m = m
+todo_append [] (x ∷ rest) more others t m = absurd t
+todo_append (Create job other ∷ acts) [] more others t m = absurd t
+todo_append (Create job other ∷ acts) (todo.Create h ∷ rest) more others t m = (t.0, todo_append acts rest more others t.1 m)
+todo_append (Create job other ∷ acts) (todo.Ask j a done ∷ rest) more others t m = absurd t
+todo_append (Create job other ∷ acts) (todo.Change c ∷ rest) more others t m = absurd t
+todo_append (Ask job first ∷ acts) [] more others t m = absurd t
+todo_append (Ask job first ∷ acts) (todo.Create h ∷ rest) more others t m = absurd t
+todo_append (Ask job first ∷ acts) (todo.Ask j a done ∷ rest) more others t m = (t.0, t.1, todo_append acts rest more others t.2 m)
+todo_append (Ask job first ∷ acts) (todo.Change c ∷ rest) more others t m = absurd t
+todo_append (Change change ∷ acts) [] more others t m = absurd t
+todo_append (Change change ∷ acts) (todo.Create h ∷ rest) more others t m = absurd t
+todo_append (Change change ∷ acts) (todo.Ask j a done ∷ rest) more others t m = absurd t
+todo_append (Change change ∷ acts) (todo.Change c ∷ rest) more others t m = (t.0, todo_append acts rest more others t.1 m)
+todo_append (Quit ∷ acts) rest more others t m = todo_append acts rest more others t m
 
 -- ---- what stands a second time
 
@@ -161,14 +136,14 @@ ids_left next ids is left spent = omega arith
 
 pub kept_create : (past : List Entry) (shown : List Held) (names : List ℕ) (events : List Event) (ids : ℕ) (acts : List Act) (room : ℕ) (second mid second' : Option Second) (rest : List Todo) (id : Id) (command : Command) (held : Held) (ids' : ℕ) (acts' : List Act) (room' : ℕ) (rest' : List Todo) → IsKept past shown names events ids acts room second rest → id.0 ≡ ids → ids < 2 ^ 32 - 1 → ids' ≡ ids + 1 → IsNew held id command → length acts + 2 ≤ room' → StaysTwice second mid → HasSecondRoom 2 mid → AddsTwice (Create id command) mid second' → acts' ≡ acts ++ Create id command ∷ [] → rest' ≡ rest ++ todo.Create held ∷ [] → IsKept past shown names events ids' acts' room' second' rest'
 kept_create past shown names events ids acts room second mid second' rest id command held ids' acts' room' rest' k is left more new here stays free adds acts_is rest_is =
-    let e : next_created (next_job past) (acts ++ Create id command ∷ []) ≡ above (next_created (next_job past) acts) id = next_create (next_job past) acts id command in
+    let e : next_created (next_job past) (acts ++ Create id command ∷ []) ≡ above (next_created (next_job past) acts) id = next_append (next_job past) acts (Create id command ∷ []) in
     let next : ids ≡ min (next_created (next_job past) acts) (2 ^ 32 - 1) = k.next in
     rw (acts_is, rest_is) (record {
       shown = k.shown;
       are_events = k.are_events;
       next = rw e (omega arith);
-      lawful = lawful_create (next_job past) acts id command k.lawful (omega arith);
-      todo = todo_create acts rest id command held k.todo new;
+      lawful = lawful_append (next_job past) acts (Create id command ∷ []) k.lawful (omega arith, tt);
+      todo = todo_append acts rest (Create id command ∷ []) (todo.Create held ∷ []) k.todo (new, tt);
       room = rw (last_added is_quit acts (Create id command)) (omega (arith, length-append acts (Create id command ∷ [])));
       twice = rw (last_added is_quit acts (Create id command)) (twice_adds names acts (quit_room acts) 1 (Create id command) mid second' (twice_stays names acts (quit_room acts) second mid k.twice stays) free adds);
     })
@@ -177,17 +152,46 @@ pub kept_ask : (past : List Entry) (shown : List Held) (names : List ℕ) (event
 kept_ask past shown names events ids acts room second mid second' rest id ask done acts' room' rest' k here stays free adds acts_is rest_is = rw (acts_is, rest_is) (record {
   shown = k.shown;
   are_events = k.are_events;
-  next = rw (next_ask (next_job past) acts id ask) k.next;
-  lawful = lawful_ask (next_job past) acts id ask k.lawful;
-  todo = todo_ask acts rest id ask done k.todo;
+  next = rw (next_append (next_job past) acts (Ask id ask ∷ [])) k.next;
+  lawful = lawful_append (next_job past) acts (Ask id ask ∷ []) k.lawful tt;
+  todo = todo_append acts rest (Ask id ask ∷ []) (todo.Ask id ask done ∷ []) k.todo (refl, refl, tt);
   room = rw (last_added is_quit acts (Ask id ask)) (omega (arith, length-append acts (Ask id ask ∷ [])));
   twice = rw (last_added is_quit acts (Ask id ask)) (twice_adds names acts (quit_room acts) 1 (Ask id ask) mid second' (twice_stays names acts (quit_room acts) second mid k.twice stays) free adds);
 })
+
+pub kept_change : (past : List Entry) (shown : List Held) (names : List ℕ) (events : List Event) (ids : ℕ) (acts : List Act) (room : ℕ) (second mid second' : Option Second) (rest : List Todo) (change : AChange) (acts' : List Act) (room' : ℕ) (rest' : List Todo) → IsKept past shown names events ids acts room second rest → length acts + 2 ≤ room' → StaysTwice second mid → HasSecondRoom 2 mid → AddsTwice (Change change) mid second' → acts' ≡ acts ++ Change change ∷ [] → rest' ≡ rest ++ todo.Change change ∷ [] → IsKept past shown names events ids acts' room' second' rest'
+kept_change past shown names events ids acts room second mid second' rest change acts' room' rest' k here stays free adds acts_is rest_is = rw (acts_is, rest_is) (record {
+  shown = k.shown;
+  are_events = k.are_events;
+  next = rw (next_append (next_job past) acts (Change change ∷ [])) k.next;
+  lawful = lawful_append (next_job past) acts (Change change ∷ []) k.lawful tt;
+  todo = todo_append acts rest (Change change ∷ []) (todo.Change change ∷ []) k.todo (refl, tt);
+  room = rw (last_added is_quit acts (Change change)) (omega (arith, length-append acts (Change change ∷ [])));
+  twice = rw (last_added is_quit acts (Change change)) (twice_adds names acts (quit_room acts) 1 (Change change) mid second' (twice_stays names acts (quit_room acts) second mid k.twice stays) free adds);
+})
+
+-- the revision behind the acts, where acts were added that change so many settings
+pub revision_then : (revision : ℕ) (acts more acts' : List Act) (kept kept' : ℕ) → IsRevisionKept revision acts kept → acts' ≡ acts ++ more → kept' ≡ kept + length (changes more) → kept' ≤ last_revision → IsRevisionKept revision acts' kept'
+revision_then revision acts more acts' kept kept' k is now fits =
+    let all : length (changes (acts ++ more)) ≡ length (changes acts) + length (changes more) = ap (λ (cs : List AChange). length cs) (changes_append acts more) ∙ length-append (changes acts) (changes more) in
+    let before = k.counted in rw is (record { counted = omega arith; fits = fits })
+
+-- where they are the same
+pub revision_same : (revision : ℕ) (acts acts' : List Act) (kept : ℕ) → IsRevisionKept revision acts kept → acts' ≡ acts → IsRevisionKept revision acts' kept
+revision_same revision acts acts' kept k is = rw is k
+
+-- it is the last one exactly where it can't be raised
+pub revision_spent : (revision : ℕ) (acts : List Act) (kept : ℕ) → IsRevisionKept revision acts kept → kept ≡ last_revision → last_revision ≤ revision + length (changes acts)
+revision_spent revision acts kept k is = let before = k.counted in omega arith
+
+pub revision_left : (revision : ℕ) (acts : List Act) (kept : ℕ) → IsRevisionKept revision acts kept → kept ≢ last_revision → last_revision ≤ revision + length (changes acts) → ⊥
+revision_left revision acts kept k other spent = let before = k.counted in let below = k.fits in other (omega arith)
 
 -- without a quit that stands last the acts create the same, are lawful, and leave the same to do
 next_one : (n : ℕ) (b : Bool) (act : Act) → is_quit act ≡ b → next_created n (cond b [] (act ∷ [])) ≡ next_created n (act ∷ [])
 next_one n true (Create job other) is = absurd cc
 next_one n true (Ask job ask) is = absurd cc
+next_one n true (Change change) is = absurd cc
 next_one n true Quit is = refl
 next_one n false act is = refl
 
@@ -196,7 +200,28 @@ next_left n [] = refl
 next_left n (act ∷ []) = next_one n (is_quit act) act refl
 next_left n (Create job other ∷ next ∷ acts) = next_left (above n job) (next ∷ acts)
 next_left n (Ask job ask ∷ next ∷ acts) = next_left n (next ∷ acts)
+next_left n (Change change ∷ next ∷ acts) = next_left n (next ∷ acts)
 next_left n (Quit ∷ next ∷ acts) = next_left n (next ∷ acts)
+
+changes_one : (b : Bool) (act : Act) → is_quit act ≡ b → changes (cond b [] (act ∷ [])) ≡ changes (act ∷ [])
+changes_one true (Create job other) is = absurd cc
+changes_one true (Ask job ask) is = absurd cc
+changes_one true (Change change) is = absurd cc
+changes_one true Quit is = refl
+changes_one false act is = refl
+
+changes_left : (acts : List Act) → changes (without_last is_quit acts) ≡ changes acts
+changes_left [] = refl
+changes_left (act ∷ []) = changes_one (is_quit act) act refl
+changes_left (Create job other ∷ next ∷ acts) = changes_left (next ∷ acts)
+changes_left (Ask job ask ∷ next ∷ acts) = changes_left (next ∷ acts)
+changes_left (Change change ∷ next ∷ acts) = ap (λ (rest : List AChange). change ∷ rest) (changes_left (next ∷ acts))
+changes_left (Quit ∷ next ∷ acts) = changes_left (next ∷ acts)
+
+pub revision_quit : (revision : ℕ) (acts acts' : List Act) (kept : ℕ) → IsRevisionKept revision acts kept → acts' ≡ with_quit acts → IsRevisionKept revision acts' kept
+revision_quit revision acts acts' kept k is =
+    let left = changes_append (without_last is_quit acts) (Quit ∷ []) ∙ append-nil (changes (without_last is_quit acts)) ∙ changes_left acts in
+    rw is (record { counted = k.counted ∙ ap (λ (cs : List AChange). revision + length cs) (sym left); fits = k.fits })
 
 lawful_one : (n : ℕ) (b : Bool) (act : Act) → AreLawful n (act ∷ []) → AreLawful n (cond b [] (act ∷ []))
 lawful_one n true act l = tt
@@ -207,11 +232,13 @@ lawful_left n [] l = tt
 lawful_left n (act ∷ []) l = lawful_one n (is_quit act) act l
 lawful_left n (Create job other ∷ next ∷ acts) l = (l.0, lawful_left (above n job) (next ∷ acts) l.1)
 lawful_left n (Ask job ask ∷ next ∷ acts) l = lawful_left n (next ∷ acts) l
+lawful_left n (Change change ∷ next ∷ acts) l = lawful_left n (next ∷ acts) l
 lawful_left n (Quit ∷ next ∷ acts) l = lawful_left n (next ∷ acts) l
 
 todo_one : (b : Bool) (act : Act) (rest : List Todo) → is_quit act ≡ b → AreTodo (act ∷ []) rest → AreTodo (cond b [] (act ∷ [])) rest
 todo_one true (Create job other) rest is t = absurd cc
 todo_one true (Ask job ask) rest is t = absurd cc
+todo_one true (Change change) rest is t = absurd cc
 todo_one true Quit rest is t = t
 todo_one false act rest is t = t
 
@@ -221,9 +248,15 @@ todo_left (act ∷ []) rest t = todo_one (is_quit act) act rest refl t
 todo_left (Create job other ∷ next ∷ acts) [] t = absurd t
 todo_left (Create job other ∷ next ∷ acts) (todo.Create h ∷ rest) t = (t.0, todo_left (next ∷ acts) rest t.1)
 todo_left (Create job other ∷ next ∷ acts) (todo.Ask j a done ∷ rest) t = absurd t
+todo_left (Create job other ∷ next ∷ acts) (todo.Change c ∷ rest) t = absurd t
 todo_left (Ask job first ∷ next ∷ acts) [] t = absurd t
 todo_left (Ask job first ∷ next ∷ acts) (todo.Create h ∷ rest) t = absurd t
 todo_left (Ask job first ∷ next ∷ acts) (todo.Ask j a done ∷ rest) t = (t.0, t.1, todo_left (next ∷ acts) rest t.2)
+todo_left (Ask job first ∷ next ∷ acts) (todo.Change c ∷ rest) t = absurd t
+todo_left (Change change ∷ next ∷ acts) [] t = absurd t
+todo_left (Change change ∷ next ∷ acts) (todo.Create h ∷ rest) t = absurd t
+todo_left (Change change ∷ next ∷ acts) (todo.Ask j a done ∷ rest) t = absurd t
+todo_left (Change change ∷ next ∷ acts) (todo.Change c ∷ rest) t = (t.0, todo_left (next ∷ acts) rest t.1)
 todo_left (Quit ∷ next ∷ acts) rest t = todo_left (next ∷ acts) rest t
 
 -- what stands a second time has room for a quit, and the quit is put there too
@@ -249,9 +282,9 @@ kept_quit past shown names events ids acts room second second' rest acts' room' 
     rw (acts_is, room_is) (record {
       shown = k.shown;
       are_events = k.are_events;
-      next = rw (next_quit (next_job past) (without_last is_quit acts), next_left (next_job past) acts) k.next;
-      lawful = lawful_quit (next_job past) (without_last is_quit acts) (lawful_left (next_job past) acts k.lawful);
-      todo = todo_quit (without_last is_quit acts) rest (todo_left acts rest k.todo);
+      next = rw (next_append (next_job past) (without_last is_quit acts) (Quit ∷ []), next_left (next_job past) acts) k.next;
+      lawful = lawful_append (next_job past) (without_last is_quit acts) (Quit ∷ []) (lawful_left (next_job past) acts k.lawful) tt;
+      todo = subst (AreTodo (with_quit acts)) (append-nil rest) (todo_append (without_last is_quit acts) rest (Quit ∷ []) [] (todo_left acts rest k.todo) tt);
       room = rw (last_added is_quit (without_last is_quit acts) Quit) (omega (arith, k.room, room_for_quit acts, length-append (without_last is_quit acts) (Quit ∷ [])));
       twice = rw (last_added is_quit (without_last is_quit acts) Quit) (twice_quit names acts (quit_room acts) second second' k.twice quits);
     })

@@ -1,13 +1,15 @@
--- What a plan that makes no job leaves as it was.
+-- What a plan that makes no job and changes no setting leaves as it was.
 use Rattle.std.proofs.Common.{◌≡◌, ℕ, List, ◌∷◌, refl, ◌∙◌}
 use Rattle.std.specs.Prelude.{Option}
 use Rattle.wx_control.specs.declared.id.Id.{Id}
 use Rattle.wx_journal.specs.declared.entry.Entry.{Entry}
-use Rattle.wx_journal.specs.declared.entry.Entry.TheVariants.{Made}
+use Rattle.wx_journal.specs.declared.entry.Entry.TheVariants.{Made, Changed}
 use Rattle.wx_journal.specs.Names.{event_count}
 use Rattle.wx_machine.specs.History.{command}
 use Rattle.wx_machine.specs.Table.{Plan}
 use Rattle.wx_machine.specs.Case.{PlanLeads, PlanHere, PlanThen}
+use Rattle.wx_machine.specs.Start.{Start}
+use Rattle.wx_machine.specs.Settings.{settings}
 use Rattle.wx_machine.specs.Journal.{closed, bag, window, first}
 use Rattle.wx_machine.specs.Jobs.{set}
 use Rattle.wx_machine.proofs.Always.{always_now, always_next}
@@ -24,9 +26,10 @@ pub record SameRest (p p' : List Entry) : Type 0 where
   pub first_same : first p' ≡ first p
   pub set_same : set p' ≡ set p
   pub commands_same : (i : Id) → command i p' ≡ command i p
+  pub settings_same : (s : Start) → settings s p' ≡ settings s p
 
 pub same_rest : (p : List Entry) → SameRest p p
-same_rest p = record { bag_same = refl; closed_same = refl; count_same = refl; window_same = refl; lookup_same = refl; first_same = refl; set_same = refl; commands_same = λ i. refl }
+same_rest p = record { bag_same = refl; closed_same = refl; count_same = refl; window_same = refl; lookup_same = refl; first_same = refl; set_same = refl; commands_same = λ i. refl; settings_same = λ s. refl }
 
 pub rest_then : (p q r : List Entry) → SameRest p q → SameRest q r → SameRest p r
 rest_then p q r a b = record {
@@ -38,12 +41,14 @@ rest_then p q r a b = record {
   first_same = b.first_same ∙ a.first_same;
   set_same = b.set_same ∙ a.set_same;
   commands_same = λ i. b.commands_same i ∙ a.commands_same i;
+  settings_same = λ s. b.settings_same s ∙ a.settings_same s;
 }
 
--- ---- a plan that makes no job
+-- ---- a plan that makes no job and changes no setting
 
 rest_entry : (e : Entry) (p : List Entry) → IsOfJob e → SameRest p (e ∷ p)
 rest_entry (Made job) p h = absurd h
+rest_entry (Changed revision) p h = absurd h
 rest_entry (_) p h = search
 
 pub record IsStillLed (p : List Entry) (k' : Plan) (p' : List Entry) : Type 0 where

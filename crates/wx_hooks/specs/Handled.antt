@@ -4,15 +4,17 @@ use Rattle.wx_events.specs.declared.event.Event.{Event}
 use Rattle.wx_events.specs.declared.priority.Priority.{Priority}
 use Rattle.wx_journal.specs.declared.entry.Entry.{Entry}
 use Rattle.wx_journal.specs.Acts.{JournalAct as Act}
-use Rattle.wx_journal.specs.declared.entry.Act.TheVariants.{Create, Ask as Asks, Quit}
+use Rattle.wx_journal.specs.declared.entry.Act.TheVariants.{Create, Ask as Asks, Change, Quit}
 use Rattle.wx_control.specs.declared.id.Id.{Id}
 use Rattle.wx_control.specs.declared.ask.Ask.{Ask}
 use Rattle.wx_control.specs.Sent.{Sink}
 use Rattle.wx_machine.specs.Journal.{listed}
 
--- the journal so far, the names and the events of the batch, the acts so far, and whether they were handed
+-- the journal so far and the revision of the settings, the names and the events of the batch, the acts so far, and whether they
+-- were handed
 pub record Handled : Type 0 where
   pub past : List Entry
+  pub revision : ℕ
   pub names : List ℕ
   pub events : List Event
   pub acts : List Act
@@ -27,6 +29,7 @@ abbrev pub asks_of : List Act → List (Id × Ask)
 asks_of [] = []
 asks_of (Asks id ask ∷ acts) = (id, ask) ∷ asks_of acts
 asks_of (Create id command ∷ acts) = asks_of acts
+asks_of (Change change ∷ acts) = asks_of acts
 asks_of (Quit ∷ acts) = asks_of acts
 
 -- the handler as a sink of asks: no send is counted, and none is refused for want of room

@@ -7,6 +7,8 @@ use Rattle.wx_journal.specs.Names.{next_job}
 use Rattle.wx_hooks.specs.declared.handler.Second.{Second}
 use Rattle.wx_hooks.specs.declared.handler.Todo.{Todo}
 use Rattle.wx_hooks.specs.Handled.{AreEvents, lookup}
+use Rattle.wx_config.specs.Changes.{last_revision}
+use Rattle.wx_machine.specs.Settings.{changes}
 use Rattle.wx_machine.specs.Quits.{ends_with_quit, with_this_quit}
 use Rattle.wx_hooks.specs.declared.held.Held.{Held}
 use Rattle.wx_hooks.specs.HeldJobs.{AreShown}
@@ -60,3 +62,8 @@ pub record IsKept (past : List Entry) (held : List Held) (names : List ℕ) (eve
   pub todo : AreTodo acts rest
   pub room : length acts + quit_room acts ≤ act_room
   pub twice : AreTwice names acts (quit_room acts) second
+
+-- the revision behind the acts is kept: it is one more for each change, and can be one
+pub record IsRevisionKept (revision : ℕ) (acts : List Act) (kept : ℕ) : Type 0 where
+  pub counted : kept ≡ revision + length (changes acts)
+  pub fits : kept ≤ last_revision

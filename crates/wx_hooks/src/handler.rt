@@ -4,7 +4,10 @@ ghost use Rattle.wx_control.specs.Sent.{sent as after_send};
 ghost use Rattle.wx_control.specs.declared.sink.Refused.TheVariants.{Memory as WantOfMemory};
 ghost use Rattle.wx_journal.specs.Names.{next_job};
 ghost use Rattle.wx_machine.specs.History.{child};
-ghost use Rattle.wx_journal.specs.declared.entry.Act.TheVariants.{Create, Ask as Asks};
+ghost use Rattle.wx_config.specs.Changes.{last_revision};
+ghost use Rattle.wx_journal.specs.declared.entry.Act.TheVariants.{Create, Ask as Asks, Change as Changes};
+ghost use Rattle.wx_machine.specs.Settings.{changes, MayChange};
+ghost use Rattle.wx_hooks.specs.declared.handler.ChangeRefused.TheVariants.{RevisionSpent};
 ghost use Rattle.wx_journal.specs.declared.entry.Entry.TheVariants.{Hand};
 ghost use Rattle.wx_hooks.specs.declared.handler.CreateRefused.TheVariants.{IdsSpent};
 ghost use Rattle.wx_machine.specs.Due.{is_quit};
@@ -24,6 +27,7 @@ use crate::job_list::{JobList, Jobs};
 use std::alloc::Global;
 use std::marker::Model;
 use wx_command::Command;
+use wx_config::Change;
 use wx_control::{Ask, Controls, Flag, Id, Job, Refused, Ticket};
 use wx_events::Event;
 use wx_job::start_job;
@@ -50,6 +54,26 @@ impl From<Memory> for CreateRefused {
     }
 }
 
+/// Why no change of the settings was asked for.
+#[derive(Clone, Copy, Debug, PartialEq, Eq)]
+pub enum ChangeRefused {
+    /// The revision would be 2^64 - 1 already, with the changes that were asked for in this call, and can't be raised.
+    RevisionSpent,
+    /// Want of memory.
+    Memory,
+}
+
+impl From<Memory> for ChangeRefused {
+    ghost use Rattle.std.specs.Prelude.{◌≡◌};
+    ghost use Rattle.wx_hooks.specs.declared.handler.ChangeRefused.{ChangeRefused};
+
+    ghost from_gives = { λ _ refusal. refusal ≡ ChangeRefused.Memory };
+
+    fn from(_memory: Memory) -> ChangeRefused {
+        ChangeRefused::Memory
+    }
+}
+
 /// What has to be done for an act. Nothing has to be for a quit.
 #[derive(Drop, Debug)]
 pub enum Todo {
@@ -57,6 +81,8 @@ pub enum Todo {
     Create(Held),
     /// This is to be asked of the job of this id. The flag is that of the ticket that was answered.
     Ask { job: Id, ask: Ask, done: Flag },
+    /// The settings are to be changed so.
+    Change(Change),
 }
 
 /// The names and the acts once more, for the entry that the handler hands out.
@@ -66,8 +92,9 @@ struct Second {
     acts: Vec<Act>,
 }
 
-/// Shows a batch and the jobs to an action, and collects what it asks for. Contracts see the journal so far, the names
-/// and the events of the batch, the acts so far, and whether `hand` was called.
+/// Shows a batch and the jobs to an action, and collects what it asks for. Contracts see the journal so far, the revision of
+/// the settings when the handler was called, the names and the events of the batch, the acts so far, and whether `hand` was
+/// called.
 #[derive(Drop, Debug)]
 pub struct ActionHandler<'a> {
     journal: &'a Journal,
@@ -75,6 +102,8 @@ pub struct ActionHandler<'a> {
     names: Vec<u64>,
     events: List<Event>,
     ids: IdCount,
+    revision: u64,
+    last: u64,
     acts: Vec<Act>,
     second: Option<Second>,
     todo: Vec<Todo>,
@@ -86,11 +115,11 @@ impl<'a> Model for ActionHandler<'a> {
 
     ghost Value = { Handled };
 
-    ghost use Rattle.wx_hooks.specs.KeptHandler.{IsKept};
+    ghost use Rattle.wx_hooks.specs.KeptHandler.{IsKept, IsRevisionKept};
 
-    ghost view = { λ h. record { past = h.journal.now.past; names = h.names.items; events = h.events; acts = h.acts.items; handed = is_none h.second } };
+    ghost view = { λ h. record { past = h.journal.now.past; revision = h.revision; names = h.names.items; events = h.events; acts = h.acts.items; handed = is_none h.second } };
 
-    ghost invariant = { λ h. IsKept h.journal.now.past h.held.now h.names.items h.events h.ids.0 h.acts.items (vec_capacity h.acts) h.second h.todo.items };
+    ghost invariant = { λ h. IsKept h.journal.now.past h.held.now h.names.items h.events h.ids.0 h.acts.items (vec_capacity h.acts) h.second h.todo.items × IsRevisionKept h.revision h.acts.items h.last };
 }
 
 /// Whether an act is a quit.
@@ -278,17 +307,19 @@ fn new_flag(alloc: Global) -> Result<(Flag, Flag), Memory>
 }
 
 impl<'a> ActionHandler<'a> {
-    /// A handler that shows this batch, which isn't empty, and these jobs, and holds no act. It takes no memory.
+    /// A handler that shows this batch, which isn't empty, and these jobs, at this revision of the settings, and holds no act. It
+    /// takes no memory.
     pub fn new(
         alloc: Global,
         journal: &'a Journal,
         held: &'a JobList,
+        revision: u64,
         batch: Batch,
     ) -> ActionHandler<'a>
         requires some { 0 < length batch.names }
         requires events { AreEvents (lookup journal.now.past) batch.names batch.events }
         requires shown { AreShown journal.now.past held.now }
-        ensures { result ≡ record { past = journal.now.past; names = batch.names; events = batch.events; acts = []; handed = false } }
+        ensures { result ≡ record { past = journal.now.past; revision = revision; names = batch.names; events = batch.events; acts = []; handed = false } }
     {
         let Batch {
             names,
@@ -303,6 +334,8 @@ impl<'a> ActionHandler<'a> {
             names,
             events: List::from_vec(events),
             ids: IdCount::new(journal.next_job()),
+            revision,
+            last: revision,
             acts,
             second: Some(Second {
                 names: second_names,
@@ -388,6 +421,36 @@ impl<'a> ActionHandler<'a> {
         Ok((id, new.job))
     }
 
+    /// Asks for this change of the settings. It answers `RevisionSpent` exactly where the revision would be 2^64 - 1 already,
+    /// with one for each change that was asked for in this call, and `Memory` for want of memory. The handler stays as it was
+    /// then.
+    pub fn change(&mut self, alloc: Global, change: Change) -> Result<(), ChangeRefused>
+        ensures asked { OnOk result (self.new ≡ record self.old { acts = self.old.acts ++ Changes change ∷ [] }) }
+        ensures refused { OnErr result (self.new ≡ self.old) }
+        ensures spent { IfErr result (λ refusal. refusal ≡ RevisionSpent → last_revision ≤ self.old.revision + length (changes self.old.acts)) }
+        ensures exactly { last_revision ≤ self.old.revision + length (changes self.old.acts) → result ≡ Err RevisionSpent }
+    {
+        if self.last == u64::MAX {
+            drop(change);
+            return Err(ChangeRefused::RevisionSpent);
+        }
+        let Ok(()) = reserve_act(&mut self.acts, &mut self.second, &mut self.todo) else {
+            drop(change);
+            return Err(ChangeRefused::Memory);
+        };
+        let (change, first, second) = with_copies(alloc, change)?;
+        self.last += 1;
+        put_act(
+            &mut self.acts,
+            &mut self.second,
+            &mut self.todo,
+            Act::Change(first),
+            Act::Change(second),
+            Todo::Change(change),
+        );
+        Ok(())
+    }
+
     /// Asks for the end of the run. Of several such acts the last stands; one that directly follows another takes its
     /// place in the list. It takes no memory.
     pub fn quit(&mut self)
@@ -404,6 +467,7 @@ impl<'a> ActionHandler<'a> {
         ensures entry { result ≡ Hand n self.old.names self.old.acts }
         ensures handed { self.new ≡ record self.old { handed = true } }
         ensures lawful { AreLawful (next_job self.old.past) self.old.acts }
+        ensures changes { MayChange self.old.revision self.old.acts }
     {
         match self.second.take() {
             Some(second) => Entry::Hand {
@@ -420,6 +484,7 @@ impl<'a> ActionHandler<'a> {
         ensures names { result.0 ≡ self.entry.names }
         ensures acts { result.1 ≡ self.entry.acts }
         ensures lawful { AreLawful (next_job self.entry.past) result.1 }
+        ensures changes { MayChange self.entry.revision result.1 }
         ensures todo { AreTodo result.1 result.2.items }
     {
         let ActionHandler {

@@ -13,7 +13,7 @@ mod outside;
 pub use batch::Batch;
 pub use copied::with_copy;
 pub use error_hook::ErrorHook;
-pub use handler::{ActionHandler, CreateRefused, Todo, is_quit};
+pub use handler::{ActionHandler, ChangeRefused, CreateRefused, Todo, is_quit};
 pub use held::Held;
 pub use ids::IdCount;
 pub use job_list::{JobList, Jobs};

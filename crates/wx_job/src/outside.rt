@@ -1,6 +1,10 @@
 // The traits of the outside that jobs use: what runs their children, and what they call.
-ghost use Rattle.std.specs.Prelude.{◌≡◌, ◌∷◌, ◌≤◌, OnOk, OnErr, is_err, List, false};
+ghost use Rattle.std.specs.Prelude.{◌≡◌, ◌∷◌, ◌≤◌, ℕ, Result, OnOk, OnErr, is_err, List, false};
+ghost use Rattle.wx_command.specs.declared.command.Command.{Command};
+ghost use Rattle.wx_command.specs.declared.spawnable.Spawnable.{Spawnable};
+ghost use Rattle.wx_text.specs.declared.list.Memory.{Memory};
 ghost use Rattle.wx_command.specs.Spawnables.{spawnable_of};
+ghost use Rattle.wx_control.specs.declared.id.Id.{Id};
 ghost use Rattle.wx_journal.specs.declared.entry.Entry.{Entry, Entry as AnEntry};
 ghost use Rattle.wx_journal.specs.Names.{NamesItsOwn};
 ghost use Rattle.wx_journal.specs.Told.{is_hooks};
@@ -89,6 +93,10 @@ pub trait JobHooks {
     /// Whether an entry, which is a call on these hooks, may come after these.
     ghost rule: { Plan → List Entry → Entry → Type 0 };
 
+    /// The rule of spawn hooks, said of what they were given to be spawned: whether a call that was given this, told as this
+    /// entry, may come after these.
+    ghost spawn_rule: { Plan → List Entry → Spawnable → Entry → Type 0 };
+
     /// Whether the calls in this journal left just this object. One that doesn't say so stands for each.
     ghost stands: { Self → List Entry → Type 0 } = { λ _ _. Unit {0} };
 
@@ -122,7 +130,7 @@ pub trait JobHooks {
         ensures keeps { (p : List AnEntry) → Keeps seen rule stands self.old p (Entry.JobError job n fault.0) self.new };
 
     /// Lets the spawn hook of this number change what a job is about to spawn, which is what its command spawns. Where
-    /// it has no memory that is as it was.
+    /// it has no memory that is as it was. The call keeps the rule of spawn hooks, whatever a journal says of the job.
     fn spawn_hook(
         &mut self,
         job: Id,
@@ -134,7 +142,11 @@ pub trait JobHooks {
         requires given { what.old ≡ spawnable_of cx.now.command.now }
         ensures same { OnErr result (what.new ≡ what.old) }
         ensures told { TellsHooks (Entry.Hook job n (left_by result what.new)) (seen self.old) (seen self.new) }
-        ensures keeps { (p : List AnEntry) → RunsOnly job cx.now.command.now p → Keeps seen rule stands self.old p (Entry.Hook job n (left_by result what.new)) self.new };
+        ensures keeps { (p : List AnEntry) → Keeps seen (λ plan q e. spawn_rule plan q what.old e) stands self.old p (Entry.Hook job n (left_by result what.new)) self.new };
+
+    /// Where a journal says of the job that it was created to run this command, if it says so at all, and a hook was given
+    /// what this spawns, the rule of spawn hooks is the rule.
+    ghost spawn_rule_is_rule: { (plan : Plan) (p : List Entry) (job : Id) (n : ℕ) (left : Result Spawnable Memory) (command : Command) → RunsOnly job command p → spawn_rule plan p (spawnable_of command) (AnEntry.Hook job n left) → rule plan p (AnEntry.Hook job n left) };
 
     /// What is no call on it leaves what it stands for.
     ghost stands_other: { (x : Self) (p : List Entry) (e : Entry) → NamesItsOwn p → is_hooks e ≡ false → stands x p → stands x (e ∷ p) };

@@ -180,6 +180,8 @@ impl JobHooks for TestHooks {
 
     ghost rule = { λ _ _ _. Unit {0} };
 
+    ghost spawn_rule = { λ _ _ _ _. Unit {0} };
+
     ghost stands = { λ _ _. Unit {0} };
 
     fn reserve(&mut self, _n: u64) -> Result<(), Memory> {
@@ -219,6 +221,8 @@ impl JobHooks for TestHooks {
             None => Ok(()),
         }
     }
+
+    ghost spawn_rule_is_rule = { λ _ _ _ _ _ _ _ _. tt };
 
     ghost stands_other = { λ _ _ _ _ _ h. h };
 }

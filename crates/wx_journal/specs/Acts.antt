@@ -10,25 +10,29 @@ use Rattle.wx_command.specs.Commands.{command}
 use Rattle.wx_control.specs.Ids.{id}
 use Rattle.wx_control.specs.Asks.{ask}
 use Rattle.wx_control.specs.declared.id.Id.{Id}
+use Rattle.wx_config.specs.ChangeWords.{change}
 use Rattle.wx_journal.specs.declared.entry.Act.{Act}
-use Rattle.wx_journal.specs.declared.entry.Act.TheVariants.{Create, Ask, Quit}
+use Rattle.wx_journal.specs.declared.entry.Act.TheVariants.{Create, Ask, Change, Quit}
 
 -- each first word of an act, and what stands behind it
 abbrev pub act_rows : {J : Type 0} → Spelling line J → List (Row line (Act J))
 act_rows j =
     row (codes "create") (both j command) (λ p. Create p.0 p.1)
     ∷ row (codes "ask") (both id ask) (λ p. Ask p.0 p.1)
+    ∷ row (codes "change") change Change
     ∷ row (codes "quit") nothing (λ u. Quit)
     ∷ []
 
 abbrev pub act_word : {J : Type 0} → Act J → List ℕ
 act_word (Create _ _) = codes "create"
 act_word (Ask _ _) = codes "ask"
+act_word (Change _) = codes "change"
 act_word Quit = codes "quit"
 
 abbrev pub act_behind : {J : Type 0} → Spelling line J → Act J → Behind line
 act_behind j (Create job order) = fields (both j command) (job, order)
 act_behind j (Ask job wish) = fields (both id ask) (job, wish)
+act_behind j (Change c) = fields change c
 act_behind j Quit = fields nothing tt
 
 pub act_again : {J : Type 0} (j : Spelling line J) → MadeAgain (act_rows j) act_word (act_behind j)

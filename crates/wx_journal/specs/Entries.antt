@@ -36,7 +36,7 @@ use Rattle.wx_journal.specs.declared.child.HostFault.{HostFault}
 use Rattle.wx_journal.specs.declared.wish.Wish.{Wish}
 use Rattle.wx_journal.specs.declared.entry.Offered.{Offered}
 use Rattle.wx_journal.specs.declared.entry.Entry.{Entry}
-use Rattle.wx_journal.specs.declared.entry.Entry.TheVariants.{Begin, Sent, Turn as Turned, TurnFault, Offer, Word as Said, Take, Filter, Show, Hand, Made, Asked, Pick, GraceOver, Spawn, Signal, Kill, Wait, Dropped, Raise, Gone, Run, Begun, Poll, Hook, JobError}
+use Rattle.wx_journal.specs.declared.entry.Entry.TheVariants.{Begin, Sent, Turn as Turned, TurnFault, Offer, Word as Said, Take, Filter, Show, Hand, Made, Asked, Changed, Pick, GraceOver, Spawn, Signal, Kill, Wait, Dropped, Raise, Gone, Run, Begun, Poll, Hook, JobError}
 
 -- ---- what stands behind the first word of an entry
 
@@ -91,19 +91,10 @@ make_hand p = Hand p.0 p.1.0 p.1.1
 -- ---- each first word of an entry, and what stands behind it: of a Hand, whose acts run to the end of the line, nothing is
 -- read here
 
-abbrev pub entry_rows : List (Row line Entry)
-entry_rows =
-    row (codes "begin") beginning Begin
-    ∷ row (codes "sent") sent (λ p. Sent p.0 p.1.1 p.1.0)
-    ∷ row (codes "turn") turn Turned
-    ∷ row (codes "turnfault") u32 TurnFault
-    ∷ row (codes "offer") offer (λ p. Offer p.0 p.1.0 p.1.1.0 p.1.1.1.1 p.1.1.1.0)
-    ∷ row (codes "word") said Said
-    ∷ row (codes "take") (as_line number) Take
-    ∷ row (codes "filter") filtered (λ p. Filter p.0 p.1.0 p.1.1)
-    ∷ row (codes "show") shown (λ p. Show p.0 p.1.0 p.1.1)
-    ∷ row (codes "hand") unread make_hand
-    ∷ row (codes "made") id Made
+-- those of jobs
+abbrev pub job_rows : List (Row line Entry)
+job_rows =
+    row (codes "made") id Made
     ∷ row (codes "asked") asked (λ p. Asked p.0 p.1.0 p.1.1.0 p.1.1.1)
     ∷ row (codes "pick") pick (λ p. Pick p.0 p.1)
     ∷ row (codes "grace") id GraceOver
@@ -121,6 +112,22 @@ entry_rows =
     ∷ row (codes "joberror") job_error (λ p. JobError p.0 p.1.0 p.1.1)
     ∷ []
 
+-- all
+abbrev pub entry_rows : List (Row line Entry)
+entry_rows =
+    row (codes "begin") beginning Begin
+    ∷ row (codes "sent") sent (λ p. Sent p.0 p.1.1 p.1.0)
+    ∷ row (codes "turn") turn Turned
+    ∷ row (codes "turnfault") u32 TurnFault
+    ∷ row (codes "offer") offer (λ p. Offer p.0 p.1.0 p.1.1.0 p.1.1.1.1 p.1.1.1.0)
+    ∷ row (codes "word") said Said
+    ∷ row (codes "take") (as_line number) Take
+    ∷ row (codes "filter") filtered (λ p. Filter p.0 p.1.0 p.1.1)
+    ∷ row (codes "show") shown (λ p. Show p.0 p.1.0 p.1.1)
+    ∷ row (codes "hand") unread make_hand
+    ∷ row (codes "changed") (as_line number) Changed
+    ∷ job_rows
+
 abbrev pub entry_word : Entry → List ℕ
 entry_word (Begin _) = codes "begin"
 entry_word (Sent _ _ _) = codes "sent"
@@ -134,6 +141,7 @@ entry_word (Show _ _ _) = codes "show"
 entry_word (Hand _ _ _) = codes "hand"
 entry_word (Made _) = codes "made"
 entry_word (Asked _ _ _ _) = codes "asked"
+entry_word (Changed _) = codes "changed"
 entry_word (Pick _ _) = codes "pick"
 entry_word (GraceOver _) = codes "grace"
 entry_word (Spawn _ _ _ _ _) = codes "spawn"
@@ -162,6 +170,7 @@ entry_behind (Show n error wish) = fields shown (n, (error, wish))
 entry_behind (Hand n names acts) = fields unread (n, (names, acts))
 entry_behind (Made job) = fields id job
 entry_behind (Asked ticket job l c) = fields asked (ticket, (job, (l, c)))
+entry_behind (Changed revision) = fields (as_line number) revision
 entry_behind (Pick job ticket) = fields pick (job, ticket)
 entry_behind (GraceOver job) = fields id job
 entry_behind (Spawn child job by what answer) = fields spawn (child, (job, (by, (what, answer))))

@@ -12,9 +12,10 @@ use Rattle.wx_control.specs.Ids.{id}
 use Rattle.wx_control.specs.Asks.{ask}
 use Rattle.wx_control.specs.declared.id.Id.{Id}
 use Rattle.wx_control.specs.declared.ask.Ask.{Ask as AnAsk}
+use Rattle.wx_config.specs.ChangeWords.{change}
 use Rattle.wx_journal.specs.declared.entry.Turn.{Turn}
 use Rattle.wx_journal.specs.declared.entry.TurnKind.{TurnKind}
-use Rattle.wx_journal.specs.declared.entry.TurnKind.TheVariants.{Arrive, Work, Job, Ended, Ask, Last}
+use Rattle.wx_journal.specs.declared.entry.TurnKind.TheVariants.{Arrive, Work, Job, Ended, Ask, Change, Last}
 
 -- an event with its priority, which stands before it
 abbrev pub ranked : Spelling line (Priority × Event)
@@ -34,6 +35,7 @@ kind_rows =
     ∷ row (codes "job") id Job
     ∷ row (codes "ended") (as_line number) Ended
     ∷ row (codes "ask") (both id ask) make_ask_turn
+    ∷ row (codes "change") change Change
     ∷ row (codes "last") nothing (λ u. Last)
     ∷ []
 
@@ -43,6 +45,7 @@ kind_word Work = codes "work"
 kind_word (Job _) = codes "job"
 kind_word (Ended _) = codes "ended"
 kind_word (Ask _ _) = codes "ask"
+kind_word (Change _) = codes "change"
 kind_word Last = codes "last"
 
 abbrev pub kind_behind : TurnKind → Behind line
@@ -50,6 +53,7 @@ kind_behind (Arrive e p) = fields ranked (p, e)
 kind_behind (Job job) = fields id job
 kind_behind (Ended child) = fields (as_line number) child
 kind_behind (Ask job wish) = fields (both id ask) (job, wish)
+kind_behind (Change c) = fields change c
 kind_behind _ = fields nothing tt
 
 pub kind_again : MadeAgain kind_rows kind_word kind_behind

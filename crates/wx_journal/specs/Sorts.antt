@@ -3,7 +3,7 @@
 use Rattle.std.specs.Prelude.{ℕ, Bool, true, false, is_err}
 use Rattle.wx_control.specs.declared.id.Id.{Id}
 use Rattle.wx_journal.specs.declared.entry.Entry.{Entry}
-use Rattle.wx_journal.specs.declared.entry.Entry.TheVariants.{Begin, Sent, Turn as Turned, TurnFault, Offer, Word as Said, Take, Filter, Show, Hand, Made, Asked, Pick, GraceOver, Spawn, Signal, Kill, Wait, Dropped, Raise, Gone, Run, Begun, Poll, Hook, JobError}
+use Rattle.wx_journal.specs.declared.entry.Entry.TheVariants.{Begin, Sent, Turn as Turned, TurnFault, Offer, Word as Said, Take, Filter, Show, Hand, Made, Asked, Changed, Pick, GraceOver, Spawn, Signal, Kill, Wait, Dropped, Raise, Gone, Run, Begun, Poll, Hook, JobError}
 
 -- whom an entry is a call on
 pub data Callee : Type 0 where
@@ -24,6 +24,7 @@ pub data Subject : Type 0 where
   OfTurn : Subject
   OfEvents : Subject
   OfWord : Subject
+  OfSettings : Subject
   OfJob : Id → Subject
   OfChild : ℕ → Subject
   OfTicket : ℕ → Subject
@@ -50,6 +51,7 @@ sort (Show n error wish) = columns OnHooks NoName OfRun false
 sort (Hand n names acts) = columns OnHooks NoName OfEvents false
 sort (Made job) = columns OnNobody NoName (OfJob job) false
 sort (Asked ticket job level control) = columns OnNobody (NewTicket ticket) (OfJob job) false
+sort (Changed revision) = columns OnNobody NoName OfSettings false
 sort (Pick job ticket) = columns OnNobody NoName (OfJob job) false
 sort (GraceOver job) = columns OnNobody NoName (OfJob job) false
 sort (Spawn child job tag what answer) = columns OnWorld (NewChild child) (OfJob job) (is_err answer)

@@ -14,6 +14,7 @@ impl<J: Spelled> Spelled for Act<J> {
         match self {
             Act::Create(job, command) => put_row(b"create", &(job, command), out),
             Act::Ask(job, ask) => put_row(b"ask", &(job, ask), out),
+            Act::Change(change) => put_row(b"change", &change, out),
             Act::Quit => put_word(b"quit", out),
         }
     }
@@ -22,6 +23,7 @@ impl<J: Spelled> Spelled for Act<J> {
         read_rows!(alloc, line;
             b"create" (job, command) => Act::Create(job, command),
             b"ask" (job, ask) => Act::Ask(job, ask),
+            b"change" (change) => Act::Change(change),
             b"quit" => Act::Quit,
         )
     }

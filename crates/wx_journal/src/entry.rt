@@ -6,6 +6,7 @@ use crate::child::{HostFault, SpawnTag};
 use crate::wish::Wish;
 use std::alloc::Global;
 use wx_command::{Command, Spawnable};
+use wx_config::Change;
 use wx_control::{Ask, Control, Id, Level};
 use wx_error::RuntimeError;
 use wx_events::{Event, Priority, ProcessEnd};
@@ -24,6 +25,8 @@ pub enum TurnKind {
     Ended(u64),
     /// This is asked of the job of this name.
     Ask(Id, Ask),
+    /// The settings are changed.
+    Change(Change),
     /// There is no further turn.
     Last,
 }
@@ -61,6 +64,8 @@ pub enum Act<J = Id> {
     Create(J, Command),
     /// This is to be asked of the job of this name.
     Ask(Id, Ask),
+    /// The settings are to be changed.
+    Change(Change),
     /// The run is to end at once.
     Quit,
 }
@@ -126,6 +131,8 @@ pub enum Entry {
         level: Level,
         control: Control,
     },
+    /// The settings were changed, and this is their revision since then.
+    Changed(u64),
     /// A job picked the control of this ticket.
     Pick {
         job: Id,
@@ -204,6 +211,7 @@ impl Copies for TurnKind {
             TurnKind::Job(job) => Ok(TurnKind::Job(*job)),
             TurnKind::Ended(child) => Ok(TurnKind::Ended(*child)),
             TurnKind::Ask(job, ask) => Ok(TurnKind::Ask(*job, ask.copy(alloc)?)),
+            TurnKind::Change(change) => Ok(TurnKind::Change(change.copy(alloc)?)),
             TurnKind::Last => Ok(TurnKind::Last),
         }
     }
@@ -223,6 +231,7 @@ impl<J: Copy + Drop> Copies for Act<J> {
         match self {
             Act::Create(job, command) => Ok(Act::Create(*job, command.copy(alloc)?)),
             Act::Ask(job, ask) => Ok(Act::Ask(*job, ask.copy(alloc)?)),
+            Act::Change(change) => Ok(Act::Change(change.copy(alloc)?)),
             Act::Quit => Ok(Act::Quit),
         }
     }

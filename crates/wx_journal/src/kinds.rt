@@ -17,6 +17,7 @@ impl Spelled for TurnKind {
             TurnKind::Job(job) => put_row(b"job", &job, out),
             TurnKind::Ended(child) => put_row(b"ended", &child, out),
             TurnKind::Ask(job, ask) => put_row(b"ask", &(job, ask), out),
+            TurnKind::Change(change) => put_row(b"change", &change, out),
             TurnKind::Last => put_word(b"last", out),
         }
     }
@@ -28,6 +29,7 @@ impl Spelled for TurnKind {
             b"job" (job) => TurnKind::Job(job),
             b"ended" (child) => TurnKind::Ended(child),
             b"ask" (job, ask) => TurnKind::Ask(job, ask),
+            b"change" (change) => TurnKind::Change(change),
             b"last" => TurnKind::Last,
         )
     }

@@ -6,7 +6,8 @@ ghost use Rattle.wx_words.specs.Results.{read_result};
 ghost use Rattle.wx_words.specs.ToEnd.{HasWord};
 ghost use Rattle.wx_journal.specs.AtFront.{read_front};
 ghost use Rattle.wx_journal.specs.Answers.{fault};
-ghost use Rattle.wx_journal.specs.Entries.{entry, filtered, hook, poll, signal, spawn, hand, unread, read_hand, read_entry};
+ghost use Rattle.wx_words.specs.Choices.{read_at};
+ghost use Rattle.wx_journal.specs.Entries.{entry, job_rows, filtered, hook, poll, signal, spawn, hand, unread, read_hand, read_entry};
 
 use crate::answers::{read_hooked, read_ready, read_verdict};
 use crate::child::{HostFault, SpawnTag};
@@ -16,7 +17,7 @@ use wx_command::Spawnable;
 use wx_control::Id;
 use wx_error::RuntimeError;
 use wx_text::{List, Memory};
-use wx_words::{Spelled, Words, read_result, read_rows, take_literal};
+use wx_words::{Spelled, Words, is_word, read_result, read_row, take_literal};
 
 /// What a call on a child answered.
 type Answered<T> = Result<T, HostFault>;
@@ -158,22 +159,22 @@ fn read_no_hand(
     Ok(None)
 }
 
-/// Takes an entry but a `Hand`, or loses the place.
-#[tactic(auto, unfolding(crate::specs::Entries::entry, wx_words::specs::Parts::both))]
-fn read_row(alloc: Global, line: &mut Words) -> Result<Option<Entry>, Memory>
-    ensures { IfOk result (λ x. Reads line.new x (entry.read line.old)) }
+/// Goes through these rows, where the first word was taken already, and then to what stands behind them.
+macro_rules! rows_at {
+    ($alloc:expr, $line:expr, $first:expr; $($word:literal $(($($field:pat),+ $(= $reader:path)?))? => $value:expr,)+; $rest:expr) => {{
+        $(if is_word($first, $word.as_slice()) {
+            return read_row!($alloc, $line; $(($($field),+ $(= $reader)?))? => $value);
+        })+
+        $rest
+    }};
+}
+
+/// Takes what stands behind the first word of an entry of a job, where this is that word, or loses the place.
+#[tactic(auto, unfolding(wx_words::specs::Parts::both))]
+fn read_of_job(alloc: Global, first: &[u8], line: &mut Words) -> Result<Option<Entry>, Memory>
+    ensures { IfOk result (λ x. Reads line.new x (read_at job_rows first.now line.old)) }
 {
-    read_rows!(alloc, line;
-        b"begin" (beginning) => Entry::Begin(beginning),
-        b"sent" (name, (priority, event)) => Entry::Sent { name, event, priority },
-        b"turn" (turn) => Entry::Turn(turn),
-        b"turnfault" (code) => Entry::TurnFault(code),
-        b"offer" (name, (item, (outcome, (priority, event)))) => Entry::Offer { name, item, result: outcome, event, priority },
-        b"word" (word) => Entry::Word(word),
-        b"take" (name) => Entry::Take(name),
-        b"filter" (n, (name, answer) = read_filter) => Entry::Filter { n, name, answer },
-        b"show" (n, (error, wish)) => Entry::Show { n, error, wish },
-        b"hand" (n, (names, acts) = read_no_hand) => Entry::Hand { n, names, acts },
+    rows_at!(alloc, line, first;
         b"made" (job) => Entry::Made(job),
         b"asked" (ticket, (job, (level, control))) => Entry::Asked { ticket, job, level, control },
         b"pick" (job, ticket) => Entry::Pick { job, ticket },
@@ -190,6 +191,31 @@ fn read_row(alloc: Global, line: &mut Words) -> Result<Option<Entry>, Memory>
         b"poll" (job, (n, ready) = read_poll) => Entry::Poll { job, n, ready },
         b"hook" (job, (n, answer) = read_hook) => Entry::Hook { job, n, answer },
         b"joberror" (job, (n, code)) => Entry::JobError { job, n, code },
+        ; Ok(None)
+    )
+}
+
+/// Takes an entry but a `Hand`, or loses the place.
+#[tactic(auto, unfolding(crate::specs::Entries::entry, wx_words::specs::Parts::both))]
+fn read_any(alloc: Global, line: &mut Words) -> Result<Option<Entry>, Memory>
+    ensures { IfOk result (λ x. Reads line.new x (entry.read line.old)) }
+{
+    let Some(first) = line.next() else {
+        return Ok(None);
+    };
+    rows_at!(alloc, line, first;
+        b"begin" (beginning) => Entry::Begin(beginning),
+        b"sent" (name, (priority, event)) => Entry::Sent { name, event, priority },
+        b"turn" (turn) => Entry::Turn(turn),
+        b"turnfault" (code) => Entry::TurnFault(code),
+        b"offer" (name, (item, (outcome, (priority, event)))) => Entry::Offer { name, item, result: outcome, event, priority },
+        b"word" (word) => Entry::Word(word),
+        b"take" (name) => Entry::Take(name),
+        b"filter" (n, (name, answer) = read_filter) => Entry::Filter { n, name, answer },
+        b"show" (n, (error, wish)) => Entry::Show { n, error, wish },
+        b"hand" (n, (names, acts) = read_no_hand) => Entry::Hand { n, names, acts },
+        b"changed" (revision) => Entry::Changed(revision),
+        ; read_of_job(alloc, first, line)
     )
 }
 
@@ -221,7 +247,7 @@ pub fn read_entry(alloc: Global, line: &mut Words) -> Result<Option<Entry>, Memo
     ensures { IfOk result (λ x. Reads line.new x (read_entry line.old)) }
 {
     let mut ahead = line.fork();
-    if let Some(entry) = read_row(alloc, &mut ahead)? {
+    if let Some(entry) = read_any(alloc, &mut ahead)? {
         *line = ahead;
         return Ok(Some(entry));
     }

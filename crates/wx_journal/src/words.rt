@@ -157,6 +157,7 @@ pub fn append_entry(entry: &Entry, out: &mut Text) -> Result<(), Memory>
         }
         Entry::Show { n, error, wish } => begin_row(b"show", &(n, (error, wish)), out),
         Entry::Hand { n, names, acts } => put_hand(*n, names, acts, out),
+        Entry::Changed(revision) => begin_row(b"changed", &revision, out),
         Entry::Made(_)
         | Entry::Asked { .. }
         | Entry::Pick { .. }

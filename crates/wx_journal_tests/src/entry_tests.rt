@@ -44,6 +44,7 @@ begin throttle 50000000 size 4096 errors 64 keyboard off follow on jobsignals of
 begin throttle 0 size 1 errors 2 keyboard on follow off jobsignals on watcher native cwd /a paths 0
 sent 0 urgent 0
 turn 7 ask 3 start
+turn 7 change paths 2 r /a n /b%20c
 turnfault 5
 offer 1 - full low 0
 offer 2 7 queued high 0
@@ -54,8 +55,10 @@ filter 1 3 fail filterer glob bad%20rule
 show 2 memory elevate
 hand 0 1 0
 hand 0 1 0 create 0 exec ---- 2 1 a ask 0 start quit
+hand 0 1 0 change signal change throttle 5 quit
 made 3
 asked 4 3 high stop
+changed 18446744073709551615
 pick 3 4
 grace 7
 spawn 2 3 default g--- 2 sh a%20b ok
@@ -81,6 +84,7 @@ begin throttle 0 size 1 errors 2 keyboard on follow off jobsignals on watcher na
 begin size 1 throttle 0 errors 2 keyboard on follow off jobsignals on watcher native cwd /a paths 0
 sent 0 0 urgent
 turn work
+turn 7 change
 turnfault 4294967296
 offer 1 full low 0
 word done
@@ -92,6 +96,8 @@ hand 0
 hand 0 2 0 quit
 made x
 asked 4 3 stop high
+changed
+changed 18446744073709551616
 pick 3
 grace
 spawn 2 3 default g--- 2 sh a%20b

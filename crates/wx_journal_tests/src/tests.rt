@@ -3,6 +3,7 @@ use std::alloc::Global;
 use std::num::{NonZeroI32, NonZeroI64};
 use std::process::Abort;
 use wx_command::{Command, Program, SpawnOptions, Spawnable};
+use wx_config::Change;
 use wx_control::{Ask, Control, Id, Level};
 use wx_error::RuntimeError;
 use wx_events::{Event, Priority, ProcessEnd, Signal};
@@ -350,6 +351,8 @@ ask 0 stop
 ask 4294967295 stop
 ask 3 gracefulstop custom.-3 18446744073709551615
 ask 0 deletenow
+change signal
+change paths 1 n /a
 quit
 ";
 
@@ -366,6 +369,8 @@ ask 0 go
 ask 0 gracefulstop terminate
 ask 0 deletenow 5
 ask start 0
+change
+change quit
 Quit
 quit 0
 ";
@@ -385,6 +390,8 @@ fn entries_of_turns(rt: HostRuntime) {
     expect_turn(&rt, alloc, TurnKind::Ended(2), b"turn 7 ended 2");
     let ask = TurnKind::Ask(Id(3), Ask::One(Control::Start));
     expect_turn(&rt, alloc, ask, b"turn 7 ask 3 start");
+    let change = TurnKind::Change(Change::Throttle(5));
+    expect_turn(&rt, alloc, change, b"turn 7 change throttle 5");
     expect_turn(&rt, alloc, TurnKind::Last, b"turn 7 last");
 }
 
@@ -508,6 +515,8 @@ ask 0 start
 ask 1 stop
 ask 1 signal quit
 ask 1 restartsignal user2 5000000
+change onaction 4294967295
+change watcher poll 7
 last
 ";
 
@@ -524,6 +533,9 @@ ask 0 go
 ask 0 signal
 ask 0 restartsignal 5 user2
 ask start 0
+change
+change throttle
+change 0 throttle
 rest
 ";
 

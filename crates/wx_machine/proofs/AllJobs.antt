@@ -15,7 +15,7 @@ use Rattle.wx_control.specs.Asks.{sends_of}
 use Rattle.wx_journal.specs.Acts.{JournalAct as Act}
 use Rattle.wx_journal.specs.declared.entry.Act.TheVariants.{Create}
 use Rattle.wx_journal.specs.declared.entry.Entry.{Entry}
-use Rattle.wx_journal.specs.declared.entry.Entry.TheVariants.{Turn as Turned, TurnFault, Hand, Made, Gone}
+use Rattle.wx_journal.specs.declared.entry.Entry.TheVariants.{Turn as Turned, TurnFault, Hand, Made, Changed, Gone}
 use Rattle.wx_journal.specs.Names.{creates, is_created, above, next_job, NamesItsOwn}
 use Rattle.wx_journal.specs.Told.{tell_if, is_world, is_hooks, is_turn}
 use Rattle.wx_machine.specs.History.{same, lives, child, is_child, creation, or_else, command, JobHistory}
@@ -420,11 +420,12 @@ plans_lead s more k p host hooks n k' p' host' hooks' n' l of_plan due = elim l 
   | PlanThen e k₁ p₁ host₁ hooks₁ n₁ n₂ (l → h) d counts ↦ led_one s more k p host hooks k₁ p₁ host₁ hooks₁ e d h
 ]
 
--- ---- a plan that makes no job leaves the set
+-- ---- a plan that makes no job and changes no setting leaves the set and the settings
 
 -- the entries that such plans let come
 abbrev pub IsOfJob : Entry → Type 0
 IsOfJob (Made id) = ⊥
+IsOfJob (Changed revision) = ⊥
 IsOfJob (e) = IsOfPlan e
 
 abbrev pub MakesNone : List Entry → Plan → Type 0
@@ -432,6 +433,7 @@ MakesNone p k = Always (λ q e j. IsOfJob e) p k
 
 of_job : (e : Entry) → IsOfJob e → IsOfPlan e
 of_job (Made id) h = absurd h
+of_job (Changed revision) h = absurd h
 of_job (_) h = h
 
 pub none_of_plan : (p : List Entry) (k : Plan) → MakesNone p k → AreOfPlan p k
@@ -439,6 +441,7 @@ none_of_plan p k none = always_also (λ q. Unit {0}) (λ q e j. IsOfJob e) (λ q
 
 job_fit : (id : Id) (e : Entry) (p : List Entry) → Fits id p e → IsOfJob e
 job_fit id (Made job) p s = s
+job_fit id (Changed revision) p s = s
 job_fit id (e) p s = plan_fit id e p s
 
 -- the plans of a job make none

@@ -19,7 +19,7 @@ use Rattle.wx_machine.specs.Journal.{window}
 use Rattle.wx_machine.specs.Jobs.{set, jobs, first_end, end}
 use Rattle.wx_machine.specs.Due.{Agenda, Ends, settle, agenda, Admits, Due, rest, IsRun}
 use Rattle.wx_machine.specs.Answer.{Dying, Alive, Dies}
-use Rattle.wx_machine.specs.RunLaws.{IsBatched, AreBatches, NoneUrgentWaits, NoneUnseenIsShown, NoneIsShownClosed, AreMadeOnce, AreServed}
+use Rattle.wx_machine.specs.RunLaws.{IsBatched, AreBatches, NoneUrgentWaits, NoneUnseenIsShown, NoneIsShownClosed, AreMadeOnce, AreServed, AreRevised}
 use Rattle.wx_machine.specs.Kept.{StaysQuiet, More}
 use Rattle.wx_machine.specs.Leads.{Follows, Then}
 use Rattle.wx_machine.specs.Turns.{SameTurns, StaysInTurn}
@@ -41,6 +41,7 @@ pub record KeepsAll (s : Start) (q p : List Entry) : Type 0 where
   pub made_once : AreMadeOnce q → AreMadeOnce p
   pub placed : IsPlaced q → IsPlaced p
   pub served : AreServed s q → AreServed s p
+  pub revised : AreRevised s q → AreRevised s p
   pub same_window : window p ≡ window q
   pub turns : StaysInTurn q p
   pub own : NamesItsOwn q → NamesItsOwn p
@@ -59,6 +60,7 @@ keeps_one s p (Dropped c) o own = record {
   made_once = λ h. h;
   placed = end_placed (Dropped c) p tt;
   served = λ h. h;
+  revised = λ h. h;
   same_window = refl;
   turns = λ p₀ h. turns_plan (Dropped c) p₀ p tt h;
   own = own;
@@ -76,6 +78,7 @@ keeps_one s p (Gone job) o own = record {
   made_once = λ h. h;
   placed = end_placed (Gone job) p tt;
   served = λ h. h;
+  revised = λ h. h;
   same_window = refl;
   turns = λ p₀ h. turns_plan (Gone job) p₀ p tt h;
   own = own;
@@ -96,6 +99,7 @@ keeps_then s q p r a b = record {
   made_once = λ h. b.made_once (a.made_once h);
   placed = λ h. b.placed (a.placed h);
   served = λ h. b.served (a.served h);
+  revised = λ h. b.revised (a.revised h);
   same_window = b.same_window ∙ a.same_window;
   turns = λ p₀ h. b.turns p₀ (a.turns p₀ h);
   own = λ h. b.own (a.own h);
@@ -107,7 +111,7 @@ keeps_then s q p r a b = record {
 
 pub dying_keeps : (s : Start) (q p : List Entry) → Dying q p → KeepsAll s q p
 dying_keeps s q p l = elim l as (λ p _. KeepsAll s q p) [
-  | Alive ↦ record { batched = λ h. h; batches = λ h. h; calm = λ h. h; shows = λ h. h; shows_open = λ h. h; made_once = λ h. h; placed = λ h. h; served = λ h. h; same_window = refl; turns = λ p₀ h. h; own = λ h. h; quiet = λ p₀ a. a; same_set = refl; commands = λ id. refl; gone = λ id h. h }
+  | Alive ↦ record { batched = λ h. h; batches = λ h. h; calm = λ h. h; shows = λ h. h; shows_open = λ h. h; made_once = λ h. h; placed = λ h. h; served = λ h. h; revised = λ h. h; same_window = refl; turns = λ p₀ h. h; own = λ h. h; quiet = λ p₀ a. a; same_set = refl; commands = λ id. refl; gone = λ id h. h }
   | Dies e p (l → h) d ↦ keeps_then s q p (e ∷ p) h (keeps_one s p e (of_end p e d) (λ own. (names_end p e own d, own)))
 ]
 

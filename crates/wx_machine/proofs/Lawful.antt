@@ -1,8 +1,8 @@
 -- What is known of each entry that a plan of a run brings.
-use Rattle.std.specs.Prelude.{◌≡◌, true, T, List, [], ◌∷◌, None, Some}
+use Rattle.std.specs.Prelude.{◌≡◌, ◌+◌, ◌<◌, true, T, List, [], ◌∷◌, None, Some, length}
 use Rattle.wx_control.specs.declared.id.Id.{Id}
 use Rattle.wx_journal.specs.declared.entry.Entry.{Entry}
-use Rattle.wx_journal.specs.declared.entry.Entry.TheVariants.{Made, Asked, GraceOver, Spawn, Signal, Dropped, Gone}
+use Rattle.wx_journal.specs.declared.entry.Entry.TheVariants.{Made, Asked, Changed, GraceOver, Spawn, Signal, Dropped, Gone}
 use Rattle.wx_journal.specs.Sorts.{sort}
 use Rattle.wx_journal.specs.Names.{Names, next_job, IsNextJob}
 use Rattle.wx_machine.specs.History.{lives, child, grace}
@@ -10,6 +10,8 @@ use Rattle.wx_machine.specs.declared.grace.Grace.{Grace}
 use Rattle.wx_machine.specs.Table.{Plan}
 use Rattle.wx_machine.specs.Afterwards.{IsAtLevel}
 use Rattle.wx_machine.specs.Case.{is_of_plan}
+use Rattle.wx_machine.specs.Start.{Start}
+use Rattle.wx_machine.specs.Settings.{pending, revision}
 use Rattle.wx_machine.proofs.Always.{Always}
 use Rattle.wx_machine.proofs.Sound.{RunsIn, IsUngraced, Goes}
 use Rattle.wx_machine.proofs.Placing.{Placing}
@@ -48,6 +50,11 @@ InOrder p (_) = Unit {0}
 abbrev pub MadeInOrder : List Entry → Type 0
 MadeInOrder [] = Unit {0}
 MadeInOrder (e ∷ p) = InOrder p e × MadeInOrder p
+
+-- an entry that tells a change answers one that waits, and names the next revision, which then stands
+abbrev pub Revises : Start → List Entry → Entry → Plan → Type 0
+Revises s p (Changed named) k = (0 < length (pending p)) × (revision s (Changed named ∷ p) ≡ named) × (named ≡ revision s p + 1)
+Revises s p (_) k = Unit {0}
 
 -- what is known of each entry that a plan of a run brings, with what is owed behind it
 pub record IsLawful (p : List Entry) (e : Entry) (k : Plan) : Type 0 where

@@ -10,7 +10,8 @@ use Rattle.wx_machine.specs.Start.{Start}
 use Rattle.wx_machine.specs.Jobs.{AreLawful}
 use Rattle.wx_machine.specs.Journal.{passes_unseen, closed, bag, offered, window}
 use Rattle.wx_machine.specs.Due.{IsGreatest, Point, PointAnswer, brings, Agenda, Open, Comes, Plans, Ends, agenda, is_quitting}
-use Rattle.wx_machine.proofs.Lawful.{MadeInOrder, Lawful}
+use Rattle.wx_machine.proofs.Always.{Always}
+use Rattle.wx_machine.proofs.Lawful.{Revises, MadeInOrder, Lawful}
 
 -- nothing, or the end
 abbrev pub IsQuiet : Agenda → Type 0
@@ -32,7 +33,7 @@ IsBrought s p (_) = ⊥
 
 -- each entry that this point may bring behind these is such, whatever is answered
 abbrev pub AllBrought : Start → List Entry → Point → Type 0
-AllBrought s p x = (a : PointAnswer p x) → IsBrought s p (brings s p x a)
+AllBrought s p x = (a : PointAnswer s p x) → IsBrought s p (brings s p x a)
 
 -- what may stand behind points: it fits whatever comes before it
 abbrev pub IsLasting : Start → Agenda → Type 0
@@ -40,10 +41,11 @@ IsLasting s (Comes x more) = ((p : List Entry) → AllBrought s p x) × IsLastin
 IsLasting s (Plans k more) = ⊥
 IsLasting s (_) = Unit {0}
 
--- What a point brings is such, and what stands behind it lasts. A plan is lawful, and behind it is nothing, or the end.
+-- What a point brings is such, and what stands behind it lasts. A plan is lawful, and behind it is nothing, or the end. Each entry
+-- of it that tells a change names the next revision, and answers a change that waits.
 abbrev pub IsFit : Start → List Entry → Agenda → Type 0
 IsFit s p (Comes x more) = AllBrought s p x × IsLasting s more
-IsFit s p (Plans k more) = Lawful p k × IsQuiet more
+IsFit s p (Plans k more) = Lawful p k × IsQuiet more × Always (Revises s) p k
 IsFit s p (_) = Unit {0}
 
 -- Where something else than a plan or the end is owed the end wasn't asked for.

@@ -9,6 +9,8 @@ use Rattle.wx_words.specs.EachLaws.{each_append, each_weaker, each_filter}
 use Rattle.wx_events.specs.declared.event.Event.{Event}
 use Rattle.wx_events.specs.declared.priority.Priority.{Priority}
 use Rattle.wx_command.specs.declared.command.Command.{Command}
+use Rattle.wx_config.specs.Changes.{last_revision}
+use Rattle.wx_config.specs.declared.change.Change.{Change as AChange}
 use Rattle.wx_error.specs.declared.runtime.RuntimeError.{RuntimeError}
 use Rattle.wx_error.specs.declared.runtime.RuntimeError.TheVariants.{Exit}
 use Rattle.wx_error.specs.declared.error.CriticalError.{CriticalError}
@@ -16,12 +18,12 @@ use Rattle.wx_control.specs.declared.id.Id.{Id}
 use Rattle.wx_control.specs.declared.ask.Ask.{Ask as AnAsk}
 use Rattle.wx_control.specs.Asks.{sends_of}
 use Rattle.wx_journal.specs.declared.entry.Entry.{Entry}
-use Rattle.wx_journal.specs.declared.entry.Entry.TheVariants.{Begin, Sent, Turn as Turned, TurnFault, Offer, Word as Said, Take, Filter, Show, Hand, Made, Spawn, Gone}
+use Rattle.wx_journal.specs.declared.entry.Entry.TheVariants.{Begin, Sent, Turn as Turned, TurnFault, Offer, Word as Said, Take, Filter, Show, Hand, Made, Changed, Spawn, Gone}
 use Rattle.wx_journal.specs.Acts.{JournalAct as Act}
 use Rattle.wx_journal.specs.declared.entry.Named.{Named}
 use Rattle.wx_journal.specs.declared.entry.Turn.{Turn}
 use Rattle.wx_journal.specs.declared.entry.TurnKind.{TurnKind}
-use Rattle.wx_journal.specs.declared.entry.TurnKind.TheVariants.{Arrive, Work, Job, Ended, Ask, Last}
+use Rattle.wx_journal.specs.declared.entry.TurnKind.TheVariants.{Arrive, Work, Job, Ended, Ask, Change, Last}
 use Rattle.wx_journal.specs.declared.entry.Word.{Word}
 use Rattle.wx_journal.specs.declared.entry.Word.TheVariants.{Idle, Ignored}
 use Rattle.wx_journal.specs.Names.{moment, event_count, creates, is_created, next_job, Names, NamesItsOwn}
@@ -33,17 +35,19 @@ use Rattle.wx_machine.specs.Case.{PlanAdmits, next}
 use Rattle.wx_machine.proofs.Owners.{either, same-is}
 use Rattle.wx_machine.proofs.Places.{IsSilent, placed_none, placed_silent}
 use Rattle.wx_machine.specs.Start.{Start}
-use Rattle.wx_machine.specs.Jobs.{living, parent, jobs, first_end, end, AreLawful, act_plan}
+use Rattle.wx_machine.specs.Jobs.{living, parent, jobs, first_end, end, AreLawful, change_plan, act_plan}
+use Rattle.wx_machine.specs.Settings.{turn_changes, pending, revision, change_count}
 use Rattle.wx_machine.specs.Journal.{listed, passes_unseen, lets_pass, closed, ending, named, bag, one_if, and_one, is_among, unhanded, passed, window, batches, is_over, is_urgent_named, is_urgent_in}
 use Rattle.wx_machine.specs.Due.{IsGreatest, Point, Takes, Filters, Hands, Agenda, Open, Comes, Plans, Ends, Breaks, IsTurn, Admits, sends, plans, says, stays, rest, job_turn, ended_turn, turn_agenda, after_pass, after_drop, after_show, after_hand, follow, is_quitting, settle, agenda, Due, IsRun}
 use Rattle.wx_machine.proofs.BagLaws.{NamesBelow, bag_facts}
 use Rattle.wx_machine.specs.Leads.{Leads, Here, Then, Follows}
 use Rattle.wx_machine.proofs.Orderly.{IsQuiet, IsBrought, IsLasting, IsFit, IsGoing, GoneRunNone, IsOrderly}
 use Rattle.wx_machine.proofs.SettleLaws.{fit_settle, going_calm, going_plans}
-use Rattle.wx_machine.proofs.PlanLaws.{lawful_now, placed_now, lawful_next, lawful_step, lawful_ask, lawful_acts, of_end, end_is_plan, end_placed, end_in_order, names_end}
-use Rattle.wx_machine.proofs.Lawful.{IsOfPlan, IsFree, InOrder, Lawful}
+use Rattle.wx_machine.proofs.PlanLaws.{lawful_now, placed_now, lawful_next, lawful_step, lawful_ask, lawful_acts, lawful_change, revised_step, revised_ask, revised_change, revised_acts, of_end, end_is_plan, end_placed, end_in_order, names_end}
+use Rattle.wx_machine.proofs.Always.{Always, always_now, always_next}
+use Rattle.wx_machine.proofs.Lawful.{IsOfPlan, IsFree, InOrder, Revises, Lawful}
 use Rattle.wx_machine.specs.Last.{last_is, last_added}
-use Rattle.wx_machine.specs.RunLaws.{joined, IsBatched, NoneUrgent, UrgentLast, urgent_in, IsBatch, AreBatches, NoneUrgentWaits, NoneUnseenIsShown, NoneIsShownClosed, AreServed}
+use Rattle.wx_machine.specs.RunLaws.{joined, IsBatched, NoneUrgent, UrgentLast, urgent_in, IsBatch, AreBatches, NoneUrgentWaits, NoneUnseenIsShown, NoneIsShownClosed, AreServed, IsRevised, AreRevised}
 
 -- ---- what an agenda that admits an entry says of it
 
@@ -136,9 +140,9 @@ fit_lasting s p (Comes x more) l = (l.0 p, l.1)
 fit_lasting s p (Plans k more) l = absurd l
 fit_lasting s p (_) l = tt
 
-fit_plans : (s : Start) (p : List Entry) (k : Plan) (more : Agenda) → Lawful p k → IsQuiet more → IsFit s p (plans k more)
-fit_plans s p Done more l q = fit_quiet s p more q
-fit_plans s p (k) more l q = (l, q)
+fit_plans : (s : Start) (p : List Entry) (k : Plan) (more : Agenda) → Lawful p k → IsQuiet more → Always (Revises s) p k → IsFit s p (plans k more)
+fit_plans s p Done more l q r = fit_quiet s p more q
+fit_plans s p (k) more l q r = (l, q, r)
 
 lasting_sends : (s : Start) (xs : List (Event × Priority)) → IsLasting s (sends xs)
 lasting_sends s [] = tt
@@ -153,14 +157,14 @@ fit_says s p word = (λ a. tt, tt)
 
 fit_job : (s : Start) (p : List Entry) (id : Id) (command : Option Command) → NamesItsOwn p → IsPlaced p → IsFit s p (job_turn id command p)
 fit_job s p id None own h = fit_says s p Ignored
-fit_job s p id (Some command) own h = fit_plans s p (step_plan id command p) Open (lawful_step id command p own h) tt
+fit_job s p id (Some command) own h = fit_plans s p (step_plan id command p) Open (lawful_step id command p own h) tt (revised_step s id command p)
 
 fit_ended : (s : Start) (p : List Entry) (id : Option Id) → NamesItsOwn p → IsPlaced p → IsFit s p (ended_turn id p)
 fit_ended s p None own h = fit_says s p Ignored
 fit_ended s p (Some id) own h = fit_job s p id (living id p) own h
 
 fit_ask : (s : Start) (p : List Entry) (id : Id) (ask : AnAsk) (b : Bool) → lives id p ≡ b → NamesItsOwn p → IsPlaced p → IsFit s p (cond b (plans (ask_plan id (sends_of ask) Done) Open) (says Ignored))
-fit_ask s p id ask true alive own h = fit_plans s p (ask_plan id (sends_of ask) Done) Open (lawful_ask id ask p own h alive) tt
+fit_ask s p id ask true alive own h = fit_plans s p (ask_plan id (sends_of ask) Done) Open (lawful_ask id ask p own h alive) tt (revised_ask s id ask p alive)
 fit_ask s p id ask false alive own h = fit_says s p Ignored
 
 -- a window that isn't empty, where the throttle is over
@@ -178,19 +182,25 @@ fit_work s p at false true empty c o = (λ a. (refl, a.1, window_some (window p)
 fit_work s p at false false true c o = fit_says s p Idle
 fit_work s p at false false false c o = (λ a. (a.1, c), tt)
 
-fit_turn : (s : Start) (p : List Entry) (kind : TurnKind) (at : ℕ) → NamesItsOwn p → IsPlaced p → IsFit s p (turn_agenda s kind at p)
-fit_turn s p (Arrive event priority) at own h = (λ a. (refl, tt, refl), tt)
-fit_turn s p Work at own h = fit_work s p at (closed p) (is_over s p at) (length (bag p) == 0) refl refl
-fit_turn s p (Job id) at own h = fit_job s p id (living id p) own h
-fit_turn s p (Ended c) at own h = fit_ended s p (parent c p) own h
-fit_turn s p (Ask id ask) at own h = fit_ask s p id ask (lives id p) refl own h
-fit_turn s p Last at own h = tt
+fit_change : (s : Start) (p : List Entry) (change : AChange) (b : Bool) → pending p ≡ change ∷ [] → IsPlaced p → IsFit s p (cond b (says Ignored) (plans (change_plan (revision s p) Done) Open))
+fit_change s p change true wait h = fit_says s p Ignored
+fit_change s p change false wait h = fit_plans s p (change_plan (revision s p) Done) Open (lawful_change (revision s p) p h) tt (revised_change s p change wait)
 
-fit_hand : (s : Start) (p : List Entry) (n : ℕ) (names : List ℕ) (acts : List Act) → AreLawful (next_job p) acts → IsPlaced (Hand n names acts ∷ p) → IsFit s (Hand n names acts ∷ p) (after_hand acts p)
+fit_turn : (s : Start) (p : List Entry) (kind : TurnKind) (at : ℕ) → pending p ≡ turn_changes kind → NamesItsOwn p → IsPlaced p → IsFit s p (turn_agenda s kind at p)
+fit_turn s p (Arrive event priority) at wait own h = (λ a. (refl, tt, refl), tt)
+fit_turn s p Work at wait own h = fit_work s p at (closed p) (is_over s p at) (length (bag p) == 0) refl refl
+fit_turn s p (Job id) at wait own h = fit_job s p id (living id p) own h
+fit_turn s p (Ended c) at wait own h = fit_ended s p (parent c p) own h
+fit_turn s p (Ask id ask) at wait own h = fit_ask s p id ask (lives id p) refl own h
+fit_turn s p (Change change) at wait own h = fit_change s p change (revision s p == last_revision) wait h
+fit_turn s p Last at wait own h = tt
+
+fit_hand : (s : Start) (p : List Entry) (n : ℕ) (names : List ℕ) (acts : List Act) → AreLawful (next_job p) acts → IsPlaced (Hand n names acts ∷ p) → IsFit s (Hand n names acts ∷ p) (after_hand s acts p)
 fit_hand s p n names acts lawful h =
-    fit_plans s (Hand n names acts ∷ p) (act_plan (λ id. lives id p) acts) Open
-    (lawful_acts acts (Hand n names acts ∷ p) (λ id e. or_left (creates id acts) (is_created id p) e) lawful h)
+    fit_plans s (Hand n names acts ∷ p) (act_plan (λ id. lives id p) (revision s p) acts) Open
+    (lawful_acts (revision s p) acts (Hand n names acts ∷ p) (λ id e. or_left (creates id acts) (is_created id p) e) lawful h)
     tt
+    (revised_acts s (λ id. lives id p) (revision s p) acts (Hand n names acts ∷ p) refl refl)
 
 -- the window, with an event that joins it
 pub joined_if : (p : List Entry) (name : ℕ) (joins : Bool) → joins ≡ true → and_one (window p) (one_if joins name) ≡ window p ++ name ∷ []
@@ -236,7 +246,7 @@ fit_brought s p (e) more b l own placed = fit_lasting s (e ∷ p) more l
 
 -- after a turn
 fit_turned : (s : Start) (p : List Entry) (e : Entry) → IsTurn e → NamesItsOwn p → IsPlaced p → IsFit s (e ∷ p) (follow s e p Open)
-fit_turned s p (Turned t) i own placed = fit_turn s (Turned t ∷ p) t.kind t.at (tt, own) (placed_silent (Turned t) p tt placed)
+fit_turned s p (Turned t) i own placed = fit_turn s (Turned t ∷ p) t.kind t.at refl (tt, own) (placed_silent (Turned t) p tt placed)
 fit_turned s p (TurnFault code) i own placed = tt
 fit_turned s p (_) i own placed = absurd i
 
@@ -254,7 +264,7 @@ follow_plan s p (_) more o = refl
 fit_follow : (s : Start) (p : List Entry) (k : Agenda) (e : Entry) → Admits s p k e → IsFit s p k → NamesItsOwn p → IsPlaced p → IsFit s (e ∷ p) (follow s e p (rest e k))
 fit_follow s p Open e d f own placed = fit_turned s p e d own placed
 fit_follow s p (Comes x more) e d f own placed = fit_brought s p e (stays x e more) (brought s p x more e d f) (lasting_stays s x e more f.1) own placed
-fit_follow s p (Plans k more) e d f own placed = subst (IsFit s (e ∷ p)) (sym (follow_plan s p e (plans (next k e) more) (lawful_now p k e d f.0).of_plan)) (fit_plans s (e ∷ p) (next k e) more (lawful_next p k e d f.0) f.1)
+fit_follow s p (Plans k more) e d f own placed = subst (IsFit s (e ∷ p)) (sym (follow_plan s p e (plans (next k e) more) (lawful_now p k e d f.0).of_plan)) (fit_plans s (e ∷ p) (next k e) more (lawful_next p k e d f.0) f.1 (always_next (Revises s) p k e d f.2))
 fit_follow s p Ends e d f own placed = subst (IsFit s (e ∷ p)) (sym (follow_plan s p e Ends (end_is_plan e (of_end p e d)))) tt
 fit_follow s p Breaks e d f own placed = absurd d
 
@@ -343,7 +353,7 @@ going_turned s p (_) i = absurd i
 
 going_brought : (s : Start) (p : List Entry) (e : Entry) (more : Agenda) → IsBrought s p e → is_quitting p ≡ false → IsGoing (e ∷ p) (settle (e ∷ p) (follow s e p more))
 going_brought s p (Turned t) more b g = absurd b
-going_brought s p (Hand n names acts) more b g = going_plans (Hand n names acts ∷ p) (act_plan (λ id. lives id p) acts) Open tt
+going_brought s p (Hand n names acts) more b g = going_plans (Hand n names acts ∷ p) (act_plan (λ id. lives id p) (revision s p) acts) Open tt
 going_brought s p (e) more b g = going_calm (e ∷ p) (settle (e ∷ p) (follow s e p more)) g
 
 going_more : (s : Start) (p : List Entry) (k : Agenda) (e : Entry) → Admits s p k e → IsFit s p k → IsGoing p k → IsGoing (e ∷ p) (settle (e ∷ p) (follow s e p (rest e k)))
@@ -373,7 +383,7 @@ orderly_turn s t p h =
       in_order = (tt, h.in_order);
       idle = h.idle;
       placed = placed;
-      fit = fit_settle s (Turned t ∷ p) _ (fit_turn s (Turned t ∷ p) t.kind t.at (tt, h.own) placed);
+      fit = fit_settle s (Turned t ∷ p) _ (fit_turn s (Turned t ∷ p) t.kind t.at refl (tt, h.own) placed);
       going = going_calm (Turned t ∷ p) _ refl;
     }
 
@@ -455,7 +465,7 @@ waits_quiet s p (_) q h = absurd q
 
 -- a hand doesn't last, since a window may be empty
 waits_lasting : (s : Start) (p : List Entry) (more : Agenda) → IsLasting s more → NoneUrgentWaits p → Waits s p more
-waits_lasting s p (Comes Hands more) l h = let some : 0 < 0 = (l.0 [] ([], tt)).2 in absurd (omega arith)
+waits_lasting s p (Comes Hands more) l h = let some : 0 < 0 = (l.0 [] ([], tt, λ none. absurd (omega arith))).2 in absurd (omega arith)
 waits_lasting s p (_) l h = h
 
 waits_plans : (s : Start) (p : List Entry) (k : Plan) (more : Agenda) → IsQuiet more → NoneUrgentWaits p → Waits s p (plans k more)
@@ -515,6 +525,7 @@ waits_turn s p Work at now h = waits_work s p at (closed p) (is_over s p at) (le
 waits_turn s p (Job id) at now h = waits_job s p id (living id p) h
 waits_turn s p (Ended c) at now h = waits_ended s p (parent c p) h
 waits_turn s p (Ask id ask) at now h = either (Waits s p) (lives id p) _ _ (waits_plans s p (ask_plan id (sends_of ask) Done) Open tt h) h
+waits_turn s p (Change change) at now h = either (Waits s p) (revision s p == last_revision) (says Ignored) (plans (change_plan (revision s p) Done) Open) h h
 waits_turn s p Last at now h = h
 
 -- an event that passed is a batch with the window, or waits there and isn't urgent
@@ -578,7 +589,7 @@ waits_follow s (Filter n name answer) p d o h = waits_filter s p n name answer (
 waits_follow s (Show n error wish) p d o h = waits_show s (Show n error wish ∷ p) (ending error wish) (rest (Show n error wish) (agenda s p)) (waits_rest s p (Show n error wish ∷ p) (agenda s p) (Show n error wish) o.fit) (calm_before s p (Show n error wish) h refl d)
 waits_follow s (Hand n names acts) p d o h =
     let none : window (Hand n names acts ∷ p) ≡ [] = window_handed n names acts p (hand_is s p n names acts o d).0 in
-    waits_plans s (Hand n names acts ∷ p) (act_plan (λ id. lives id p) acts) Open tt (subst (NoneUrgent (urgent_in (Hand n names acts ∷ p))) (sym none) tt)
+    waits_plans s (Hand n names acts ∷ p) (act_plan (λ id. lives id p) (revision s p) acts) Open tt (subst (NoneUrgent (urgent_in (Hand n names acts ∷ p))) (sym none) tt)
 waits_follow s (e) p d o h = waits_rest s p (e ∷ p) (agenda s p) e o.fit (calm_before s p e h refl d)
 
 waits_more : (s : Start) (e : Entry) (p : List Entry) → Due s p e → IsOrderly s p → Waits s p (agenda s p) → Waits s (e ∷ p) (agenda s (e ∷ p))
@@ -615,6 +626,28 @@ run_is_served s [] r = tt
 run_is_served s (Turned t ∷ p) r = (open_at_turn s p (agenda s p) (Turned t) tt r.0 (orderly s p r.1).fit, run_is_served s p r.1)
 run_is_served s (TurnFault code ∷ p) r = (open_at_turn s p (agenda s p) (TurnFault code) tt r.0 (orderly s p r.1).fit, run_is_served s p r.1)
 run_is_served s (_ ∷ p) r = run_is_served s p r.1
+
+-- each entry of a run that tells a change names the next revision, and answers a change that waits
+revises : (s : Start) (p : List Entry) (k : Agenda) (named : ℕ) → Admits s p k (Changed named) → IsFit s p k → Revises s p (Changed named) Done
+revises s p Open named d f = absurd d
+revises s p (Comes x more) named d f = absurd (brought s p x more (Changed named) d f)
+revises s p (Plans k more) named d f = always_now (Revises s) p k (Changed named) d f.2
+revises s p Ends named d f = absurd (of_end p (Changed named) d)
+revises s p Breaks named d f = absurd d
+
+counted : (s : Start) (p : List Entry) → IsRun s p → revision s p ≡ s.config.change_signal + change_count p
+counted s [] r = omega arith
+counted s (Changed named ∷ p) r =
+    let h = revises s p (agenda s p) named r.0 (orderly s p r.1).fit in
+    let before = counted s p r.1 in h.1 ∙ omega (arith, h.2, before)
+counted s (_ ∷ p) r = counted s p r.1
+
+pub run_is_revised : (s : Start) (p : List Entry) → IsRun s p → AreRevised s p
+run_is_revised s [] r = tt
+run_is_revised s (Changed named ∷ p) r =
+    let h = revises s p (agenda s p) named r.0 (orderly s p r.1).fit in
+    let all = counted s (Changed named ∷ p) r in (record { waits = h.0; stands = h.1; counted = sym h.1 ∙ all }, run_is_revised s p r.1)
+run_is_revised s (_ ∷ p) r = run_is_revised s p r.1
 
 -- no urgent event waits in a run that owes something else than a batch
 pub none_waits : (s : Start) (p : List Entry) → IsRun s p → is_to_hand (agenda s p) ≡ false → NoneUrgentWaits p

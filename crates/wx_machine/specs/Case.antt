@@ -7,7 +7,7 @@ use Rattle.wx_control.specs.declared.id.Id.{Id}
 use Rattle.wx_journal.specs.declared.child.HostFault.{HostFault}
 use Rattle.wx_journal.specs.declared.entry.Entry.{Entry}
 use Rattle.wx_journal.specs.declared.entry.Entry.TheVariants.{Asked, Spawn, Signal, Kill, Wait, Poll, Hook, JobError}
-use Rattle.wx_journal.specs.Sorts.{Subject, OfWord, is_job, sort}
+use Rattle.wx_journal.specs.Sorts.{Subject, OfWord, OfSettings, is_job, sort}
 use Rattle.wx_journal.specs.Names.{ticket_count, child_count}
 use Rattle.wx_journal.specs.Told.{tell, tell_if, is_world, is_hooks, Counts}
 use Rattle.wx_machine.specs.Seen.{Seen}
@@ -61,9 +61,10 @@ PlanAdmits p Done e = ⊥
 PlanAdmits p GivenUp e = ⊥
 PlanAdmits p (Owes call k f) e = (a : CallAnswer call) × (e ≡ entry p call a)
 
--- the entries of plans are of a job, or say a word
+-- the entries of plans are of a job, say a word, or tell that the settings were changed
 abbrev pub is_planned : Subject → Bool
 is_planned OfWord = true
+is_planned OfSettings = true
 is_planned (subject) = is_job subject
 
 abbrev pub is_of_plan : Entry → Bool

@@ -8,15 +8,16 @@ use Rattle.prio_channel.specs.Channel.{AllAtMost}
 use Rattle.wx_journal.specs.declared.entry.Entry.{Entry}
 use Rattle.wx_journal.specs.declared.entry.Entry.TheVariants.{Begin, Sent, Turn as Turned, TurnFault, Offer, Word as Said, Take, Filter, Show, Hand}
 use Rattle.wx_journal.specs.Acts.{JournalAct as Act}
-use Rattle.wx_journal.specs.declared.entry.Act.TheVariants.{Create, Ask as Asks, Quit}
+use Rattle.wx_journal.specs.declared.entry.Act.TheVariants.{Create, Ask as Asks, Change as Changes, Quit}
 use Rattle.wx_journal.specs.declared.entry.Named.{Named}
 use Rattle.wx_journal.specs.declared.entry.TurnKind.{TurnKind}
-use Rattle.wx_journal.specs.declared.entry.TurnKind.TheVariants.{Arrive, Work, Job, Ended, Ask, Last}
+use Rattle.wx_journal.specs.declared.entry.TurnKind.TheVariants.{Arrive, Work, Job, Ended, Ask, Change, Last}
 use Rattle.wx_journal.specs.declared.entry.Word.{Word}
 use Rattle.wx_journal.specs.declared.entry.Word.TheVariants.{Idle, Ignored}
 use Rattle.wx_journal.specs.Told.{is_turn}
 use Rattle.wx_journal.specs.Names.{moment, event_count, next_job}
 use Rattle.wx_command.specs.declared.command.Command.{Command}
+use Rattle.wx_config.specs.Changes.{last_revision}
 use Rattle.wx_error.specs.declared.runtime.RuntimeError.{RuntimeError}
 use Rattle.wx_error.specs.declared.runtime.RuntimeError.TheVariants.{Exit}
 use Rattle.wx_error.specs.declared.error.CriticalError.{CriticalError}
@@ -28,8 +29,9 @@ use Rattle.wx_machine.specs.History.{lives}
 use Rattle.wx_machine.specs.Table.{Plan, Done, step_plan, ask_plan}
 use Rattle.wx_machine.specs.Case.{PlanAdmits, next}
 use Rattle.wx_machine.specs.Start.{Start}
-use Rattle.wx_machine.specs.Jobs.{living, parent, AreLawful, act_plan, end}
-use Rattle.wx_machine.specs.Journal.{settings, is_urgent_named, passes_unseen, lets_pass, closed, ending, named, bag, offered, window, is_over}
+use Rattle.wx_machine.specs.Jobs.{living, parent, AreLawful, change_plan, act_plan, end}
+use Rattle.wx_machine.specs.Settings.{settings, revision, MayChange}
+use Rattle.wx_machine.specs.Journal.{is_urgent_named, passes_unseen, lets_pass, closed, ending, named, bag, offered, window, is_over}
 
 -- the first entry of a run
 abbrev pub begin_of : Start → Entry
@@ -71,18 +73,18 @@ pub data Point : Type 0 where
   Hands : Point
 
 -- what may be answered behind these entries: which event is taken, what a filter, an error handler or an action answers
-abbrev pub PointAnswer : List Entry → Point → Type 0
-PointAnswer p Begins = Unit {0}
-PointAnswer p (Sends event priority) = Unit {0}
-PointAnswer p (Offers event priority) = Unit {0}
-PointAnswer p (Says word) = Unit {0}
-PointAnswer p Takes = (name : ℕ) × IsGreatest name (bag p)
-PointAnswer p (Filters name) = Result Bool RuntimeError
-PointAnswer p (Shows error) = Wish
-PointAnswer p Hands = (acts : List Act) × AreLawful (next_job p) acts
+abbrev pub PointAnswer : Start → List Entry → Point → Type 0
+PointAnswer s p Begins = Unit {0}
+PointAnswer s p (Sends event priority) = Unit {0}
+PointAnswer s p (Offers event priority) = Unit {0}
+PointAnswer s p (Says word) = Unit {0}
+PointAnswer s p Takes = (name : ℕ) × IsGreatest name (bag p)
+PointAnswer s p (Filters name) = Result Bool RuntimeError
+PointAnswer s p (Shows error) = Wish
+PointAnswer s p Hands = (acts : List Act) × AreLawful (next_job p) acts × MayChange (revision s p) acts
 
 -- the entry behind these, with this answer
-abbrev pub brings : Start → (p : List Entry) → (x : Point) → PointAnswer p x → Entry
+abbrev pub brings : (s : Start) → (p : List Entry) → (x : Point) → PointAnswer s p x → Entry
 brings s p Begins a = begin_of s
 brings s p (Sends event priority) a = Sent (event_count p) event priority
 brings s p (Offers event priority) a = Offer (event_count p) None (offered s p) event priority
@@ -112,7 +114,7 @@ IsTurn e = T (is_turn e)
 -- the entries that an agenda lets come next after these
 abbrev pub Admits : Start → List Entry → Agenda → Entry → Type 0
 Admits s p Open e = IsTurn e
-Admits s p (Comes x more) e = (a : PointAnswer p x) × (e ≡ brings s p x a)
+Admits s p (Comes x more) e = (a : PointAnswer s p x) × (e ≡ brings s p x a)
 Admits s p (Plans k more) e = PlanAdmits p k e
 Admits s p Ends e = PlanAdmits p (end p) e
 Admits s p Breaks e = ⊥
@@ -163,6 +165,10 @@ ended_turn (Some id) p = job_turn id (living id p) p
 abbrev pub ask_turn : Id → AnAsk → List Entry → Agenda
 ask_turn id ask p = if lives id p then plans (ask_plan id (sends_of ask) Done) Open else says Ignored
 
+-- A change is made, and where the revision can't be raised it is ignored.
+abbrev pub change_turn : ℕ → Agenda
+change_turn revision = if revision == last_revision then says Ignored else plans (change_plan revision Done) Open
+
 -- what a turn of this kind and moment owes, behind its entry
 abbrev pub turn_agenda : Start → TurnKind → ℕ → List Entry → Agenda
 turn_agenda s (Arrive event priority) at p = Comes (Offers event priority) Open
@@ -170,6 +176,7 @@ turn_agenda s Work at p = work s p at
 turn_agenda s (Job id) at p = job_turn id (living id p) p
 turn_agenda s (Ended c) at p = ended_turn (parent c p) p
 turn_agenda s (Ask id ask) at p = ask_turn id ask p
+turn_agenda s (Change change) at p = change_turn (revision s p)
 turn_agenda s Last at p = Ends
 
 -- An event that passed is handed at once, with the window, where it is urgent or the throttle is over.
@@ -197,6 +204,7 @@ after_show (Some error) more = Breaks
 abbrev pub is_quit : Act → Bool
 is_quit (Create id command) = false
 is_quit (Asks id ask) = false
+is_quit (Changes change) = false
 is_quit Quit = true
 
 -- these acts ask for the end
@@ -208,8 +216,8 @@ abbrev pub after_acts : Bool → Agenda
 after_acts ends = if ends then Ends else Open
 
 -- A batch is the last thing of its turn: its acts are done.
-abbrev pub after_hand : List Act → List Entry → Agenda
-after_hand acts p = plans (act_plan (λ id. lives id p) acts) Open
+abbrev pub after_hand : Start → List Act → List Entry → Agenda
+after_hand s acts p = plans (act_plan (λ id. lives id p) (revision s p) acts) Open
 
 -- What an entry leaves owed, where this stood behind it. One that has no row here leaves just this.
 abbrev pub follow : Start → Entry → List Entry → Agenda → Agenda
@@ -218,7 +226,7 @@ follow s (TurnFault code) p more = Ends
 follow s (Take name) p more = after_take s name p more
 follow s (Filter n name answer) p more = after_filter s name answer (Filter n name answer ∷ p) more
 follow s (Show n error wish) p more = after_show (ending error wish) more
-follow s (Hand n names acts) p more = after_hand acts p
+follow s (Hand n names acts) p more = after_hand s acts p
 follow s (_) p more = more
 
 -- the acts of this turn's batch ask for the end

@@ -1,13 +1,13 @@
 -- What a journal says of the jobs of an engine.
-use Rattle.std.specs.Prelude.{◌≡◌, ℕ, ◌<◌, Bool, false, ◌||◌, ◌==◌, nat_lt, if◌then◌else◌, Option, None, Some, List, [], ◌∷◌}
+use Rattle.std.specs.Prelude.{◌≡◌, ℕ, ◌+◌, ◌<◌, Bool, false, ◌||◌, ◌==◌, nat_lt, if◌then◌else◌, Option, None, Some, List, [], ◌∷◌}
 use Rattle.std.specs.List.{filter, list_any, AllByRecursion}
 use Rattle.wx_command.specs.declared.command.Command.{Command}
 use Rattle.wx_control.specs.declared.id.Id.{Id}
 use Rattle.wx_control.specs.Asks.{sends_of}
 use Rattle.wx_journal.specs.Acts.{JournalAct as Act}
-use Rattle.wx_journal.specs.declared.entry.Act.TheVariants.{Create, Ask, Quit}
+use Rattle.wx_journal.specs.declared.entry.Act.TheVariants.{Create, Ask, Change, Quit}
 use Rattle.wx_journal.specs.declared.entry.Entry.{Entry}
-use Rattle.wx_journal.specs.declared.entry.Entry.TheVariants.{Word as Said, Hand, Made}
+use Rattle.wx_journal.specs.declared.entry.Entry.TheVariants.{Word as Said, Hand, Made, Changed}
 use Rattle.wx_journal.specs.declared.entry.Word.TheVariants.{Ignored}
 use Rattle.wx_journal.specs.Names.{above, IsNextJob}
 use Rattle.wx_machine.specs.History.{same, lives, child, is_child, command}
@@ -54,6 +54,7 @@ abbrev pub AreLawful : ℕ → List Act → Type 0
 AreLawful next [] = Unit {0}
 AreLawful next (Create id command ∷ acts) = IsNextJob next id × AreLawful (above next id) acts
 AreLawful next (Ask id ask ∷ acts) = AreLawful next acts
+AreLawful next (Change change ∷ acts) = AreLawful next acts
 AreLawful next (Quit ∷ acts) = AreLawful next acts
 
 -- the id of the next new job, behind these acts
@@ -61,15 +62,21 @@ abbrev pub next_created : ℕ → List Act → ℕ
 next_created next [] = next
 next_created next (Create id command ∷ acts) = next_created (above next id) acts
 next_created next (Ask id ask ∷ acts) = next_created next acts
+next_created next (Change change ∷ acts) = next_created next acts
 next_created next (Quit ∷ acts) = next_created next acts
 
--- What acts ask for, in order: each job that they create is made, and each ask is asked of a job that lives or was created
--- by an act before it, and else is ignored.
-abbrev pub act_plan : (Id → Bool) → List Act → Plan
-act_plan there [] = Done
-act_plan there (Create id command ∷ acts) = adds (Made id) (act_plan (λ job. same id job || there job) acts)
-act_plan there (Ask id ask ∷ acts) = if there id then ask_plan id (sends_of ask) (act_plan there acts) else adds (Said Ignored) (act_plan there acts)
-act_plan there (Quit ∷ acts) = act_plan there acts
+-- a change of the settings from this revision on, and then what stands behind it
+abbrev pub change_plan : ℕ → Plan → Plan
+change_plan revision more = adds (Changed (revision + 1)) more
+
+-- What acts ask for from this revision on, in order: each job that they create is made, each ask is asked of a job that lives
+-- or was created by an act before it, and else is ignored, and each change is made.
+abbrev pub act_plan : (Id → Bool) → ℕ → List Act → Plan
+act_plan there revision [] = Done
+act_plan there revision (Create id command ∷ acts) = adds (Made id) (act_plan (λ job. same id job || there job) revision acts)
+act_plan there revision (Ask id ask ∷ acts) = if there id then ask_plan id (sends_of ask) (act_plan there revision acts) else adds (Said Ignored) (act_plan there revision acts)
+act_plan there revision (Change change ∷ acts) = change_plan revision (act_plan there (revision + 1) acts)
+act_plan there revision (Quit ∷ acts) = act_plan there revision acts
 
 -- the end: each job that lives ends, in this order
 abbrev pub first_end : List Id → List Entry → Plan

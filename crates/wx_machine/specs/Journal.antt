@@ -11,7 +11,6 @@ use Rattle.wx_journal.specs.declared.entry.Entry.TheVariants.{Sent, Turn as Turn
 use Rattle.wx_journal.specs.declared.entry.Named.{Named}
 use Rattle.wx_journal.specs.declared.entry.Offered.{Offered}
 use Rattle.wx_journal.specs.declared.entry.Offered.TheVariants.{Queued, Full, Closed}
-use Rattle.wx_config.specs.declared.config.Config.{Config}
 use Rattle.wx_error.specs.declared.runtime.RuntimeError.{RuntimeError}
 use Rattle.wx_error.specs.declared.runtime.RuntimeError.TheVariants.{Exit}
 use Rattle.wx_error.specs.declared.error.CriticalError.{CriticalError}
@@ -19,11 +18,8 @@ use Rattle.wx_error.specs.declared.error.CriticalError.TheVariants.{Exit as Crit
 use Rattle.wx_journal.specs.declared.wish.Wish.{Wish}
 use Rattle.wx_journal.specs.declared.wish.Wish.TheVariants.{Nothing, Elevate, Critical}
 use Rattle.wx_machine.specs.Start.{Start}
+use Rattle.wx_machine.specs.Settings.{settings}
 use Rattle.wx_machine.specs.Told.{is_last}
-
--- the settings that stand: nothing changes those of the start yet
-abbrev pub settings : Start → List Entry → Config
-settings s p = s.config
 
 -- the event of this name, with its priority
 abbrev pub listed : ℕ → List Entry → Option (Event × Priority)

@@ -17,6 +17,7 @@ pub mod Progress
 pub mod Quits
 pub mod RunLaws
 pub mod Seen
+pub mod Settings
 pub mod Start
 pub mod States
 pub mod Steady

@@ -1,12 +1,13 @@
 -- What holds of every run.
-use Rattle.std.specs.Prelude.{◌≡◌, ℕ, ◌<◌, ◌≤◌, Bool, true, false, ◌||◌, List, [], ◌∷◌, ◌++◌, length}
+use Rattle.std.specs.Prelude.{◌≡◌, ℕ, ◌+◌, ◌<◌, ◌≤◌, Bool, true, false, ◌||◌, List, [], ◌∷◌, ◌++◌, length}
 use Rattle.std.specs.List.{AllByRecursion, flat_map}
 use Rattle.wx_journal.specs.declared.entry.Entry.{Entry}
-use Rattle.wx_journal.specs.declared.entry.Entry.TheVariants.{Turn as Turned, TurnFault, Filter, Show, Hand, Made}
+use Rattle.wx_journal.specs.declared.entry.Entry.TheVariants.{Turn as Turned, TurnFault, Filter, Show, Hand, Made, Changed}
 use Rattle.wx_control.specs.declared.id.Id.{Id}
 use Rattle.wx_journal.specs.Names.{moment}
 use Rattle.wx_machine.specs.History.{same}
 use Rattle.wx_machine.specs.Start.{Start}
+use Rattle.wx_machine.specs.Settings.{pending, revision, change_count}
 use Rattle.wx_machine.specs.Journal.{is_urgent_named, passes_unseen, closed, passed, batches, window, is_over}
 use Rattle.wx_machine.specs.Due.{Open, agenda}
 use Rattle.wx_machine.specs.Last.{last_is}
@@ -73,6 +74,18 @@ abbrev pub AreMadeOnce : List Entry → Type 0
 AreMadeOnce [] = Unit {0}
 AreMadeOnce (Made id ∷ p) = (was_made id p ≡ false) × AreMadeOnce p
 AreMadeOnce (_ ∷ p) = AreMadeOnce p
+
+-- Each entry that tells a change answers one that waits. It names the revision of the settings that stand then, which is that of the
+-- start with one more for each change so far.
+pub record IsRevised (s : Start) (p : List Entry) (named : ℕ) : Type 0 where
+  pub waits : 0 < length (pending p)
+  pub stands : revision s (Changed named ∷ p) ≡ named
+  pub counted : named ≡ s.config.change_signal + change_count (Changed named ∷ p)
+
+abbrev pub AreRevised : Start → List Entry → Type 0
+AreRevised s [] = Unit {0}
+AreRevised s (Changed named ∷ p) = IsRevised s p named × AreRevised s p
+AreRevised s (_ ∷ p) = AreRevised s p
 
 -- Each turn, and the fault of one, came where nothing was owed: all that was due in a turn is done before the next.
 abbrev pub AreServed : Start → List Entry → Type 0

@@ -3,7 +3,7 @@ ghost use Rattle.std.specs.Prelude.{◌≡◌, ◌≢◌, ◌⊎◌, ◌++◌, �
 ghost use Rattle.std.specs.Io.KnownBytes.{Appends};
 ghost use Rattle.wx_journal.specs.Told.{Rose};
 ghost use Rattle.wx_config.specs.Defaults.{default_config};
-ghost use Rattle.wx_script.specs.Follows.{IsScript, start_of};
+ghost use Rattle.wx_script.specs.Follows.{IsScript, config_of, folder_of, start_of};
 ghost use Rattle.wx_bytes.specs.Causes.{AddsFront};
 ghost use Rattle.wx_replay.specs.Replays.{status_of, IsShown, IsReplay, ReplaysRead, IsWritten, HasRead, HasWritten};
 
@@ -22,13 +22,29 @@ use wx_words::TextPath;
 
 /// The settings that a script states.
 fn config_of(alloc: Global, script: &Script) -> Result<Config, Memory>
-    ensures { IfOk result (λ config. config ≡ record (default_config config.fs_ready) { throttle = script.now.throttle; event_channel_size = script.now.size; error_channel_size = script.now.error_size }) }
+    ensures { IfOk result (λ config. config ≡ config_of config.fs_ready script.now) }
 {
+    let paths = script.paths.copy(alloc)?;
     let mut config = Config::new(alloc)?;
     config.throttle.replace(script.throttle);
     config.event_channel_size = script.size;
     config.error_channel_size = script.error_size;
+    config.keyboard_events.replace(script.keyboard);
+    config.follow_symlinks.replace(script.follow);
+    config.signal_job_control = script.job_signals;
+    config.file_watcher.replace(script.watcher);
+    config.pathset.replace(paths);
     Ok(config)
+}
+
+/// The folder that a script states, or the topmost one.
+fn folder_of(alloc: Global, script: &Script) -> Result<TextPath, Memory>
+    ensures { IfOk result (λ folder. folder ≡ folder_of script.now) }
+{
+    match &script.folder {
+        Some(folder) => folder.copy(alloc),
+        None => Ok(TextPath::new(Text::from_slice(alloc, b"/")?)),
+    }
 }
 
 /// The engine that a script states, to which all its events were sent.
@@ -36,8 +52,8 @@ fn engine_of(alloc: Global, script: &Script) -> Result<Watchexec, Memory>
     requires { IsScript script.now }
     ensures { IfOk result (λ engine. engine ≡ start_of engine.config.fs_ready script.now) }
 {
+    let folder = folder_of(alloc, script)?;
     let config = config_of(alloc, script)?;
-    let folder = TextPath::new(Text::from_slice(alloc, b"/")?);
     let mut engine = Watchexec::with_config(alloc, config, folder)?;
     for (event, priority) in script.sends.as_slice() {
         // a script sends no more events than the queue holds

@@ -18,6 +18,8 @@ enum Act {
     Ask(u32, Asked),
     // of a job that isn't there
     AskNone,
+    // in these words
+    Change(&'static [u8]),
 }
 
 /// How many acts an action has at most.
@@ -58,6 +60,7 @@ enum Turn {
     Ended(u32),
     Ask(u32, Asked),
     Job(u32),
+    Change,
 }
 
 /// What is due where each event that passes is handed at once, and each spawn, kill and wait goes well. Of the events that wait
@@ -128,6 +131,7 @@ impl Rules {
             Turn::Ended(child) => self.end_child(child, at),
             Turn::Ask(job, asked) => self.ask(job, asked),
             Turn::Job(job) => self.step(job, at),
+            Turn::Change => self.up(Sort::Changed),
         }
     }
 
@@ -214,6 +218,7 @@ impl Rules {
             Act::Quit => self.is_over = true,
             Act::Create => self.create(),
             Act::Ask(job, asked) => self.ask_shown(job, asked),
+            Act::Change(_) => self.up(Sort::Changed),
             Act::AskNone | Act::Nothing => {}
         }
     }
@@ -473,14 +478,30 @@ impl Draft {
 
     /// An act. Only a job that was created so far is asked for something.
     fn draw_act(&mut self) -> Act {
-        match self.draw(24) {
+        match self.draw(28) {
             0 => Act::Quit,
             1 | 2 => Act::AskNone,
+            24..=27 => Act::Change(self.draw_change()),
             3..=19 if self.created > 0 => Act::Ask(self.draw(self.created), self.draw_asked()),
             _ => {
                 self.created = self.created.saturating_add(1);
                 Act::Create
             }
+        }
+    }
+
+    /// A change that decides nothing of what counts say, as no throttle does that is 0.
+    fn draw_change(&mut self) -> &'static [u8] {
+        match self.draw(9) {
+            0 => b" change signal",
+            1 => b" change paths 2 r /a n /b",
+            2 => b" change watcher poll 5",
+            3 => b" change follow off",
+            4 => b" change keyboard on",
+            5 => b" change throttle 0",
+            6 => b" change filterer 4294967295",
+            7 => b" change onerror 7",
+            _ => b" change onaction 8",
         }
     }
 
@@ -594,7 +615,7 @@ impl Draft {
 
     /// A line of any form that may stand in the middle.
     fn put_line(&mut self) {
-        match self.draw(45) {
+        match self.draw(48) {
             0..=5 => self.put_arrival(),
             6..=11 => self.put_work(),
             12..=27 => self.put_step(),
@@ -603,6 +624,7 @@ impl Draft {
             36 => self.put_unread(),
             37 => self.put_answer(),
             list @ 38..=42 => self.put_next(list),
+            45..=47 => self.put_change(),
             _ => self.put_action(),
         }
     }
@@ -647,6 +669,14 @@ impl Draft {
         self.rules.give(Turn::Ask(job, asked), self.moment);
     }
 
+    /// The settings change.
+    fn put_change(&mut self) {
+        let words = self.draw_change();
+        self.put_turn(words);
+        self.put(b"\n");
+        self.rules.give(Turn::Change, self.moment);
+    }
+
     /// A line that is not read.
     fn put_unread(&mut self) {
         let line = match self.draw(3) {
@@ -687,6 +717,7 @@ impl Draft {
             Act::Create => self.put(b" create exec ---- 1 a"),
             Act::Ask(job, asked) => self.put_number(b" ask ", job, asked.words()),
             Act::AskNone => self.put(b" ask 900 start"),
+            Act::Change(words) => self.put(words),
         }
     }
 

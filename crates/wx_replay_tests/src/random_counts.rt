@@ -23,6 +23,7 @@ pub(crate) enum Sort {
     Hand,
     Made,
     Asked,
+    Changed,
     Pick,
     Run,
     Begun,
@@ -56,10 +57,10 @@ pub(crate) enum Sort {
 }
 
 /// How many sorts there are.
-const SORTS: usize = 40;
+const SORTS: usize = 41;
 
 /// How lines of each sort begin, and what stands behind their third word.
-const LINES: [(&[u8], &[u8], Sort); 38] = [
+const LINES: [(&[u8], &[u8], Sort); 39] = [
     (b"begin ", b"", Sort::Begin),
     (b"sent ", b"", Sort::Sent),
     (b"turn ", b"", Sort::Turn),
@@ -76,6 +77,7 @@ const LINES: [(&[u8], &[u8], Sort); 38] = [
     (b"hand ", b"", Sort::Hand),
     (b"made ", b"", Sort::Made),
     (b"asked ", b"", Sort::Asked),
+    (b"changed ", b"", Sort::Changed),
     (b"pick ", b"", Sort::Pick),
     (b"run ", b"", Sort::Run),
     (b"begun ", b"", Sort::Begun),

@@ -46,7 +46,8 @@ fn expect_run(rt: &impl Abort, alloc: Global, draft: &Draft, seed: u64) {
 }
 
 /// What must come in some of the runs.
-const SOUGHT: [Sort; 6] = [
+const SOUGHT: [Sort; 7] = [
+    Sort::Changed,
     Sort::Grace,
     Sort::Signal,
     Sort::SentSignal,
@@ -71,6 +72,7 @@ fn random_scripts_have_the_lines_that_are_due(rt: HostRuntime) {
         add_counts(&mut all, &draft.rules.world.counts);
         drop(draft);
     }
+    assert!(rt; all.get(Sort::Changed) > 0);
     assert!(rt; all.get(Sort::Grace) > 0 && all.get(Sort::JobError) > 0);
     assert!(rt; all.get(Sort::Signal) > all.get(Sort::SentSignal));
     assert!(rt; all.get(Sort::LaterPoll) > 0 && all.get(Sort::Poll) > all.get(Sort::LaterPoll));

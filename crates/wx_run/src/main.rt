@@ -5,6 +5,8 @@
 mod function_tests;
 #[cfg(test)]
 mod grace_tests;
+#[cfg(test)]
+mod settings_tests;
 mod standard;
 #[cfg(test)]
 mod tests;

@@ -36,7 +36,13 @@ fn expect_so(rt: &impl Abort, so: bool, script: &[u8]) {
 }
 
 /// Holds what is written for this script to be this text, and the run to end so.
-fn expect_text(rt: &impl Abort, alloc: Global, script: &[u8], text: &[u8], want: Status) {
+pub(crate) fn expect_text(
+    rt: &impl Abort,
+    alloc: Global,
+    script: &[u8],
+    text: &[u8],
+    want: Status,
+) {
     let (sink, status) = run(alloc, b"replay", script).expect(rt, "memory for a run");
     expect_so(rt, sink.text().as_slice() == text, script);
     expect_so(rt, status == want, script);
@@ -53,7 +59,7 @@ fn expect_journal(rt: &impl Abort, alloc: Global, script: &[u8], journal: &[u8],
 }
 
 /// Holds what is written for this script to end so, and the run to end well.
-fn expect_ending(rt: &impl Abort, alloc: Global, script: &[u8], journal: &[u8]) {
+pub(crate) fn expect_ending(rt: &impl Abort, alloc: Global, script: &[u8], journal: &[u8]) {
     let (sink, status) = run(alloc, b"replay", script).expect(rt, "memory for a run");
     expect_so(rt, sink.text().as_slice().ends_with(journal), script);
     expect_so(rt, status == Status::Done, script);

@@ -9,7 +9,7 @@ use Rattle.wx_control.specs.declared.ask.Ask.{Ask as AnAsk}
 use Rattle.wx_control.specs.declared.id.Id.{Id}
 use Rattle.wx_control.specs.declared.job.Job.{Job}
 use Rattle.wx_journal.specs.Acts.{JournalAct as Act}
-use Rattle.wx_journal.specs.declared.entry.Act.TheVariants.{Create, Ask as Asks, Quit}
+use Rattle.wx_journal.specs.declared.entry.Act.TheVariants.{Create, Ask as Asks, Change, Quit}
 use Rattle.wx_journal.specs.declared.entry.Entry.{Entry}
 use Rattle.wx_journal.specs.declared.entry.Entry.TheVariants.{Filter, Show, Hand, Poll, Hook}
 use Rattle.wx_journal.specs.declared.wish.Wish.{Wish}
@@ -43,6 +43,7 @@ with_ask p done id ask = if is_there p done id then done ++ Asks id ask ∷ [] e
 abbrev pub with_act : List Entry → List Act → ScriptAct → List Act
 with_act p done (Create New command) = with_create p done command
 with_act p done (Asks id ask) = with_ask p done id ask
+with_act p done (Change change) = done ++ Change change ∷ []
 with_act p done Quit = with_quit done
 
 abbrev pub performed : List Entry → List Act → List ScriptAct → List Act
@@ -91,10 +92,15 @@ hook_count (_ ∷ p) = hook_count p
 abbrev pub with_words : List (List ℕ) → Spawnable → Spawnable
 with_words words what = record what { words = what.words ++ words }
 
--- An entry, after these, is as its line asks, if it is the call of a spawn hook: it left what the job was created to run, with
--- the words of the first line behind in the first call, and so on, and with none behind where no line is left.
+-- An entry, after these, is as its line asks, if it is the call of a spawn hook that was given this: it left this, with the words
+-- of the first line behind in the first call, and so on, and with none behind where no line is left.
+abbrev pub LeavesWords : List (List (List ℕ)) → List Entry → Spawnable → Entry → Type 0
+LeavesWords lines p given (Hook job n left) = left ≡ Ok (with_words (get_or lines (hook_count p) []) given)
+LeavesWords lines p given (_) = Unit {0}
+
+-- each is given what its job was created to run
 abbrev pub IsHooked : List (List (List ℕ)) → List Entry → Entry → Type 0
-IsHooked lines p (Hook job n left) = (created : Command) → command job p ≡ Some created → left ≡ Ok (with_words (get_or lines (hook_count p) []) (spawnable_of created))
+IsHooked lines p (Hook job n left) = (created : Command) → command job p ≡ Some created → LeavesWords lines p (spawnable_of created) (Hook job n left)
 IsHooked lines p (_) = Unit {0}
 
 -- each call did

@@ -1,7 +1,13 @@
 -- What a run with the world and the hooks of a script comes to.
-use Rattle.std.proofs.Common.{◌≡◌, ℕ, Bool, true, false, cond, if◌then◌else◌, is_some, Option, None, Some, IfSome, get_or, List, [], ◌∷◌, ◌++◌, length, nat_le, ◌&&◌, refl, ap, sym, subst, ◌∙◌}
+use Rattle.std.proofs.Common.{◌≡◌, ℕ, Bool, true, false, cond, if◌then◌else◌, is_some, Option, None, Some, IfSome, Result, get_or, List, [], ◌∷◌, ◌++◌, length, nat_le, ◌&&◌, refl, ap, sym, subst, ◌∙◌}
 use Rattle.std.proofs.lemmas.List.{append-nil}
 use Rattle.std.specs.List.{list_all}
+use Rattle.wx_text.specs.declared.list.Memory.{Memory}
+use Rattle.wx_command.specs.declared.command.Command.{Command}
+use Rattle.wx_command.specs.declared.spawnable.Spawnable.{Spawnable}
+use Rattle.wx_command.specs.Spawnables.{spawnable_of}
+use Rattle.wx_control.specs.declared.id.Id.{Id}
+use Rattle.wx_machine.specs.History.{RunsOnly}
 use Rattle.wx_journal.specs.declared.entry.Entry.{Entry}
 use Rattle.wx_journal.specs.declared.entry.Entry.TheVariants.{Filter, Show, Hand, Poll, Hook, Spawn}
 use Rattle.wx_journal.specs.declared.entry.Turn.{Turn as Timed}
@@ -11,7 +17,7 @@ use Rattle.wx_script.specs.declared.script.ScriptTurn.{ScriptTurn}
 use Rattle.wx_script.specs.declared.script.ScriptTurn.TheVariants.{Turn, Fault}
 use Rattle.wx_script.specs.Answered.{Calls, with_answer, answers_of, due_answer, due_answers, IsAnswered, AreAnswered, AreUsed, AreAmong, answered_by}
 use Rattle.wx_script.specs.HostCalls.{HostCall, row, reply, calls, FollowsAnswers}
-use Rattle.wx_script.specs.Acted.{hands, filters, errors, polls, IsHooked, AreHooked, AreHooksUsed, Wished, IsWished}
+use Rattle.wx_script.specs.Acted.{hands, filters, errors, polls, LeavesWords, IsHooked, AreHooked, AreHooksUsed, Wished, IsWished}
 use Rattle.wx_script.specs.Turns.{comes, risen, Rises, Given, given, newest, turns_of, FollowsGiven}
 use Rattle.wx_script.specs.Follows.{given_of, wished_of, FollowsTurns}
 
@@ -124,6 +130,10 @@ hooks_over lines used p (_) other uses = uses
 hooked_over : (lines : List (List (List ℕ))) (p : List Entry) (e : Entry) → is_hooks e ≡ false → IsHooked lines p e
 hooked_over lines p (Hook job n left) other = absurd cc
 hooked_over lines p (_) other = tt
+
+-- a spawn hook that was given what its job was created to run, and left the words that are due behind, did what was wished
+pub leaves_wished : (plan : Wished) (p : List Entry) (job : Id) (n : ℕ) (left : Result Spawnable Memory) (what : Command) → RunsOnly job what p → LeavesWords plan.hooks p (spawnable_of what) (Hook job n left) → IsWished plan p (Hook job n left)
+leaves_wished plan p job n left what runs words = record { acts = tt; verdict = tt; wish = tt; ready = tt; words = λ created so. rw (runs created so) words }
 
 -- where each call on the hooks passes a rule by which spawn hooks leave the words that are due, all do
 pub obeys_hooked : (lines : List (List (List ℕ))) (rule : List Entry → Entry → Type 0) → ((p : List Entry) (e : Entry) → rule p e → IsHooked lines p e) → (p : List Entry) → Obeys rule [] p → AreHooked lines p

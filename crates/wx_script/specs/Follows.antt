@@ -1,30 +1,51 @@
 -- What it means that a run follows a script.
-use Rattle.std.specs.Prelude.{◌≡◌, ◌≤◌, true, List, [], ◌∷◌, length}
+use Rattle.std.specs.Prelude.{◌≡◌, ◌≤◌, ℕ, true, Option, None, Some, List, [], ◌∷◌, length}
 use Rattle.std.specs.List.{list_all}
 use Rattle.wx_journal.specs.declared.entry.Entry.{Entry}
 use Rattle.wx_config.specs.Defaults.{default_config}
 use Rattle.wx_control.specs.Flags.{Flag}
-use Rattle.wx_machine.specs.Start.{Start, IsSize}
+use Rattle.wx_config.specs.declared.config.Config.{Config}
+use Rattle.wx_machine.specs.Start.{Start, IsSize, is_absolute}
 use Rattle.wx_script.specs.declared.script.Script.{Script}
 use Rattle.wx_script.specs.Turns.{comes, Rises, Given, FollowsGiven}
 use Rattle.wx_script.specs.Answered.{AreAnswered}
 use Rattle.wx_script.specs.HostCalls.{FollowsAnswers}
 use Rattle.wx_script.specs.Acted.{hands, filters, errors, polls, AreHooked, Wished}
 
+-- the folder of its engine
+abbrev pub folder_or_top : Option (List ℕ) → List ℕ
+folder_or_top None = 47 ∷ []
+folder_or_top (Some path) = path
+
+abbrev pub folder_of : Script → List ℕ
+folder_of s = folder_or_top s.folder
+
 -- what holds of each script that is read
 pub record IsScript (s : Script) : Type 0 where
   pub size : IsSize s.size
   pub error_size : IsSize s.error_size
+  pub folder : is_absolute (folder_of s) ≡ true
   pub sends : length s.sends ≤ s.size
   pub comes : list_all comes s.turns ≡ true
   pub rises : Rises s.turns s.last
 
--- what the engine starts from: the default settings, with this flag, but for the throttle and the two sizes, and the topmost
--- folder
+-- what the engine starts from: the settings of the script and its folder, with this flag, and the defaults of all else
+abbrev pub config_of : Flag → Script → Config
+config_of ready s = record (default_config ready) {
+  throttle = s.throttle;
+  event_channel_size = s.size;
+  error_channel_size = s.error_size;
+  keyboard_events = s.keyboard;
+  follow_symlinks = s.follow;
+  signal_job_control = s.job_signals;
+  file_watcher = s.watcher;
+  pathset = s.paths;
+}
+
 abbrev pub start_of : Flag → Script → Start
 start_of ready s = record {
-  config = record (default_config ready) { throttle = s.throttle; event_channel_size = s.size; error_channel_size = s.error_size };
-  folder = 47 ∷ [];
+  config = config_of ready s;
+  folder = folder_of s;
   events = s.sends;
 }
 

@@ -3,7 +3,9 @@ use Rattle.std.specs.Prelude.{ℕ, Bool, true, false, ◌==◌, if◌then◌else
 use Rattle.wx_words.specs.Line.{words_of, ◌>>=◌}
 use Rattle.wx_words.specs.Combine.{Reader, read_as, read_rows, whole}
 use Rattle.wx_words.specs.Parts.{number, u32, list_of, text}
+use Rattle.wx_words.specs.Switches.{switch}
 use Rattle.wx_words.specs.ToEnd.{read_to_end}
+use Rattle.wx_watch.specs.Watched.{watcher, watched}
 use Rattle.wx_journal.specs.Answers.{done, waited, verdict, readied}
 use Rattle.wx_journal.specs.Wishes.{wish}
 use Rattle.wx_journal.specs.Kinds.{ranked, turn}
@@ -11,7 +13,7 @@ use Rattle.wx_journal.specs.declared.entry.TurnKind.{TurnKind}
 use Rattle.wx_journal.specs.declared.entry.TurnKind.TheVariants.{Last}
 use Rattle.wx_script.specs.Wishes.{script_act}
 use Rattle.wx_script.specs.declared.lines.Line.{Line}
-use Rattle.wx_script.specs.declared.lines.Line.TheVariants.{Nothing, Throttle, Size, ErrorSize, Send, Turn as Turned, Fault, Acts, Filter, Wishes, Poll, Hook, Spawn, Signal, Kill, Wait}
+use Rattle.wx_script.specs.declared.lines.Line.TheVariants.{Nothing, Throttle, Size, ErrorSize, Keyboard, Follow, JobSignals, Watcher, Folder, Path, Send, Turn as Turned, Fault, Acts, Filter, Wishes, Poll, Hook, Spawn, Signal, Kill, Wait}
 
 -- what a script can say that a turn brings: all but a last turn
 abbrev pub can_bring : TurnKind → Bool
@@ -28,7 +30,17 @@ if_scripted said = if is_scripted said then Some said else None
 
 -- each setting, and how the rest is read
 abbrev pub set_rows : List (List ℕ × Reader Line)
-set_rows = (codes "throttle", read_as Throttle number.read) ∷ (codes "size", read_as Size u32.read) ∷ (codes "errors", read_as ErrorSize u32.read) ∷ []
+set_rows =
+    (codes "throttle", read_as Throttle number.read)
+    ∷ (codes "size", read_as Size u32.read)
+    ∷ (codes "errors", read_as ErrorSize u32.read)
+    ∷ (codes "keyboard", read_as Keyboard switch.read)
+    ∷ (codes "follow", read_as Follow switch.read)
+    ∷ (codes "jobsignals", read_as JobSignals switch.read)
+    ∷ (codes "watcher", read_as Watcher watcher.read)
+    ∷ (codes "cwd", read_as Folder text.read)
+    ∷ (codes "path", read_as Path watched.read)
+    ∷ []
 
 unfoldable pub read_set : Reader Line
 read_set ws = read_rows set_rows ws

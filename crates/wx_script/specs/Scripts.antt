@@ -1,24 +1,36 @@
 -- A script as its lines, and the first bad line of what is none.
-use Rattle.std.specs.Prelude.{ℕ, ◌≡◌, ◌⊎◌, ◌+◌, ◌<◌, ◌==◌, ◌&&◌, nat_lt, nat_le, if◌then◌else◌, Option, None, Some, List, [], ◌∷◌, ◌++◌, length}
+use Rattle.std.specs.Prelude.{ℕ, ◌≡◌, ◌⊎◌, ◌+◌, ◌<◌, ◌==◌, ◌&&◌, nat_lt, nat_le, if◌then◌else◌, Bool, true, false, Option, None, Some, List, [], ◌∷◌, ◌++◌, length}
 use Rattle.wx_words.specs.Line.{parts, ◌>>=◌}
 use Rattle.wx_config.specs.Defaults.{default_throttle, default_event_size, default_error_size}
+use Rattle.wx_watch.specs.declared.watched.Watcher.TheVariants.{Native}
+use Rattle.wx_machine.specs.Start.{is_absolute}
 use Rattle.wx_script.specs.declared.script.Script.{Script}
 use Rattle.wx_script.specs.declared.script.ScriptTurn.TheVariants.{Turn, Fault}
 use Rattle.wx_script.specs.HostCalls.{no_answers}
 use Rattle.wx_script.specs.Lines.{line_in}
 use Rattle.wx_script.specs.declared.lines.Line.{Line}
-use Rattle.wx_script.specs.declared.lines.Line.TheVariants.{Nothing, Throttle, Size, ErrorSize, Send, Turn as Turned, Fault as Failed, Acts, Filter, Wishes, Poll, Hook, Spawn, Signal, Kill, Wait}
+use Rattle.wx_script.specs.declared.lines.Line.TheVariants.{Nothing, Throttle, Size, ErrorSize, Keyboard, Follow, JobSignals, Watcher, Folder, Path, Send, Turn as Turned, Fault as Failed, Acts, Filter, Wishes, Poll, Hook, Spawn, Signal, Kill, Wait}
 
 -- the script of no lines
 abbrev pub start : Script
-start = record { throttle = default_throttle; size = default_event_size; error_size = default_error_size; sends = []; turns = []; actions = []; filters = []; errors = []; polls = []; hooks = []; answers = no_answers; last = 0 }
+start = record { throttle = default_throttle; size = default_event_size; error_size = default_error_size; keyboard = false; follow = true; job_signals = false; watcher = Native; folder = None; paths = []; sends = []; turns = []; actions = []; filters = []; errors = []; polls = []; hooks = []; answers = no_answers; last = 0 }
+
+-- settings can stand where nothing was sent and no turn was given
+abbrev pub is_early : Script → Bool
+is_early s = length s.sends == 0 && length s.turns == 0
 
 -- the script with what one more line says, where that can stand there
 abbrev pub accepts : Script → Line → Option Script
 accepts s Nothing = Some s
-accepts s (Throttle n) = if length s.sends == 0 && length s.turns == 0 then Some (record s { throttle = n }) else None
-accepts s (Size n) = if length s.sends == 0 && length s.turns == 0 && nat_le 1 n && nat_le n 65536 then Some (record s { size = n }) else None
-accepts s (ErrorSize n) = if length s.sends == 0 && length s.turns == 0 && nat_le 1 n && nat_le n 65536 then Some (record s { error_size = n }) else None
+accepts s (Throttle n) = if is_early s then Some (record s { throttle = n }) else None
+accepts s (Size n) = if is_early s && nat_le 1 n && nat_le n 65536 then Some (record s { size = n }) else None
+accepts s (ErrorSize n) = if is_early s && nat_le 1 n && nat_le n 65536 then Some (record s { error_size = n }) else None
+accepts s (Keyboard on) = if is_early s then Some (record s { keyboard = on }) else None
+accepts s (Follow on) = if is_early s then Some (record s { follow = on }) else None
+accepts s (JobSignals on) = if is_early s then Some (record s { job_signals = on }) else None
+accepts s (Watcher watcher) = if is_early s then Some (record s { watcher = watcher }) else None
+accepts s (Folder path) = if is_early s && is_absolute path then Some (record s { folder = Some path }) else None
+accepts s (Path path) = if is_early s then Some (record s { paths = s.paths ++ path ∷ [] }) else None
 accepts s (Send event priority) = if length s.turns == 0 && nat_lt (length s.sends) s.size then Some (record s { sends = s.sends ++ (event, priority) ∷ [] }) else None
 accepts s (Turned turn) = if nat_le s.last turn.at then Some (record s { turns = s.turns ++ Turn turn ∷ []; last = turn.at }) else None
 accepts s (Failed code) = Some (record s { turns = s.turns ++ Fault code ∷ [] })

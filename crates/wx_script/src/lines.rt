@@ -12,7 +12,8 @@ use wx_error::RuntimeError;
 use wx_events::{Event, Priority, ProcessEnd};
 use wx_journal::{Act, HostFault, Turn, TurnKind, Wish, read_ready, read_verdict};
 use wx_text::{List, Memory, Text};
-use wx_words::{Spelled, Words, read_result, read_rows, read_to_end};
+use wx_watch::{WatchedPath, Watcher};
+use wx_words::{Spelled, TextPath, Words, read_result, read_rows, read_to_end};
 
 /// What a line of a script says.
 #[derive(Drop, Debug)]
@@ -25,6 +26,18 @@ pub enum Line {
     Size(u32),
     /// The size of the channel of errors in the settings.
     ErrorSize(u32),
+    /// Whether keys are heard.
+    Keyboard(bool),
+    /// Whether links are followed.
+    Follow(bool),
+    /// Whether a stop and a continue of the terminal are heard.
+    JobSignals(bool),
+    /// How files are watched.
+    Watcher(Watcher),
+    /// The folder of the engine.
+    Folder(TextPath),
+    /// One path more is watched.
+    Path(WatchedPath),
     /// An event is sent before the run.
     Send(Event, Priority),
     /// The world gives a turn.
@@ -80,6 +93,12 @@ fn take_set(alloc: Global, line: &mut Words) -> Result<Option<Line>, Memory>
         b"throttle" (throttle) => Line::Throttle(throttle),
         b"size" (size) => Line::Size(size),
         b"errors" (size) => Line::ErrorSize(size),
+        b"keyboard" (on) => Line::Keyboard(on),
+        b"follow" (on) => Line::Follow(on),
+        b"jobsignals" (on) => Line::JobSignals(on),
+        b"watcher" (watcher) => Line::Watcher(watcher),
+        b"cwd" (folder) => Line::Folder(folder),
+        b"path" (path) => Line::Path(path),
     )
 }
 

@@ -1,9 +1,10 @@
 // A script from its lines.
-ghost use Rattle.std.specs.Prelude.{◌≡◌, ◌==◌, ◌&&◌, true, [], ◌∷◌, ◌++◌, Some, None, Ok, Err, ℕ, length, IfOk, MatchBool, MatchOption, MatchResult};
+ghost use Rattle.std.specs.Prelude.{◌≡◌, ◌==◌, ◌&&◌, true, false, [], ◌∷◌, ◌++◌, Some, None, Ok, Err, ℕ, length, IfOk, MatchBool, MatchOption, MatchResult};
+ghost use Rattle.wx_machine.specs.Start.{is_absolute};
 ghost use Rattle.wx_script.specs.Follows.{IsScript};
 ghost use Rattle.wx_script.specs.declared.script.Script.{Script};
-ghost use Rattle.wx_script.specs.declared.lines.Line.TheVariants.{Size, ErrorSize, Send, Turn as Turned};
-ghost use Rattle.wx_script.specs.Scripts.{accepts, step, start, IsScriptOf, IsFirstBad};
+ghost use Rattle.wx_script.specs.declared.lines.Line.TheVariants.{Size, ErrorSize, Folder, Path, Send, Turn as Turned};
+ghost use Rattle.wx_script.specs.Scripts.{is_early, accepts, step, start, IsScriptOf, IsFirstBad};
 
 use crate::answers::Answers;
 use crate::lines::{Line, line_in};
@@ -12,7 +13,8 @@ use std::alloc::Global;
 use wx_events::{Event, Priority};
 use wx_journal::Turn;
 use wx_text::{List, Memory};
-use wx_words::cut;
+use wx_watch::{WatchedPath, Watcher};
+use wx_words::{TextPath, cut};
 
 /// The number of the first bad line, counted from 1.
 #[derive(Clone, Copy, Debug, PartialEq, Eq)]
@@ -26,6 +28,12 @@ fn start(alloc: Global) -> Script
         throttle: 50_000_000,
         size: 4096,
         error_size: 64,
+        keyboard: false,
+        follow: true,
+        job_signals: false,
+        watcher: Watcher::Native,
+        folder: None,
+        paths: List::new(alloc),
         sends: List::new(alloc),
         turns: List::new(alloc),
         actions: List::new(alloc),
@@ -40,9 +48,56 @@ fn start(alloc: Global) -> Script
 
 /// Whether settings can still stand here.
 fn is_early(script: &Script) -> bool
-    ensures { result ≡ (length script.now.sends == 0 && length script.now.turns == 0) }
+    ensures { result ≡ is_early script.now }
 {
     script.sends.is_empty() && script.turns.is_empty()
+}
+
+/// Sets a value, where settings can still stand here.
+fn set_early<T: Drop>(early: bool, field: &mut T, value: T) -> bool
+    ensures same { result ≡ early }
+    ensures set { early ≡ true → field.new ≡ value }
+    ensures kept { early ≡ false → field.new ≡ field.old }
+{
+    if early {
+        *field = value;
+    } else {
+        drop(value);
+    }
+    early
+}
+
+/// Whether a path is absolute.
+fn is_absolute(path: &TextPath) -> bool
+    ensures { result ≡ is_absolute path.now }
+{
+    path.text().as_slice().first() == Some(&47)
+}
+
+/// Sets the folder, where that can stand here.
+fn set_folder(script: &mut Script, folder: TextPath) -> bool
+    ensures { MatchBool result (accepts script.old (Folder folder) ≡ Some script.new) (accepts script.old (Folder folder) ≡ None) }
+{
+    let fits = is_early(script) && is_absolute(&folder);
+    if fits {
+        script.folder = Some(folder);
+    } else {
+        drop(folder);
+    }
+    fits
+}
+
+/// Adds a path that is watched, where it can stand here.
+fn add_path(script: &mut Script, path: WatchedPath) -> Result<bool, Memory>
+    ensures { IfOk result (λ fits. MatchBool fits (accepts script.old (Path path) ≡ Some script.new) (accepts script.old (Path path) ≡ None)) }
+{
+    let fits = is_early(script);
+    if fits {
+        script.paths.push(path)?;
+    } else {
+        drop(path);
+    }
+    Ok(fits)
 }
 
 /// Sets the size, where that can stand here.
@@ -104,15 +159,15 @@ fn add(script: &mut Script, said: Line) -> Result<bool, Memory>
 {
     match said {
         Line::Nothing => Ok(true),
-        Line::Throttle(throttle) => {
-            let fits = is_early(script);
-            if fits {
-                script.throttle = throttle;
-            }
-            Ok(fits)
-        }
+        Line::Throttle(ns) => Ok(set_early(is_early(script), &mut script.throttle, ns)),
         Line::Size(size) => Ok(set_size(script, size)),
         Line::ErrorSize(size) => Ok(set_error_size(script, size)),
+        Line::Keyboard(on) => Ok(set_early(is_early(script), &mut script.keyboard, on)),
+        Line::Follow(on) => Ok(set_early(is_early(script), &mut script.follow, on)),
+        Line::JobSignals(on) => Ok(set_early(is_early(script), &mut script.job_signals, on)),
+        Line::Watcher(watcher) => Ok(set_early(is_early(script), &mut script.watcher, watcher)),
+        Line::Folder(folder) => Ok(set_folder(script, folder)),
+        Line::Path(path) => add_path(script, path),
         Line::Send(event, priority) => add_send(script, event, priority),
         Line::Turn(turn) => add_turn(script, turn),
         Line::Fault(code) => added(&mut script.turns, ScriptTurn::Fault(code)),

@@ -5,7 +5,8 @@ use wx_error::RuntimeError;
 use wx_events::{Event, Priority};
 use wx_journal::{Act, Turn, Wish};
 use wx_text::{Copies, List, Memory, Text};
-use wx_words::{Spelled, Words};
+use wx_watch::{WatchedPath, Watcher};
+use wx_words::{Spelled, TextPath, Words};
 
 /// What the world is to do when it is asked for a turn.
 #[derive(Drop, Debug)]
@@ -56,6 +57,18 @@ pub struct Script {
     pub size: u32,
     /// The size of the channel of errors in the settings.
     pub error_size: u32,
+    /// Whether keys are heard.
+    pub keyboard: bool,
+    /// Whether links are followed.
+    pub follow: bool,
+    /// Whether a stop and a continue of the terminal are heard.
+    pub job_signals: bool,
+    /// How files are watched.
+    pub watcher: Watcher,
+    /// The folder of the engine, where it isn't the topmost one.
+    pub folder: Option<TextPath>,
+    /// The paths that are watched.
+    pub paths: List<WatchedPath>,
     /// The events that are sent before the run.
     pub sends: List<(Event, Priority)>,
     /// The turns, in order. Those after them are last turns.

@@ -1,6 +1,7 @@
 use Rattle.std.proofs.Common.{◌≡◌, refl, ap, ◌∙◌}
 use Rattle.wx_journal.specs.declared.entry.Entry.TheVariants.{Hand}
 use Rattle.wx_journal.specs.Names.{next_job}
+use Rattle.wx_machine.specs.Settings.{revision, MayChange}
 use Rattle.wx_machine.specs.Journal.{window}
 use Rattle.wx_machine.specs.Due.{Due}
 use Rattle.wx_machine.specs.Jobs.{AreLawful}
@@ -23,16 +24,21 @@ are_lawful g c =
     let past_is = ap (λ h. h.past) c.action.ensures.same ∙ ap (λ h. h.past) c.new-handler.ensures in
     rw (c.into_parts-names.ensures.acts, past_is) at c.into_parts-names.ensures.lawful
 
+may_change : (g : _) (c : goal.After-leave_gone g) → MayChange (revision g.start c.args.journal.now.past) c.action.new.handler.acts
+may_change g c =
+    let at = ap (λ h. h.revision) c.action.ensures.same ∙ ap (λ h. h.revision) c.new-handler.ensures ∙ ap (λ k. k.change_signal) c.requires.1.0.config_kept in
+    rw (c.into_parts-names.ensures.acts, at) at c.into_parts-names.ensures.changes
+
 whole : (g : _) (c : goal.After-leave_gone g) → c.action.new.handler.names ≡ window c.args.journal.now.past
 whole g c = ap (λ h. h.names) c.action.ensures.same ∙ ap (λ h. h.names) c.new-handler.ensures ∙ ap (λ b. b.names) c.replace-batch.ensures.value ∙ c.requires.1.0.names_kept
 
 is_due : (g : _) (c : goal.After-leave_gone g) → Due g.start c.args.journal.now.past (Hand c.args.worker.now.config.action_handler c.action.new.handler.names c.action.new.handler.acts)
 is_due g c =
-    hand_due g.start c.args.journal.now.past c.args.worker.now.config.action_handler c.action.new.handler.names c.action.new.handler.acts c.requires.1.1.0.due (ap (λ k. k.action_handler) c.requires.1.0.config_kept) (whole g c) (are_lawful g c)
+    hand_due g.start c.args.journal.now.past c.args.worker.now.config.action_handler c.action.new.handler.names c.action.new.handler.acts c.requires.1.1.0.due (ap (λ k. k.action_handler) c.requires.1.0.config_kept) (whole g c) (are_lawful g c) (may_change g c)
 
 done : (g : _) (c : goal.After-leave_gone g) → Handed g.start (record c.args.worker.now { batch = c.replace-batch.new.dest; jobs = c.leave_gone.new.self }) c.push.new.self.past c.into_parts-names.result.2.items c.asks_for_end-ends.result
 done g c =
-    handed g.start c.args.worker.now _ c.args.worker.now.config.action_handler c.action.new.handler.names c.action.new.handler.acts c.into_parts-names.result.2.items c.asks_for_end-ends.result c.args.journal.now.past c.push.new.self.past c.requires.1.0 (whole g c) (are_lawful g c)
+    handed g.start c.args.worker.now _ c.args.worker.now.config.action_handler c.action.new.handler.names c.action.new.handler.acts c.into_parts-names.result.2.items c.asks_for_end-ends.result c.args.journal.now.past c.push.new.self.past c.requires.1.0 (whole g c) (are_lawful g c) (may_change g c)
     (rw c.into_parts-names.ensures.acts at c.into_parts-names.ensures.todo) (rw (c.as_slice.ensures, c.into_parts-names.ensures.acts) at c.asks_for_end-ends.ensures) refl
     (ap (λ b. b.names) c.replace-batch.ensures.after ∙ c.new.ensures.names) (ap (λ b. b.events) c.replace-batch.ensures.after ∙ c.new.ensures.events) c.leave_gone.ensures.here
     (rw (c.into_parts-names.ensures.names, c.into_parts-names.ensures.acts) at c.push.ensures.past)

@@ -13,23 +13,11 @@ collect-requires g c = λ κs lives. let h = at_turn g.start c.args.worker.now c
 
 -- ---- what holds where none was shown
 
-pub returns-in_err-collect-clause-within : goal.returns-in_err-collect-clause-within
-returns-in_err-collect-clause-within g c = within_more _ _ _ _ _ _ _ _ _ _ _ _ _ _ (omega arith) (omega arith) c.collect.ensures.within
+pub returns-in_err-collected-clause-within : goal.returns-in_err-collected-clause-within
+returns-in_err-collected-clause-within g c = within_more _ _ _ _ _ _ _ _ _ _ _ _ _ _ (omega arith) (omega arith) c.collect.ensures.within
 
-pub returns-in-Stop-clause-within : goal.returns-in-Stop-clause-within
-returns-in-Stop-clause-within g c = within_more _ _ _ _ _ _ _ _ _ _ _ _ _ _ (omega arith) (omega arith) c.collect.ensures.within
-
-pub returns-in-Hand-clause-within : goal.returns-in-Hand-clause-within
-returns-in-Hand-clause-within g c = within_more _ _ _ _ _ _ _ _ _ _ _ _ _ _ (omega arith) (omega arith) c.collect.ensures.within
-
-pub returns-in-Idle-clause-within : goal.returns-in-Idle-clause-within
-returns-in-Idle-clause-within g c = within_more _ _ _ _ _ _ _ _ _ _ _ _ _ _ (omega arith) (omega arith) c.collect.ensures.within
-
-pub returns-in-Kept-clause-within : goal.returns-in-Kept-clause-within
-returns-in-Kept-clause-within g c = within_more _ _ _ _ _ _ _ _ _ _ _ _ _ _ (omega arith) (omega arith) c.collect.ensures.within
-
-pub returns-in-Dropped-clause-within : goal.returns-in-Dropped-clause-within
-returns-in-Dropped-clause-within g c = within_more _ _ _ _ _ _ _ _ _ _ _ _ _ _ (omega arith) (omega arith) c.collect.ensures.within
+pub returns-in-Done-clause-within : goal.returns-in-Done-clause-within
+returns-in-Done-clause-within g c = within_more _ _ _ _ _ _ _ _ _ _ _ _ _ _ (omega arith) (omega arith) c.collect.ensures.within
 
 pub returns-in_err-error-in-Failed-clause-within : goal.returns-in_err-error-in-Failed-clause-within
 returns-in_err-error-in-Failed-clause-within g c = within_more _ _ _ _ _ _ _ _ _ _ _ _ _ _ (omega arith) (omega arith) c.collect.ensures.within
@@ -51,37 +39,25 @@ pub returns-in_ok-show-in-Failed-clause-within : goal.returns-in_ok-show-in-Fail
 returns-in_ok-show-in-Failed-clause-within g c = within g (goal.at.returns-in_ok-show-in-Failed-clause-within g c).After-show
 
 pub returns-in_err-show-in-Failed-clause-kept_room : goal.returns-in_err-show-in-Failed-clause-kept_room
-returns-in_err-show-in-Failed-clause-kept_room g c = λ h. omega (arith, (rw c.in-Failed.is at c.in_ok-collect.ensures.left).0, c.show.ensures.within.in_journal, c.show.ensures.within.end_kept)
+returns-in_err-show-in-Failed-clause-kept_room g c = λ h. omega (arith, (rw c.in-Failed.is at c.in_ok-collected.ensures.left).0, c.show.ensures.within.in_journal, c.show.ensures.within.end_kept)
 
 pub returns-in_ok-show-in-Failed-clause-kept_room : goal.returns-in_ok-show-in-Failed-clause-kept_room
-returns-in_ok-show-in-Failed-clause-kept_room g c = λ h. omega (arith, (rw c.in-Failed.is at c.in_ok-collect.ensures.left).0, c.show.ensures.within.in_journal, c.show.ensures.within.end_kept)
+returns-in_ok-show-in-Failed-clause-kept_room g c = λ h. omega (arith, (rw c.in-Failed.is at c.in_ok-collected.ensures.left).0, c.show.ensures.within.in_journal, c.show.ensures.within.end_kept)
 
 pub returns-in_ok-show-in-Failed-clause-collected : goal.returns-in_ok-show-in-Failed-clause-collected
 returns-in_ok-show-in-Failed-clause-collected g c =
-    let found = rw c.in-Failed.is at c.in_ok-collect.ensures.found in
+    let found = rw c.in-Failed.is at c.in_ok-collected.ensures.found in
     let at = at_turn g.start c.args.worker.now c.args.at _ c.args.journal.now.past tt c.requires.1 in
     let done = c.in_ok-show-in-Failed.ensures.done Open (rw c.in_ok-error-in-Failed.was at found.1) ∙ settle_calm c.collect.new.journal.past Open (ap is_quitting found.0.shown ∙ at.going) in
     collects_shown g.start c.args.journal.now.past c.collect.new.journal.past c.show.new.journal.past found.0 c.show.ensures.adds done
 
 -- ---- what hooks promise
 
-pub returns-in_err-collect-clause-promised : goal.returns-in_err-collect-clause-promised
-returns-in_err-collect-clause-promised g c = let d = c.collect.ensures.within in promised_grown (λ h. g.H.JobHooks.seen h) (λ plan. g.H.JobHooks.rule plan) (λ h. g.H.JobHooks.stands h) g.start _ _ _ _ _ (λ h. g.met.H.JobHooks.stands_other h) d.grows.stands d.grows.keeps
+pub returns-in_err-collected-clause-promised : goal.returns-in_err-collected-clause-promised
+returns-in_err-collected-clause-promised g c = let d = c.collect.ensures.within in promised_grown (λ h. g.H.JobHooks.seen h) (λ plan. g.H.JobHooks.rule plan) (λ h. g.H.JobHooks.stands h) g.start _ _ _ _ _ (λ h. g.met.H.JobHooks.stands_other h) d.grows.stands d.grows.keeps
 
-pub returns-in-Stop-clause-promised : goal.returns-in-Stop-clause-promised
-returns-in-Stop-clause-promised g c = let d = c.collect.ensures.within in promised_grown (λ h. g.H.JobHooks.seen h) (λ plan. g.H.JobHooks.rule plan) (λ h. g.H.JobHooks.stands h) g.start _ _ _ _ _ (λ h. g.met.H.JobHooks.stands_other h) d.grows.stands d.grows.keeps
-
-pub returns-in-Hand-clause-promised : goal.returns-in-Hand-clause-promised
-returns-in-Hand-clause-promised g c = let d = c.collect.ensures.within in promised_grown (λ h. g.H.JobHooks.seen h) (λ plan. g.H.JobHooks.rule plan) (λ h. g.H.JobHooks.stands h) g.start _ _ _ _ _ (λ h. g.met.H.JobHooks.stands_other h) d.grows.stands d.grows.keeps
-
-pub returns-in-Idle-clause-promised : goal.returns-in-Idle-clause-promised
-returns-in-Idle-clause-promised g c = let d = c.collect.ensures.within in promised_grown (λ h. g.H.JobHooks.seen h) (λ plan. g.H.JobHooks.rule plan) (λ h. g.H.JobHooks.stands h) g.start _ _ _ _ _ (λ h. g.met.H.JobHooks.stands_other h) d.grows.stands d.grows.keeps
-
-pub returns-in-Kept-clause-promised : goal.returns-in-Kept-clause-promised
-returns-in-Kept-clause-promised g c = let d = c.collect.ensures.within in promised_grown (λ h. g.H.JobHooks.seen h) (λ plan. g.H.JobHooks.rule plan) (λ h. g.H.JobHooks.stands h) g.start _ _ _ _ _ (λ h. g.met.H.JobHooks.stands_other h) d.grows.stands d.grows.keeps
-
-pub returns-in-Dropped-clause-promised : goal.returns-in-Dropped-clause-promised
-returns-in-Dropped-clause-promised g c = let d = c.collect.ensures.within in promised_grown (λ h. g.H.JobHooks.seen h) (λ plan. g.H.JobHooks.rule plan) (λ h. g.H.JobHooks.stands h) g.start _ _ _ _ _ (λ h. g.met.H.JobHooks.stands_other h) d.grows.stands d.grows.keeps
+pub returns-in-Done-clause-promised : goal.returns-in-Done-clause-promised
+returns-in-Done-clause-promised g c = let d = c.collect.ensures.within in promised_grown (λ h. g.H.JobHooks.seen h) (λ plan. g.H.JobHooks.rule plan) (λ h. g.H.JobHooks.stands h) g.start _ _ _ _ _ (λ h. g.met.H.JobHooks.stands_other h) d.grows.stands d.grows.keeps
 
 pub returns-in_err-error-in-Failed-clause-promised : goal.returns-in_err-error-in-Failed-clause-promised
 returns-in_err-error-in-Failed-clause-promised g c = let d = c.collect.ensures.within in promised_grown (λ h. g.H.JobHooks.seen h) (λ plan. g.H.JobHooks.rule plan) (λ h. g.H.JobHooks.stands h) g.start _ _ _ _ _ (λ h. g.met.H.JobHooks.stands_other h) d.grows.stands d.grows.keeps

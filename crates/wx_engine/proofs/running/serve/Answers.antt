@@ -32,6 +32,12 @@ returns-in_ok-ask_turn-in-Ask-clause-continues g c = continues_grows _ _ _ _ _ _
 pub returns-in_err-ask_turn-in-Ask-clause-continues : goal.returns-in_err-ask_turn-in-Ask-clause-continues
 returns-in_err-ask_turn-in-Ask-clause-continues g c = continues_grows _ _ _ _ _ _ _ _ _ _ c.ask_turn.ensures.grows
 
+pub returns-in_ok-change_turn-in-Change-clause-continues : goal.returns-in_ok-change_turn-in-Change-clause-continues
+returns-in_ok-change_turn-in-Change-clause-continues g c = continues_grows _ _ _ _ _ _ _ _ _ _ c.change_turn.ensures.grows
+
+pub returns-in_err-change_turn-in-Change-clause-continues : goal.returns-in_err-change_turn-in-Change-clause-continues
+returns-in_err-change_turn-in-Change-clause-continues g c = continues_grows _ _ _ _ _ _ _ _ _ _ c.change_turn.ensures.grows
+
 pub returns-in_err-job_turn-in-Job-clause-breaks : goal.returns-in_err-job_turn-in-Job-clause-breaks
 returns-in_err-job_turn-in-Job-clause-breaks g c = breaks_want g.start c.job_turn.new.journal.past c.from_residual-in_err-job_turn-in-Job.result c.from_residual-in_err-job_turn-in-Job.ensures.1 (breaks_left g.start c.args.state.now c.args.at c.args.kind c.args.journal.now.past _ c.requires.1.1 c.in_err-job_turn-in-Job.ensures.steps.err)
 

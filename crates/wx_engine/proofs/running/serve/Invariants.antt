@@ -14,3 +14,6 @@ ghost-ended_turn g a = g.start
 
 abbrev pub ghost-ask_turn : goal.ghost-ask_turn
 ghost-ask_turn g a = g.start
+
+abbrev pub ghost-change_turn : goal.ghost-change_turn
+ghost-change_turn g a = g.start

@@ -1,4 +1,4 @@
-use Rattle.wx_follow.proofs.ActedLaws.{made_quit}
+use Rattle.wx_follow.proofs.ActedLaws.{ok_then, made_quit, made_change}
 use Rattle.wx_follow.proofs.script_hooks.perform_one.Goals as goal
 
 pub returns-in-Quit-clause-made : goal.returns-in-Quit-clause-made
@@ -6,3 +6,9 @@ returns-in-Quit-clause-made c = rw c.quit.ensures (made_quit c.args.made.now.ite
 
 pub returns-in-Ask-clause-done : goal.returns-in-Ask-clause-done
 returns-in-Ask-clause-done c = rw c.in-Ask.is c.ask_or_not.ensures.done
+
+pub returns-in-Change-clause-done : goal.returns-in-Change-clause-done
+returns-in-Change-clause-done c = rw c.in-Change.is c.change.ensures.done
+
+pub returns-in-Change-clause-made : goal.returns-in-Change-clause-made
+returns-in-Change-clause-made c = ok_then c.change.result c.change.ensures.done (λ e. rw e (made_change c.args.made.now.items c.args.handler.now.acts _ c.requires.made))

@@ -2,7 +2,7 @@ use Rattle.std.proofs.Common.{◌≡◌, false, length, arith, refl}
 use Rattle.std.specs.Prelude.{◌==◌}
 use Rattle.wx_machine.specs.Journal.{bag}
 use Rattle.wx_machine.specs.Due.{Takes, Open, Comes, agenda}
-use Rattle.wx_action.specs.declared.work_turn.Found.TheVariants.{Idle}
+use Rattle.wx_action.specs.declared.work_turn.Collected.TheVariants.{Idle}
 use Rattle.wx_action.specs.Stands.{Stands}
 use Rattle.wx_action.proofs.ArriveLemmas.{steps_add}
 use Rattle.wx_action.proofs.Serving.{hooks_none, hand_adds, hand_room, hand_then}
@@ -57,7 +57,7 @@ returns-then-is_empty-clause-within g c = let d = done g c in record {
 }
 
 pub returns-then-is_empty-clause-found : goal.returns-then-is_empty-clause-found
-returns-then-is_empty-clause-found g c = (done g c).collected
+returns-then-is_empty-clause-found g c = (done g c).collects
 
 -- ---- an event was taken
 

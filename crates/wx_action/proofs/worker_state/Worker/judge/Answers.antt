@@ -2,12 +2,13 @@ use Rattle.std.proofs.Common.{refl, ap, arith}
 use Rattle.wx_machine.proofs.RunLaws.{listed_below}
 use Rattle.wx_action.specs.Stands.{end_room}
 use Rattle.wx_action.proofs.WorkLemmas.{FilterDone, called_grows, filter_follows, filter_passed, filter_dropped, no_exit}
+use Rattle.wx_action.specs.declared.work_turn.Found.TheVariants.{Done}
 use Rattle.wx_action.proofs.worker_state.Worker.judge.Goals.{After-join, After-reject}
 use Rattle.wx_action.proofs.worker_state.Worker.judge.Goals as goal
 
 -- ---- it passed
 
-passed : (g : _) (c : After-join g) → FilterDone g.start c.join.new.self c.args.journal.now.past c.args.self.now.config.filterer c.args.item.name c.check_event-answer.result c.join.result c.push.new.self.past
+passed : (g : _) (c : After-join g) → FilterDone g.start c.join.new.self c.args.journal.now.past c.args.self.now.config.filterer c.args.item.name c.check_event-answer.result (Done c.join.result) c.push.new.self.past
 passed g c =
     let passes = rw c.lets_pass.ensures at c.if-lets_pass.true in
     filter_passed g.start c.args.self.now c.join.new.self c.args.journal.now.past c.push.new.self.past c.args.at c.args.self.now.config.filterer c.args.item.name c.args.item.event c.args.priority c.check_event-answer.result c.join.result

@@ -27,7 +27,7 @@ returns-then-is_unseen-clause-within g c = let d = done g c in record {
 }
 
 pub returns-then-is_unseen-clause-found : goal.returns-then-is_unseen-clause-found
-returns-then-is_unseen-clause-found g c = (done g c).collected
+returns-then-is_unseen-clause-found g c = (done g c).collects
 
 -- ---- it is shown to the filter
 
