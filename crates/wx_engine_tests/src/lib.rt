@@ -7,5 +7,3 @@ mod action_tests;
 mod engine_tests;
 #[cfg(test)]
 mod own_hooks_tests;
-#[cfg(test)]
-mod settings_tests;
