@@ -3,7 +3,7 @@ use Rattle.std.specs.Prelude.{◌≡◌, ℕ, ◌+◌, ◌<◌, max, Bool, true,
 use Rattle.std.specs.List.{AllByRecursion}
 use Rattle.wx_control.specs.declared.id.Id.{Id}
 use Rattle.wx_journal.specs.Acts.{JournalAct as Act}
-use Rattle.wx_journal.specs.declared.entry.Act.TheVariants.{Create, Ask, Change, Quit}
+use Rattle.wx_journal.specs.declared.entry.Act.TheVariants.{Create, Ask, Change, Quit, QuitGracefully}
 use Rattle.wx_journal.specs.declared.entry.Entry.{Entry}
 use Rattle.wx_journal.specs.declared.entry.Entry.TheVariants.{Turn as Turned, Offer, Take, Filter, Hand, Made, Pick}
 use Rattle.wx_journal.specs.Sorts.{Naming, NoName, NewEvent, NewTicket, NewChild, Subject, OfChild, OfTicket, sort}
@@ -72,6 +72,7 @@ creates id (Create job command ∷ acts) = job.0 == id.0 || creates id acts
 creates id (Ask job ask ∷ acts) = creates id acts
 creates id (Change change ∷ acts) = creates id acts
 creates id (Quit ∷ acts) = creates id acts
+creates id (QuitGracefully signal grace ∷ acts) = creates id acts
 
 abbrev pub is_created : Id → List Entry → Bool
 is_created id [] = false

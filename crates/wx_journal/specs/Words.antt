@@ -6,7 +6,7 @@ use Rattle.wx_words.specs.Parts.{line, HasWords, keyword}
 use Rattle.wx_journal.specs.declared.entry.Offered.{Offered}
 use Rattle.wx_journal.specs.declared.entry.Offered.TheVariants.{Queued, Full, Closed}
 use Rattle.wx_journal.specs.declared.entry.Word.{Word}
-use Rattle.wx_journal.specs.declared.entry.Word.TheVariants.{Idle, Ignored, Later}
+use Rattle.wx_journal.specs.declared.entry.Word.TheVariants.{Idle, Ignored, Quitting, Later}
 
 abbrev pub offered_word : Offered → List ℕ
 offered_word Queued = codes "queued"
@@ -27,14 +27,16 @@ offered = keyword offered_word offered_all offered_found refl
 abbrev pub said_word : Word → List ℕ
 said_word Idle = codes "idle"
 said_word Ignored = codes "ignored"
+said_word Quitting = codes "quitting"
 said_word Later = codes "later"
 
 abbrev pub said_all : List Word
-said_all = Idle ∷ Ignored ∷ Later ∷ []
+said_all = Idle ∷ Ignored ∷ Quitting ∷ Later ∷ []
 
 pub said_found : HasWords said_word said_all
 said_found Idle = refl
 said_found Ignored = refl
+said_found Quitting = refl
 said_found Later = refl
 
 unfoldable pub said : Spelling line Word

@@ -16,6 +16,9 @@ impl<J: Spelled> Spelled for Act<J> {
             Act::Ask(job, ask) => put_row(b"ask", &(job, ask), out),
             Act::Change(change) => put_row(b"change", &change, out),
             Act::Quit => put_word(b"quit", out),
+            Act::QuitGracefully { signal, grace } => {
+                put_row(b"quitgracefully", &(signal, grace), out)
+            }
         }
     }
 
@@ -25,6 +28,7 @@ impl<J: Spelled> Spelled for Act<J> {
             b"ask" (job, ask) => Act::Ask(job, ask),
             b"change" (change) => Act::Change(change),
             b"quit" => Act::Quit,
+            b"quitgracefully" (signal, grace) => Act::QuitGracefully { signal, grace },
         )
     }
 }

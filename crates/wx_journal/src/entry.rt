@@ -9,7 +9,7 @@ use wx_command::{Command, Spawnable};
 use wx_config::Change;
 use wx_control::{Ask, Control, Id, Level};
 use wx_error::RuntimeError;
-use wx_events::{Event, Priority, ProcessEnd};
+use wx_events::{Event, Priority, ProcessEnd, Signal};
 use wx_text::{Copies, List, Memory};
 
 /// What a turn brings.
@@ -53,6 +53,8 @@ pub enum Word {
     Idle,
     /// What the turn or the act is about isn't there.
     Ignored,
+    /// The run is to end once no job lives, and takes no event any more.
+    Quitting,
     /// The begun function isn't ready.
     Later,
 }
@@ -68,6 +70,9 @@ pub enum Act<J = Id> {
     Change(Change),
     /// The run is to end at once.
     Quit,
+    /// Each job that lives is to stop and to be deleted: its child is sent this signal, and has this many nanoseconds to end. The
+    /// run ends once no job lives.
+    QuitGracefully { signal: Signal, grace: u64 },
 }
 
 /// An event with its name, which is its place in the order of the entries that list events.
@@ -233,6 +238,10 @@ impl<J: Copy + Drop> Copies for Act<J> {
             Act::Ask(job, ask) => Ok(Act::Ask(*job, ask.copy(alloc)?)),
             Act::Change(change) => Ok(Act::Change(change.copy(alloc)?)),
             Act::Quit => Ok(Act::Quit),
+            Act::QuitGracefully { signal, grace } => Ok(Act::QuitGracefully {
+                signal: *signal,
+                grace: *grace,
+            }),
         }
     }
 }

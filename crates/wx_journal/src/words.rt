@@ -48,6 +48,7 @@ impl Spelled for Word {
         match self {
             Word::Idle => put_word(b"idle", out),
             Word::Ignored => put_word(b"ignored", out),
+            Word::Quitting => put_word(b"quitting", out),
             Word::Later => put_word(b"later", out),
         }
     }
@@ -56,6 +57,7 @@ impl Spelled for Word {
         read_rows!(_alloc, line;
             b"idle" => Word::Idle,
             b"ignored" => Word::Ignored,
+            b"quitting" => Word::Quitting,
             b"later" => Word::Later,
         )
     }

@@ -193,6 +193,7 @@ fn entries_of_runs(rt: HostRuntime) {
     expect_line(&rt, alloc, Entry::TurnFault(5), b"turnfault 5");
     expect_line(&rt, alloc, Entry::Word(Word::Idle), b"word idle");
     expect_line(&rt, alloc, Entry::Word(Word::Ignored), b"word ignored");
+    expect_line(&rt, alloc, Entry::Word(Word::Quitting), b"word quitting");
     expect_line(&rt, alloc, Entry::Word(Word::Later), b"word later");
     expect_line(&rt, alloc, Entry::Take(1), b"take 1");
 }
@@ -354,6 +355,8 @@ ask 0 deletenow
 change signal
 change paths 1 n /a
 quit
+quitgracefully terminate 0
+quitgracefully custom.-3 18446744073709551615
 ";
 
 const NO_ACTS: &str = "\
@@ -373,6 +376,12 @@ change
 change quit
 Quit
 quit 0
+quitgracefully
+quitgracefully terminate
+quitgracefully 5 terminate
+quitgracefully terminate 18446744073709551616
+quitgracefully terminate 5 6
+quitgracefully custom.-0 5
 ";
 
 #[test]

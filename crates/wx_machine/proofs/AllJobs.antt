@@ -27,7 +27,9 @@ use Rattle.wx_machine.proofs.Always.{Always, always_now, always_next, always_als
 use Rattle.wx_machine.proofs.Sound.{Fits, IsSound, Sound, sound_step, sound_end}
 use Rattle.wx_machine.specs.Start.{Start}
 use Rattle.wx_machine.specs.Jobs.{with_id, set, is_seen, UnseenRunNone, jobs, parent_among, parent, AreLawful, AreRising, AreBelow}
-use Rattle.wx_machine.specs.Due.{Agenda, Admits, plans, rest, is_quitting, settle, agenda, Due}
+use Rattle.wx_machine.specs.Quits.{is_aborting}
+use Rattle.wx_machine.proofs.SettleLaws.{aborting_over}
+use Rattle.wx_machine.specs.Due.{Agenda, Admits, plans, rest, settle, agenda, Due}
 use Rattle.wx_machine.specs.RunLaws.{was_made, AreMadeOnce}
 use Rattle.wx_machine.specs.Kept.{StaysQuiet, More}
 use Rattle.wx_machine.specs.Leads.{Follows, Then}
@@ -35,7 +37,6 @@ use Rattle.wx_machine.specs.Turns.{SameTurns, StaysInTurn}
 use Rattle.wx_machine.proofs.PlanLaws.{plan_fit}
 use Rattle.wx_machine.proofs.Lawful.{IsOfPlan, MadeInOrder}
 use Rattle.wx_machine.proofs.Orderly.{IsOrderly}
-use Rattle.wx_machine.proofs.SettleLaws.{quitting_over}
 use Rattle.wx_machine.proofs.RunLaws.{follow_plan}
 
 -- ---- names in lists
@@ -384,7 +385,7 @@ AreOfPlan p k = Always (λ q e j. IsOfPlan e) p k
 pub record IsLed (s : Start) (more : Agenda) (k : Plan) (p : List Entry) (host hooks : Option (List Entry)) (k' : Plan) (p' : List Entry) (host' hooks' : Option (List Entry)) : Type 0 where
   pub of_plan : AreOfPlan p' k'
   pub due : agenda s p' ≡ settle p' (plans k' more)
-  pub quits : is_quitting p' ≡ is_quitting p
+  pub aborts : is_aborting p' ≡ is_aborting p
   pub follows : Follows s p host hooks p' host' hooks'
   pub quiet : CallsNone p k → CallsNone p' k' × StaysQuiet p p'
   pub turns : StaysInTurn p p'
@@ -404,7 +405,7 @@ led_one s more k₀ p host hooks k q host' hooks' e d h =
     let due : Due s q e = subst (λ (j : Agenda). Admits s q j e) (sym h.due) (admits_plans s q k more e d) in record {
       of_plan = always_next (λ r x i. IsOfPlan x) q k e d h.of_plan;
       due = agenda_plan s q e kind ∙ ap (λ (j : Agenda). settle (e ∷ q) (rest e j)) h.due ∙ ap (settle (e ∷ q)) (rest_plans q k more e d);
-      quits = quitting_over e q kind ∙ h.quits;
+      aborts = aborting_over e q kind ∙ h.aborts;
       follows = λ p₀ world₀ hooks₀ l. Then e q host' hooks' (h.follows p₀ world₀ hooks₀ l) due;
       quiet = λ none. (
         always_next (λ r x i. is_hooks x ≡ false) q k e d (h.quiet none).0,
@@ -416,7 +417,7 @@ led_one s more k₀ p host hooks k q host' hooks' e d h =
 
 pub plans_lead : (s : Start) (more : Agenda) (k : Plan) (p : List Entry) (host hooks : Option (List Entry)) (n : ℕ) (k' : Plan) (p' : List Entry) (host' hooks' : Option (List Entry)) (n' : ℕ) → PlanLeads k p host hooks n k' p' host' hooks' n' → AreOfPlan p k → agenda s p ≡ settle p (plans k more) → IsLed s more k p host hooks k' p' host' hooks'
 plans_lead s more k p host hooks n k' p' host' hooks' n' l of_plan due = elim l as (λ k' p' host' hooks' n' _. IsLed s more k p host hooks k' p' host' hooks') [
-  | PlanHere ↦ record { of_plan = of_plan; due = due; quits = refl; follows = λ p₀ world₀ hooks₀ l. l; quiet = λ none. (none, λ p₀ a. a); turns = λ p₀ t. t; commands = λ id. refl }
+  | PlanHere ↦ record { of_plan = of_plan; due = due; aborts = refl; follows = λ p₀ world₀ hooks₀ l. l; quiet = λ none. (none, λ p₀ a. a); turns = λ p₀ t. t; commands = λ id. refl }
   | PlanThen e k₁ p₁ host₁ hooks₁ n₁ n₂ (l → h) d counts ↦ led_one s more k p host hooks k₁ p₁ host₁ hooks₁ e d h
 ]
 

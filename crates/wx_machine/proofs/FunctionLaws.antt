@@ -31,7 +31,7 @@ use Rattle.wx_machine.proofs.PlacedPlans.{turns_step, turns_ask}
 use Rattle.wx_machine.proofs.PlanLaws.{lawful_now, of_end, end_is_plan}
 use Rattle.wx_machine.proofs.Lawful.{IsOfPlan, IsOfEnd}
 use Rattle.wx_machine.proofs.Orderly.{IsFit, IsOrderly}
-use Rattle.wx_machine.proofs.RunLaws.{follow_plan, orderly, orderly_turn}
+use Rattle.wx_machine.proofs.RunLaws.{follow_plan, orderly, orderly_turn, open_at_turn}
 use Rattle.wx_machine.proofs.AllJobs.{created_command, in_set, is_child_some, parent_runs, parent_none, one_parent}
 
 -- a word that a plan brings is said of this job
@@ -130,7 +130,7 @@ turning_more s id p Breaks e other d f h = absurd d
 -- what is owed in a turn about the job
 turning : (s : Start) (id : Id) (p : List Entry) → IsRun s p → is_in_turn id p ≡ true → Turning id p (agenda s p)
 turning s id [] r is = absurd cc
-turning s id (Turned t ∷ p) r is = turning_settle id (Turned t ∷ p) (turn_agenda s t.kind t.at (Turned t ∷ p)) (turning_turn s id p (Turned t ∷ p) t.kind t.at refl (orderly_turn s t p (orderly s p r.1)) is)
+turning s id (Turned t ∷ p) r is = turning_settle id (Turned t ∷ p) (turn_agenda s t.kind t.at (Turned t ∷ p)) (turning_turn s id p (Turned t ∷ p) t.kind t.at refl (orderly_turn s t p (open_at_turn s p (agenda s p) (Turned t) tt r.0 (orderly s p r.1).fit) (orderly s p r.1)) is)
 turning s id (TurnFault code ∷ p) r is = tt
 turning s id (e ∷ p) r is = turning_more s id p (agenda s p) e (λ turn. turn) r.0 (orderly s p r.1).fit (turning s id p r.1 is)
 

@@ -23,6 +23,7 @@ pub mod Places
 pub mod Placing
 pub mod PlanLaws
 pub mod ReapLaws
+pub mod QuitActs
 mod Rejects
 pub mod RunLaws
 pub mod SettleLaws

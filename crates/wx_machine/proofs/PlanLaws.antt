@@ -13,7 +13,7 @@ use Rattle.wx_control.specs.declared.control.Control.{Control}
 use Rattle.wx_control.specs.declared.level.Level.{Level}
 use Rattle.wx_control.specs.Asks.{sends_of}
 use Rattle.wx_journal.specs.Acts.{JournalAct as Act}
-use Rattle.wx_journal.specs.declared.entry.Act.TheVariants.{Create, Ask, Change, Quit}
+use Rattle.wx_journal.specs.declared.entry.Act.TheVariants.{Create, Ask, Change, Quit, QuitGracefully}
 use Rattle.wx_journal.specs.declared.entry.Entry.{Entry}
 use Rattle.wx_journal.specs.declared.entry.Entry.TheVariants.{Word as Said, Made, Asked, Changed, GraceOver, Spawn, Signal, Dropped, Gone}
 use Rattle.wx_journal.specs.Sorts.{Subject, OfRun, OfTurn, OfEvents, OfSettings, sort}
@@ -110,6 +110,7 @@ each_acts there r (Ask id ask ∷ acts) p h l =
     (λ a. (record { names = tt; in_order = tt; free = tt; of_plan = tt; lets_go = tt }, each_acts there r acts _ h l))
 each_acts there r (Change change ∷ acts) p h l = λ a. (record { names = tt; in_order = tt; free = tt; of_plan = tt; lets_go = tt }, each_acts there (r + 1) acts (Changed (r + 1) ∷ p) h l)
 each_acts there r (Quit ∷ acts) p h l = each_acts there r acts p h l
+each_acts there r (QuitGracefully signal grace ∷ acts) p h l = each_acts there r acts p h l
 
 -- tickets stay placed, where what comes behind the asks keeps that
 placed_asked : (id : Id) (level : Level) (first : Control) (second : Option Control) (k : Plan) (p : List Entry) → IsPlaced p → ((q : List Entry) → ((job : Id) → lives job q ≡ lives job p) → next_job q ≡ next_job p → IsPlaced q → Always Placing q k)
@@ -140,6 +141,7 @@ placed_acts there r (Ask id ask ∷ acts) p living l h =
     (λ a. (said, placed_acts there r acts (Said Ignored ∷ p) living l said))
 placed_acts there r (Change change ∷ acts) p living l h = let told = placed_silent (Changed (r + 1)) p tt h in λ a. (told, placed_acts there (r + 1) acts (Changed (r + 1) ∷ p) living l told)
 placed_acts there r (Quit ∷ acts) p living l h = placed_acts there r acts p living l h
+placed_acts there r (QuitGracefully signal grace ∷ acts) p living l h = placed_acts there r acts p living l h
 
 pub lawful_acts : (r : ℕ) (acts : List Act) (p : List Entry) → ((id : Id) → creates id acts ≡ true → is_created id p ≡ true) → AreLawful (next_job p) acts → IsPlaced p → Lawful p (act_plan (λ id. lives id p) r acts)
 lawful_acts r acts p h l placed = record { each = each_acts (λ id. lives id p) r acts p h l; placed = placed_acts (λ id. lives id p) r acts p (λ id e. e) l placed }
@@ -201,6 +203,7 @@ revised_acts s there r (Change change ∷ acts) p is wait =
       revised_acts s there (revision s p + 1) acts (Changed (revision s p + 1) ∷ p) (sym (revises_first s p change (changes acts) Done wait).1) (ap later wait),
     ))
 revised_acts s there r (Quit ∷ acts) p is wait = revised_acts s there r acts p is wait
+revised_acts s there r (QuitGracefully signal grace ∷ acts) p is wait = revised_acts s there r acts p is wait
 
 -- ---- the end
 

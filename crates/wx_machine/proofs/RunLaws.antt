@@ -25,7 +25,7 @@ use Rattle.wx_journal.specs.declared.entry.Turn.{Turn}
 use Rattle.wx_journal.specs.declared.entry.TurnKind.{TurnKind}
 use Rattle.wx_journal.specs.declared.entry.TurnKind.TheVariants.{Arrive, Work, Job, Ended, Ask, Change, Last}
 use Rattle.wx_journal.specs.declared.entry.Word.{Word}
-use Rattle.wx_journal.specs.declared.entry.Word.TheVariants.{Idle, Ignored}
+use Rattle.wx_journal.specs.declared.entry.Word.TheVariants.{Idle, Ignored, Quitting}
 use Rattle.wx_journal.specs.Names.{moment, event_count, creates, is_created, next_job, Names, NamesItsOwn}
 use Rattle.wx_journal.specs.Told.{is_hand}
 use Rattle.wx_machine.specs.History.{same, lives, child, unless, ended_child, still_running}
@@ -35,14 +35,16 @@ use Rattle.wx_machine.specs.Case.{PlanAdmits, next}
 use Rattle.wx_machine.proofs.Owners.{either, same-is}
 use Rattle.wx_machine.proofs.Places.{IsSilent, placed_none, placed_silent}
 use Rattle.wx_machine.specs.Start.{Start}
-use Rattle.wx_machine.specs.Jobs.{living, parent, jobs, first_end, end, AreLawful, change_plan, act_plan}
+use Rattle.wx_machine.specs.Jobs.{living, parent, jobs, first_end, end, AreLawful, change_plan, act_plan, with_created, with_quit_asks}
+use Rattle.wx_machine.specs.Quits.{quit_of, is_aborting, graceful}
+use Rattle.wx_machine.proofs.QuitActs.{creates_quit_asks, lawful_quit_asks, changes_quit_asks}
 use Rattle.wx_machine.specs.Settings.{turn_changes, pending, revision, change_count}
 use Rattle.wx_machine.specs.Journal.{listed, passes_unseen, lets_pass, closed, ending, named, bag, one_if, and_one, is_among, unhanded, passed, window, batches, is_over, is_urgent_named, is_urgent_in}
-use Rattle.wx_machine.specs.Due.{IsGreatest, Point, Takes, Filters, Hands, Agenda, Open, Comes, Plans, Ends, Breaks, IsTurn, Admits, sends, plans, says, stays, rest, job_turn, ended_turn, turn_agenda, after_pass, after_drop, after_show, after_hand, follow, is_quitting, settle, agenda, Due, IsRun}
+use Rattle.wx_machine.specs.Due.{IsGreatest, Point, Takes, Filters, Hands, Agenda, Open, Comes, Plans, Ends, Breaks, IsTurn, Admits, sends, plans, says, stays, rest, job_turn, ended_turn, work_going, turn_agenda, after_pass, after_drop, after_show, after_hand, follow, is_quitting, settle, agenda, Due, IsRun}
 use Rattle.wx_machine.proofs.BagLaws.{NamesBelow, bag_facts}
 use Rattle.wx_machine.specs.Leads.{Leads, Here, Then, Follows}
 use Rattle.wx_machine.proofs.Orderly.{IsQuiet, IsBrought, IsLasting, IsFit, IsGoing, GoneRunNone, IsOrderly}
-use Rattle.wx_machine.proofs.SettleLaws.{fit_settle, going_calm, going_plans}
+use Rattle.wx_machine.proofs.SettleLaws.{right_false, fit_settle, going_calm, going_plans}
 use Rattle.wx_machine.proofs.PlanLaws.{lawful_now, placed_now, lawful_next, lawful_step, lawful_ask, lawful_acts, lawful_change, revised_step, revised_ask, revised_change, revised_acts, of_end, end_is_plan, end_placed, end_in_order, names_end}
 use Rattle.wx_machine.proofs.Always.{Always, always_now, always_next}
 use Rattle.wx_machine.proofs.Lawful.{IsOfPlan, IsFree, InOrder, Revises, Lawful}
@@ -188,7 +190,7 @@ fit_change s p change false wait h = fit_plans s p (change_plan (revision s p) D
 
 fit_turn : (s : Start) (p : List Entry) (kind : TurnKind) (at : ℕ) → pending p ≡ turn_changes kind → NamesItsOwn p → IsPlaced p → IsFit s p (turn_agenda s kind at p)
 fit_turn s p (Arrive event priority) at wait own h = (λ a. (refl, tt, refl), tt)
-fit_turn s p Work at wait own h = fit_work s p at (closed p) (is_over s p at) (length (bag p) == 0) refl refl
+fit_turn s p Work at wait own h = either (IsFit s p) (graceful p) (says Quitting) (work_going s p at) (fit_says s p Quitting) (fit_work s p at (closed p) (is_over s p at) (length (bag p) == 0) refl refl)
 fit_turn s p (Job id) at wait own h = fit_job s p id (living id p) own h
 fit_turn s p (Ended c) at wait own h = fit_ended s p (parent c p) own h
 fit_turn s p (Ask id ask) at wait own h = fit_ask s p id ask (lives id p) refl own h
@@ -197,10 +199,12 @@ fit_turn s p Last at wait own h = tt
 
 fit_hand : (s : Start) (p : List Entry) (n : ℕ) (names : List ℕ) (acts : List Act) → AreLawful (next_job p) acts → IsPlaced (Hand n names acts ∷ p) → IsFit s (Hand n names acts ∷ p) (after_hand s acts p)
 fit_hand s p n names acts lawful h =
-    fit_plans s (Hand n names acts ∷ p) (act_plan (λ id. lives id p) (revision s p) acts) Open
-    (lawful_acts (revision s p) acts (Hand n names acts ∷ p) (λ id e. or_left (creates id acts) (is_created id p) e) lawful h)
+    let quit = quit_of acts in
+    let ids = with_created acts (jobs p) in
+    fit_plans s (Hand n names acts ∷ p) (act_plan (λ id. lives id p) (revision s p) (with_quit_asks p acts)) Open
+    (lawful_acts (revision s p) (with_quit_asks p acts) (Hand n names acts ∷ p) (λ id e. or_left (creates id acts) (is_created id p) (sym (creates_quit_asks id quit ids acts) ∙ e)) (lawful_quit_asks (next_job p) quit ids acts lawful) h)
     tt
-    (revised_acts s (λ id. lives id p) (revision s p) acts (Hand n names acts ∷ p) refl refl)
+    (revised_acts s (λ id. lives id p) (revision s p) (with_quit_asks p acts) (Hand n names acts ∷ p) refl (sym (changes_quit_asks quit ids acts)))
 
 -- the window, with an event that joins it
 pub joined_if : (p : List Entry) (name : ℕ) (joins : Bool) → joins ≡ true → and_one (window p) (one_if joins name) ≡ window p ++ name ∷ []
@@ -346,25 +350,28 @@ idle_more p (e) f h id is = none_left (ended_child e) (child id p) (h id is)
 
 -- ---- whether the end was asked for
 
-going_turned : (s : Start) (p : List Entry) (e : Entry) → IsTurn e → IsGoing (e ∷ p) (settle (e ∷ p) (follow s e p Open))
-going_turned s p (Turned t) i = going_calm (Turned t ∷ p) _ refl
-going_turned s p (TurnFault code) i = tt
-going_turned s p (_) i = absurd i
+-- a turn comes only where the run isn't to end
+going_turned : (s : Start) (p : List Entry) (e : Entry) → IsTurn e → is_quitting p ≡ false → IsGoing (e ∷ p) (settle (e ∷ p) (follow s e p Open))
+going_turned s p (Turned t) i g = going_calm (Turned t ∷ p) _ (right_false (is_aborting p) _ g)
+going_turned s p (TurnFault code) i g = tt
+going_turned s p (_) i g = absurd i
 
 going_brought : (s : Start) (p : List Entry) (e : Entry) (more : Agenda) → IsBrought s p e → is_quitting p ≡ false → IsGoing (e ∷ p) (settle (e ∷ p) (follow s e p more))
 going_brought s p (Turned t) more b g = absurd b
-going_brought s p (Hand n names acts) more b g = going_plans (Hand n names acts ∷ p) (act_plan (λ id. lives id p) (revision s p) acts) Open tt
+going_brought s p (Hand n names acts) more b g = going_plans (Hand n names acts ∷ p) (act_plan (λ id. lives id p) (revision s p) (with_quit_asks p acts)) Open tt
+going_brought s p (Made id) more b g = absurd b
+going_brought s p (Gone id) more b g = absurd b
 going_brought s p (e) more b g = going_calm (e ∷ p) (settle (e ∷ p) (follow s e p more)) g
 
 going_more : (s : Start) (p : List Entry) (k : Agenda) (e : Entry) → Admits s p k e → IsFit s p k → IsGoing p k → IsGoing (e ∷ p) (settle (e ∷ p) (follow s e p (rest e k)))
-going_more s p Open e d f g = going_turned s p e d
+going_more s p Open e d f g = going_turned s p e d g
 going_more s p (Comes x more) e d f g = going_brought s p e (stays x e more) (brought s p x more e d f) g
 going_more s p (Plans k more) e d f g = subst (λ (j : Agenda). IsGoing (e ∷ p) (settle (e ∷ p) j)) (sym (follow_plan s p e (plans (next k e) more) (lawful_now p k e d f.0).of_plan)) (going_plans (e ∷ p) (next k e) more f.1)
 going_more s p Ends e d f g = subst (λ (j : Agenda). IsGoing (e ∷ p) (settle (e ∷ p) j)) (sym (follow_plan s p e Ends (end_is_plan e (of_end p e d)))) tt
 going_more s p Breaks e d f g = absurd d
 
 -- a turn comes only where nothing is owed
-open_at_turn : (s : Start) (p : List Entry) (k : Agenda) (e : Entry) → IsTurn e → Admits s p k e → IsFit s p k → k ≡ Open
+pub open_at_turn : (s : Start) (p : List Entry) (k : Agenda) (e : Entry) → IsTurn e → Admits s p k e → IsFit s p k → k ≡ Open
 open_at_turn s p Open e i d f = refl
 open_at_turn s p (Comes x more) e i d f = absurd (no_turn s p e (brought s p x more e d f) i)
 open_at_turn s p (Plans k more) e i d f = absurd (no_plan_turns e (lawful_now p k e d f.0).of_plan i)
@@ -376,15 +383,15 @@ open_at_turn s p Breaks e i d f = absurd d
 pub orderly_none : (s : Start) → IsOrderly s []
 orderly_none s = record { own = tt; in_order = tt; idle = λ id e. refl; placed = placed_none; fit = (λ a. tt, lasting_sends s s.events); going = refl }
 
-pub orderly_turn : (s : Start) (t : Turn) (p : List Entry) → IsOrderly s p → IsOrderly s (Turned t ∷ p)
-orderly_turn s t p h =
+pub orderly_turn : (s : Start) (t : Turn) (p : List Entry) → agenda s p ≡ Open → IsOrderly s p → IsOrderly s (Turned t ∷ p)
+orderly_turn s t p open_is h =
     let placed = placed_silent (Turned t) p tt h.placed in record {
       own = (tt, h.own);
       in_order = (tt, h.in_order);
       idle = h.idle;
       placed = placed;
       fit = fit_settle s (Turned t ∷ p) _ (fit_turn s (Turned t ∷ p) t.kind t.at refl (tt, h.own) placed);
-      going = going_calm (Turned t ∷ p) _ refl;
+      going = going_turned s p (Turned t) tt (subst (IsGoing p) open_is h.going);
     }
 
 pub orderly_more : (s : Start) (e : Entry) (p : List Entry) → Due s p e → IsOrderly s p → IsOrderly s (e ∷ p)
@@ -521,7 +528,7 @@ waits_ended s p (Some id) h = waits_job s p id (living id p) h
 
 waits_turn : (s : Start) (p : List Entry) (kind : TurnKind) (at : ℕ) → moment p ≡ at → NoneUrgentWaits p → Waits s p (turn_agenda s kind at p)
 waits_turn s p (Arrive event priority) at now h = h
-waits_turn s p Work at now h = waits_work s p at (closed p) (is_over s p at) (length (bag p) == 0) now refl h
+waits_turn s p Work at now h = either (Waits s p) (graceful p) (says Quitting) (work_going s p at) h (waits_work s p at (closed p) (is_over s p at) (length (bag p) == 0) now refl h)
 waits_turn s p (Job id) at now h = waits_job s p id (living id p) h
 waits_turn s p (Ended c) at now h = waits_ended s p (parent c p) h
 waits_turn s p (Ask id ask) at now h = either (Waits s p) (lives id p) _ _ (waits_plans s p (ask_plan id (sends_of ask) Done) Open tt h) h
@@ -589,7 +596,7 @@ waits_follow s (Filter n name answer) p d o h = waits_filter s p n name answer (
 waits_follow s (Show n error wish) p d o h = waits_show s (Show n error wish ∷ p) (ending error wish) (rest (Show n error wish) (agenda s p)) (waits_rest s p (Show n error wish ∷ p) (agenda s p) (Show n error wish) o.fit) (calm_before s p (Show n error wish) h refl d)
 waits_follow s (Hand n names acts) p d o h =
     let none : window (Hand n names acts ∷ p) ≡ [] = window_handed n names acts p (hand_is s p n names acts o d).0 in
-    waits_plans s (Hand n names acts ∷ p) (act_plan (λ id. lives id p) (revision s p) acts) Open tt (subst (NoneUrgent (urgent_in (Hand n names acts ∷ p))) (sym none) tt)
+    waits_plans s (Hand n names acts ∷ p) (act_plan (λ id. lives id p) (revision s p) (with_quit_asks p acts)) Open tt (subst (NoneUrgent (urgent_in (Hand n names acts ∷ p))) (sym none) tt)
 waits_follow s (e) p d o h = waits_rest s p (e ∷ p) (agenda s p) e o.fit (calm_before s p e h refl d)
 
 waits_more : (s : Start) (e : Entry) (p : List Entry) → Due s p e → IsOrderly s p → Waits s p (agenda s p) → Waits s (e ∷ p) (agenda s (e ∷ p))

@@ -1,19 +1,17 @@
 -- The written machine: which entries may come next.
-use Rattle.std.specs.Prelude.{◌≡◌, ℕ, Bool, true, false, T, ◌||◌, ◌==◌, if◌then◌else◌, Option, None, Some, Result, Ok, Err, List, [], ◌∷◌, length}
+use Rattle.std.specs.Prelude.{◌≡◌, ℕ, Bool, true, false, T, ◌||◌, ◌&&◌, ◌==◌, if◌then◌else◌, Option, None, Some, Result, Ok, Err, List, [], ◌∷◌, length}
 use Rattle.std.specs.Option.{IsSomeAnd}
-use Rattle.std.specs.List.{list_any}
 use Rattle.wx_events.specs.declared.event.Event.{Event}
 use Rattle.wx_events.specs.declared.priority.Priority.{Priority}
 use Rattle.prio_channel.specs.Channel.{AllAtMost}
 use Rattle.wx_journal.specs.declared.entry.Entry.{Entry}
 use Rattle.wx_journal.specs.declared.entry.Entry.TheVariants.{Begin, Sent, Turn as Turned, TurnFault, Offer, Word as Said, Take, Filter, Show, Hand}
 use Rattle.wx_journal.specs.Acts.{JournalAct as Act}
-use Rattle.wx_journal.specs.declared.entry.Act.TheVariants.{Create, Ask as Asks, Change as Changes, Quit}
 use Rattle.wx_journal.specs.declared.entry.Named.{Named}
 use Rattle.wx_journal.specs.declared.entry.TurnKind.{TurnKind}
 use Rattle.wx_journal.specs.declared.entry.TurnKind.TheVariants.{Arrive, Work, Job, Ended, Ask, Change, Last}
 use Rattle.wx_journal.specs.declared.entry.Word.{Word}
-use Rattle.wx_journal.specs.declared.entry.Word.TheVariants.{Idle, Ignored}
+use Rattle.wx_journal.specs.declared.entry.Word.TheVariants.{Idle, Ignored, Quitting}
 use Rattle.wx_journal.specs.Told.{is_turn}
 use Rattle.wx_journal.specs.Names.{moment, event_count, next_job}
 use Rattle.wx_command.specs.declared.command.Command.{Command}
@@ -29,8 +27,9 @@ use Rattle.wx_machine.specs.History.{lives}
 use Rattle.wx_machine.specs.Table.{Plan, Done, step_plan, ask_plan}
 use Rattle.wx_machine.specs.Case.{PlanAdmits, next}
 use Rattle.wx_machine.specs.Start.{Start}
-use Rattle.wx_machine.specs.Jobs.{living, parent, AreLawful, change_plan, act_plan, end}
+use Rattle.wx_machine.specs.Jobs.{living, parent, jobs, AreLawful, change_plan, act_plan, with_quit_asks, end}
 use Rattle.wx_machine.specs.Settings.{settings, revision, MayChange}
+use Rattle.wx_machine.specs.Quits.{is_aborting, graceful}
 use Rattle.wx_machine.specs.Journal.{is_urgent_named, passes_unseen, lets_pass, closed, ending, named, bag, offered, window, is_over}
 
 -- the first entry of a run
@@ -145,13 +144,16 @@ rest e (k) = k
 
 -- ---- what an entry leaves owed
 
--- A Work turn: the end, where the queue is closed; else hand the window where the throttle is over, else say idle where the
--- queue is empty, else take an event.
+-- A Work turn: where a graceful quit was asked for it says so; else the end, where the queue is closed; else hand the window where
+-- the throttle is over, else say idle where the queue is empty, else take an event.
 abbrev pub work_open : Start → List Entry → ℕ → Agenda
 work_open s p at = if is_over s p at then Comes Hands Open else (if length (bag p) == 0 then says Idle else Comes Takes Open)
 
+abbrev pub work_going : Start → List Entry → ℕ → Agenda
+work_going s p at = if closed p then Ends else work_open s p at
+
 abbrev pub work : Start → List Entry → ℕ → Agenda
-work s p at = if closed p then Ends else work_open s p at
+work s p at = if graceful p then says Quitting else work_going s p at
 
 -- a turn about a job or a child that isn't there is ignored
 abbrev pub job_turn : Id → Option Command → List Entry → Agenda
@@ -201,23 +203,13 @@ abbrev pub after_show : Option CriticalError → Agenda → Agenda
 after_show None more = more
 after_show (Some error) more = Breaks
 
-abbrev pub is_quit : Act → Bool
-is_quit (Create id command) = false
-is_quit (Asks id ask) = false
-is_quit (Changes change) = false
-is_quit Quit = true
-
--- these acts ask for the end
-abbrev pub has_quit : List Act → Bool
-has_quit acts = list_any is_quit acts
-
--- what comes after the acts of a batch: the end, where they ask for it
+-- what comes where nothing else is owed: the end, where it was asked for
 abbrev pub after_acts : Bool → Agenda
 after_acts ends = if ends then Ends else Open
 
--- A batch is the last thing of its turn: its acts are done.
+-- A batch is the last thing of its turn: its acts are done, and what their quit asks.
 abbrev pub after_hand : Start → List Act → List Entry → Agenda
-after_hand s acts p = plans (act_plan (λ id. lives id p) (revision s p) acts) Open
+after_hand s acts p = plans (act_plan (λ id. lives id p) (revision s p) (with_quit_asks p acts)) Open
 
 -- What an entry leaves owed, where this stood behind it. One that has no row here leaves just this.
 abbrev pub follow : Start → Entry → List Entry → Agenda → Agenda
@@ -229,12 +221,13 @@ follow s (Show n error wish) p more = after_show (ending error wish) more
 follow s (Hand n names acts) p more = after_hand s acts p
 follow s (_) p more = more
 
--- the acts of this turn's batch ask for the end
+-- the end was asked for gracefully, and no job lives
+abbrev pub is_through : List Entry → Bool
+is_through p = graceful p && length (jobs p) == 0
+
+-- the end is due where nothing else is owed: it was asked for at once, in this turn, or gracefully, and no job lives
 abbrev pub is_quitting : List Entry → Bool
-is_quitting [] = false
-is_quitting (Turned t ∷ p) = false
-is_quitting (Hand n names acts ∷ p) = has_quit acts
-is_quitting (_ ∷ p) = is_quitting p
+is_quitting p = is_aborting p || is_through p
 
 -- The last pass, which sees the whole journal: where nothing is owed any more the end is, if it was asked for.
 abbrev pub settle : List Entry → Agenda → Agenda

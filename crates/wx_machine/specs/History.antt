@@ -11,7 +11,7 @@ use Rattle.wx_control.specs.Levels.{rank}
 use Rattle.wx_journal.specs.declared.child.SpawnTag.{SpawnTag}
 use Rattle.wx_journal.specs.declared.child.SpawnTag.TheVariants as spawning
 use Rattle.wx_journal.specs.Acts.{JournalAct as Act}
-use Rattle.wx_journal.specs.declared.entry.Act.TheVariants.{Create, Ask, Change, Quit}
+use Rattle.wx_journal.specs.declared.entry.Act.TheVariants.{Create, Ask, Change, Quit, QuitGracefully}
 use Rattle.wx_journal.specs.declared.entry.Entry.{Entry}
 use Rattle.wx_journal.specs.declared.entry.Entry.TheVariants.{Turn as Turned, Hand, Made, Asked, Pick, GraceOver, Spawn, Signal, Wait, Dropped, Raise, Gone, Begun, Poll, Hook}
 use Rattle.wx_journal.specs.declared.entry.TurnKind.TheVariants as turn
@@ -194,6 +194,7 @@ creation id (Create job command ∷ acts) = if same job id then Some command els
 creation id (Ask job ask ∷ acts) = creation id acts
 creation id (Change change ∷ acts) = creation id acts
 creation id (Quit ∷ acts) = creation id acts
+creation id (QuitGracefully signal grace ∷ acts) = creation id acts
 
 abbrev pub or_else : Option Command → Option Command → Option Command
 or_else None other = other

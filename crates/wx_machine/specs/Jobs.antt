@@ -1,17 +1,18 @@
 -- What a journal says of the jobs of an engine.
-use Rattle.std.specs.Prelude.{◌≡◌, ℕ, ◌+◌, ◌<◌, Bool, false, ◌||◌, ◌==◌, nat_lt, if◌then◌else◌, Option, None, Some, List, [], ◌∷◌}
+use Rattle.std.specs.Prelude.{◌≡◌, ℕ, ◌+◌, ◌<◌, Bool, false, ◌||◌, ◌==◌, nat_lt, if◌then◌else◌, Option, None, Some, List, [], ◌∷◌, ◌++◌}
 use Rattle.std.specs.List.{filter, list_any, AllByRecursion}
 use Rattle.wx_command.specs.declared.command.Command.{Command}
 use Rattle.wx_control.specs.declared.id.Id.{Id}
 use Rattle.wx_control.specs.Asks.{sends_of}
 use Rattle.wx_journal.specs.Acts.{JournalAct as Act}
-use Rattle.wx_journal.specs.declared.entry.Act.TheVariants.{Create, Ask, Change, Quit}
+use Rattle.wx_journal.specs.declared.entry.Act.TheVariants.{Create, Ask, Change, Quit, QuitGracefully}
 use Rattle.wx_journal.specs.declared.entry.Entry.{Entry}
 use Rattle.wx_journal.specs.declared.entry.Entry.TheVariants.{Word as Said, Hand, Made, Changed}
 use Rattle.wx_journal.specs.declared.entry.Word.TheVariants.{Ignored}
 use Rattle.wx_journal.specs.Names.{above, IsNextJob}
 use Rattle.wx_machine.specs.History.{same, lives, child, is_child, command}
 use Rattle.wx_machine.specs.Table.{Plan, Done, adds, ask_plan, end_plan}
+use Rattle.wx_machine.specs.Quits.{quit_of, quit_asks}
 
 -- an id at its place among rising ones, where it stands once
 abbrev pub with_id : Id → List Id → List Id
@@ -56,6 +57,7 @@ AreLawful next (Create id command ∷ acts) = IsNextJob next id × AreLawful (ab
 AreLawful next (Ask id ask ∷ acts) = AreLawful next acts
 AreLawful next (Change change ∷ acts) = AreLawful next acts
 AreLawful next (Quit ∷ acts) = AreLawful next acts
+AreLawful next (QuitGracefully signal grace ∷ acts) = AreLawful next acts
 
 -- the id of the next new job, behind these acts
 abbrev pub next_created : ℕ → List Act → ℕ
@@ -64,6 +66,7 @@ next_created next (Create id command ∷ acts) = next_created (above next id) ac
 next_created next (Ask id ask ∷ acts) = next_created next acts
 next_created next (Change change ∷ acts) = next_created next acts
 next_created next (Quit ∷ acts) = next_created next acts
+next_created next (QuitGracefully signal grace ∷ acts) = next_created next acts
 
 -- a change of the settings from this revision on, and then what stands behind it
 abbrev pub change_plan : ℕ → Plan → Plan
@@ -77,6 +80,21 @@ act_plan there revision (Create id command ∷ acts) = adds (Made id) (act_plan 
 act_plan there revision (Ask id ask ∷ acts) = if there id then ask_plan id (sends_of ask) (act_plan there revision acts) else adds (Said Ignored) (act_plan there revision acts)
 act_plan there revision (Change change ∷ acts) = change_plan revision (act_plan there (revision + 1) acts)
 act_plan there revision (Quit ∷ acts) = act_plan there revision acts
+act_plan there revision (QuitGracefully signal grace ∷ acts) = act_plan there revision acts
+
+-- these ids with those of the jobs that acts create
+abbrev pub with_created : List Act → List Id → List Id
+with_created [] ids = ids
+with_created (Create id command ∷ acts) ids = with_created acts (with_id id ids)
+with_created (Ask id ask ∷ acts) ids = with_created acts ids
+with_created (Change change ∷ acts) ids = with_created acts ids
+with_created (Quit ∷ acts) ids = with_created acts ids
+with_created (QuitGracefully signal grace ∷ acts) ids = with_created acts ids
+
+-- What the acts of a batch that is handed behind these entries ask for: they themselves, and behind them what their quit, where it is
+-- a graceful one, asks of each job that lives then, by rising id.
+abbrev pub with_quit_asks : List Entry → List Act → List Act
+with_quit_asks p acts = acts ++ quit_asks (quit_of acts) (with_created acts (jobs p))
 
 -- the end: each job that lives ends, in this order
 abbrev pub first_end : List Id → List Entry → Plan

@@ -4,7 +4,7 @@ use Rattle.wx_config.specs.Changes.{changed, last_revision}
 use Rattle.wx_config.specs.declared.change.Change.{Change as AChange}
 use Rattle.wx_config.specs.declared.config.Config.{Config}
 use Rattle.wx_journal.specs.Acts.{JournalAct as Act}
-use Rattle.wx_journal.specs.declared.entry.Act.TheVariants.{Create, Ask, Change, Quit}
+use Rattle.wx_journal.specs.declared.entry.Act.TheVariants.{Create, Ask, Change, Quit, QuitGracefully}
 use Rattle.wx_journal.specs.declared.entry.Entry.{Entry}
 use Rattle.wx_journal.specs.declared.entry.Entry.TheVariants.{Turn as Turned, TurnFault, Hand, Changed}
 use Rattle.wx_journal.specs.declared.entry.TurnKind.{TurnKind}
@@ -19,6 +19,7 @@ changes (Create id command ∷ acts) = changes acts
 changes (Ask id ask ∷ acts) = changes acts
 changes (Change change ∷ acts) = change ∷ changes acts
 changes (Quit ∷ acts) = changes acts
+changes (QuitGracefully signal grace ∷ acts) = changes acts
 
 -- what a turn of this kind asks to change
 abbrev pub turn_changes : TurnKind → List AChange

@@ -6,6 +6,7 @@ mod choice;
 mod function;
 mod grace;
 mod laws;
+mod quit;
 mod state;
 mod unseen;
 
@@ -13,5 +14,6 @@ pub use choice::{Choice, Stepped};
 pub use function::Function;
 pub use grace::Grace;
 pub use laws::children_are_reaped;
+pub use quit::QuitManner;
 pub use state::{CommandState, child_of};
 pub use unseen::is_unseen;
