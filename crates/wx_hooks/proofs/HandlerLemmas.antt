@@ -13,14 +13,13 @@ use Rattle.wx_control.specs.Flags.{Flag}
 use Rattle.wx_journal.specs.Names.{above, next_job, IsNextJob}
 use Rattle.wx_journal.specs.declared.entry.Entry.{Entry}
 use Rattle.wx_journal.specs.Acts.{JournalAct as Act}
-use Rattle.wx_journal.specs.declared.entry.Act.TheVariants.{Create, Ask, Change, Quit}
+use Rattle.wx_journal.specs.declared.entry.Act.TheVariants.{Create, Ask, Change, Quit, QuitGracefully}
 use Rattle.wx_hooks.specs.declared.handler.Second.{Second}
 use Rattle.wx_hooks.specs.declared.handler.Todo.{Todo}
 use Rattle.wx_hooks.specs.declared.handler.Todo.TheVariants as todo
 use Rattle.wx_hooks.specs.declared.held.Held.{Held}
-use Rattle.wx_machine.specs.Due.{is_quit}
 use Rattle.wx_hooks.specs.Handled.{asks_of}
-use Rattle.wx_machine.specs.Quits.{with_quit}
+use Rattle.wx_machine.specs.Quits.{is_quit, with_this_quit}
 use Rattle.wx_machine.specs.Jobs.{AreLawful, next_created}
 use Rattle.wx_machine.specs.Last.{last_added, without_last}
 use Rattle.wx_hooks.specs.KeptHandler.{HasSecondRoom, HasQuitRoom, AreTwice, StaysTwice, AddsTwice, QuitsTwice, IsKept, IsRevisionKept, quit_room}
@@ -35,6 +34,7 @@ next_append n (Create job other ∷ acts) more = next_append (above n job) acts 
 next_append n (Ask job ask ∷ acts) more = next_append n acts more
 next_append n (Change change ∷ acts) more = next_append n acts more
 next_append n (Quit ∷ acts) more = next_append n acts more
+next_append n (QuitGracefully signal grace ∷ acts) more = next_append n acts more
 
 pub asks_append : (acts more : List Act) → asks_of (acts ++ more) ≡ asks_of acts ++ asks_of more
 asks_append [] more = refl
@@ -42,6 +42,7 @@ asks_append (Create job other ∷ acts) more = asks_append acts more
 asks_append (Ask job first ∷ acts) more = ap (λ asks. (job, first) ∷ asks) (asks_append acts more)
 asks_append (Change change ∷ acts) more = asks_append acts more
 asks_append (Quit ∷ acts) more = asks_append acts more
+asks_append (QuitGracefully signal grace ∷ acts) more = asks_append acts more
 
 pub changes_append : (acts more : List Act) → changes (acts ++ more) ≡ changes acts ++ changes more
 changes_append [] more = refl
@@ -49,6 +50,7 @@ changes_append (Create job other ∷ acts) more = changes_append acts more
 changes_append (Ask job first ∷ acts) more = changes_append acts more
 changes_append (Change change ∷ acts) more = ap (λ rest. change ∷ rest) (changes_append acts more)
 changes_append (Quit ∷ acts) more = changes_append acts more
+changes_append (QuitGracefully signal grace ∷ acts) more = changes_append acts more
 
 pub next_grows : (n : ℕ) (acts : List Act) → n ≤ next_created n acts
 next_grows n [] = omega arith
@@ -56,6 +58,7 @@ next_grows n (Create job other ∷ acts) = omega (arith, next_grows (above n job
 next_grows n (Ask job first ∷ acts) = next_grows n acts
 next_grows n (Change change ∷ acts) = next_grows n acts
 next_grows n (Quit ∷ acts) = next_grows n acts
+next_grows n (QuitGracefully signal grace ∷ acts) = next_grows n acts
 
 -- ---- lawful acts stay lawful
 
@@ -65,6 +68,7 @@ lawful_append n (Create job other ∷ acts) more l m = (l.0, lawful_append (abov
 lawful_append n (Ask job first ∷ acts) more l m = lawful_append n acts more l m
 lawful_append n (Change change ∷ acts) more l m = lawful_append n acts more l m
 lawful_append n (Quit ∷ acts) more l m = lawful_append n acts more l m
+lawful_append n (QuitGracefully signal grace ∷ acts) more l m = lawful_append n acts more l m
 
 -- ---- what has to be done
 
@@ -84,6 +88,7 @@ todo_append (Change change ∷ acts) (todo.Create h ∷ rest) more others t m = 
 todo_append (Change change ∷ acts) (todo.Ask j a done ∷ rest) more others t m = absurd t
 todo_append (Change change ∷ acts) (todo.Change c ∷ rest) more others t m = (t.0, todo_append acts rest more others t.1 m)
 todo_append (Quit ∷ acts) rest more others t m = todo_append acts rest more others t m
+todo_append (QuitGracefully signal grace ∷ acts) rest more others t m = todo_append acts rest more others t m
 
 -- ---- what stands a second time
 
@@ -193,6 +198,7 @@ next_one n true (Create job other) is = absurd cc
 next_one n true (Ask job ask) is = absurd cc
 next_one n true (Change change) is = absurd cc
 next_one n true Quit is = refl
+next_one n true (QuitGracefully signal grace) is = refl
 next_one n false act is = refl
 
 next_left : (n : ℕ) (acts : List Act) → next_created n (without_last is_quit acts) ≡ next_created n acts
@@ -202,12 +208,14 @@ next_left n (Create job other ∷ next ∷ acts) = next_left (above n job) (next
 next_left n (Ask job ask ∷ next ∷ acts) = next_left n (next ∷ acts)
 next_left n (Change change ∷ next ∷ acts) = next_left n (next ∷ acts)
 next_left n (Quit ∷ next ∷ acts) = next_left n (next ∷ acts)
+next_left n (QuitGracefully signal grace ∷ next ∷ acts) = next_left n (next ∷ acts)
 
 changes_one : (b : Bool) (act : Act) → is_quit act ≡ b → changes (cond b [] (act ∷ [])) ≡ changes (act ∷ [])
 changes_one true (Create job other) is = absurd cc
 changes_one true (Ask job ask) is = absurd cc
 changes_one true (Change change) is = absurd cc
 changes_one true Quit is = refl
+changes_one true (QuitGracefully signal grace) is = refl
 changes_one false act is = refl
 
 changes_left : (acts : List Act) → changes (without_last is_quit acts) ≡ changes acts
@@ -217,10 +225,32 @@ changes_left (Create job other ∷ next ∷ acts) = changes_left (next ∷ acts)
 changes_left (Ask job ask ∷ next ∷ acts) = changes_left (next ∷ acts)
 changes_left (Change change ∷ next ∷ acts) = ap (λ (rest : List AChange). change ∷ rest) (changes_left (next ∷ acts))
 changes_left (Quit ∷ next ∷ acts) = changes_left (next ∷ acts)
+changes_left (QuitGracefully signal grace ∷ next ∷ acts) = changes_left (next ∷ acts)
 
-pub revision_quit : (revision : ℕ) (acts acts' : List Act) (kept : ℕ) → IsRevisionKept revision acts kept → acts' ≡ with_quit acts → IsRevisionKept revision acts' kept
-revision_quit revision acts acts' kept k is =
-    let left = changes_append (without_last is_quit acts) (Quit ∷ []) ∙ append-nil (changes (without_last is_quit acts)) ∙ changes_left acts in
+-- a quit creates nothing, is lawful, changes nothing and leaves nothing to do
+next_quit : (n : ℕ) (quit : Act) → is_quit quit ≡ true → next_created n (quit ∷ []) ≡ n
+next_quit n Quit is = refl
+next_quit n (QuitGracefully signal grace) is = refl
+next_quit n (_) is = absurd cc
+
+lawful_quit : (n : ℕ) (quit : Act) → is_quit quit ≡ true → AreLawful n (quit ∷ [])
+lawful_quit n Quit is = tt
+lawful_quit n (QuitGracefully signal grace) is = tt
+lawful_quit n (_) is = absurd cc
+
+changes_quit : (quit : Act) → is_quit quit ≡ true → changes (quit ∷ []) ≡ []
+changes_quit Quit is = refl
+changes_quit (QuitGracefully signal grace) is = refl
+changes_quit (_) is = absurd cc
+
+todo_quit : (quit : Act) → is_quit quit ≡ true → AreTodo (quit ∷ []) []
+todo_quit Quit is = tt
+todo_quit (QuitGracefully signal grace) is = tt
+todo_quit (_) is = absurd cc
+
+pub revision_quit : (quit : Act) (revision : ℕ) (acts acts' : List Act) (kept : ℕ) → is_quit quit ≡ true → IsRevisionKept revision acts kept → acts' ≡ with_this_quit quit acts → IsRevisionKept revision acts' kept
+revision_quit quit revision acts acts' kept quits k is =
+    let left = changes_append (without_last is_quit acts) (quit ∷ []) ∙ ap (λ (cs : List AChange). changes (without_last is_quit acts) ++ cs) (changes_quit quit quits) ∙ append-nil (changes (without_last is_quit acts)) ∙ changes_left acts in
     rw is (record { counted = k.counted ∙ ap (λ (cs : List AChange). revision + length cs) (sym left); fits = k.fits })
 
 lawful_one : (n : ℕ) (b : Bool) (act : Act) → AreLawful n (act ∷ []) → AreLawful n (cond b [] (act ∷ []))
@@ -234,12 +264,14 @@ lawful_left n (Create job other ∷ next ∷ acts) l = (l.0, lawful_left (above 
 lawful_left n (Ask job ask ∷ next ∷ acts) l = lawful_left n (next ∷ acts) l
 lawful_left n (Change change ∷ next ∷ acts) l = lawful_left n (next ∷ acts) l
 lawful_left n (Quit ∷ next ∷ acts) l = lawful_left n (next ∷ acts) l
+lawful_left n (QuitGracefully signal grace ∷ next ∷ acts) l = lawful_left n (next ∷ acts) l
 
 todo_one : (b : Bool) (act : Act) (rest : List Todo) → is_quit act ≡ b → AreTodo (act ∷ []) rest → AreTodo (cond b [] (act ∷ [])) rest
 todo_one true (Create job other) rest is t = absurd cc
 todo_one true (Ask job ask) rest is t = absurd cc
 todo_one true (Change change) rest is t = absurd cc
 todo_one true Quit rest is t = t
+todo_one true (QuitGracefully signal grace) rest is t = t
 todo_one false act rest is t = t
 
 todo_left : (acts : List Act) (rest : List Todo) → AreTodo acts rest → AreTodo (without_last is_quit acts) rest
@@ -258,33 +290,34 @@ todo_left (Change change ∷ next ∷ acts) (todo.Create h ∷ rest) t = absurd 
 todo_left (Change change ∷ next ∷ acts) (todo.Ask j a done ∷ rest) t = absurd t
 todo_left (Change change ∷ next ∷ acts) (todo.Change c ∷ rest) t = (t.0, todo_left (next ∷ acts) rest t.1)
 todo_left (Quit ∷ next ∷ acts) rest t = todo_left (next ∷ acts) rest t
+todo_left (QuitGracefully signal grace ∷ next ∷ acts) rest t = todo_left (next ∷ acts) rest t
 
 -- what stands a second time has room for a quit, and the quit is put there too
 pub quit_room_twice : (names : List ℕ) (acts : List Act) (second : Option Second) → AreTwice names acts (quit_room acts) second → HasQuitRoom second
 quit_room_twice names acts second t twice is = subst (λ (xs : List Act). vec_len twice.acts + quit_room xs ≤ vec_capacity twice.acts) (sym (t.same_acts twice is)) (t.room twice is)
 
-twice_quit : (names : List ℕ) (acts : List Act) (m : ℕ) (second second' : Option Second) → AreTwice names acts m second → QuitsTwice Quit second second' → AreTwice names (with_quit acts) 0 second'
-twice_quit names acts m None None t a = record { same_names = λ twice is. cc; same_acts = λ twice is. cc; room = λ twice is. cc }
-twice_quit names acts m None (Some new) t a = absurd a
-twice_quit names acts m (Some old) None t a = absurd a
-twice_quit names acts m (Some old) (Some new) t a =
+twice_quit : (quit : Act) (names : List ℕ) (acts : List Act) (m : ℕ) (second second' : Option Second) → AreTwice names acts m second → QuitsTwice quit second second' → AreTwice names (with_this_quit quit acts) 0 second'
+twice_quit quit names acts m None None t a = record { same_names = λ twice is. cc; same_acts = λ twice is. cc; room = λ twice is. cc }
+twice_quit quit names acts m None (Some new) t a = absurd a
+twice_quit quit names acts m (Some old) None t a = absurd a
+twice_quit quit names acts m (Some old) (Some new) t a =
     let names_before : old.names.items ≡ names = t.same_names old refl in
     let acts_before : old.acts.items ≡ acts = t.same_acts old refl in
-    let acts_after : new.acts.items ≡ with_quit acts = a.1 ∙ ap with_quit acts_before in
+    let acts_after : new.acts.items ≡ with_this_quit quit acts = a.1 ∙ ap (with_this_quit quit) acts_before in
     record {
       same_names = λ twice is. cc;
       same_acts = λ twice is. (let same : twice.acts.items ≡ new.acts.items = cc in same ∙ acts_after);
       room = λ twice is. (let same_len : vec_len twice.acts ≡ vec_len new.acts = cc in let same_room : vec_capacity twice.acts ≡ vec_capacity new.acts = cc in omega (arith, a.2));
     }
 
-pub kept_quit : (past : List Entry) (shown : List Held) (names : List ℕ) (events : List Event) (ids : ℕ) (acts : List Act) (room : ℕ) (second second' : Option Second) (rest : List Todo) (acts' : List Act) (room' : ℕ) → IsKept past shown names events ids acts room second rest → QuitsTwice Quit second second' → acts' ≡ with_quit acts → room' ≡ room → IsKept past shown names events ids acts' room' second' rest
-kept_quit past shown names events ids acts room second second' rest acts' room' k quits acts_is room_is =
+pub kept_quit : (quit : Act) (past : List Entry) (shown : List Held) (names : List ℕ) (events : List Event) (ids : ℕ) (acts : List Act) (room : ℕ) (second second' : Option Second) (rest : List Todo) (acts' : List Act) (room' : ℕ) → is_quit quit ≡ true → IsKept past shown names events ids acts room second rest → QuitsTwice quit second second' → acts' ≡ with_this_quit quit acts → room' ≡ room → IsKept past shown names events ids acts' room' second' rest
+kept_quit quit past shown names events ids acts room second second' rest acts' room' is k quits acts_is room_is =
     rw (acts_is, room_is) (record {
       shown = k.shown;
       are_events = k.are_events;
-      next = rw (next_append (next_job past) (without_last is_quit acts) (Quit ∷ []), next_left (next_job past) acts) k.next;
-      lawful = lawful_append (next_job past) (without_last is_quit acts) (Quit ∷ []) (lawful_left (next_job past) acts k.lawful) tt;
-      todo = subst (AreTodo (with_quit acts)) (append-nil rest) (todo_append (without_last is_quit acts) rest (Quit ∷ []) [] (todo_left acts rest k.todo) tt);
-      room = rw (last_added is_quit (without_last is_quit acts) Quit) (omega (arith, k.room, room_for_quit acts, length-append (without_last is_quit acts) (Quit ∷ [])));
-      twice = rw (last_added is_quit (without_last is_quit acts) Quit) (twice_quit names acts (quit_room acts) second second' k.twice quits);
+      next = rw (next_append (next_job past) (without_last is_quit acts) (quit ∷ []), next_quit _ quit is, next_left (next_job past) acts) k.next;
+      lawful = lawful_append (next_job past) (without_last is_quit acts) (quit ∷ []) (lawful_left (next_job past) acts k.lawful) (lawful_quit _ quit is);
+      todo = subst (AreTodo (with_this_quit quit acts)) (append-nil rest) (todo_append (without_last is_quit acts) rest (quit ∷ []) [] (todo_left acts rest k.todo) (todo_quit quit is));
+      room = rw (last_added is_quit (without_last is_quit acts) quit, is) (omega (arith, k.room, room_for_quit acts, length-append (without_last is_quit acts) (quit ∷ [])));
+      twice = rw (last_added is_quit (without_last is_quit acts) quit, is) (twice_quit quit names acts (quit_room acts) second second' k.twice quits);
     })

@@ -1,7 +1,8 @@
 -- What is held in a list of jobs.
-use Rattle.std.proofs.Common.{◌≡◌, ◌≢◌, ℕ, zero, suc, ◌+◌, ◌<◌, ◌≤◌, Bool, true, false, cond, List, [], ◌∷◌, length, get_or, set as put, arith, refl, ap, sym, subst, ◌∙◌}
+use Rattle.std.proofs.Common.{◌≡◌, ◌≢◌, ℕ, zero, suc, ◌+◌, ◌<◌, ◌≤◌, Bool, true, false, cond, List, [], ◌∷◌, ◌++◌, length, get_or, drop, drop-cons, add-one, append_assoc, set as put, arith, refl, ap, sym, subst, ◌∙◌}
 use Rattle.std.specs.Prelude.{Option, None, Some, is_some, option_map, map, not, nat_lt, nat_le, ◌==◌}
-use Rattle.std.specs.List.{AllByRecursion, find, insert, position, position_or_len, position_from}
+use Rattle.std.specs.List.{AllByRecursion, filter, find, insert, position, position_or_len, position_from}
+use Rattle.std.proofs.lemmas.List.{append-nil, drop_all}
 use Rattle.std.proofs.lemmas.Bool.{ltb-false, le-ltb, lt-ltb, leb-true, leb-false}
 use Rattle.std.proofs.lemmas.List.Sums.{prefix_len-le-length}
 use Rattle.std.proofs.lemmas.List.Quantifiers.{position-Some}
@@ -10,7 +11,7 @@ use Rattle.wx_words.specs.OptionLaws.{neither}
 use Rattle.wx_control.specs.declared.id.Id.{Id}
 use Rattle.wx_job.specs.declared.task.JobTask.{JobTask}
 use Rattle.wx_hooks.specs.declared.held.Held.{Held}
-use Rattle.wx_hooks.specs.HeldJobs.{is_of, is_alive, handle_id, task_of, with_task, with_held}
+use Rattle.wx_hooks.specs.HeldJobs.{is_of, is_here, living_ids, is_alive, handle_id, task_of, with_task, with_held}
 use Rattle.wx_hooks.specs.JobsStand.{HeldStands, held_id}
 use Rattle.wx_journal.specs.declared.entry.Entry.{Entry}
 use Rattle.wx_machine.proofs.Owners.{other-is}
@@ -167,3 +168,30 @@ ids_at x h hs false le its mine ne more =
 pub ids_with : (p : List Entry) (hs : List Held) (h : Held) → AllByRecursion (HeldStands p) hs → h.handle.id ≡ held_id h → AllByRecursion (λ id. id ≢ held_id h) (map held_id hs) → map held_id (with_held h hs) ≡ with_id (held_id h) (map held_id hs)
 ids_with p [] h stand mine ne = refl
 ids_with p (x ∷ hs) h stand mine ne = ids_at x h hs (nat_le h.handle.id.0 x.handle.id.0) refl stand.0.handle_is mine ne.0 (ids_with p hs h stand.1 mine ne.1)
+
+-- ---- the ids of those whose job isn't gone
+
+living_first : (b : Bool) (h : Held) (hs : List Held) → map handle_id (cond b (h ∷ filter is_here hs) (filter is_here hs)) ≡ map handle_id (cond b (h ∷ []) []) ++ map handle_id (filter is_here hs)
+living_first true h hs = refl
+living_first false h hs = refl
+
+living_cons : (h : Held) (hs : List Held) → living_ids (h ∷ hs) ≡ living_ids (h ∷ []) ++ living_ids hs
+living_cons h hs = living_first (is_here h) h hs
+
+pub living_gone : (h : Held) (ids : List Id) → is_here h ≡ false → ids ≡ ids ++ living_ids (h ∷ [])
+living_gone h ids is = rw is (sym (append-nil ids))
+
+pub living_here : (h : Held) (id : Id) (ids : List Id) → is_here h ≡ true → id ≡ h.handle.id → ids ++ id ∷ [] ≡ ids ++ living_ids (h ∷ [])
+living_here h id ids is same = rw (is, same) refl
+
+-- those that are left, once this one joined
+pub living_next : (hs : List Held) (i : ℕ) (h : Held) (ids ids' : List Id) → i < length hs → h ≡ get_or hs i h → ids' ≡ ids ++ living_ids (h ∷ []) → ids ++ living_ids (drop i hs) ≡ living_ids hs → ids' ++ living_ids (drop (i + 1) hs) ≡ living_ids hs
+living_next hs i h ids ids' lt is grown before =
+    let first : drop i hs ≡ h ∷ drop (suc i) hs = drop-cons hs i h lt ∙ ap (λ (x : Held). x ∷ drop (suc i) hs) (sym is) in
+    let all : living_ids (drop i hs) ≡ living_ids (h ∷ []) ++ living_ids (drop (suc i) hs) = ap living_ids first ∙ living_cons h (drop (suc i) hs) in
+    ap (λ (xs : List Id). xs ++ living_ids (drop (i + 1) hs)) grown ∙ ap (λ k. (ids ++ living_ids (h ∷ [])) ++ living_ids (drop k hs)) (add-one i)
+    ∙ append_assoc ids (living_ids (h ∷ [])) (living_ids (drop (suc i) hs)) ∙ ap (λ (xs : List Id). ids ++ xs) (sym all) ∙ before
+
+-- and at the end none is left
+pub living_all : (hs : List Held) (i : ℕ) (ids : List Id) → length hs ≤ i → ids ++ living_ids (drop i hs) ≡ living_ids hs → ids ≡ living_ids hs
+living_all hs i ids end all = sym (append-nil ids) ∙ ap (λ (rest : List Held). ids ++ living_ids rest) (sym (drop_all i hs end)) ∙ all

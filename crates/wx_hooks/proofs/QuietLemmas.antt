@@ -9,6 +9,7 @@ use Rattle.wx_machine.specs.History.{command}
 use Rattle.wx_machine.specs.Table.{Plan}
 use Rattle.wx_machine.specs.Case.{PlanLeads, PlanHere, PlanThen}
 use Rattle.wx_machine.specs.Start.{Start}
+use Rattle.wx_machine.specs.Quits.{graceful}
 use Rattle.wx_machine.specs.Settings.{settings}
 use Rattle.wx_machine.specs.Journal.{closed, bag, window, first}
 use Rattle.wx_machine.specs.Jobs.{set}
@@ -27,9 +28,10 @@ pub record SameRest (p p' : List Entry) : Type 0 where
   pub set_same : set p' ≡ set p
   pub commands_same : (i : Id) → command i p' ≡ command i p
   pub settings_same : (s : Start) → settings s p' ≡ settings s p
+  pub graceful_same : graceful p' ≡ graceful p
 
 pub same_rest : (p : List Entry) → SameRest p p
-same_rest p = record { bag_same = refl; closed_same = refl; count_same = refl; window_same = refl; lookup_same = refl; first_same = refl; set_same = refl; commands_same = λ i. refl; settings_same = λ s. refl }
+same_rest p = record { bag_same = refl; closed_same = refl; count_same = refl; window_same = refl; lookup_same = refl; first_same = refl; set_same = refl; commands_same = λ i. refl; settings_same = λ s. refl; graceful_same = refl }
 
 pub rest_then : (p q r : List Entry) → SameRest p q → SameRest q r → SameRest p r
 rest_then p q r a b = record {
@@ -42,6 +44,7 @@ rest_then p q r a b = record {
   set_same = b.set_same ∙ a.set_same;
   commands_same = λ i. b.commands_same i ∙ a.commands_same i;
   settings_same = λ s. b.settings_same s ∙ a.settings_same s;
+  graceful_same = b.graceful_same ∙ a.graceful_same;
 }
 
 -- ---- a plan that makes no job and changes no setting

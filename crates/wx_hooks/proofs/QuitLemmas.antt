@@ -3,8 +3,7 @@ use Rattle.std.proofs.Common.{◌≡◌, ℕ, suc, ◌+◌, ◌-◌, Bool, true,
 use Rattle.std.specs.Prelude.{Option, None, Some, MatchOption}
 use Rattle.std.specs.Option.{option_to_list}
 use Rattle.wx_journal.specs.Acts.{JournalAct as Act}
-use Rattle.wx_machine.specs.Due.{is_quit}
-use Rattle.wx_machine.specs.Quits.{ends_with_quit}
+use Rattle.wx_machine.specs.Quits.{is_quit, ends_with_quit}
 use Rattle.wx_hooks.specs.KeptHandler.{quit_room}
 use Rattle.wx_machine.specs.Last.{without_last}
 

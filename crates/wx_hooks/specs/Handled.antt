@@ -4,7 +4,7 @@ use Rattle.wx_events.specs.declared.event.Event.{Event}
 use Rattle.wx_events.specs.declared.priority.Priority.{Priority}
 use Rattle.wx_journal.specs.declared.entry.Entry.{Entry}
 use Rattle.wx_journal.specs.Acts.{JournalAct as Act}
-use Rattle.wx_journal.specs.declared.entry.Act.TheVariants.{Create, Ask as Asks, Change, Quit}
+use Rattle.wx_journal.specs.declared.entry.Act.TheVariants.{Create, Ask as Asks, Change, Quit, QuitGracefully}
 use Rattle.wx_control.specs.declared.id.Id.{Id}
 use Rattle.wx_control.specs.declared.ask.Ask.{Ask}
 use Rattle.wx_control.specs.Sent.{Sink}
@@ -31,6 +31,7 @@ asks_of (Asks id ask ∷ acts) = (id, ask) ∷ asks_of acts
 asks_of (Create id command ∷ acts) = asks_of acts
 asks_of (Change change ∷ acts) = asks_of acts
 asks_of (Quit ∷ acts) = asks_of acts
+asks_of (QuitGracefully signal grace ∷ acts) = asks_of acts
 
 -- the handler as a sink of asks: no send is counted, and none is refused for want of room
 abbrev pub sink_of : Handled → Sink Handled

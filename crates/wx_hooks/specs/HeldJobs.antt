@@ -1,6 +1,6 @@
 -- The jobs that an action sees.
 use Rattle.std.specs.Prelude.{◌≡◌, ℕ, Bool, false, not, nat_le, if◌then◌else◌, is_some, Option, None, Some, List, [], ◌∷◌, map}
-use Rattle.std.specs.List.{find, insert, position_or_len, AllByRecursion}
+use Rattle.std.specs.List.{filter, find, insert, position_or_len, AllByRecursion}
 use Rattle.wx_control.specs.declared.id.Id.{Id}
 use Rattle.wx_control.specs.declared.job.Job.{Job}
 use Rattle.wx_journal.specs.declared.entry.Entry.{Entry}
@@ -31,6 +31,10 @@ is_of id h = same h.handle.id id
 -- its job isn't gone
 abbrev pub is_here : Held → Bool
 is_here h = not (gone_of h.task)
+
+-- the ids of those whose job isn't gone, in order
+abbrev pub living_ids : List Held → List Id
+living_ids held = map (λ h. h.handle.id) (filter is_here held)
 
 -- this child runs
 abbrev pub runs_child : ℕ → Held → Bool

@@ -5,7 +5,7 @@ use Rattle.wx_control.specs.declared.id.Id.{Id}
 use Rattle.wx_machine.specs.History.{RunsOnly}
 use Rattle.wx_job.specs.Stands.{TaskStands, id_of, command_of, closed_of, gone_of}
 use Rattle.wx_journal.specs.Acts.{JournalAct as Act}
-use Rattle.wx_journal.specs.declared.entry.Act.TheVariants.{Create, Ask, Change, Quit}
+use Rattle.wx_journal.specs.declared.entry.Act.TheVariants.{Create, Ask, Change, Quit, QuitGracefully}
 use Rattle.wx_journal.specs.declared.entry.Entry.{Entry}
 use Rattle.wx_journal.specs.declared.entry.Entry.TheVariants.{Made}
 use Rattle.wx_hooks.specs.declared.handler.Todo.{Todo}
@@ -30,4 +30,5 @@ AreTodo (Create id command ∷ acts) (todo.Create held ∷ rest) = IsNew held id
 AreTodo (Ask id ask ∷ acts) (todo.Ask job asked done ∷ rest) = (job ≡ id) × (asked ≡ ask) × AreTodo acts rest
 AreTodo (Change change ∷ acts) (todo.Change asked ∷ rest) = (asked ≡ change) × AreTodo acts rest
 AreTodo (Quit ∷ acts) rest = AreTodo acts rest
+AreTodo (QuitGracefully signal grace ∷ acts) rest = AreTodo acts rest
 AreTodo (_) (_) = ⊥

@@ -10,9 +10,8 @@ ghost use Rattle.wx_machine.specs.Settings.{changes, MayChange};
 ghost use Rattle.wx_hooks.specs.declared.handler.ChangeRefused.TheVariants.{RevisionSpent};
 ghost use Rattle.wx_journal.specs.declared.entry.Entry.TheVariants.{Hand};
 ghost use Rattle.wx_hooks.specs.declared.handler.CreateRefused.TheVariants.{IdsSpent};
-ghost use Rattle.wx_machine.specs.Due.{is_quit};
 ghost use Rattle.wx_hooks.specs.Handled.{sink_of, AreEvents, lookup, Handled};
-ghost use Rattle.wx_machine.specs.Quits.{ends_with_quit, with_this_quit, with_quit};
+ghost use Rattle.wx_machine.specs.Quits.{is_quit, ends_with_quit, with_this_quit, with_quit, with_graceful_quit};
 ghost use Rattle.wx_hooks.specs.HeldJobs.{IsHandle, AreSeen, AreShown};
 ghost use Rattle.wx_machine.specs.Jobs.{is_seen, AreLawful, next_created};
 ghost use Rattle.wx_machine.specs.Last.{without_last};
@@ -29,7 +28,7 @@ use std::marker::Model;
 use wx_command::Command;
 use wx_config::Change;
 use wx_control::{Ask, Controls, Flag, Id, Job, Refused, Ticket};
-use wx_events::Event;
+use wx_events::{Event, Signal};
 use wx_job::start_job;
 use wx_journal::{Act, Entry, Journal};
 use wx_text::{Copies, List, Memory};
@@ -123,10 +122,10 @@ impl<'a> Model for ActionHandler<'a> {
 }
 
 /// Whether an act is a quit.
-pub fn is_quit(act: &Act) -> bool
+fn is_quit(act: &Act) -> bool
     ensures { result ≡ is_quit act.now }
 {
-    matches!(act, Act::Quit)
+    matches!(act, Act::Quit | Act::QuitGracefully { .. })
 }
 
 /// Whether the last of these acts is a quit.
@@ -451,13 +450,23 @@ impl<'a> ActionHandler<'a> {
         Ok(())
     }
 
-    /// Asks for the end of the run. Of several such acts the last stands; one that directly follows another takes its
+    /// Asks for the end of the run, at once. Of several quits the last stands; one that directly follows another takes its
     /// place in the list. It takes no memory.
     pub fn quit(&mut self)
         ensures { self.new ≡ record self.old { acts = with_quit self.old.acts } }
     {
         put_quit(&mut self.acts, Act::Quit);
         put_second_quit(&mut self.second, Act::Quit);
+    }
+
+    /// Asks that the run ends once no job lives: each job that lives behind the acts is stopped, for which its child is sent this
+    /// signal and has this many nanoseconds to end, and then deleted. From the next Work turn on no event is taken. Of several quits
+    /// the last stands; one that directly follows another takes its place in the list. It takes no memory.
+    pub fn quit_gracefully(&mut self, signal: Signal, grace: u64)
+        ensures { self.new ≡ record self.old { acts = with_graceful_quit signal grace self.old.acts } }
+    {
+        put_quit(&mut self.acts, Act::QuitGracefully { signal, grace });
+        put_second_quit(&mut self.second, Act::QuitGracefully { signal, grace });
     }
 
     /// Moves out the entry of this call: the number of the handler, the names of the events, and all acts so far.

@@ -1,10 +1,10 @@
 // The jobs that a worker holds, and those that an action sees.
-ghost use Rattle.std.specs.Prelude.{◌≡◌, [], ◌+◌, ◌*◌, ◌≤◌, true, is_some, length, nat_le, Some, option_map, OnOk, OnErr};
+ghost use Rattle.std.specs.Prelude.{◌≡◌, [], ◌∷◌, ◌++◌, ◌+◌, ◌*◌, ◌≤◌, true, is_some, length, nat_le, Some, option_map, IfOk, OnOk, OnErr};
 ghost use Rattle.std.specs.Borrow.{sem};
-ghost use Rattle.std.specs.List.{find, filter, position, position_or_len};
+ghost use Rattle.std.specs.List.{find, filter, list_any, position, position_or_len};
 ghost use Rattle.std.specs.Iterator.{YieldsFirstBy, item_count};
 ghost use Rattle.wx_journal.specs.Names.{NamesItsOwn};
-ghost use Rattle.wx_hooks.specs.HeldJobs.{is_of, is_here, is_alive, runs_child, handles, handle_id, task_of, with_held, parked_at};
+ghost use Rattle.wx_hooks.specs.HeldJobs.{is_of, is_here, living_ids, is_alive, runs_child, handles, handle_id, task_of, with_held, parked_at};
 ghost use Rattle.wx_hooks.specs.LentTask.{LendsTask};
 ghost use Rattle.wx_hooks.specs.EndsJobs.{EndsJobs};
 ghost use Rattle.wx_hooks.specs.JobsStand.{JobsStand};
@@ -57,6 +57,29 @@ fn place_for(held: &[Held], id: Id) -> usize
     }
 }
 
+/// Adds the id of a job behind these, where it isn't gone. It fails only for want of memory.
+fn push_living(ids: &mut Vec<Id>, held: &Held) -> Result<(), Memory>
+    ensures { OnOk result (ids.new.items ≡ ids.old.items ++ living_ids (held.now ∷ [])) }
+{
+    if !held.is_here() {
+        return Ok(());
+    }
+    let id = held.handle.id();
+    ids.push(id)?;
+    Ok(())
+}
+
+/// The ids of those among these whose job isn't gone, in order. It fails only for want of memory.
+fn living_among(alloc: Global, held: &[Held]) -> Result<Vec<Id>, Memory>
+    ensures { IfOk result (λ ids. ids.items ≡ living_ids held.now) }
+{
+    let mut ids = Vec::new(alloc);
+    for one in held {
+        push_living(&mut ids, one)?;
+    }
+    Ok(ids)
+}
+
 impl JobList {
     /// No job. It takes no memory.
     pub fn new(alloc: Global) -> JobList
@@ -89,6 +112,20 @@ impl JobList {
             Some(held) => held.is_here(),
             None => false,
         }
+    }
+
+    /// Whether a job that is held isn't gone.
+    pub fn any_lives(&self) -> bool
+        ensures { result ≡ list_any is_here self.now }
+    {
+        self.items.iter().any(|held| held.is_here())
+    }
+
+    /// The ids of the jobs that aren't gone, rising. It fails only for want of memory.
+    pub fn living(&self, alloc: Global) -> Result<Vec<Id>, Memory>
+        ensures { IfOk result (λ ids. ids.items ≡ living_ids self.now) }
+    {
+        living_among(alloc, self.items.as_slice())
     }
 
     /// How many tickets are parked at the job of this id: none, where it isn't held.
