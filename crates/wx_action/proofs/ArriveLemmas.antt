@@ -21,7 +21,7 @@ use Rattle.wx_config.specs.declared.config.Config.{Config}
 use Rattle.wx_machine.specs.Settings.{pending, first_changed, settings}
 use Rattle.wx_machine.specs.Journal.{closed, bag}
 use Rattle.wx_machine.specs.Due.{Point, Sends, Offers, Says, Agenda, Open, Comes, rest, is_quitting, settle, agenda, Due}
-use Rattle.wx_machine.proofs.SettleLaws.{settle_calm, settle_over}
+use Rattle.wx_machine.proofs.SettleLaws.{served_open, settle_calm, settle_over}
 use Rattle.wx_machine.specs.Kept.{StaysQuiet, More}
 use Rattle.wx_machine.specs.Leads.{FollowsAlone, Then}
 use Rattle.wx_machine.specs.Turns.{StaysInTurn}
@@ -61,9 +61,9 @@ sent_then s p p' name event priority other ranked grown more due =
 pub said_then : (s : Start) (p p' : List Entry) (word : Word) → p' ≡ Said word ∷ p → OwesRest s (Says word) p p'
 said_then s p p' word grown more due = rw grown (ap (λ (k : Agenda). settle (Said word ∷ p) (rest (Said word) k)) due ∙ settle_over (Said word ∷ p) p more refl)
 
--- where nothing stood behind it, and the end wasn't asked for, nothing is owed
+-- where nothing stood behind it, and the end wasn't asked for, the turn is served
 pub settles_open : {X E : Type 0} (s : Start) (x : Point) (p p' : List Entry) (result : Result X E) → is_quitting p ≡ false → agenda s p ≡ Comes x Open → OnOk result (OwesRest s x p p') → OnErr result (p' ≡ p) → Settles result s p p'
-settles_open s x p p' (Ok u) going due done err = record { done = done Open due ∙ settle_calm p Open going; err = tt }
+settles_open s x p p' (Ok u) going due done err = record { done = served_open s p' (done Open due ∙ settle_calm p Open going); err = tt }
 settles_open s x p p' (Err e) going due done err = record { done = tt; err = err }
 
 -- a word is said

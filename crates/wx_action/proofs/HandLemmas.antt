@@ -1,16 +1,17 @@
 -- The window is handed.
-use Rattle.std.proofs.Common.{◌≡◌, ◌≢◌, ◌<◌, ℕ, Bool, true, false, cond, List, [], ◌∷◌, ◌++◌, inl, inr, refl, ap, sym, subst, ◌∙◌, append_assoc}
-use Rattle.std.specs.Prelude.{Option, None, Some, Result, Ok, Err, OnErr, map}
-use Rattle.std.specs.List.{AllByRecursion, filter}
+use Rattle.std.proofs.Common.{◌≡◌, ◌≢◌, ◌<◌, ◌≤◌, ℕ, Bool, true, false, cond, List, [], ◌∷◌, ◌++◌, inl, inr, refl, arith, ap, sym, subst, ◌∙◌, append_assoc, ne_eqb}
+use Rattle.std.specs.Prelude.{Option, None, Some, Result, Ok, Err, OnErr, map, not, length, ◌+◌, ◌&&◌, ◌||◌, ◌==◌}
+use Rattle.std.specs.List.{AllByRecursion, filter, list_any}
 use Rattle.std.proofs.lemmas.Bool.{not-false}
+use Rattle.std.proofs.lemmas.List.{length-map}
 use Rattle.wx_command.specs.declared.command.Command.{Command}
 use Rattle.wx_control.specs.declared.id.Id.{Id}
 use Rattle.wx_journal.specs.declared.entry.Entry.{Entry}
-use Rattle.wx_journal.specs.declared.entry.Entry.TheVariants.{Hand}
+use Rattle.wx_journal.specs.declared.entry.Entry.TheVariants.{Turn as Turned, TurnFault, Hand}
 use Rattle.wx_journal.specs.Acts.{JournalAct as Act}
-use Rattle.wx_journal.specs.declared.entry.Act.TheVariants.{Create, Ask, Change, Quit}
+use Rattle.wx_journal.specs.declared.entry.Act.TheVariants.{Create, Ask, Change, Quit, QuitGracefully}
 use Rattle.wx_journal.specs.Names.{event_count, next_job}
-use Rattle.wx_journal.specs.Told.{tell}
+use Rattle.wx_journal.specs.Told.{tell, is_hooks}
 use Rattle.wx_machine.specs.History.{lives, child, creation, or_else, command}
 use Rattle.wx_machine.specs.Table.{Plan, Done}
 use Rattle.wx_hooks.specs.declared.handler.Todo.{Todo}
@@ -21,12 +22,16 @@ use Rattle.wx_action.specs.declared.work_turn.Collected.TheVariants as collected
 use Rattle.wx_action.specs.declared.work_turn.Worked.TheVariants.{On, End}
 use Rattle.wx_machine.specs.Start.{Start}
 use Rattle.wx_machine.specs.Settings.{settings, revision, MayChange}
-use Rattle.wx_machine.specs.Journal.{window}
-use Rattle.wx_machine.specs.Jobs.{set, act_plan, AreLawful}
+use Rattle.wx_machine.specs.Journal.{window, turn_count}
+use Rattle.wx_machine.specs.Kept.{Quiet, Same, More}
+use Rattle.wx_action.specs.Serves.{AddsAlone, IsServed}
+use Rattle.wx_machine.specs.Jobs.{set, jobs, with_created, act_plan, AreLawful}
+use Rattle.wx_machine.specs.declared.quit.QuitManner.{QuitManner}
+use Rattle.wx_machine.specs.Quits.{quit_of, quit_asks, is_abort, is_graceful, is_aborting, graceful}
 use Rattle.wx_machine.specs.Answer.{NoneIsToGo}
-use Rattle.wx_machine.specs.Due.{Hands, Agenda, Open, Comes, plans, has_quit, after_acts, is_quitting, settle, agenda, Due}
+use Rattle.wx_machine.specs.Due.{Hands, Agenda, Open, Comes, plans, after_acts, is_through, is_quitting, settle, agenda, Due}
 use Rattle.wx_machine.specs.Leads.{FollowsHooks, Then}
-use Rattle.wx_action.specs.Perform.{AreCommanded, OwesActs}
+use Rattle.wx_action.specs.Perform.{AreCommanded, OwesPlan, OwesActs}
 use Rattle.wx_action.specs.Stands.{Stands, Collects, Works, without_hand}
 use Rattle.wx_hooks.specs.JobsStand.{HeldStands, held_id}
 use Rattle.wx_job.specs.Stands.{gone_of, running_of}
@@ -34,7 +39,7 @@ use Rattle.wx_hooks.specs.HeldJobs.{is_here}
 use Rattle.wx_hooks.specs.Todo.{AreTodo}
 use Rattle.wx_machine.specs.Turns.{StaysInTurn}
 use Rattle.wx_machine.proofs.RunLaws.{window_below, window_handed}
-use Rattle.wx_machine.proofs.AllJobs.{IsIn, command_kept, unseen_hand, creation_is, turns_over}
+use Rattle.wx_machine.proofs.AllJobs.{IsIn, command_kept, unseen_hand, creation_is, same_turns, turns_over}
 use Rattle.wx_hooks.proofs.JobsLemmas.{same_held}
 use Rattle.wx_action.proofs.StandsLemmas.{over_hand}
 use Rattle.wx_job.proofs.StandsLemmas.{lives-kept, child-kept}
@@ -52,7 +57,7 @@ map_cond : (b : Bool) (h : Held) (hs : List Held) → map held_id (cond b (h ∷
 map_cond true h hs = refl
 map_cond false h hs = refl
 
-ids_here : (p : List Entry) (hs : List Held) → AllByRecursion (HeldStands p) hs → map held_id (filter is_here hs) ≡ filter (λ id. lives id p) (map held_id hs)
+pub ids_here : (p : List Entry) (hs : List Held) → AllByRecursion (HeldStands p) hs → map held_id (filter is_here hs) ≡ filter (λ id. lives id p) (map held_id hs)
 ids_here p [] s = refl
 ids_here p (h ∷ hs) s =
     map_cond (is_here h) h (filter is_here hs) ∙ ap (λ (ids : List Id). cond (is_here h) (held_id h ∷ ids) ids) (ids_here p hs s.1)
@@ -62,7 +67,7 @@ all_cond : (P : Held → Type 0) (b : Bool) (h : Held) (hs : List Held) → P h 
 all_cond P true h hs x s = (x, s)
 all_cond P false h hs x s = s
 
-all_here : (P : Held → Type 0) (hs : List Held) → AllByRecursion P hs → AllByRecursion P (filter is_here hs)
+pub all_here : (P : Held → Type 0) (hs : List Held) → AllByRecursion P hs → AllByRecursion P (filter is_here hs)
 all_here P [] s = tt
 all_here P (h ∷ hs) s = all_cond P (is_here h) h (filter is_here hs) s.0 (all_here P hs s.1)
 
@@ -92,17 +97,44 @@ all_commanded p n m names acts before (Create id what ∷ after) is l =
 all_commanded p n m names acts before (Ask id ask ∷ after) is l = all_commanded p n m names acts (before ++ Ask id ask ∷ []) after (is ∙ sym (append_assoc before (Ask id ask ∷ []) after)) l
 all_commanded p n m names acts before (Change change ∷ after) is l = all_commanded p n m names acts (before ++ Change change ∷ []) after (is ∙ sym (append_assoc before (Change change ∷ []) after)) l
 all_commanded p n m names acts before (Quit ∷ after) is l = all_commanded p n m names acts (before ++ Quit ∷ []) after (is ∙ sym (append_assoc before (Quit ∷ []) after)) l
+all_commanded p n m names acts before (QuitGracefully signal grace ∷ after) is l = all_commanded p n m names acts (before ++ QuitGracefully signal grace ∷ []) after (is ∙ sym (append_assoc before (QuitGracefully signal grace ∷ []) after)) l
 
-pub record Handed (s : Start) (w' : Worker) (p' : List Entry) (todos : List Todo) (ends : Bool) : Type 0 where
+-- jobs that live stay where those that don't leave
+kept_twice : (test : Id → Bool) (id : Id) (ids : List Id) (b : Bool) → test id ≡ b → filter test (filter test ids) ≡ filter test ids → filter test (cond b (id ∷ filter test ids) (filter test ids)) ≡ cond b (id ∷ filter test ids) (filter test ids)
+kept_twice test id ids true is more = rw is (ap (λ (js : List Id). id ∷ js) more)
+kept_twice test id ids false is more = more
+
+filter_twice : (test : Id → Bool) (ids : List Id) → filter test (filter test ids) ≡ filter test ids
+filter_twice test [] = refl
+filter_twice test (id ∷ ids) = kept_twice test id ids (test id) refl (filter_twice test ids)
+
+-- whether a job lives, by what is held
+none_first : (b : Bool) (h : Held) (hs : List Held) → not (list_any is_here hs) ≡ (length (filter is_here hs) == 0) → not (b || list_any is_here hs) ≡ (length (cond b (h ∷ filter is_here hs) (filter is_here hs)) == 0)
+none_first true h hs more = sym (ne_eqb (length (h ∷ filter is_here hs)) 0 (λ e. absurd (omega arith)))
+none_first false h hs more = more
+
+none_here : (hs : List Held) → not (list_any is_here hs) ≡ (length (filter is_here hs) == 0)
+none_here [] = refl
+none_here (h ∷ hs) = none_first (is_here h) h hs (none_here hs)
+
+-- a worker says whether a graceful quit was asked for and no job lives
+pub through : (s : Start) (w : Worker) (p : List Entry) → Stands s w p → (w.graceful && not (list_any is_here w.jobs)) ≡ is_through p
+through s w p stands =
+    let ids : map held_id (filter is_here w.jobs) ≡ jobs p = ids_here p w.jobs stands.tasks_kept ∙ ap (λ (js : List Id). filter (λ id. lives id p) js) stands.jobs_kept in
+    let count : length (filter is_here w.jobs) ≡ length (jobs p) = sym (length-map (filter is_here w.jobs) held_id) ∙ ap length ids in
+    rw stands.graceful_kept (ap (λ (b : Bool). graceful p && b) (none_here w.jobs ∙ ap (λ n. n == 0) count))
+
+pub record Handed (s : Start) (w' : Worker) (p' : List Entry) (todos : List Todo) (quit : Option QuitManner) (ids : List Id) : Type 0 where
   pub stands : Stands s w' p'
-  pub owes : OwesActs s p' todos (after_acts ends)
+  pub owes : OwesActs s p' todos quit ids
+  pub aborts : is_aborting p' ≡ is_abort quit
 
-pub handed : (s : Start) (w w' : Worker) (n : ℕ) (names : List ℕ) (acts : List Act) (todos : List Todo) (ends : Bool) (p p' : List Entry) → Stands s w p → names ≡ window p → AreLawful (next_job p) acts → MayChange (revision s p) acts → AreTodo acts todos → ends ≡ has_quit acts
-    → w' ≡ record w { batch = w'.batch; jobs = w'.jobs } → w'.batch.names ≡ [] → w'.batch.events ≡ [] → w'.jobs ≡ filter is_here w.jobs → p' ≡ Hand n names acts ∷ p → Handed s w' p' todos ends
-handed s w w' n names acts todos ends p p' stands whole lawful may todo_is quits fields names_none events_none items grown =
+pub handed : (s : Start) (w w' : Worker) (n : ℕ) (names : List ℕ) (acts : List Act) (todos : List Todo) (quit : Option QuitManner) (p p' : List Entry) → Stands s w p → names ≡ window p → AreLawful (next_job p) acts → MayChange (revision s p) acts → AreTodo acts todos → quit ≡ quit_of acts
+    → w' ≡ record w { batch = w'.batch; jobs = w'.jobs; graceful = w'.graceful } → w'.graceful ≡ (is_graceful quit || w.graceful) → w'.batch.names ≡ [] → w'.batch.events ≡ [] → w'.jobs ≡ filter is_here w.jobs → p' ≡ Hand n names acts ∷ p → Handed s w' p' todos quit (with_created acts (jobs p))
+handed s w w' n names acts todos quit p p' stands whole lawful may todo_is quits fields asked names_none events_none items grown =
     let none : window (Hand n names acts ∷ p) ≡ [] = window_handed n names acts p whole in
     let tasks = tasks_hand p n names acts w.jobs lawful (λ id g. rw stands.jobs_kept at g) stands.tasks_kept in
-    let stood : Stands s (record w { batch = w'.batch; jobs = w'.jobs }) (Hand n names acts ∷ p) = record {
+    let stood : Stands s (record w { batch = w'.batch; jobs = w'.jobs; graceful = w'.graceful }) (Hand n names acts ∷ p) = record {
       own = (subst (AllByRecursion (λ name. name < event_count p)) (sym whole) (window_below p stands.own), stands.own);
       config_kept = stands.config_kept;
       queue_kept = stands.queue_kept;
@@ -115,10 +147,12 @@ handed s w w' n names acts todos ends p p' stands whole lawful may todo_is quits
       jobs_kept = ap (λ (hs : List Held). map held_id hs) items ∙ ids_here p w.jobs stands.tasks_kept ∙ ap (λ (ids : List Id). filter (λ id. lives id p) ids) stands.jobs_kept;
       tasks_kept = rw items (all_here (HeldStands (Hand n names acts ∷ p)) w.jobs tasks);
       idle_kept = unseen_hand n names acts p stands.idle_kept (λ id here dead. gone_runs p id w.jobs stands.tasks_kept (rw stands.jobs_kept here) dead);
+      graceful_kept = asked ∙ ap (λ (q : Option QuitManner). is_graceful q || w.graceful) quits ∙ ap (λ (b : Bool). is_graceful (quit_of acts) || b) stands.graceful_kept;
     } in
     rw grown (record {
       stands = rw fields stood;
-      owes = record { acts = acts; lawful = lawful; may_change = may; is_todo = todo_is; commanded = all_commanded p n (next_job p) names acts [] acts refl lawful; waiting = refl; due = refl; then = ap after_acts (sym quits) };
+      owes = record { acts = acts; lawful = lawful; may_change = may; is_todo = todo_is; commanded = all_commanded p n (next_job p) names acts [] acts refl lawful; waiting = refl; then = ap (λ (js : List Id). with_created acts js) (filter_twice (λ id. lives id p) (set p)); due = rw quits refl };
+      aborts = ap is_abort (sym quits);
     })
 
 -- what was collected, where this isn't a window that is due, says whether the run goes on
@@ -143,13 +177,48 @@ none_of_plans : (p : List Entry) (k : Plan) → NoneIsToGo (settle p (plans k Op
 none_of_plans p Done = none_after (is_quitting p)
 none_of_plans p (k) = tt
 
-pub none_to_go : (s : Start) (p : List Entry) (todo : List Todo) (more : Agenda) → OwesActs s p todo more → NoneIsToGo (agenda s p)
-none_to_go s p todo more owes = rw owes.due (none_of_plans p (act_plan (λ id. lives id p) (revision s p) owes.acts))
+pub plan_to_go : (s : Start) (p : List Entry) (acts : List Act) → OwesPlan s p acts → NoneIsToGo (agenda s p)
+plan_to_go s p acts owes = rw owes (none_of_plans p (act_plan (λ id. lives id p) (revision s p) acts))
+
+pub none_to_go : (s : Start) (p : List Entry) (todo : List Todo) (quit : Option QuitManner) (ids : List Id) → OwesActs s p todo quit ids → NoneIsToGo (agenda s p)
+none_to_go s p todo quit ids owes = plan_to_go s p (owes.acts ++ quit_asks quit ids) owes.due
 
 -- what is worked by a batch
 pub works_by : (s : Start) (p : List Entry) (quits : Bool) → agenda s p ≡ after_acts quits → Works s (cond quits End On) p
 works_by s p true e = e
 works_by s p false e = e
+
+-- entries that are neither turns nor calls on the hooks leave whether the end was asked for at once
+record AbortsSo (p p' : List Entry) : Type 0 where
+  more : turn_count p ≤ turn_count p'
+  same : turn_count p' ≡ turn_count p → is_aborting p' ≡ is_aborting p
+
+aborts_over : (p : List Entry) (e : Entry) (p' : List Entry) → is_hooks e ≡ false → AbortsSo p p' → AbortsSo p (e ∷ p')
+aborts_over p (Turned t) p' other h =
+    let few = h.more in
+    let one : turn_count (Turned t ∷ p') ≡ turn_count p' + 1 = refl in
+    record { more = omega arith; same = λ is. absurd (omega arith) }
+aborts_over p (TurnFault code) p' other h =
+    let few = h.more in
+    let one : turn_count (TurnFault code ∷ p') ≡ turn_count p' + 1 = refl in
+    record { more = omega arith; same = λ is. absurd (omega arith) }
+aborts_over p (Hand n names acts) p' other h = absurd cc
+aborts_over p (_) p' other h = record { more = h.more; same = h.same }
+
+aborts_so : (p p' : List Entry) → Quiet p p' → AbortsSo p p'
+aborts_so p _ Same = record { more = omega arith; same = λ is. refl }
+aborts_so p _ (More e p' quiet other) = aborts_over p e p' other (aborts_so p p' quiet)
+
+pub aborting_kept : (s : Start) (p p' : List Entry) → AddsAlone s p p' → is_aborting p' ≡ is_aborting p
+aborting_kept s p p' adds = (aborts_so p p' (adds.quiet p Same)).same (adds.turns p (same_turns p)).count
+
+-- where nothing is left of what acts ask for, the run ends where the end was asked for
+pub works_acts : (s : Start) (p : List Entry) (aborts done : Bool) → is_aborting p ≡ aborts → done ≡ is_through p → OwesPlan s p [] → Works s (cond (aborts || done) End On) p
+works_acts s p aborts done a t owes = works_by s p (aborts || done) (owes ∙ ap (λ (b : Bool). after_acts (b || is_through p)) a ∙ ap (λ (b : Bool). after_acts (aborts || b)) (sym t))
+
+-- a turn that was served ends the run where the end was asked for gracefully and no job lives
+pub works_served : (s : Start) (w : Worker) (p : List Entry) → Stands s w p → IsServed s p → Works s (cond (w.graceful && not (list_any is_here w.jobs)) End On) p
+works_served s w p stands served = works_by s p (w.graceful && not (list_any is_here w.jobs)) (served ∙ ap after_acts (sym (through s w p stands)))
 
 -- a batch is no turn
 pub turns_hand : (n : ℕ) (names : List ℕ) (acts : List Act) (p p' : List Entry) → p' ≡ Hand n names acts ∷ p → StaysInTurn p p'

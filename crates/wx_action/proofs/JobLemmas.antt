@@ -30,8 +30,10 @@ use Rattle.wx_config.specs.declared.config.Config.{Config}
 use Rattle.wx_machine.specs.Settings.{pending, first_changed, settings, revision}
 use Rattle.wx_machine.proofs.PlanLaws.{raised}
 use Rattle.wx_machine.specs.Jobs.{set, living, parent, change_plan}
-use Rattle.wx_machine.specs.Due.{Agenda, Open, Plans, Admits, Due, plans, says, ask_turn, change_turn, job_turn, ended_turn, after_acts, is_quitting, settle, rest, agenda}
-use Rattle.wx_machine.proofs.SettleLaws.{settle_calm}
+use Rattle.wx_machine.specs.Due.{Agenda, Open, Plans, Admits, Due, plans, says, ask_turn, change_turn, job_turn, ended_turn, is_through, is_quitting, settle, rest, agenda}
+use Rattle.wx_machine.proofs.SettleLaws.{settle_calm, settle_through, served_settled, left_false, right_false, quiet_open}
+use Rattle.wx_machine.specs.Quits.{is_aborting}
+use Rattle.wx_action.specs.Serves.{IsServed}
 use Rattle.wx_machine.specs.Kept.{StaysQuiet, More}
 use Rattle.wx_machine.specs.Leads.{FollowsAlone, Follows, Then}
 use Rattle.wx_action.specs.Serves.{LeavesOff, Steps, Settles}
@@ -103,7 +105,7 @@ pub record AskDone (s : Start) (w' : Worker) (p p' : List Entry) : Type 0 where
   pub follows : FollowsAlone s p p'
   pub quiet : StaysQuiet p p'
   pub turns : StaysInTurn p p'
-  pub done : agenda s p' ≡ Open
+  pub done : IsServed s p'
 
 pub ask_done : (s : Start) (w w' : Worker) (id : Id) (task task' : JobTask) (ask : Ask) (p p' : List Entry) → Stands s w p → is_quitting p ≡ false → agenda s p ≡ ask_turn id ask p → lives id p ≡ true → Lent p w.jobs id task
     → w' ≡ record w { jobs = w'.jobs } → w'.jobs ≡ with_task id w.jobs task' → SameJob task task' → TaskStands task' p' → LeavesOthers (id_of task) p p' → PlanFollowsAlone (send_plan (id_of task) (sends_of ask) p) p Done p' → AskDone s w' p p'
@@ -121,7 +123,7 @@ ask_done s w w' id task task' ask p p' stands going due alive l fields jobs same
       follows = λ world hooks. (done world hooks).follows;
       quiet = one.quiet (calls_none_ask id ask p);
       turns = one.turns;
-      done = one.done;
+      done = served_settled s p p' going one.aborts one.done;
     }
 
 -- ---- a change of the settings
@@ -138,7 +140,7 @@ change_done s w w' change p p' stands going due waits other fields config grown 
       follows = λ world hooks p₀ world₀ hooks₀ l. Then (Changed (revision s p + 1)) p world hooks l d;
       quiet = λ p₀ a. More (Changed (revision s p + 1)) p a refl;
       turns = turns_over _ _ refl;
-      done = ap (λ (a : Agenda). settle (Changed (revision s p + 1) ∷ p) (rest (Changed (revision s p + 1)) a)) owed ∙ ap after_acts going;
+      done = ap (λ (a : Agenda). settle (Changed (revision s p + 1) ∷ p) (rest (Changed (revision s p + 1)) a)) owed ∙ settle_through (Changed (revision s p + 1) ∷ p) (left_false (is_aborting p) (is_through p) going);
     })
 
 -- ---- a step
@@ -182,16 +184,16 @@ pub record StepStopped (s : Start) (w' : Worker) (p p' : List Entry) (world worl
   pub leaves : LeavesOff s p p'
 
 -- a plan at which a case may be given up isn't done
-cut_plans : (k : Plan) → IsCut k → plans k Open ≡ Plans k Open
-cut_plans Done cut = absurd cut
-cut_plans (k) cut = refl
+cut_plans : (p : List Entry) (k : Plan) → IsCut k → settle p (plans k Open) ≡ Plans k Open
+cut_plans p Done cut = absurd cut
+cut_plans p (k) cut = refl
 
 step_gave : {Fixed : Type 0} (s : Start) (w w' : Worker) (at : ℕ) (id : Id) (task task' : JobTask) (p p' : List Entry) (a b : Seen Fixed) (hooks hooks' : Option (List Entry)) → Stands s w p → IsStepOf s id at p → Lent p w.jobs id task
     → w' ≡ record w { jobs = w'.jobs } → w'.jobs ≡ with_task id w.jobs task' → SameJob task task' → TaskStands task' p' → LeavesOthers (id_of task) p p' → GaveUp (step_by (closed_of task) (id_of task) (command_of task) p) p a hooks p' b hooks'
     → StepStopped s w' p p' a.shown.told b.shown.told hooks hooks'
 step_gave s w w' at id task task' p p' a b hooks hooks' stands step l fields jobs same stood leaves gave =
     let d = step_at_plan s w w' at id task task' gave.rest p p' a.shown.told b.shown.told hooks hooks' a.shown.faults b.shown.faults stands step l fields jobs same stood leaves gave.ran.led in
-    record { stands = d.stands; follows = d.follows; turns = d.turns; leaves = inr (record { rest = gave.rest; cut = gave.cut; due = d.done ∙ cut_plans gave.rest gave.cut }) }
+    record { stands = d.stands; follows = d.follows; turns = d.turns; leaves = inr (record { rest = gave.rest; cut = gave.cut; due = d.done ∙ cut_plans p' gave.rest gave.cut }) }
 
 pub step_stopped : {Host Hooks Fixed Held : Type 0} (seen : Host → Seen Fixed) (told : Hooks → Option (List Entry)) (s : Start) (w w' : Worker) (at : ℕ) (id : Id) (task task' : JobTask) (j j' : Written) (host host' : Host) (x x' : Hooks) → Stands s w j.past → IsStepOf s id at j.past → Lent j.past w.jobs id task
     → w' ≡ record w { jobs = w'.jobs } → w'.jobs ≡ with_task id w.jobs task' → SameJob task task' → TaskStands task' j'.past → LeavesOthers (id_of task) j.past j'.past
@@ -277,12 +279,12 @@ pub record EndKept (s : Start) (w' : Worker) (id : Id) (at : ℕ) (p : List Entr
   pub step : IsStepOf s id at p
 
 -- the turn owes a step of the job whose child it names
-owes_step : (s : Start) (at c : ℕ) (id : Id) (what : Command) (p : List Entry) → NamesItsOwn p → IsIn id (set p) → child id p ≡ Some c → lives id p ≡ true → command id p ≡ Some what
+owes_step : (s : Start) (at c : ℕ) (id : Id) (what : Command) (p : List Entry) → NamesItsOwn p → IsIn id (set p) → child id p ≡ Some c → lives id p ≡ true → command id p ≡ Some what → is_quitting (told at c p) ≡ false
     → agenda s (told at c p) ≡ plans (step_plan id what (told at c p)) Open
-owes_step s at c id what p own here runs alive commanded =
+owes_step s at c id what p own here runs alive commanded going =
     let found_is : parent c (told at c p) ≡ Some id = parent_is c id (told at c p) (tt, own) here runs in
     let living_is : living id (told at c p) ≡ Some what = rw alive commanded in
-    settle_calm (told at c p) (ended_turn (parent c (told at c p)) (told at c p)) refl ∙ ap (λ (o : Option Id). ended_turn o (told at c p)) found_is ∙ ap (λ (o : Option Command). job_turn id o (told at c p)) living_is
+    settle_calm (told at c p) (ended_turn (parent c (told at c p)) (told at c p)) going ∙ ap (λ (o : Option Id). ended_turn o (told at c p)) found_is ∙ ap (λ (o : Option Command). job_turn id o (told at c p)) living_is
 
 pub end_kept : (s : Start) (w w' : Worker) (at c : ℕ) (id : Id) (task task' : JobTask) (p : List Entry) (a : AtTurn s w at (Ended c) p) → OneEnds w c id a.before → (l : Lent a.before w.jobs id task)
     → w' ≡ record w { jobs = w'.jobs } → w'.jobs ≡ with_task id w.jobs task' → SameJob task task' → TaskStands task' p → EndKept s w' id at p
@@ -309,8 +311,9 @@ end_kept s w w' at c id task task' p a one l fields items same task_stands =
     } in
     let tasks = tasks_put a.before (told at c a.before) hs n h h' jobs.ids_apart change.within change.held (λ x ne st. other_over_end at c (held_id h) a.before x own its ne st) a.stands.tasks_kept new in
     let ids : map held_id w'.jobs ≡ set a.before = rw change.items (ids_put hs n h h' change.within change.held change.job_same.same_id ∙ a.stands.jobs_kept) in
-    let owed = owes_step s at c (held_id h) (command_of h.task) a.before own here its alive stood.command_is in
-    let step : IsStepOf s (held_id h) at (told at c a.before) = record { what = command_of h.task; alive = alive; runs = stood.command_is; due = owed; going = refl; now = refl } in
+    let going : is_quitting (told at c a.before) ≡ false = right_false (is_aborting a.before) _ (quiet_open s a.before a.open_is) in
+    let owed = owes_step s at c (held_id h) (command_of h.task) a.before own here its alive stood.command_is going in
+    let step : IsStepOf s (held_id h) at (told at c a.before) = record { what = command_of h.task; alive = alive; runs = stood.command_is; due = owed; going = going; now = refl } in
     subst (EndKept s w' id at) (sym a.last) (record {
       stands = stands_rest s w w' a.before (told at c a.before) a.stands (tt, own) a.stands.idle_kept (rest_over (Turned (record { at = at; kind = Ended c })) a.before tt) fields ids (rw change.items tasks);
       step = subst (λ (i : Id). IsStepOf s i at (told at c a.before)) l.id_is step;

@@ -8,5 +8,6 @@ pub mod ServesLaws
 pub mod Serving
 pub mod ShownLemmas
 pub mod StandsLemmas
+pub mod StopLemmas
 pub mod TurnLaws
 pub mod WorkLemmas

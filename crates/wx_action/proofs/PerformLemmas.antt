@@ -1,7 +1,8 @@
 -- What the acts of a batch ask for is done.
-use Rattle.std.proofs.Common.{◌≡◌, ◌≢◌, ℕ, ◌<◌, ◌≤◌, ◌+◌, Bool, true, false, cond, List, [], ◌∷◌, length, inl, inr, arith, refl, ap, sym, subst, ◌∙◌}
-use Rattle.std.specs.Prelude.{Option, None, Some, map, ◌||◌, ◌⊎◌}
-use Rattle.std.specs.List.{AllByRecursion}
+use Rattle.std.proofs.Common.{◌≡◌, ◌≢◌, ℕ, ◌<◌, ◌≤◌, ◌+◌, Bool, true, false, cond, List, [], ◌∷◌, ◌++◌, length, inl, inr, arith, refl, ap, sym, subst, ◌∙◌, eq-eqb, ne_eqb}
+use Rattle.std.proofs.lemmas.Bool.{lt-ltb}
+use Rattle.std.specs.Prelude.{Option, None, Some, Result, Ok, Err, map, nat_lt, ◌||◌, ◌⊎◌}
+use Rattle.std.specs.List.{filter, AllByRecursion}
 use Rattle.wx_words.specs.EachLaws.{each_weaker}
 use Rattle.wx_command.specs.declared.command.Command.{Command}
 use Rattle.wx_control.specs.declared.id.Id.{Id}
@@ -11,7 +12,7 @@ use Rattle.wx_control.specs.declared.control.Control.{Control}
 use Rattle.wx_control.specs.declared.level.Level.{Level}
 use Rattle.wx_control.specs.Asks.{sends_of}
 use Rattle.wx_journal.specs.Acts.{JournalAct as Act}
-use Rattle.wx_journal.specs.declared.entry.Act.TheVariants.{Create, Ask, Change, Quit}
+use Rattle.wx_journal.specs.declared.entry.Act.TheVariants.{Create, Ask, Change, Quit, QuitGracefully}
 use Rattle.wx_journal.specs.declared.entry.Entry.{Entry}
 use Rattle.wx_journal.specs.declared.entry.Entry.TheVariants.{Word as Said, Made, Asked, Changed}
 use Rattle.wx_journal.specs.declared.entry.Word.TheVariants.{Ignored}
@@ -34,10 +35,12 @@ use Rattle.wx_config.specs.declared.change.Change.{Change as AChange}
 use Rattle.wx_config.specs.declared.config.Config.{Config}
 use Rattle.wx_machine.specs.Settings.{changes, later, pending, first_changed, settings, revision, MayChange}
 use Rattle.wx_machine.proofs.PlanLaws.{raised}
-use Rattle.wx_machine.specs.Jobs.{with_id, set, change_plan, act_plan, AreLawful, AreBelow}
-use Rattle.wx_machine.specs.Due.{Agenda, Open, settle, agenda, plans, rest, after_acts, is_quitting, Admits, Due}
+use Rattle.wx_machine.specs.Jobs.{with_id, with_created, set, jobs, change_plan, act_plan, AreLawful, AreBelow}
+use Rattle.wx_machine.specs.declared.quit.QuitManner.{QuitManner}
+use Rattle.wx_machine.specs.Quits.{quit_asks}
+use Rattle.wx_machine.specs.Due.{Agenda, Open, settle, agenda, plans, rest, Admits, Due}
 use Rattle.wx_hooks.specs.Todo.{IsNew, AreTodo}
-use Rattle.wx_action.specs.Perform.{AreCommanded, OwesActs}
+use Rattle.wx_action.specs.Perform.{AreCommanded, OwesPlan, OwesActs, Does, HasAsked, DoesAsk}
 use Rattle.wx_machine.specs.Kept.{StaysQuiet, More}
 use Rattle.wx_machine.specs.Leads.{FollowsAlone, Then}
 use Rattle.wx_machine.specs.Turns.{StaysInTurn}
@@ -59,19 +62,33 @@ commanded_same p p' (Create id what ∷ acts) same h = (same id ∙ h.0, command
 commanded_same p p' (Ask id ask ∷ acts) same h = commanded_same p p' acts same h
 commanded_same p p' (Change change ∷ acts) same h = commanded_same p p' acts same h
 commanded_same p p' (Quit ∷ acts) same h = commanded_same p p' acts same h
+commanded_same p p' (QuitGracefully signal grace ∷ acts) same h = commanded_same p p' acts same h
 
 -- one act was done for a worker
-pub record OneDone (s : Start) (w' : Worker) (rest : List Todo) (more : Agenda) (p p' : List Entry) : Type 0 where
+pub record OneDone (s : Start) (w' : Worker) (rest : List Todo) (quit : Option QuitManner) (ids : List Id) (p p' : List Entry) : Type 0 where
   pub stands : Stands s w' p'
   pub follows : FollowsAlone s p p'
   pub quiet : StaysQuiet p p'
   pub turns : StaysInTurn p p'
-  pub owes : OwesActs s p' rest more
+  pub owes : OwesActs s p' rest quit ids
 
 -- ---- a job is made
 
+-- the jobs that live, once a job was made whose id is above all of them
+jobs_kept : (p : List Entry) (id x : Id) (ids : List Id) (alive : Bool) → nat_lt x.0 id.0 ≡ true → same id x ≡ false → filter (λ j. same id j || lives j p) (with_id id ids) ≡ with_id id (filter (λ j. lives j p) ids) → lives x p ≡ alive
+    → filter (λ j. same id j || lives j p) (with_id id (x ∷ ids)) ≡ with_id id (filter (λ j. lives j p) (x ∷ ids))
+jobs_kept p id x ids true below other more is = rw (below, other, is) (rw below (ap (λ (js : List Id). x ∷ js) more))
+jobs_kept p id x ids false below other more is = rw (below, other, is) more
+
+jobs_among : (p : List Entry) (id : Id) (ids : List Id) → AreBelow id.0 ids → filter (λ j. same id j || lives j p) (with_id id ids) ≡ with_id id (filter (λ j. lives j p) ids)
+jobs_among p id [] below = rw (eq-eqb id.0 id.0 refl) refl
+jobs_among p id (x ∷ ids) below = jobs_kept p id x ids (lives x p) (lt-ltb x.0 id.0 below.0) (ne_eqb id.0 x.0 (λ e. absurd (omega (arith, below.0)))) (jobs_among p id ids below.1) refl
+
+jobs_made : (p : List Entry) (id : Id) → AreBelow id.0 (set p) → jobs (Made id ∷ p) ≡ with_id id (jobs p)
+jobs_made p id below = jobs_among p id (set p) below
+
 -- the first act that isn't a quit creates a job
-record FirstMake (s : Start) (p : List Entry) (held : Held) (rest : List Todo) : Type 0 where
+record FirstMake (s : Start) (p : List Entry) (held : Held) (rest : List Todo) (quit : Option QuitManner) (ids : List Id) : Type 0 where
   id : Id
   what : Command
   acts : List Act
@@ -83,14 +100,16 @@ record FirstMake (s : Start) (p : List Entry) (held : Held) (rest : List Todo) :
   later : AreCommanded p acts
   may_change : MayChange (revision s p) acts
   waiting : pending p ≡ changes acts
-  due : agenda s p ≡ settle p (plans (adds (Made id) (act_plan (λ job. same id job || lives job p) (revision s p) acts)) Open)
+  then : with_created acts (with_id id (jobs p)) ≡ ids
+  due : agenda s p ≡ settle p (plans (adds (Made id) (act_plan (λ job. same id job || lives job p) (revision s p) (acts ++ quit_asks quit ids))) Open)
 
-first_make : (s : Start) (p : List Entry) (held : Held) (rest : List Todo) (acts : List Act) → AreLawful (next_job p) acts → MayChange (revision s p) acts → AreTodo acts (todo.Create held ∷ rest) → AreCommanded p acts → pending p ≡ changes acts → agenda s p ≡ settle p (plans (act_plan (λ id. lives id p) (revision s p) acts) Open) → FirstMake s p held rest
-first_make s p held rest [] l m t k w d = absurd t
-first_make s p held rest (Create id what ∷ acts) l m t k w d = record { id = id; what = what; acts = acts; is_new = t.0; is_next = l.0; lawful = l.1; is_todo = t.1; commanded = k.0; later = k.1; may_change = m; waiting = w; due = d }
-first_make s p held rest (Ask id ask ∷ acts) l m t k w d = absurd t
-first_make s p held rest (Change change ∷ acts) l m t k w d = absurd t
-first_make s p held rest (Quit ∷ acts) l m t k w d = first_make s p held rest acts l m t k w d
+first_make : (s : Start) (p : List Entry) (held : Held) (rest : List Todo) (quit : Option QuitManner) (ids : List Id) (acts : List Act) → AreLawful (next_job p) acts → MayChange (revision s p) acts → AreTodo acts (todo.Create held ∷ rest) → AreCommanded p acts → pending p ≡ changes acts → with_created acts (jobs p) ≡ ids → OwesPlan s p (acts ++ quit_asks quit ids) → FirstMake s p held rest quit ids
+first_make s p held rest quit ids [] l m t k w e d = absurd t
+first_make s p held rest quit ids (Create id what ∷ acts) l m t k w e d = record { id = id; what = what; acts = acts; is_new = t.0; is_next = l.0; lawful = l.1; is_todo = t.1; commanded = k.0; later = k.1; may_change = m; waiting = w; then = e; due = d }
+first_make s p held rest quit ids (Ask id ask ∷ acts) l m t k w e d = absurd t
+first_make s p held rest quit ids (Change change ∷ acts) l m t k w e d = absurd t
+first_make s p held rest quit ids (Quit ∷ acts) l m t k w e d = first_make s p held rest quit ids acts l m t k w e d
+first_make s p held rest quit ids (QuitGracefully signal grace ∷ acts) l m t k w e d = first_make s p held rest quit ids acts l m t k w e d
 
 over_made : (i id : Id) (p : List Entry) → i ≢ id → SameHistory i p (Made id ∷ p)
 over_made i id p ne = frame_apart i (Made id) p (other-is i id ne) refl
@@ -107,8 +126,8 @@ tasks_made : (p : List Entry) (id : Id) (hs : List Held) → AllByRecursion (λ 
 tasks_made p id [] ne s = tt
 tasks_made p id (x ∷ hs) ne s = (same_held p (Made id ∷ p) x (over_made (held_id x) id p ne.0) s.0, tasks_made p id hs ne.1 s.1)
 
-made_by : (s : Start) (w w' : Worker) (held : Held) (rests : List Todo) (more : Agenda) (p : List Entry) (f : FirstMake s p held rests) → settle p Open ≡ more → Stands s w p → w' ≡ record w { jobs = w'.jobs } → w'.jobs ≡ with_held held w.jobs → OneDone s w' rests more p (Made f.id ∷ p)
-made_by s w w' held rests more p f then stands fields items =
+made_by : (s : Start) (w w' : Worker) (held : Held) (rests : List Todo) (quit : Option QuitManner) (ids : List Id) (p : List Entry) (f : FirstMake s p held rests quit ids) → Stands s w p → w' ≡ record w { jobs = w'.jobs } → w'.jobs ≡ with_held held w.jobs → OneDone s w' rests quit ids p (Made f.id ∷ p)
+made_by s w w' held rests quit ids p f stands fields items =
     let due : Due s p (Made f.id) = subst (λ (a : Agenda). Admits s p a (Made f.id)) (sym f.due) (tt, refl) in
     let lower : AreBelow f.id.0 (set p) = subst (λ n. AreBelow n (set p)) (sym f.is_next) (set_rising p).below in
     let others : AllByRecursion (λ j. j ≢ f.id) (map held_id w.jobs) = rw stands.jobs_kept (new_id (set p) f.id lower) in
@@ -133,51 +152,86 @@ made_by s w w' held rests more p f then stands fields items =
       jobs_kept = ap (λ (hs : List Held). map held_id hs) items ∙ ids ∙ ap (λ (i : Id). with_id i (map held_id w.jobs)) f.is_new.task_id ∙ ap (with_id f.id) stands.jobs_kept;
       tasks_kept = rw items (all_with (HeldStands (Made f.id ∷ p)) w.jobs held (tasks_made p f.id w.jobs others stands.tasks_kept) new);
       idle_kept = unseen_made f.id p stands.idle_kept;
+      graceful_kept = stands.graceful_kept;
     } in
     record {
       stands = rw fields stood;
       follows = λ world hooks p₀ world₀ hooks₀ l. Then (Made f.id) p world hooks l due;
       quiet = λ p₀ a. More (Made f.id) p a refl;
       turns = turns_over _ _ refl;
-      owes = record { acts = f.acts; lawful = f.lawful; may_change = f.may_change; is_todo = f.is_todo; commanded = commanded_same p (Made f.id ∷ p) f.acts (λ i. refl) f.later; waiting = f.waiting; due = ap (λ (a : Agenda). settle (Made f.id ∷ p) (rest (Made f.id) a)) f.due; then = then };
+      owes = record { acts = f.acts; lawful = f.lawful; may_change = f.may_change; is_todo = f.is_todo; commanded = commanded_same p (Made f.id ∷ p) f.acts (λ i. refl) f.later; waiting = f.waiting; due = ap (λ (a : Agenda). settle (Made f.id ∷ p) (rest (Made f.id) a)) f.due; then = ap (λ (js : List Id). with_created f.acts js) (jobs_made p f.id lower) ∙ f.then };
     }
 
-pub made : (s : Start) (w w' : Worker) (held : Held) (rests : List Todo) (more : Agenda) (p p' : List Entry) → OwesActs s p (todo.Create held ∷ rests) more → Stands s w p → w' ≡ record w { jobs = w'.jobs } → w'.jobs ≡ with_held held w.jobs → p' ≡ Made held.handle.id ∷ p → OneDone s w' rests more p p'
-made s w w' held rests more p p' owes stands fields items grown =
-    let f = first_make s p held rests owes.acts owes.lawful owes.may_change owes.is_todo owes.commanded owes.waiting owes.due in
+pub made : (s : Start) (w w' : Worker) (held : Held) (rests : List Todo) (quit : Option QuitManner) (ids : List Id) (p p' : List Entry) → OwesActs s p (todo.Create held ∷ rests) quit ids → Stands s w p → w' ≡ record w { jobs = w'.jobs } → w'.jobs ≡ with_held held w.jobs → p' ≡ Made held.handle.id ∷ p → OneDone s w' rests quit ids p p'
+made s w w' held rests quit ids p p' owes stands fields items grown =
+    let f = first_make s p held rests quit ids owes.acts owes.lawful owes.may_change owes.is_todo owes.commanded owes.waiting owes.then owes.due in
     let is : p' ≡ Made f.id ∷ p = grown ∙ ap (λ (i : Id). Made i ∷ p) f.is_new.handle_id in
-    rw is (made_by s w w' held rests more p f owes.then stands fields items)
+    rw is (made_by s w w' held rests quit ids p f stands fields items)
 
 -- ---- a job is asked, or the act is ignored
 
-record FirstAsk (s : Start) (p : List Entry) (id : Id) (ask : AnAsk) (rest : List Todo) : Type 0 where
+record FirstAsk (s : Start) (p : List Entry) (id : Id) (ask : AnAsk) (rest : List Todo) (quit : Option QuitManner) (ids : List Id) : Type 0 where
   acts : List Act
   lawful : AreLawful (next_job p) acts
   is_todo : AreTodo acts rest
   commanded : AreCommanded p acts
   may_change : MayChange (revision s p) acts
   waiting : pending p ≡ changes acts
-  due : agenda s p ≡ settle p (plans (cond (lives id p) (ask_plan id (sends_of ask) (act_plan (λ job. lives job p) (revision s p) acts)) (adds (Said Ignored) (act_plan (λ job. lives job p) (revision s p) acts))) Open)
+  then : with_created acts (jobs p) ≡ ids
+  due : OwesPlan s p (Ask id ask ∷ acts ++ quit_asks quit ids)
 
-first_ask : (s : Start) (p : List Entry) (id : Id) (ask : AnAsk) (done : Flag) (rest : List Todo) (acts : List Act) → AreLawful (next_job p) acts → MayChange (revision s p) acts → AreTodo acts (todo.Ask id ask done ∷ rest) → AreCommanded p acts → pending p ≡ changes acts → agenda s p ≡ settle p (plans (act_plan (λ id. lives id p) (revision s p) acts) Open) → FirstAsk s p id ask rest
-first_ask s p id ask done rest [] l m t k w d = absurd t
-first_ask s p id ask done rest (Create job what ∷ acts) l m t k w d = absurd t
-first_ask s p id ask done rest (Ask job asked ∷ acts) l m t k w d = record { acts = acts; lawful = l; is_todo = t.2; commanded = k; may_change = m; waiting = w; due = rw (t.0, t.1) d }
-first_ask s p id ask done rest (Change change ∷ acts) l m t k w d = absurd t
-first_ask s p id ask done rest (Quit ∷ acts) l m t k w d = first_ask s p id ask done rest acts l m t k w d
+first_ask : (s : Start) (p : List Entry) (id : Id) (ask : AnAsk) (done : Flag) (rest : List Todo) (quit : Option QuitManner) (ids : List Id) (acts : List Act) → AreLawful (next_job p) acts → MayChange (revision s p) acts → AreTodo acts (todo.Ask id ask done ∷ rest) → AreCommanded p acts → pending p ≡ changes acts → with_created acts (jobs p) ≡ ids → OwesPlan s p (acts ++ quit_asks quit ids) → FirstAsk s p id ask rest quit ids
+first_ask s p id ask done rest quit ids [] l m t k w e d = absurd t
+first_ask s p id ask done rest quit ids (Create job what ∷ acts) l m t k w e d = absurd t
+first_ask s p id ask done rest quit ids (Ask job asked ∷ acts) l m t k w e d = record { acts = acts; lawful = l; is_todo = t.2; commanded = k; may_change = m; waiting = w; then = e; due = rw (t.0, t.1) d }
+first_ask s p id ask done rest quit ids (Change change ∷ acts) l m t k w e d = absurd t
+first_ask s p id ask done rest quit ids (Quit ∷ acts) l m t k w e d = first_ask s p id ask done rest quit ids acts l m t k w e d
+first_ask s p id ask done rest quit ids (QuitGracefully signal grace ∷ acts) l m t k w e d = first_ask s p id ask done rest quit ids acts l m t k w e d
 
-pub ignored_one : (s : Start) (w : Worker) (id : Id) (ask : AnAsk) (done : Flag) (rests : List Todo) (more : Agenda) (p p' : List Entry) → OwesActs s p (todo.Ask id ask done ∷ rests) more → Stands s w p → lives id p ≡ false → p' ≡ Said Ignored ∷ p → OneDone s w rests more p p'
-ignored_one s w id ask done rests more p p' owes stands gone grown =
-    let f = first_ask s p id ask done rests owes.acts owes.lawful owes.may_change owes.is_todo owes.commanded owes.waiting owes.due in
-    let owed : agenda s p ≡ settle p (plans (adds (Said Ignored) (act_plan (λ job. lives job p) (revision s p) f.acts)) Open) = f.due ∙ ap (λ (b : Bool). settle p (plans (cond b (ask_plan id (sends_of ask) (act_plan (λ job. lives job p) (revision s p) f.acts)) (adds (Said Ignored) (act_plan (λ job. lives job p) (revision s p) f.acts))) Open)) gone in
-    let due : Due s p (Said Ignored) = subst (λ (a : Agenda). Admits s p a (Said Ignored)) (sym owed) (tt, refl) in
+-- an ask was asked of a job, or ignored, for a worker
+pub record OneAsked (s : Start) (w' : Worker) (id : Id) (ask : AnAsk) (p p' : List Entry) : Type 0 where
+  pub stands : Stands s w' p'
+  pub follows : FollowsAlone s p p'
+  pub quiet : StaysQuiet p p'
+  pub turns : StaysInTurn p p'
+  pub asked : HasAsked s p id ask p'
+
+-- the plan of an ask and of acts behind it, of a job that lives or not
+ask_owed : (s : Start) (p : List Entry) (id : Id) (ask : AnAsk) (acts : List Act) (alive : Bool) → lives id p ≡ alive → OwesPlan s p (Ask id ask ∷ acts)
+    → agenda s p ≡ settle p (plans (cond alive (ask_plan id (sends_of ask) (act_plan (λ job. lives job p) (revision s p) acts)) (adds (Said Ignored) (act_plan (λ job. lives job p) (revision s p) acts))) Open)
+ask_owed s p id ask acts alive is owed = rw (← is) owed
+
+pub ignored_one : (s : Start) (w : Worker) (id : Id) (ask : AnAsk) (acts : List Act) (p p' : List Entry) → OwesPlan s p (Ask id ask ∷ acts) → Stands s w p → lives id p ≡ false → p' ≡ Said Ignored ∷ p → OneAsked s w id ask p p'
+ignored_one s w id ask acts p p' owes stands gone grown =
+    let due : Due s p (Said Ignored) = subst (λ (a : Agenda). Admits s p a (Said Ignored)) (sym (ask_owed s p id ask acts false gone owes)) (tt, refl) in
     rw grown (record {
       stands = stands_behind s w (Said Ignored) p refl tt stands;
       follows = λ world hooks p₀ world₀ hooks₀ l. Then (Said Ignored) p world hooks l due;
       quiet = λ p₀ a. More (Said Ignored) p a refl;
       turns = turns_over _ _ refl;
-      owes = record { acts = f.acts; lawful = f.lawful; may_change = f.may_change; is_todo = f.is_todo; commanded = commanded_same p (Said Ignored ∷ p) f.acts (λ i. refl) f.commanded; waiting = f.waiting; due = ap (λ (a : Agenda). settle (Said Ignored ∷ p) (rest (Said Ignored) a)) owed; then = owes.then };
+      asked = record {
+        owes = λ acts owed. ap (λ (a : Agenda). settle (Said Ignored ∷ p) (rest (Said Ignored) a)) (ask_owed s p id ask acts false gone owed);
+        commands = λ i. refl;
+        next_same = refl;
+        revision_same = refl;
+        pending_same = refl;
+        jobs_same = refl;
+      };
     })
+
+-- where this was what is to be done for the first act it was done
+pub asked_todo : (s : Start) (id : Id) (ask : AnAsk) (done : Flag) (p p' : List Entry) → HasAsked s p id ask p' → (rest : List Todo) (quit : Option QuitManner) (ids : List Id) → OwesActs s p (todo.Ask id ask done ∷ rest) quit ids → OwesActs s p' rest quit ids
+asked_todo s id ask done p p' a rest quit ids owes =
+    let f = first_ask s p id ask done rest quit ids owes.acts owes.lawful owes.may_change owes.is_todo owes.commanded owes.waiting owes.then owes.due in record {
+      acts = f.acts;
+      lawful = rw a.next_same f.lawful;
+      may_change = rw a.revision_same f.may_change;
+      is_todo = f.is_todo;
+      commanded = commanded_same p p' f.acts a.commands f.commanded;
+      waiting = a.pending_same ∙ f.waiting;
+      then = ap (λ (js : List Id). with_created f.acts js) a.jobs_same ∙ f.then;
+      due = a.owes (f.acts ++ quit_asks quit ids) f.due;
+    }
 
 -- the entries of an ask: one for each of its controls
 asked_all : Id → Level → Control → Option Control → List Entry → List Entry
@@ -224,7 +278,7 @@ record Asks (s : Start) (k : Plan) (p p' : List Entry) : Type 0 where
   quiet : StaysQuiet p p'
   turns : StaysInTurn p p'
   due : agenda s p' ≡ settle p' (plans k Open)
-  quits : is_quitting p' ≡ is_quitting p
+  jobs_same : jobs p' ≡ jobs p
   commands : (i : Id) → command i p' ≡ command i p
   next_same : next_job p' ≡ next_job p
   acts_same : (acts : List Act) → act_plan (λ job. lives job p') (revision s p') acts ≡ act_plan (λ job. lives job p) (revision s p) acts
@@ -239,7 +293,7 @@ asks_one s p id level control k owed =
       quiet = λ p₀ a. More e p a refl;
       turns = turns_over e p refl;
       due = ap (λ (a : Agenda). settle (e ∷ p) (rest e a)) owed;
-      quits = refl;
+      jobs_same = refl;
       commands = λ i. refl;
       next_same = refl;
       acts_same = λ acts. refl;
@@ -253,7 +307,7 @@ asks_then s k k' p q r a b = record {
   quiet = λ p₀ h. b.quiet p₀ (a.quiet p₀ h);
   turns = λ p₀ h. b.turns p₀ (a.turns p₀ h);
   due = b.due;
-  quits = b.quits ∙ a.quits;
+  jobs_same = b.jobs_same ∙ a.jobs_same;
   commands = λ i. b.commands i ∙ a.commands i;
   next_same = b.next_same ∙ a.next_same;
   acts_same = λ acts. b.acts_same acts ∙ a.acts_same acts;
@@ -268,69 +322,69 @@ asks_all s p id level first (Some second) k owed =
     let one = asks_one s p id level first (asks id level second k) owed in
     asks_then s (asks id level second k) k p _ _ one (asks_one s (Asked (ticket_count p) id level first ∷ p) id level second k one.due)
 
-pub asked_one : (s : Start) (w w' : Worker) (id : Id) (task task' : JobTask) (ask : AnAsk) (done : Flag) (rests : List Todo) (more : Agenda) (p p' : List Entry) → OwesActs s p (todo.Ask id ask done ∷ rests) more → Stands s w p → lives id p ≡ true → Lent p w.jobs id task → w' ≡ record w { jobs = w'.jobs }
-    → w'.jobs ≡ with_task id w.jobs task' → SameJob task task' → TaskStands task' p' → LeavesOthers (id_of task) p p' → PlanFollowsAlone (send_plan (id_of task) (sends_of ask) p) p Done p' → OneDone s w' rests more p p'
-asked_one s w w' id task task' ask done rests more p p' owes stands alive l fields jobs same task_stands leaves follows =
-    let f = first_ask s p id ask done rests owes.acts owes.lawful owes.may_change owes.is_todo owes.commanded owes.waiting owes.due in
+pub asked_one : (s : Start) (w w' : Worker) (id : Id) (task task' : JobTask) (ask : AnAsk) (acts : List Act) (p p' : List Entry) → OwesPlan s p (Ask id ask ∷ acts) → Stands s w p → lives id p ≡ true → Lent p w.jobs id task → w' ≡ record w { jobs = w'.jobs }
+    → w'.jobs ≡ with_task id w.jobs task' → SameJob task task' → TaskStands task' p' → LeavesOthers (id_of task) p p' → PlanFollowsAlone (send_plan (id_of task) (sends_of ask) p) p Done p' → OneAsked s w' id ask p p'
+asked_one s w w' id task task' ask acts p p' owes stands alive l fields jobs same task_stands leaves follows =
     let sends = sends_of ask in
-    let k : Plan = act_plan (λ job. lives job p) (revision s p) f.acts in
     let change = changed p p' w.jobs w'.jobs id task task' l jobs same task_stands in
     let id_is : id_of task ≡ id = ap id_of (sym l.task_is) ∙ l.id_is in
-    let owed : agenda s p ≡ settle p (plans (ask_plan id sends k) Open) = f.due ∙ ap (λ (b : Bool). settle p (plans (cond b (ask_plan id sends k) (adds (Said Ignored) k)) Open)) alive in
     let plan_is : send_plan (id_of task) sends p ≡ ask_plan id sends Done = rw (id_is, alive) refl in
     let led : PlanLeads (ask_plan id sends Done) p None None 0 Done p' None None 0 = rw (← plan_is) (follows _ p None None 0 None None 0 PlanHere) in
     let grown = asked_done id sends.level sends.first sends.second p p' (asked_so id sends.level sends.first sends.second p None None 0 Done p' None None 0 led) in
-    let ran = asks_all s p id sends.level sends.first sends.second k owed in
+    let asked = asked_all id sends.level sends.first sends.second p in
+    let ran = asks_all s p id sends.level sends.first sends.second (act_plan (λ job. lives job p) (revision s p) acts) (ask_owed s p id ask acts true alive owes) in
     let still = (still_led (ask_plan id sends Done) p None None 0 Done p' None None 0 (none_by_ask id ask p) led).still in
     let others : LeavesOthers (held_id l.held) p p' = rw l.task_is leaves in
     let j = jobs_change p p' w.jobs w'.jobs change.0 l.held (record l.held { task = task' }) (jobs_stand s w p stands) still others change.1 in
     let idle = idle_then s w change.0 l.held p p' stands change.1.within change.1.held still others in
-    let stood : Stands s w' (asked_all id sends.level sends.first sends.second p) = subst (Stands s w') grown (stands_rest s w w' p p' stands leaves.own idle still fields j.0 j.1) in
+    let stood : Stands s w' asked = subst (Stands s w') grown (stands_rest s w w' p p' stands leaves.own idle still fields j.0 j.1) in
     rw grown (record {
       stands = stood;
       follows = ran.follows;
       quiet = ran.quiet;
       turns = ran.turns;
-      owes = record {
-        acts = f.acts;
-        lawful = rw ran.next_same f.lawful;
-        may_change = rw ran.revision_same f.may_change;
-        waiting = ran.pending_same ∙ f.waiting;
-        is_todo = f.is_todo;
-        commanded = commanded_same p (asked_all id sends.level sends.first sends.second p) f.acts ran.commands f.commanded;
-        due = ran.due ∙ ap (λ (i : Plan). settle (asked_all id sends.level sends.first sends.second p) (plans i Open)) (sym (ran.acts_same f.acts));
-        then = ap after_acts ran.quits ∙ owes.then;
+      asked = record {
+        owes = λ acts owed. (
+            let one = asks_all s p id sends.level sends.first sends.second (act_plan (λ job. lives job p) (revision s p) acts) (ask_owed s p id ask acts true alive owed) in
+            one.due ∙ ap (λ (i : Plan). settle asked (plans i Open)) (sym (one.acts_same acts)));
+        commands = ran.commands;
+        next_same = ran.next_same;
+        revision_same = ran.revision_same;
+        pending_same = ran.pending_same;
+        jobs_same = ran.jobs_same;
       };
     })
 
 -- ---- a setting is changed
 
-record FirstChange (s : Start) (p : List Entry) (change : AChange) (rest : List Todo) : Type 0 where
+record FirstChange (s : Start) (p : List Entry) (change : AChange) (rest : List Todo) (quit : Option QuitManner) (ids : List Id) : Type 0 where
   acts : List Act
   lawful : AreLawful (next_job p) acts
   is_todo : AreTodo acts rest
   commanded : AreCommanded p acts
   may_change : revision s p + 1 + length (changes acts) ≤ last_revision
   waiting : pending p ≡ change ∷ changes acts
-  due : agenda s p ≡ settle p (plans (change_plan (revision s p) (act_plan (λ job. lives job p) (revision s p + 1) acts)) Open)
+  then : with_created acts (jobs p) ≡ ids
+  due : agenda s p ≡ settle p (plans (change_plan (revision s p) (act_plan (λ job. lives job p) (revision s p + 1) (acts ++ quit_asks quit ids))) Open)
 
-first_change : (s : Start) (p : List Entry) (change : AChange) (rest : List Todo) (acts : List Act) → AreLawful (next_job p) acts → MayChange (revision s p) acts → AreTodo acts (todo.Change change ∷ rest) → AreCommanded p acts → pending p ≡ changes acts → agenda s p ≡ settle p (plans (act_plan (λ id. lives id p) (revision s p) acts) Open) → FirstChange s p change rest
-first_change s p change rest [] l m t k w d = absurd t
-first_change s p change rest (Create job what ∷ acts) l m t k w d = absurd t
-first_change s p change rest (Ask job asked ∷ acts) l m t k w d = absurd t
-first_change s p change rest (Change asked ∷ acts) l m t k w d = record { acts = acts; lawful = l; is_todo = t.1; commanded = k; may_change = (let fits = m (omega arith) in omega arith); waiting = rw t.0 w; due = d }
-first_change s p change rest (Quit ∷ acts) l m t k w d = first_change s p change rest acts l m t k w d
+first_change : (s : Start) (p : List Entry) (change : AChange) (rest : List Todo) (quit : Option QuitManner) (ids : List Id) (acts : List Act) → AreLawful (next_job p) acts → MayChange (revision s p) acts → AreTodo acts (todo.Change change ∷ rest) → AreCommanded p acts → pending p ≡ changes acts → with_created acts (jobs p) ≡ ids → OwesPlan s p (acts ++ quit_asks quit ids) → FirstChange s p change rest quit ids
+first_change s p change rest quit ids [] l m t k w e d = absurd t
+first_change s p change rest quit ids (Create job what ∷ acts) l m t k w e d = absurd t
+first_change s p change rest quit ids (Ask job asked ∷ acts) l m t k w e d = absurd t
+first_change s p change rest quit ids (Change asked ∷ acts) l m t k w e d = record { acts = acts; lawful = l; is_todo = t.1; commanded = k; may_change = (let fits = m (omega arith) in omega arith); waiting = rw t.0 w; then = e; due = d }
+first_change s p change rest quit ids (Quit ∷ acts) l m t k w e d = first_change s p change rest quit ids acts l m t k w e d
+first_change s p change rest quit ids (QuitGracefully signal grace ∷ acts) l m t k w e d = first_change s p change rest quit ids acts l m t k w e d
 
-first_of : (s : Start) (p : List Entry) (change : AChange) (rest : List Todo) (more : Agenda) → OwesActs s p (todo.Change change ∷ rest) more → FirstChange s p change rest
-first_of s p change rest more owes = first_change s p change rest owes.acts owes.lawful owes.may_change owes.is_todo owes.commanded owes.waiting owes.due
+first_of : (s : Start) (p : List Entry) (change : AChange) (rest : List Todo) (quit : Option QuitManner) (ids : List Id) → OwesActs s p (todo.Change change ∷ rest) quit ids → FirstChange s p change rest quit ids
+first_of s p change rest quit ids owes = first_change s p change rest quit ids owes.acts owes.lawful owes.may_change owes.is_todo owes.commanded owes.waiting owes.then owes.due
 
 -- the revision can be raised
-pub change_fits : (s : Start) (p : List Entry) (change : AChange) (rest : List Todo) (more : Agenda) → OwesActs s p (todo.Change change ∷ rest) more → revision s p < last_revision
-change_fits s p change rest more owes = let f = first_of s p change rest more owes in let fits = f.may_change in omega arith
+pub change_fits : (s : Start) (p : List Entry) (change : AChange) (rest : List Todo) (quit : Option QuitManner) (ids : List Id) → OwesActs s p (todo.Change change ∷ rest) quit ids → revision s p < last_revision
+change_fits s p change rest quit ids owes = let f = first_of s p change rest quit ids owes in let fits = f.may_change in omega arith
 
-pub changed_one : (s : Start) (w w' : Worker) (change : AChange) (rests : List Todo) (more : Agenda) (p p' : List Entry) → OwesActs s p (todo.Change change ∷ rests) more → Stands s w p → w' ≡ record w { config = w'.config } → w'.config ≡ changed_by change w.config → p' ≡ Changed w'.config.change_signal ∷ p → OneDone s w' rests more p p'
-changed_one s w w' change rests more p p' owes stands fields config grown =
-    let f = first_of s p change rests more owes in
+pub changed_one : (s : Start) (w w' : Worker) (change : AChange) (rests : List Todo) (quit : Option QuitManner) (ids : List Id) (p p' : List Entry) → OwesActs s p (todo.Change change ∷ rests) quit ids → Stands s w p → w' ≡ record w { config = w'.config } → w'.config ≡ changed_by change w.config → p' ≡ Changed w'.config.change_signal ∷ p → OneDone s w' rests quit ids p p'
+changed_one s w w' change rests quit ids p p' owes stands fields config grown =
+    let f = first_of s p change rests quit ids owes in
     let now : w'.config ≡ changed_by change (settings s p) = config ∙ ap (changed_by change) stands.config_kept in
     let raises : w'.config.change_signal ≡ revision s p + 1 = ap (λ (c : Config). c.change_signal) now ∙ raised change (settings s p) in
     let is : p' ≡ Changed (revision s p + 1) ∷ p = grown ∙ ap (λ n. Changed n ∷ p) raises in
@@ -350,19 +404,45 @@ changed_one s w w' change rests more p p' owes stands fields config grown =
         commanded = commanded_same p (Changed (revision s p + 1) ∷ p) f.acts (λ i. refl) f.commanded;
         waiting = ap later f.waiting;
         due = rw next (ap (λ (a : Agenda). settle (Changed (revision s p + 1) ∷ p) (rest (Changed (revision s p + 1)) a)) f.due);
-        then = owes.then;
+        then = f.then;
       };
     })
 
 -- ---- nothing is left to be done
 
-quits_alone : (there : Id → Bool) (n : ℕ) (acts : List Act) → AreTodo acts [] → act_plan there n acts ≡ Done
-quits_alone there n [] t = refl
-quits_alone there n (Create id what ∷ acts) t = absurd t
-quits_alone there n (Ask id ask ∷ acts) t = absurd t
-quits_alone there n (Change change ∷ acts) t = absurd t
-quits_alone there n (Quit ∷ acts) t = quits_alone there n acts t
+quits_alone : (there : Id → Bool) (n : ℕ) (acts behind : List Act) → AreTodo acts [] → act_plan there n (acts ++ behind) ≡ act_plan there n behind
+quits_alone there n [] behind t = refl
+quits_alone there n (Create id what ∷ acts) behind t = absurd t
+quits_alone there n (Ask id ask ∷ acts) behind t = absurd t
+quits_alone there n (Change change ∷ acts) behind t = absurd t
+quits_alone there n (Quit ∷ acts) behind t = quits_alone there n acts behind t
+quits_alone there n (QuitGracefully signal grace ∷ acts) behind t = quits_alone there n acts behind t
 
-pub nothing_left : (s : Start) (p : List Entry) (todos : List Todo) (more : Agenda) → length todos ≡ 0 → OwesActs s p todos more → agenda s p ≡ more
-nothing_left s p [] more none owes = owes.due ∙ ap (λ (k : Plan). settle p (plans k Open)) (quits_alone (λ id. lives id p) (revision s p) owes.acts owes.is_todo) ∙ owes.then
-nothing_left s p (x ∷ todos) more none owes = absurd (omega arith)
+quits_create : (acts : List Act) (ids : List Id) → AreTodo acts [] → with_created acts ids ≡ ids
+quits_create [] ids t = refl
+quits_create (Create id what ∷ acts) ids t = absurd t
+quits_create (Ask id ask ∷ acts) ids t = absurd t
+quits_create (Change change ∷ acts) ids t = absurd t
+quits_create (Quit ∷ acts) ids t = quits_create acts ids t
+quits_create (QuitGracefully signal grace ∷ acts) ids t = quits_create acts ids t
+
+pub all_done : (s : Start) (p : List Entry) (todos : List Todo) (quit : Option QuitManner) (ids : List Id) → length todos ≡ 0 → OwesActs s p todos quit ids → OwesActs s p [] quit ids
+all_done s p [] quit ids none owes = owes
+all_done s p (todo ∷ todos) quit ids none owes = absurd cc
+
+-- then what the quit asks of the jobs that live is owed
+pub quit_owed : (s : Start) (p : List Entry) (quit : Option QuitManner) (ids : List Id) → OwesActs s p [] quit ids → OwesPlan s p (quit_asks quit (jobs p))
+quit_owed s p quit ids owes =
+    let same : jobs p ≡ ids = sym (quits_create owes.acts (jobs p) owes.is_todo) ∙ owes.then in
+    rw same (owes.due ∙ ap (λ (k : Plan). settle p (plans k Open)) (quits_alone (λ id. lives id p) (revision s p) owes.acts (quit_asks quit ids) owes.is_todo))
+
+-- ---- an ask that is to be done for an act
+
+pub ask_first : (s : Start) (p : List Entry) (id : Id) (ask : AnAsk) (done : Flag) (rest : List Todo) (quit : Option QuitManner) (ids : List Id) → OwesActs s p (todo.Ask id ask done ∷ rest) quit ids → (acts : List Act) × OwesPlan s p (Ask id ask ∷ acts)
+ask_first s p id ask done rest quit ids owes =
+    let f = first_ask s p id ask done rest quit ids owes.acts owes.lawful owes.may_change owes.is_todo owes.commanded owes.waiting owes.then owes.due in
+    (f.acts ++ quit_asks quit ids, f.due)
+
+pub does_ask : {X E : Type 0} (r : Result X E) (s : Start) (id : Id) (ask : AnAsk) (done : Flag) (p p' : List Entry) → DoesAsk r s p id ask p' → Does r s p (todo.Ask id ask done) p'
+does_ask (Ok x) s id ask done p p' d = record { done = asked_todo s id ask done p p' d.done; err = tt }
+does_ask (Err e) s id ask done p p' d = record { done = tt; err = d.err }

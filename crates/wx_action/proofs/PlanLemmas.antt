@@ -13,7 +13,8 @@ use Rattle.wx_hooks.specs.declared.held.Held.{Held}
 use Rattle.wx_action.specs.declared.worker_state.Worker.{Worker}
 use Rattle.wx_machine.specs.Start.{Start}
 use Rattle.wx_machine.specs.Jobs.{set, AreRising, UnseenRunNone}
-use Rattle.wx_machine.specs.Due.{Agenda, agenda, plans, is_quitting}
+use Rattle.wx_machine.specs.Due.{Agenda, settle, agenda, plans, is_quitting}
+use Rattle.wx_machine.specs.Quits.{is_aborting}
 use Rattle.wx_machine.proofs.SettleLaws.{settle_calm}
 use Rattle.wx_machine.specs.Kept.{StaysQuiet}
 use Rattle.wx_machine.specs.Leads.{Follows}
@@ -29,7 +30,8 @@ use Rattle.wx_hooks.proofs.JobsLemmas.{is_in_place, Changes, jobs_change}
 
 pub record JobDone (s : Start) (w' : Worker) (k : Plan) (more : Agenda) (p p' : List Entry) (world world' hooks hooks' : Option (List Entry)) : Type 0 where
   pub stands : Stands s w' p'
-  pub done : agenda s p' ≡ more
+  pub done : agenda s p' ≡ settle p' more
+  pub aborts : is_aborting p' ≡ is_aborting p
   pub follows : Follows s p world hooks p' world' hooks'
   pub quiet : CallsNone p k → StaysQuiet p p'
   pub turns : StaysInTurn p p'
@@ -56,7 +58,8 @@ plan_done s w w' at h h' p p' k k' more world world' hooks hooks' n n' stands go
     let still = (still_led k p world hooks n k' p' world' hooks' n' none l).still in
     let j = jobs_change p p' w.jobs w'.jobs at h h' (jobs_stand s w p stands) still leaves change in record {
       stands = stands_rest s w w' p p' stands leaves.own (idle_then s w at h p p' stands change.within change.held still leaves) still fields j.0 j.1;
-      done = g.due ∙ settle_calm p' (plans k' more) (g.quits ∙ going);
+      done = g.due;
+      aborts = g.aborts;
       follows = g.follows;
       quiet = λ none. (g.quiet none).1;
       turns = g.turns;

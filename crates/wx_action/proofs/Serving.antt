@@ -106,6 +106,17 @@ continues_hand seen rule holds s n m u v w j k l a b x y z g room h =
       room = λ r. h.room (before.room r);
     }
 
+-- and then neither was called
+pub continues_then : {K Fixed Plan : Type 0} (seen : K → Hooked Fixed) (rule : Fixed → List Entry → Entry → Type 0) (holds : K → List Entry → Type 0) (s : Start) (u v w : Worker) (j k l : Written) (a b : Seen Plan) (x y : K) → Continues seen rule holds s u j a x v k b y → Grows s v k w l → Continues seen rule holds s u j a x w l b y
+continues_then seen rule holds s u v w j k l a b x y h g =
+    let behind = continues_grows seen rule holds s v k b y w l g in
+    record {
+      stands = g.stands;
+      serves = serves_then s j.past k.past l.past a b b (seen x).told (seen y).told (seen y).told behind.serves h.serves;
+      keeps = λ x₀ p₀ before. behind.keeps x₀ p₀ (h.keeps x₀ p₀ before);
+      room = λ r. behind.room (h.room r);
+    }
+
 -- ---- where the world isn't called
 
 -- what is added where neither is called grows where hooks may be

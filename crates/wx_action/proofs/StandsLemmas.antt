@@ -56,9 +56,9 @@ IsStill (Said word) = Unit {0}
 IsStill (_) = ⊥
 
 pub rest_over : (e : Entry) (p : List Entry) → IsStill e → SameRest p (e ∷ p)
-rest_over (Turned t) p h = record { bag_same = refl; closed_same = refl; count_same = refl; window_same = refl; lookup_same = refl; first_same = refl; set_same = refl; commands_same = λ i. refl; settings_same = λ s. refl }
-rest_over (TurnFault code) p h = record { bag_same = refl; closed_same = refl; count_same = refl; window_same = refl; lookup_same = refl; first_same = refl; set_same = refl; commands_same = λ i. refl; settings_same = λ s. refl }
-rest_over (Said word) p h = record { bag_same = refl; closed_same = refl; count_same = refl; window_same = refl; lookup_same = refl; first_same = refl; set_same = refl; commands_same = λ i. refl; settings_same = λ s. refl }
+rest_over (Turned t) p h = record { bag_same = refl; closed_same = refl; count_same = refl; window_same = refl; lookup_same = refl; first_same = refl; set_same = refl; commands_same = λ i. refl; settings_same = λ s. refl; graceful_same = refl }
+rest_over (TurnFault code) p h = record { bag_same = refl; closed_same = refl; count_same = refl; window_same = refl; lookup_same = refl; first_same = refl; set_same = refl; commands_same = λ i. refl; settings_same = λ s. refl; graceful_same = refl }
+rest_over (Said word) p h = record { bag_same = refl; closed_same = refl; count_same = refl; window_same = refl; lookup_same = refl; first_same = refl; set_same = refl; commands_same = λ i. refl; settings_same = λ s. refl; graceful_same = refl }
 rest_over (_) p h = absurd h
 
 -- they name nothing, and no child runs because of one
@@ -93,6 +93,7 @@ stands_rest s w w' p p' stands own idle q fields ids tasks =
       jobs_kept = ids;
       tasks_kept = tasks;
       idle_kept = idle;
+      graceful_kept = stands.graceful_kept ∙ sym q.graceful_same;
     } in
     rw fields stood
 
@@ -132,6 +133,7 @@ stands_changed s w w' change named p stands fields config after =
       jobs_kept = stands.jobs_kept;
       tasks_kept = tasks_silent (Changed named) p w.jobs refl stands.tasks_kept;
       idle_kept = stands.idle_kept;
+      graceful_kept = stands.graceful_kept;
     } in
     rw fields stood
 
@@ -184,6 +186,7 @@ stands_offered s w p event priority new Queued stands is size same_closed = reco
   jobs_kept = stands.jobs_kept;
   tasks_kept = tasks_silent (Offer (event_count p) None Queued event priority) p w.jobs refl stands.tasks_kept;
   idle_kept = stands.idle_kept;
+  graceful_kept = stands.graceful_kept;
 }
 stands_offered s w p event priority new Full stands is size same_closed = record {
   own = ((refl, tt), stands.own);
@@ -198,6 +201,7 @@ stands_offered s w p event priority new Full stands is size same_closed = record
   jobs_kept = stands.jobs_kept;
   tasks_kept = tasks_silent (Offer (event_count p) None Full event priority) p w.jobs refl stands.tasks_kept;
   idle_kept = stands.idle_kept;
+  graceful_kept = stands.graceful_kept;
 }
 stands_offered s w p event priority new Closed stands is size same_closed = record {
   own = ((refl, tt), stands.own);
@@ -212,6 +216,7 @@ stands_offered s w p event priority new Closed stands is size same_closed = reco
   jobs_kept = stands.jobs_kept;
   tasks_kept = tasks_silent (Offer (event_count p) None Closed event priority) p w.jobs refl stands.tasks_kept;
   idle_kept = stands.idle_kept;
+  graceful_kept = stands.graceful_kept;
 }
 
 -- the worker after an event was listed as sent
@@ -231,6 +236,7 @@ stands_sent s w p event priority new stands is size same_closed = record {
   jobs_kept = stands.jobs_kept;
   tasks_kept = tasks_silent (Sent (event_count p) event priority) p w.jobs refl stands.tasks_kept;
   idle_kept = stands.idle_kept;
+  graceful_kept = stands.graceful_kept;
 }
 
 -- events are at most as many as entries

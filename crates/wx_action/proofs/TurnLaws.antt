@@ -14,8 +14,9 @@ use Rattle.wx_machine.specs.Told.{TellsNoEnd}
 use Rattle.wx_hooks.specs.declared.held.Held.{Held}
 use Rattle.wx_action.specs.declared.worker_state.Worker.{Worker}
 use Rattle.wx_machine.specs.Start.{Start}
-use Rattle.wx_machine.specs.Due.{turn_agenda, is_quitting, agenda}
-use Rattle.wx_machine.proofs.SettleLaws.{settle_calm}
+use Rattle.wx_machine.specs.Due.{Open, turn_agenda, is_quitting, agenda}
+use Rattle.wx_machine.specs.Quits.{is_aborting}
+use Rattle.wx_machine.proofs.SettleLaws.{quiet_open, right_false, settle_calm}
 use Rattle.wx_machine.specs.Jobs.{set, parent_among, parent}
 use Rattle.wx_hooks.specs.JobsStand.{HeldStands, held_id}
 use Rattle.wx_action.specs.Stands.{Stands, AtTurn}
@@ -30,7 +31,9 @@ pub record IsTurned (s : Start) (at : ℕ) (kind : TurnKind) (p : List Entry) : 
   pub now : moment p ≡ at
 
 pub turned : (s : Start) (w : Worker) (at : ℕ) (kind : TurnKind) (p : List Entry) → AtTurn s w at kind p → IsTurned s at kind p
-turned s w at kind p a = subst (IsTurned s at kind) (sym a.last) (record { due = settle_calm (Turned (record { at = at; kind = kind }) ∷ a.before) _ refl; going = refl; now = refl })
+turned s w at kind p a =
+    let going : is_quitting (Turned (record { at = at; kind = kind }) ∷ a.before) ≡ false = right_false (is_aborting a.before) _ (quiet_open s a.before a.open_is) in
+    subst (IsTurned s at kind) (sym a.last) (record { due = settle_calm (Turned (record { at = at; kind = kind }) ∷ a.before) _ going; going = going; now = refl })
 
 -- ---- what stands over a turn: all but the task whose child's end it tells
 
@@ -59,6 +62,7 @@ stands_over s w t p other stands = record {
   jobs_kept = stands.jobs_kept;
   tasks_kept = held_all_over t p w.jobs other stands.tasks_kept;
   idle_kept = stands.idle_kept;
+  graceful_kept = stands.graceful_kept;
 }
 
 -- ---- the worker stands for the journal with the turn too
@@ -129,5 +133,5 @@ other_over_end at c id p h own its other stands =
     held_over (record { at = at; kind = Ended c }) p h (no_child c (child (held_id h) p) (λ runs. other (one_parent c id (held_id h) p own its runs))) stands
 
 -- a worker that stands for a journal is at the turn that comes next
-pub next_turn : (s : Start) (w : Worker) (p p' : List Entry) (at : ℕ) (kind : TurnKind) → Stands s w p → p' ≡ Turned (record { at = at; kind = kind }) ∷ p → AtTurn s w at kind p'
-next_turn s w p p' at kind stands grown = record { before = p; last = grown; stands = stands }
+pub next_turn : (s : Start) (w : Worker) (p p' : List Entry) (at : ℕ) (kind : TurnKind) → Stands s w p → agenda s p ≡ Open → p' ≡ Turned (record { at = at; kind = kind }) ∷ p → AtTurn s w at kind p'
+next_turn s w p p' at kind stands open_is grown = record { before = p; last = grown; stands = stands; open_is = open_is }

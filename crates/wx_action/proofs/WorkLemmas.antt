@@ -1,7 +1,7 @@
 -- A Work turn.
-use Rattle.std.proofs.Common.{◌≡◌, ◌<◌, ◌≤◌, ℕ, ◌+◌, Bool, true, false, cond, List, [], ◌∷◌, ◌++◌, length, inl, refl, arith, ap, sym, ◌∙◌}
+use Rattle.std.proofs.Common.{◌≡◌, ◌<◌, ◌≤◌, ℕ, ◌+◌, Bool, true, false, cond, List, [], ◌∷◌, ◌++◌, length, inl, inr, refl, arith, ap, sym, ◌∙◌}
 use Rattle.std.proofs.lemmas.Bool.{eqb-true}
-use Rattle.std.specs.Prelude.{Option, Some, Result, Ok, Err, is_some, ◌==◌, ◌||◌}
+use Rattle.std.specs.Prelude.{Option, Some, Result, Ok, Err, OnOk, OnErr, IfOk, is_some, ◌==◌, ◌||◌}
 use Rattle.wx_events.specs.declared.event.Event.{Event}
 use Rattle.wx_events.specs.declared.priority.Priority.{Priority}
 use Rattle.wx_events.specs.Priority.{is_urgent}
@@ -22,12 +22,13 @@ use Rattle.wx_action.specs.declared.work_turn.Collected.{Collected}
 use Rattle.wx_action.specs.declared.work_turn.Collected.TheVariants.{Hand, Kept}
 use Rattle.wx_action.specs.declared.work_turn.Collected.TheVariants as collected
 use Rattle.wx_action.specs.declared.work_turn.Found.TheVariants as outcome
-use Rattle.wx_journal.specs.declared.entry.Word.TheVariants.{Idle}
+use Rattle.wx_journal.specs.declared.entry.Word.TheVariants.{Idle, Quitting}
 use Rattle.wx_hooks.specs.Batch.{Waiting}
 use Rattle.wx_machine.specs.Start.{Start}
 use Rattle.wx_machine.specs.Settings.{settings}
 use Rattle.wx_machine.specs.Journal.{listed, is_urgent_in, is_urgent_named, is_unseen, is_unseen_in, passes_unseen, lets_pass, is_exit, is_close, closed, ending, wished, one_if, and_one, begun, without, bag, window, first, is_over, is_over_of}
-use Rattle.wx_machine.specs.Due.{Takes as TakesNext, Filters, Shows as ShowsNext, Hands, Agenda, Open, Comes, rest, says, work, after_pass, after_take, after_drop, after_show, after_filter, is_quitting, settle, agenda, Due}
+use Rattle.wx_machine.specs.Quits.{graceful}
+use Rattle.wx_machine.specs.Due.{Takes as TakesNext, Filters, Shows as ShowsNext, Hands, Agenda, Open, Comes, rest, says, work, work_going, after_pass, after_take, after_drop, after_show, after_filter, is_quitting, settle, agenda, Due}
 use Rattle.wx_hooks.specs.Handled.{lookup}
 use Rattle.wx_machine.specs.Kept.{More, Keeps, Called}
 use Rattle.wx_machine.specs.Seen.{Hooked}
@@ -38,7 +39,8 @@ use Rattle.wx_action.specs.Stands.{Stands, OwesAt, OwesHand, AddsTake, HasTaken,
 use Rattle.wx_machine.proofs.BagLaws.{IsTaken, is_taken}
 use Rattle.wx_machine.proofs.RunLaws.{listed_below, window_some, joined_if, some-append, below_taken}
 use Rattle.wx_machine.proofs.AllJobs.{turns_over}
-use Rattle.wx_action.proofs.ArriveLemmas.{StepsOver, said_done, said_then}
+use Rattle.wx_action.proofs.ArriveLemmas.{StepsOver, steps_add, said_done, said_then}
+use Rattle.wx_action.proofs.Serving.{hooks_none, hand_adds, hand_room}
 use Rattle.wx_machine.proofs.SettleLaws.{settle_calm, settle_over}
 use Rattle.wx_action.proofs.StandsLemmas.{events-append, tasks_silent}
 
@@ -101,6 +103,7 @@ take_done s w p p' at start x queue batch found owes takes most size same_closed
           jobs_kept = stands.jobs_kept;
           tasks_kept = tasks_silent (Take x.0.name) p w.jobs refl stands.tasks_kept;
           idle_kept = stands.idle_kept;
+          graceful_kept = stands.graceful_kept;
         };
         follows = λ world hooks p₀ world₀ hooks₀ l. Then (Take x.0.name) p world hooks l d;
         quiet = λ p₀ a. More _ p a refl;
@@ -164,6 +167,7 @@ to_show s w p p' at x queue owes takes most size same_closed seen grown =
           jobs_kept = stands.jobs_kept;
           tasks_kept = tasks_silent (Take x.0.name) p w.jobs refl stands.tasks_kept;
           idle_kept = stands.idle_kept;
+          graceful_kept = stands.graceful_kept;
         };
         follows = λ world hooks p₀ world₀ hooks₀ l. Then (Take x.0.name) p world hooks l d;
         quiet = λ p₀ a. More _ p a refl;
@@ -239,6 +243,7 @@ filter_passed s w w' p p' at n name event priority answer found owes is_listed n
       jobs_kept = stands.jobs_kept;
       tasks_kept = tasks_silent (Filter n name answer) p w.jobs refl stands.tasks_kept;
       idle_kept = stands.idle_kept;
+      graceful_kept = stands.graceful_kept;
     } in
     record {
       due = d;
@@ -277,6 +282,7 @@ filter_dropped s w w' p p' at n name answer found owes below number passes is_dr
       jobs_kept = stands.jobs_kept;
       tasks_kept = tasks_silent (Filter n name answer) p w.jobs refl stands.tasks_kept;
       idle_kept = stands.idle_kept;
+      graceful_kept = stands.graceful_kept;
     } in
     record {
       due = d;
@@ -315,6 +321,7 @@ show_done s w p p' n error wish more queue stands due number items size shut gro
         jobs_kept = stands.jobs_kept;
         tasks_kept = tasks_silent (Show n error wish) p w.jobs refl stands.tasks_kept;
         idle_kept = stands.idle_kept;
+        graceful_kept = stands.graceful_kept;
       });
       after = λ k owed. ap (agenda s) grown ∙ after k owed;
       newest = ap (λ q. wished q) grown;
@@ -342,34 +349,62 @@ empty_is [] e = refl
 empty_is (x ∷ xs) e = let none : length (x ∷ xs) ≡ 0 = eqb-true _ _ e in absurd (omega arith)
 
 -- there was nothing to take
-pub idle_done : (s : Start) (w : Worker) (p p' : List Entry) (at : ℕ) → OwesAt s w at p (work s p at) → w.queue.closed ≡ false → is_over_of w.config.throttle w.batch.names w.first at ≡ false → (length w.queue.items == 0) ≡ true → p' ≡ Said Idle ∷ p
+pub idle_done : (s : Start) (w : Worker) (p p' : List Entry) (at : ℕ) → OwesAt s w at p (work_going s p at) → graceful p ≡ false → w.queue.closed ≡ false → is_over_of w.config.throttle w.batch.names w.first at ≡ false → (length w.queue.items == 0) ≡ true → p' ≡ Said Idle ∷ p
     → TakeDone s w p p' collected.Idle
-idle_done s w p p' at owes is_open over empty grown =
+idle_done s w p p' at owes going is_open over empty grown =
     let stands = owes.stands in
     let later : is_over s p at ≡ false = rw (← stands.config_kept, ← stands.names_kept, ← stands.first_kept) over in
     let takes : closed p ≡ false = sym stands.closed_kept ∙ is_open in
     let none : (length (bag p) == 0) ≡ true = rw (← same-length w.queue.items (bag p) stands.queue_kept) empty in
     let owed : agenda s p ≡ says Idle = owes.due ∙ rw (takes, later, none) refl in
-    record { steps = said_done s w p p' Idle Open stands owed grown; collects = (record { early = rw owes.now later; none = empty_is (bag p) none; said = grown }, said_then s p p' Idle grown Open owed ∙ settle_calm p Open owes.going) }
+    record { steps = said_done s w p p' Idle Open stands owed grown; collects = (inl (record { going = going; early = rw owes.now later; none = empty_is (bag p) none; said = grown }), said_then s p p' Idle grown Open owed ∙ settle_calm p Open owes.going) }
 
 -- the queue was closed
-pub stop_done : (s : Start) (w : Worker) (p : List Entry) (at : ℕ) → Stands s w p → agenda s p ≡ work s p at → w.queue.closed ≡ true → Collects s p collected.Stop p
-stop_done s w p at stands due shut = let is : closed p ≡ true = sym stands.closed_kept ∙ shut in (record { is_closed = is; same = refl }, due ∙ rw is refl)
+pub stop_done : (s : Start) (w : Worker) (p : List Entry) (at : ℕ) → Stands s w p → agenda s p ≡ work_going s p at → graceful p ≡ false → w.queue.closed ≡ true → Collects s p collected.Stop p
+stop_done s w p at stands due going shut = let is : closed p ≡ true = sym stands.closed_kept ∙ shut in (record { going = going; is_closed = is; same = refl }, due ∙ rw is refl)
 
 -- the window is due
-pub over_done : (s : Start) (w : Worker) (p : List Entry) (at : ℕ) → Stands s w p → agenda s p ≡ work s p at → w.queue.closed ≡ false → is_over_of w.config.throttle w.batch.names w.first at ≡ true → OwesHand s p
+pub over_done : (s : Start) (w : Worker) (p : List Entry) (at : ℕ) → Stands s w p → agenda s p ≡ work_going s p at → w.queue.closed ≡ false → is_over_of w.config.throttle w.batch.names w.first at ≡ true → OwesHand s p
 over_done s w p at stands due is_open over =
     let takes : closed p ≡ false = sym stands.closed_kept ∙ is_open in
     let later : is_over s p at ≡ true = rw (← stands.config_kept, ← stands.names_kept, ← stands.first_kept) over in
     record { due = due ∙ rw (takes, later) refl; some = window_some (window p) _ later }
 
 -- an event is to be taken
-pub takes_due : (s : Start) (w : Worker) (p : List Entry) (at : ℕ) → Stands s w p → agenda s p ≡ work s p at → w.queue.closed ≡ false → is_over_of w.config.throttle w.batch.names w.first at ≡ false → (length w.queue.items == 0) ≡ false → (agenda s p ≡ Comes TakesNext Open) × ((length (bag p) == 0) ≡ false)
+pub takes_due : (s : Start) (w : Worker) (p : List Entry) (at : ℕ) → Stands s w p → agenda s p ≡ work_going s p at → w.queue.closed ≡ false → is_over_of w.config.throttle w.batch.names w.first at ≡ false → (length w.queue.items == 0) ≡ false → (agenda s p ≡ Comes TakesNext Open) × ((length (bag p) == 0) ≡ false)
 takes_due s w p at stands due is_open over some =
     let takes : closed p ≡ false = sym stands.closed_kept ∙ is_open in
     let later : is_over s p at ≡ false = rw (← stands.config_kept, ← stands.names_kept, ← stands.first_kept) over in
     let more : (length (bag p) == 0) ≡ false = rw (← same-length w.queue.items (bag p) stands.queue_kept) some in
     (due ∙ rw (takes, later, more) refl, more)
+
+-- ---- a graceful quit was asked for
+
+quitting_done : (s : Start) (w : Worker) (p p' : List Entry) (at : ℕ) → OwesAt s w at p (work s p at) → w.graceful ≡ true → p' ≡ Said Quitting ∷ p → TakeDone s w p p' collected.Idle
+quitting_done s w p p' at owes asked grown =
+    let quits : graceful p ≡ true = sym owes.stands.graceful_kept ∙ asked in
+    let owed : agenda s p ≡ says Quitting = owes.due ∙ rw quits refl in
+    record { steps = said_done s w p p' Quitting Open owes.stands owed grown; collects = (inr (record { asked = quits; said = grown }), said_then s p p' Quitting grown Open owed ∙ settle_calm p Open owes.going) }
+
+-- so the turn says it, or there was no memory for that
+pub quitting_grows : {K Fixed E : Type 0} (seen : K → Hooked Fixed) (rule : Fixed → List Entry → Entry → Type 0) (holds : K → List Entry → Type 0) (s : Start) (w : Worker) (p p' : List Entry) (x : K) (at : ℕ) (result : Result Found E) → OwesAt s w at p (work s p at) → w.graceful ≡ true
+    → OnOk result (p' ≡ Said Quitting ∷ p) → OnErr result (p' ≡ p) → GrowsHand seen rule holds s p x w p' x
+quitting_grows seen rule holds s w p p' x at (Ok found) owes asked said none = let d = quitting_done s w p p' at owes asked said in hand_adds seen rule holds s p x w p' d.steps.stands (steps_add s w p p' d.steps)
+quitting_grows seen rule holds s w p p' x at (Err e) owes asked said none = hand_room seen rule holds s p p' x x w owes.stands none (hooks_none seen holds x)
+
+pub quitting_finds : {E : Type 0} (s : Start) (w : Worker) (p p' : List Entry) (at : ℕ) (result : Result Found E) → OwesAt s w at p (work s p at) → w.graceful ≡ true → IfOk result (λ found. found ≡ outcome.Done collected.Idle) → OnOk result (p' ≡ Said Quitting ∷ p) → IfOk result (λ found. Finds s p found p')
+quitting_finds s w p p' at (Ok found) owes asked is said = rw is (quitting_done s w p p' at owes asked said).collects
+quitting_finds s w p p' at (Err e) owes asked is said = tt
+
+pub quitting_leaves : {E : Type 0} (result : Result Found E) (ends journal hooks : ℕ) → IfOk result (λ found. found ≡ outcome.Done collected.Idle) → IfOk result (λ found. LeavesRoom found ends journal hooks)
+quitting_leaves (Ok found) ends journal hooks is = rw is tt
+quitting_leaves (Err e) ends journal hooks is = tt
+
+-- where it wasn't, the turn goes on
+pub going_on : (s : Start) (w : Worker) (p : List Entry) (at : ℕ) → OwesAt s w at p (work s p at) → w.graceful ≡ false → (graceful p ≡ false) × OwesAt s w at p (work_going s p at)
+going_on s w p at owes asked =
+    let going : graceful p ≡ false = sym owes.stands.graceful_kept ∙ asked in
+    (going, record { stands = owes.stands; due = owes.due ∙ rw going refl; now = owes.now; going = owes.going })
 
 -- the worker with more room
 pub stands_room : (s : Start) (w : Worker) (p : List Entry) (batch : Waiting) → Stands s w p → batch.names ≡ w.batch.names → batch.events ≡ w.batch.events → Stands s (record w { batch = batch }) p
@@ -386,6 +421,7 @@ stands_room s w p batch stands names events = record {
   jobs_kept = stands.jobs_kept;
   tasks_kept = stands.tasks_kept;
   idle_kept = stands.idle_kept;
+  graceful_kept = stands.graceful_kept;
 }
 
 -- there is room for an error that is to be shown

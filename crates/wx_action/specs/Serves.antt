@@ -11,7 +11,7 @@ use Rattle.wx_machine.specs.Start.{Start}
 use Rattle.wx_action.specs.Stands.{Stands, Ready, HasEndRoom, end_room}
 use Rattle.wx_machine.specs.Table.{Plan}
 use Rattle.wx_machine.specs.Case.{IsCut}
-use Rattle.wx_machine.specs.Due.{Point, Agenda, agenda, settle, Open, Comes, Plans}
+use Rattle.wx_machine.specs.Due.{Point, Agenda, agenda, settle, after_acts, is_through, Open, Comes, Plans}
 use Rattle.wx_machine.specs.Leads.{Follows, FollowsHooks, FollowsAlone}
 use Rattle.wx_machine.specs.Turns.{StaysInTurn}
 
@@ -86,12 +86,16 @@ pub record IsGivenUp (s : Start) (p : List Entry) : Type 0 where
 abbrev pub LeavesOff : Start → List Entry → List Entry → Type 0
 LeavesOff s p p' = (p' ≡ p) ⊎ IsGivenUp s p'
 
--- where it went well nothing is due, and else want of memory left it
+-- nothing is due, or the end, where it was asked for gracefully and no job lives
+abbrev pub IsServed : Start → List Entry → Type 0
+IsServed s p = agenda s p ≡ after_acts (is_through p)
+
+-- where it went well the turn is served, and else want of memory left it
 pub record Steps {X E : Type 0} (result : Result X E) (s : Start) (p p' : List Entry) : Type 0 where
-  pub done : OnOk result (agenda s p' ≡ Open)
+  pub done : OnOk result (IsServed s p')
   pub err : OnErr result (LeavesOff s p p')
 
--- where it went well nothing is due, and else no entry was added
+-- where it went well the turn is served, and else no entry was added
 pub record Settles {X E : Type 0} (result : Result X E) (s : Start) (p p' : List Entry) : Type 0 where
-  pub done : OnOk result (agenda s p' ≡ Open)
+  pub done : OnOk result (IsServed s p')
   pub err : OnErr result (p' ≡ p)

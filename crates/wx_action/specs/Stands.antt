@@ -11,7 +11,7 @@ use Rattle.wx_journal.specs.declared.entry.Offered.{Offered}
 use Rattle.wx_journal.specs.declared.entry.Offered.TheVariants.{Queued, Full, Closed}
 use Rattle.wx_journal.specs.declared.entry.TurnKind.{TurnKind}
 use Rattle.wx_journal.specs.declared.entry.TurnKind.TheVariants.{Work}
-use Rattle.wx_journal.specs.declared.entry.Word.TheVariants.{Idle}
+use Rattle.wx_journal.specs.declared.entry.Word.TheVariants.{Idle, Quitting}
 use Rattle.wx_journal.specs.Names.{event_count, moment, NamesItsOwn}
 use Rattle.wx_journal.specs.Written.{Written}
 use Rattle.wx_error.specs.declared.runtime.RuntimeError.{RuntimeError}
@@ -33,6 +33,7 @@ use Rattle.wx_action.specs.declared.work_turn.Worked.{Worked}
 use Rattle.wx_action.specs.declared.work_turn.Worked.TheVariants as worked
 use Rattle.wx_machine.specs.Start.{Start}
 use Rattle.wx_machine.specs.Settings.{settings}
+use Rattle.wx_machine.specs.Quits.{graceful}
 use Rattle.wx_machine.specs.Journal.{passes_unseen, closed, named, bag, window, first, is_over}
 use Rattle.wx_machine.specs.Due.{Shows, Hands, Agenda, Open, Comes, Ends, plans, is_quitting, agenda}
 use Rattle.wx_hooks.specs.Handled.{AreEvents, lookup}
@@ -53,6 +54,7 @@ pub record Stands (s : Start) (w : Worker) (p : List Entry) : Type 0 where
   pub jobs_kept : map held_id w.jobs ≡ set p
   pub tasks_kept : AllByRecursion (HeldStands p) w.jobs
   pub idle_kept : UnseenRunNone p
+  pub graceful_kept : w.graceful ≡ graceful p
 
 -- the end of all jobs takes this room, and it is there
 abbrev pub end_room : Worker → ℕ
@@ -84,11 +86,13 @@ pub record OwesHand (s : Start) (p : List Entry) : Type 0 where
   pub due : agenda s p ≡ Comes Hands Open
   pub some : 0 < length (window p)
 
--- the journal's last entry is a turn of this moment and kind, and the worker stands for it without that turn
+-- the journal's last entry is a turn of this moment and kind, before which nothing was owed, and the worker stands for it without
+-- that turn
 pub record AtTurn (s : Start) (w : Worker) (at : ℕ) (kind : TurnKind) (p : List Entry) : Type 0 where
   pub before : List Entry
   pub last : p ≡ Turned (record { at = at; kind = kind }) ∷ before
   pub stands : Stands s w before
+  pub open_is : agenda s before ≡ Open
 
 abbrev pub AtWork : Start → Worker → ℕ → List Entry → Type 0
 AtWork s w at p = AtTurn s w at Work p
@@ -147,23 +151,30 @@ pub record HasFailed (p p' : List Entry) : Type 0 where
   pub left : named name (bag p') ≡ None
   pub stays : window p' ≡ window p
 
--- the queue was closed, and nothing was done
+-- no graceful quit was asked for, the queue was closed, and nothing was done
 pub record HasStopped (p p' : List Entry) : Type 0 where
+  pub going : graceful p ≡ false
   pub is_closed : closed p ≡ true
   pub same : p' ≡ p
 
--- the window isn't due, and there was nothing to take
+-- no graceful quit was asked for, the window isn't due, and there was nothing to take
 pub record HasNone (s : Start) (p p' : List Entry) : Type 0 where
+  pub going : graceful p ≡ false
   pub early : is_over s p (moment p) ≡ false
   pub none : bag p ≡ []
   pub said : p' ≡ Said Idle ∷ p
 
+-- a graceful quit was asked for, and the turn says so
+pub record SaysQuitting (p p' : List Entry) : Type 0 where
+  pub asked : graceful p ≡ true
+  pub said : p' ≡ Said Quitting ∷ p
+
 -- What a Work turn collected: the end is due, since the queue was closed; the window is due; or neither is, and there was
--- nothing to take, or an event passed, which waits, or didn't pass.
+-- nothing to take, or a graceful quit was asked for, or an event passed, which waits, or didn't pass.
 abbrev pub Collects : Start → List Entry → Collected → List Entry → Type 0
 Collects s p collected.Stop p' = HasStopped p p' × (agenda s p' ≡ Ends)
 Collects s p collected.Hand p' = OwesHand s p'
-Collects s p collected.Idle p' = HasNone s p p' × (agenda s p' ≡ Open)
+Collects s p collected.Idle p' = (HasNone s p p' ⊎ SaysQuitting p p') × (agenda s p' ≡ Open)
 Collects s p collected.Kept p' = HasPassed p p' × (agenda s p' ≡ Open)
 Collects s p collected.Dropped p' = HasDropped p p' × (agenda s p' ≡ Open)
 

@@ -1,19 +1,27 @@
 // What acts ask for is done.
-ghost use Rattle.std.specs.Prelude.{◌≡◌, ◌+◌, ◌≤◌, List, OnOk};
+ghost use Rattle.std.specs.Prelude.{◌≡◌, ◌+◌, ◌≤◌, Option, List, [], ◌∷◌, OnOk, OnErr};
 ghost use Rattle.wx_hooks.specs.declared.handler.Todo.{Todo as ATodo};
 ghost use Rattle.wx_hooks.specs.declared.handler.Todo.TheVariants as todo;
 ghost use Rattle.wx_action.specs.Serves.{Grows, Performs};
 ghost use Rattle.wx_machine.specs.Start.{Start};
-ghost use Rattle.wx_machine.specs.Due.{Agenda, agenda};
+ghost use Rattle.wx_control.specs.declared.id.Id.{Id as AnId};
+ghost use Rattle.wx_journal.specs.Acts.{JournalAct as Act};
+ghost use Rattle.wx_journal.specs.declared.entry.Act.TheVariants.{Ask as Asks};
+ghost use Rattle.wx_machine.specs.declared.quit.QuitManner.{QuitManner as AQuit};
+ghost use Rattle.wx_machine.specs.Quits.{stop_asks, quit_asks};
+ghost use Rattle.wx_machine.specs.Jobs.{jobs};
+ghost use Rattle.wx_machine.specs.Answer.{NoneIsToGo};
+ghost use Rattle.wx_machine.specs.Due.{agenda};
 ghost use Rattle.wx_machine.specs.Steady.{OnlyRoom};
-ghost use Rattle.wx_action.specs.Perform.{OwesActs, IsFirst, Does};
+ghost use Rattle.wx_action.specs.Perform.{OwesPlan, OwesActs, IsFirst, Does, DoesAsk};
 ghost use Rattle.wx_action.specs.Stands.{Stands, Ready, end_room};
 
 use crate::worker_state::Worker;
 use std::alloc::Global;
 use wx_config::Change;
-use wx_control::{Ask, Flag, Id};
-use wx_hooks::{Held, Todo};
+use wx_control::{Ask, Control, Flag, Id};
+use wx_events::Signal;
+use wx_hooks::{Held, QuitManner, Todo};
 use wx_job::Host;
 use wx_journal::{Entry, Journal, Word};
 use wx_text::Memory;
@@ -61,14 +69,14 @@ fn ask_or_ignore(
     worker: &mut Worker,
     id: Id,
     ask: Ask,
-    done: Flag,
+    done: Option<Flag>,
     journal: &mut Journal,
 ) -> Result<(), Memory>
     ghost start: { Start }
-    requires owes { IsFirst start journal.old.past (todo.Ask id ask done) }
+    requires owes { (acts : List Act) × OwesPlan start journal.old.past (Asks id ask ∷ acts) }
     requires stands { Stands start worker.old journal.old.past }
     ensures grows { Grows start worker.old journal.old worker.new journal.new }
-    ensures does { Does result start journal.old.past (todo.Ask id ask done) journal.new.past }
+    ensures does { DoesAsk result start journal.old.past id ask journal.new.past }
 {
     let Ok(()) = worker.reserve(2, journal) else {
         drop(done);
@@ -80,7 +88,7 @@ fn ask_or_ignore(
         return Ok(());
     }
     let task = worker.jobs.task_mut(id);
-    let ticket = task.send(alloc, ask, Some(done), journal)?;
+    let ticket = task.send(alloc, ask, done, journal)?;
     drop(ticket);
     Ok(())
 }
@@ -117,7 +125,7 @@ fn perform_one<W: Host>(
 {
     match todo {
         Todo::Create(held) => make(worker, held, host, journal),
-        Todo::Ask { job, ask, done } => ask_or_ignore(alloc, worker, job, ask, done, journal),
+        Todo::Ask { job, ask, done } => ask_or_ignore(alloc, worker, job, ask, Some(done), journal),
         Todo::Change(asked) => change(worker, asked, journal),
     }
 }
@@ -131,14 +139,80 @@ pub(crate) fn perform<W: Host>(
     journal: &mut Journal,
 ) -> Result<(), Memory>
     ghost start: { Start }
-    requires owes { (more : Agenda) × OwesActs start journal.old.past todo.items more }
+    requires owes { (quit : Option AQuit) × (ids : List AnId) × OwesActs start journal.old.past todo.items quit ids }
     requires ready { Ready start worker.old journal.old (W.seen host.old) }
     ensures performs { Performs start journal.old.past (W.seen host.old) worker.new journal.new (W.seen host.new) }
-    ensures owes { (more : Agenda) → OwesActs start journal.old.past todo.items more → (rest : List ATodo) × OwesActs start journal.new.past rest more }
-    ensures done { OnOk result ((more : Agenda) → OwesActs start journal.old.past todo.items more → agenda start journal.new.past ≡ more) }
+    ensures owes { (quit : Option AQuit) (ids : List AnId) → OwesActs start journal.old.past todo.items quit ids → (rest : List ATodo) × OwesActs start journal.new.past rest quit ids }
+    ensures done { OnOk result ((quit : Option AQuit) (ids : List AnId) → OwesActs start journal.old.past todo.items quit ids → OwesActs start journal.new.past [] quit ids) }
 {
     for one in todo {
         perform_one(alloc, worker, one, host, journal)?;
     }
     Ok(())
+}
+
+/// Asks of a job what a graceful quit asks of each: that it stops, in a grace, and then that it is deleted. It fails only for
+/// want of memory.
+fn stop_job(
+    alloc: Global,
+    worker: &mut Worker,
+    id: Id,
+    signal: Signal,
+    grace: u64,
+    journal: &mut Journal,
+) -> Result<(), Memory>
+    ghost start: { Start }
+    requires owes { (ids : List AnId) × OwesPlan start journal.old.past (stop_asks signal grace (id ∷ ids)) }
+    requires stands { Stands start worker.old journal.old.past }
+    ensures grows { Grows start worker.old journal.old worker.new journal.new }
+    ensures done { OnOk result ((ids : List AnId) → OwesPlan start journal.old.past (stop_asks signal grace (id ∷ ids)) → OwesPlan start journal.new.past (stop_asks signal grace ids)) }
+    ensures cut { OnErr result (NoneIsToGo (agenda start journal.new.past)) }
+{
+    let stop = Ask::One(Control::GracefulStop { signal, grace });
+    ask_or_ignore(alloc, worker, id, stop, None, journal)?;
+    ask_or_ignore(alloc, worker, id, Ask::Delete, None, journal)
+}
+
+/// The same of each job that lives, by rising id. It fails only for want of memory; what was asked before stays.
+fn stop_jobs(
+    alloc: Global,
+    worker: &mut Worker,
+    signal: Signal,
+    grace: u64,
+    journal: &mut Journal,
+) -> Result<(), Memory>
+    ghost start: { Start }
+    requires owes { OwesPlan start journal.old.past (stop_asks signal grace (jobs journal.old.past)) }
+    requires stands { Stands start worker.old journal.old.past }
+    ensures grows { Grows start worker.old journal.old worker.new journal.new }
+    ensures done { OnOk result (OwesPlan start journal.new.past []) }
+    ensures cut { OnErr result (NoneIsToGo (agenda start journal.new.past)) }
+{
+    let ids = worker.jobs.living(alloc)?;
+    for id in ids {
+        stop_job(alloc, worker, id, signal, grace, journal)?;
+    }
+    Ok(())
+}
+
+/// Asks what a quit of a batch asks of the jobs that live: nothing, where it isn't graceful. It fails only for want of memory.
+pub(crate) fn ask_quit(
+    alloc: Global,
+    worker: &mut Worker,
+    quit: Option<QuitManner>,
+    journal: &mut Journal,
+) -> Result<(), Memory>
+    ghost start: { Start }
+    requires owes { OwesPlan start journal.old.past (quit_asks quit (jobs journal.old.past)) }
+    requires stands { Stands start worker.old journal.old.past }
+    ensures grows { Grows start worker.old journal.old worker.new journal.new }
+    ensures done { OnOk result (OwesPlan start journal.new.past []) }
+    ensures cut { OnErr result (NoneIsToGo (agenda start journal.new.past)) }
+{
+    match quit {
+        Some(QuitManner::Graceful { signal, grace }) => {
+            stop_jobs(alloc, worker, signal, grace, journal)
+        }
+        Some(QuitManner::Abort) | None => Ok(()),
+    }
 }

@@ -11,5 +11,6 @@ pub use work_turn::{Collected, Worked, throttle_collect, worker};
 pub use worker_state::Worker;
 pub use wx_hooks::{
     ActionHandler, Batch, CommandState, CreateRefused, ErrorHook, Held, Hooks, Host, IdCount,
-    JobHooks, JobList, JobTaskContext, Jobs, Outside, Turn, TurnFault, TurnKind, Turned, World,
+    JobHooks, JobList, JobTaskContext, Jobs, Outside, QuitManner, Turn, TurnFault, TurnKind,
+    Turned, World,
 };

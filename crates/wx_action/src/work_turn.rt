@@ -1,5 +1,5 @@
 // A Work turn: an event is taken, and the window is handed where it is due.
-ghost use Rattle.std.specs.Prelude.{◌≡◌, ◌∷◌, [], ◌++◌, ◌+◌, ◌<◌, ◌≤◌, ◌==◌, ◌||◌, nat_le, Some, true, false, if◌then◌else◌, length, Option, is_some, IfOk, IfErr, OnOk, OnErr};
+ghost use Rattle.std.specs.Prelude.{◌≡◌, ◌∷◌, [], ◌++◌, ◌+◌, ◌<◌, ◌≤◌, ◌==◌, ◌||◌, ◌&&◌, not, nat_le, Some, true, false, if◌then◌else◌, length, List, Option, is_some, IfOk, IfErr, OnOk, OnErr};
 ghost use Rattle.wx_journal.specs.declared.entry.Entry.{Entry};
 ghost use Rattle.wx_journal.specs.declared.entry.Entry.TheVariants.{Filter};
 ghost use Rattle.wx_events.specs.Priority.{is_urgent};
@@ -7,20 +7,26 @@ ghost use Rattle.wx_job.specs.Calls.{AreRoomy};
 ghost use Rattle.wx_action.specs.Serves.{GrowsHand, GrowsWithin, Continues, OwesRest};
 ghost use Rattle.wx_machine.specs.Start.{Start};
 ghost use Rattle.wx_machine.specs.Journal.{listed, is_unseen, lets_pass, is_exit, is_close, ending, bag, is_over, is_over_of};
-ghost use Rattle.wx_machine.specs.Due.{Takes, Filters, Shows, Agenda, Open, Comes, agenda, work, has_quit, after_acts};
+ghost use Rattle.wx_machine.specs.Due.{Takes, Filters, Shows, Agenda, Open, Comes, agenda, work, work_going};
+ghost use Rattle.std.specs.List.{list_any};
+ghost use Rattle.wx_hooks.specs.HeldJobs.{is_here};
+ghost use Rattle.wx_machine.specs.Quits.{quit_behind, quit_of, is_abort, is_graceful, is_aborting, graceful};
+ghost use Rattle.wx_control.specs.declared.id.Id.{Id as AnId};
+ghost use Rattle.wx_journal.specs.declared.entry.Entry.TheVariants.{Word as Said};
+ghost use Rattle.wx_journal.specs.declared.entry.Word.TheVariants.{Quitting};
 ghost use Rattle.wx_machine.specs.Kept.{Promised};
 ghost use Rattle.wx_machine.specs.Answer.{NoneIsToGo, BreaksOff, BreaksHere, Fails};
 ghost use Rattle.wx_action.specs.Perform.{OwesActs};
 ghost use Rattle.wx_action.specs.Stands.{Stands, Owes, OwesAt, OwesHand, AtWork, MayShow, Finds, Collects, IsDropped, IsJudged, LeavesRoom, Works, without_hand, end_room};
 
-use crate::acts_done::perform;
+use crate::acts_done::{ask_quit, perform};
 use crate::worker_state::Worker;
 use prio_channel::PrioQueue;
 use std::alloc::Global;
 use std::mem;
 use wx_error::{CriticalError, RuntimeError};
 use wx_events::Priority;
-use wx_hooks::{ActionHandler, Batch, ErrorHook, Hooks, Todo, is_quit};
+use wx_hooks::{ActionHandler, Batch, ErrorHook, Hooks, QuitManner, Todo};
 use wx_job::Host;
 use wx_journal::{Act, Entry, Journal, Named, Wish, Word};
 use wx_machine::is_unseen;
@@ -33,7 +39,7 @@ pub enum Collected {
     Stop,
     /// The window is due.
     Hand,
-    /// There was nothing to take.
+    /// There was nothing to take, or a graceful quit was asked for.
     Idle,
     /// An event was taken and passed, and waits in the window.
     Kept,
@@ -77,11 +83,50 @@ fn due_or_kept(is_urgent: bool, is_over: bool) -> Collected
     }
 }
 
-/// Whether the acts ask for the end.
-fn asks_for_end(acts: &[Act]) -> bool
-    ensures { result ≡ has_quit acts.now }
+/// How the end was asked for, behind an act: as it says, and as before where it is no quit.
+fn quit_behind(before: Option<QuitManner>, act: &Act) -> Option<QuitManner>
+    ensures { result ≡ quit_behind before act.now }
 {
-    acts.iter().any(|act| is_quit(act))
+    match act {
+        Act::Create(_, _) | Act::Ask(_, _) | Act::Change(_) => before,
+        Act::Quit => Some(QuitManner::Abort),
+        Act::QuitGracefully { signal, grace } => Some(QuitManner::Graceful {
+            signal: *signal,
+            grace: *grace,
+        }),
+    }
+}
+
+/// How these acts ask for the end, where they do: the last quit among them stands.
+fn quit_of(acts: &[Act]) -> Option<QuitManner>
+    ensures { result ≡ quit_of acts.now }
+{
+    let mut quit = None;
+    for act in acts {
+        quit = quit_behind(quit, act);
+    }
+    quit
+}
+
+/// Whether the end was asked for at once.
+fn is_abort(quit: Option<QuitManner>) -> bool
+    ensures { result ≡ is_abort quit }
+{
+    matches!(quit, Some(QuitManner::Abort))
+}
+
+/// Whether a graceful end was asked for.
+fn is_graceful(quit: Option<QuitManner>) -> bool
+    ensures { result ≡ is_graceful quit }
+{
+    matches!(quit, Some(QuitManner::Graceful { .. }))
+}
+
+/// Whether a graceful end was asked for, behind acts that ask for the end so: once it was, it stays.
+fn graceful_behind(before: bool, quit: Option<QuitManner>) -> bool
+    ensures { result ≡ (is_graceful quit || before) }
+{
+    is_graceful(quit) || before
 }
 
 impl Worker {
@@ -257,7 +302,8 @@ impl Worker {
         self.judge(alloc, item, priority, at, hooks, journal)
     }
 
-    /// What a Work turn finds: a closed queue; the window, where the throttle is over; nothing; or an event, which is taken.
+    /// What a Work turn finds: where a graceful quit was asked for it says so; else a closed queue; the window, where the throttle is
+    /// over; nothing; or an event, which is taken.
     fn collect<H: Hooks>(
         &mut self,
         alloc: Global,
@@ -267,6 +313,42 @@ impl Worker {
     ) -> Result<Found, Memory>
         ghost start: { Start }
         requires owes { OwesAt start self.old at journal.old.past (work start journal.old.past at) }
+        ensures within { GrowsWithin H.seen H.rule H.stands start 2 1 self.old journal.old hooks.old self.new journal.new hooks.new }
+        ensures found { IfOk result (λ found. Finds start journal.old.past found journal.new.past) }
+        ensures left { IfOk result (λ found. LeavesRoom found (end_room self.new) journal.new.spare (H.seen hooks.new).spare) }
+        ensures unchanged { OnErr result (journal.new.past ≡ journal.old.past) }
+        ensures kept_room { end_room self.old ≤ journal.old.spare → end_room self.new ≤ journal.new.spare }
+    {
+        if self.graceful {
+            return self.say_quitting(journal);
+        }
+        self.collect_going(alloc, at, hooks, journal)
+    }
+
+    /// Says that a graceful quit was asked for. It fails only for want of memory, and adds no entry then.
+    fn say_quitting(&self, journal: &mut Journal) -> Result<Found, Memory>
+        ensures found { IfOk result (λ found. found ≡ Found.Done Collected.Idle) }
+        ensures said { OnOk result (journal.new.past ≡ Said Quitting ∷ journal.old.past) }
+        ensures err { OnErr result (journal.new.past ≡ journal.old.past) }
+        ensures room { journal.old.spare ≤ journal.new.spare + 1 }
+        ensures kept_room { end_room self.now ≤ journal.old.spare → end_room self.now ≤ journal.new.spare }
+    {
+        self.reserve(1, journal)?;
+        journal.push(Entry::Word(Word::Quitting));
+        Ok(Found::Done(Collected::Idle))
+    }
+
+    /// The same where no graceful quit was asked for.
+    fn collect_going<H: Hooks>(
+        &mut self,
+        alloc: Global,
+        at: u64,
+        hooks: &mut H,
+        journal: &mut Journal,
+    ) -> Result<Found, Memory>
+        ghost start: { Start }
+        requires owes { OwesAt start self.old at journal.old.past (work_going start journal.old.past at) }
+        requires going { graceful journal.old.past ≡ false }
         ensures within { GrowsWithin H.seen H.rule H.stands start 2 1 self.old journal.old hooks.old self.new journal.new hooks.new }
         ensures found { IfOk result (λ found. Finds start journal.old.past found journal.new.past) }
         ensures left { IfOk result (λ found. LeavesRoom found (end_room self.new) journal.new.spare (H.seen hooks.new).spare) }
@@ -361,27 +443,52 @@ fn without_hand(found: Collected) -> Worked
     }
 }
 
-/// What a turn did that handed a batch.
+/// What a turn did after which the run ends, or goes on.
 fn done_or_on(ends: bool) -> Worked
     ensures { result ≡ (if ends then Worked.End else Worked.On) }
 {
     if ends { Worked::End } else { Worked::On }
 }
 
-/// Hands the window, which is due. It answers whether the acts ask for the end, and what is to be done for them. It takes
+impl Worker {
+    /// Whether a graceful quit was asked for, and no job lives.
+    fn is_through(&self) -> bool
+        ensures { result ≡ (self.now.graceful && not (list_any is_here self.now.jobs)) }
+    {
+        self.graceful && !self.jobs.any_lives()
+    }
+
+    /// What a turn did whose acts didn't ask for the end at once: the run ends where a graceful quit was asked for, and no job
+    /// lives.
+    pub fn worked(&self) -> Worked
+        ensures { result ≡ (if self.now.graceful && not (list_any is_here self.now.jobs) then Worked.End else Worked.On) }
+    {
+        done_or_on(self.is_through())
+    }
+
+    /// What a turn did that handed a batch, all of whose acts are done: the run ends where they asked for it at once, too.
+    fn worked_by(&self, quit: Option<QuitManner>) -> Worked
+        ensures { result ≡ (if is_abort quit || (self.now.graceful && not (list_any is_here self.now.jobs)) then Worked.End else Worked.On) }
+    {
+        done_or_on(is_abort(quit) || self.is_through())
+    }
+}
+
+/// Hands the window, which is due. It answers how the acts ask for the end, and what is to be done for them. It takes
 /// no memory.
 fn hand_batch<H: Hooks>(
     alloc: Global,
     worker: &mut Worker,
     hooks: &mut H,
     journal: &mut Journal,
-) -> (bool, Vec<Todo>)
+) -> (Option<QuitManner>, Vec<Todo>)
     ghost start: { Start }
     requires stands { Stands start worker.old journal.old.past }
     requires owes { OwesHand start journal.old.past }
     requires room { AreRoomy (1 + end_room worker.old) 1 journal.old (H.seen hooks.old) }
     ensures grows { GrowsHand H.seen H.rule H.stands start journal.old.past hooks.old worker.new journal.new.past hooks.new }
-    ensures owes { OwesActs start journal.new.past result.1.items (after_acts result.0) }
+    ensures owes { (ids : List AnId) × OwesActs start journal.new.past result.1.items result.0 ids }
+    ensures aborts { is_aborting journal.new.past ≡ is_abort result.0 }
     ensures room { end_room worker.new ≤ journal.new.spare }
     ensures end_room { end_room worker.new ≤ end_room worker.old }
 {
@@ -391,10 +498,11 @@ fn hand_batch<H: Hooks>(
     let mut handler = ActionHandler::new(alloc, journal, &worker.jobs, revision, batch);
     hooks.action(n, &mut handler);
     let (names, acts, todo) = handler.into_parts();
-    let ends = asks_for_end(acts.as_slice());
+    let quit = quit_of(acts.as_slice());
     journal.push(Entry::Hand { n, names, acts });
+    worker.graceful = graceful_behind(worker.graceful, quit);
     worker.jobs.leave_gone();
-    (ends, todo)
+    (quit, todo)
 }
 
 /// Hands the window, which is due, does what its acts ask for, and says whether the run ends. It fails only for want of
@@ -415,9 +523,10 @@ fn hand<W: Host, H: Hooks>(
     ensures works { IfOk result (λ worked. Works start worked journal.new.past) }
     ensures cut { OnErr result (NoneIsToGo (agenda start journal.new.past)) }
 {
-    let (ends, todo) = hand_batch(alloc, worker, hooks, journal);
+    let (quit, todo) = hand_batch(alloc, worker, hooks, journal);
     perform(alloc, worker, todo, host, journal)?;
-    Ok(done_or_on(ends))
+    ask_quit(alloc, worker, quit, journal)?;
+    Ok(worker.worked_by(quit))
 }
 
 /// One Work turn: what it collects is handed to the action handler where it is due, what this asks for is done, and the

@@ -23,7 +23,8 @@ use wx_journal::{Entry, Journal, Named, Offered, Word};
 use wx_text::Memory;
 
 /// What an engine keeps between turns: its settings, the queue, how many events have a name, the window, the moment at
-/// which the window's first event was taken, in nanoseconds, and the jobs that a handler sees, by rising name.
+/// which the window's first event was taken, in nanoseconds, the jobs that a handler sees, by rising name, and whether a graceful
+/// quit was asked for.
 #[derive(Drop, Debug)]
 pub struct Worker {
     pub config: Config,
@@ -32,6 +33,7 @@ pub struct Worker {
     pub batch: Batch,
     pub first: u64,
     pub jobs: JobList,
+    pub graceful: bool,
 }
 
 /// The room for so many entries, besides what the end of so many jobs takes.
@@ -59,6 +61,7 @@ impl Worker {
                 batch: Batch::new(alloc),
                 first: 0,
                 jobs: JobList::new(alloc),
+                graceful: false,
             }),
             Err(memory) => {
                 drop(config);

@@ -1,5 +1,7 @@
 use Rattle.wx_machine.specs.Steady.{OnlyRoom}
-use Rattle.wx_machine.specs.Due.{Agenda}
+use Rattle.std.specs.Prelude.{Option, List}
+use Rattle.wx_control.specs.declared.id.Id.{Id}
+use Rattle.wx_machine.specs.declared.quit.QuitManner.{QuitManner}
 use Rattle.wx_action.specs.Serves.{AddsAlone}
 use Rattle.wx_action.specs.Perform.{OwesActs}
 use Rattle.wx_action.specs.Stands.{Stands, HasEndRoom}
@@ -10,7 +12,7 @@ ghost-perform_one g a = g.start
 
 abbrev pub invariant-loop-one : goal.invariant-loop-one
 invariant-loop-one g l = record {
-  owes : (more : Agenda) → OwesActs g.start l.initial.journal.past l.initial.one-iterator.rest.items more → OwesActs g.start l.journal.past l.one-iterator.rest.items more;
+  owes : (quit : Option QuitManner) (ids : List Id) → OwesActs g.start l.initial.journal.past l.initial.one-iterator.rest.items quit ids → OwesActs g.start l.journal.past l.one-iterator.rest.items quit ids;
   stands : Stands g.start l.worker l.journal.past;
   adds : AddsAlone g.start l.initial.journal.past l.journal.past;
   rest : OnlyRoom (g.W.Outside.seen l.initial.host) (g.W.Outside.seen l.host);

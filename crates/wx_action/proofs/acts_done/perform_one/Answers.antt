@@ -1,6 +1,15 @@
 use Rattle.std.proofs.Common.{arith}
 use Rattle.wx_machine.proofs.SteadyLemmas.{only_none}
+use Rattle.wx_action.proofs.PerformLemmas.{ask_first, does_ask}
 use Rattle.wx_action.proofs.acts_done.perform_one.Goals as goal
+
+pub ask_or_ignore-requires : goal.ask_or_ignore-requires
+ask_or_ignore-requires g c =
+    let o = c.requires.1.0 in
+    (ask_first g.start c.args.journal.now.past c.in-Ask.job c.in-Ask.ask c.in-Ask.done o.0 o.1 o.2 (rw c.in-Ask.is at o.3), c.requires.1.1.stands)
+
+pub returns-in-Ask-clause-does : goal.returns-in-Ask-clause-does
+returns-in-Ask-clause-does g c = rw c.in-Ask.is (does_ask _ g.start c.in-Ask.job c.in-Ask.ask c.in-Ask.done _ _ c.ask_or_ignore.ensures.does)
 
 pub returns-in-Ask-clause-performs : goal.returns-in-Ask-clause-performs
 returns-in-Ask-clause-performs g c = let grows = c.ask_or_ignore.ensures.grows in record {

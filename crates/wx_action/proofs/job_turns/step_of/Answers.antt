@@ -1,3 +1,4 @@
+use Rattle.wx_machine.proofs.SettleLaws.{served_settled}
 use Rattle.std.proofs.Common.{rules, ◌*◌, arith, refl, ap, subst}
 use Rattle.wx_job.specs.declared.task.JobTask.{JobTask}
 use Rattle.wx_machine.specs.Table.{step_plan}
@@ -71,4 +72,4 @@ returns-clause-continues g c = let d = done g c in record {
 }
 
 pub returns-clause-steps : goal.returns-clause-steps
-returns-clause-steps g c = record { done = (done g c).done; err = tt }
+returns-clause-steps g c = record { done = served_settled g.start c.args.journal.now.past c.step.new.journal.past c.requires.1.1.0.going (done g c).aborts (done g c).done; err = tt }

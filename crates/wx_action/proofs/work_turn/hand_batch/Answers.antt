@@ -4,7 +4,7 @@ use Rattle.wx_journal.specs.Names.{next_job}
 use Rattle.wx_machine.specs.Settings.{revision, MayChange}
 use Rattle.wx_machine.specs.Journal.{window}
 use Rattle.wx_machine.specs.Due.{Due}
-use Rattle.wx_machine.specs.Jobs.{AreLawful}
+use Rattle.wx_machine.specs.Jobs.{jobs, with_created, AreLawful}
 use Rattle.wx_machine.specs.Kept.{Called, KeepsOn}
 use Rattle.wx_machine.specs.Leads.{FollowsHooks}
 use Rattle.wx_action.proofs.ServesLaws.{adds_hand}
@@ -36,15 +36,18 @@ is_due : (g : _) (c : goal.After-leave_gone g) → Due g.start c.args.journal.no
 is_due g c =
     hand_due g.start c.args.journal.now.past c.args.worker.now.config.action_handler c.action.new.handler.names c.action.new.handler.acts c.requires.1.1.0.due (ap (λ k. k.action_handler) c.requires.1.0.config_kept) (whole g c) (are_lawful g c) (may_change g c)
 
-done : (g : _) (c : goal.After-leave_gone g) → Handed g.start (record c.args.worker.now { batch = c.replace-batch.new.dest; jobs = c.leave_gone.new.self }) c.push.new.self.past c.into_parts-names.result.2.items c.asks_for_end-ends.result
+done : (g : _) (c : goal.After-leave_gone g) → Handed g.start (record c.args.worker.now { batch = c.replace-batch.new.dest; jobs = c.leave_gone.new.self; graceful = c.graceful_behind-worker.result }) c.push.new.self.past c.into_parts-names.result.2.items c.quit_of-quit.result (with_created c.action.new.handler.acts (jobs c.args.journal.now.past))
 done g c =
-    handed g.start c.args.worker.now _ c.args.worker.now.config.action_handler c.action.new.handler.names c.action.new.handler.acts c.into_parts-names.result.2.items c.asks_for_end-ends.result c.args.journal.now.past c.push.new.self.past c.requires.1.0 (whole g c) (are_lawful g c) (may_change g c)
-    (rw c.into_parts-names.ensures.acts at c.into_parts-names.ensures.todo) (rw (c.as_slice.ensures, c.into_parts-names.ensures.acts) at c.asks_for_end-ends.ensures) refl
+    handed g.start c.args.worker.now _ c.args.worker.now.config.action_handler c.action.new.handler.names c.action.new.handler.acts c.into_parts-names.result.2.items c.quit_of-quit.result c.args.journal.now.past c.push.new.self.past c.requires.1.0 (whole g c) (are_lawful g c) (may_change g c)
+    (rw c.into_parts-names.ensures.acts at c.into_parts-names.ensures.todo) (rw (c.as_slice.ensures, c.into_parts-names.ensures.acts) at c.quit_of-quit.ensures) refl c.graceful_behind-worker.ensures
     (ap (λ b. b.names) c.replace-batch.ensures.after ∙ c.new.ensures.names) (ap (λ b. b.events) c.replace-batch.ensures.after ∙ c.new.ensures.events) c.leave_gone.ensures.here
     (rw (c.into_parts-names.ensures.names, c.into_parts-names.ensures.acts) at c.push.ensures.past)
 
 pub returns-clause-owes : goal.returns-clause-owes
-returns-clause-owes g c = (done g c).owes
+returns-clause-owes g c = (_, (done g c).owes)
+
+pub returns-clause-aborts : goal.returns-clause-aborts
+returns-clause-aborts g c = (done g c).aborts
 
 follows : (g : _) (c : goal.After-leave_gone g) → FollowsHooks g.start c.args.journal.now.past (g.H.JobHooks.seen c.args.hooks.now).told c.push.new.self.past (g.H.JobHooks.seen c.action.new.self).told
 follows g c =

@@ -15,4 +15,5 @@ returns-in-Ok-clause-stands c = λ s is. record {
   jobs_kept = search rules;
   tasks_kept = search rules;
   idle_kept = λ id none. refl;
+  graceful_kept = refl;
 }
