@@ -89,8 +89,8 @@ served t p mid p' grown stays =
     }
 
 -- a worker that stood for the journal before a turn stands for it with that turn, where this tells no end of a child
-pub turn_stands : (s : Start) (w : Worker) (t : Turn) (p p' : List Entry) → Stands s w p → p' ≡ Turned t ∷ p → TellsNoEnd t.kind → Stands s w p'
-turn_stands s w t p p' stands grown none = (at_turn s w t.at t.kind p' none (next_turn s w p p' t.at t.kind stands grown)).stands
+pub turn_stands : (s : Start) (w : Worker) (t : Turn) (p p' : List Entry) → Stands s w p → agenda s p ≡ Open → p' ≡ Turned t ∷ p → TellsNoEnd t.kind → Stands s w p'
+turn_stands s w t p p' stands open_is grown none = (at_turn s w t.at t.kind p' none (next_turn s w p p' t.at t.kind stands open_is grown)).stands
 
 -- and with the fault of one
 pub fault_stands : (s : Start) (w : Worker) (code : ℕ) (p p' : List Entry) → Stands s w p → p' ≡ TurnFault code ∷ p → Stands s w p'

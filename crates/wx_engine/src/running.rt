@@ -122,24 +122,24 @@ fn serve<W: World, H: Hooks>(
     match kind {
         TurnKind::Arrive(event, priority) => {
             state.arrive(alloc, event, priority, journal)?;
-            Ok(Worked::On)
+            Ok(state.worked())
         }
         TurnKind::Work => worker(alloc, state, at, world, hooks, journal),
         TurnKind::Job(id) => {
             job_turn(alloc, state, id, at, world, hooks, journal)?;
-            Ok(Worked::On)
+            Ok(state.worked())
         }
         TurnKind::Ended(child) => {
             ended_turn(alloc, state, child, at, world, hooks, journal)?;
-            Ok(Worked::On)
+            Ok(state.worked())
         }
         TurnKind::Ask(id, ask) => {
             ask_turn(alloc, state, id, ask, done, journal)?;
-            Ok(Worked::On)
+            Ok(state.worked())
         }
         TurnKind::Change(change) => {
             change_turn(state, change, journal)?;
-            Ok(Worked::On)
+            Ok(state.worked())
         }
         TurnKind::Last => Ok(Worked::End),
     }

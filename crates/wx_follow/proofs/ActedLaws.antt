@@ -10,12 +10,11 @@ use Rattle.wx_control.specs.declared.ask.Ask.{Ask as AnAsk}
 use Rattle.wx_control.specs.declared.id.Id.{Id}
 use Rattle.wx_control.specs.declared.job.Job.{Job}
 use Rattle.wx_journal.specs.Acts.{JournalAct as Act}
-use Rattle.wx_journal.specs.declared.entry.Act.TheVariants.{Create, Ask as Asks, Change, Quit}
+use Rattle.wx_journal.specs.declared.entry.Act.TheVariants.{Create, Ask as Asks, Change, Quit, QuitGracefully}
 use Rattle.wx_journal.specs.declared.entry.Entry.{Entry}
 use Rattle.wx_journal.specs.Names.{creates}
 use Rattle.wx_machine.specs.History.{same}
-use Rattle.wx_machine.specs.Due.{is_quit}
-use Rattle.wx_machine.specs.Quits.{with_quit}
+use Rattle.wx_machine.specs.Quits.{is_quit, with_this_quit}
 use Rattle.wx_machine.specs.Last.{without_last}
 use Rattle.wx_machine.specs.Jobs.{is_seen}
 use Rattle.wx_script.specs.Acted.{is_made, AreMade, is_there, with_ask}
@@ -41,10 +40,12 @@ creates_change id [] change = refl
 creates_change id (Create other command ∷ acts) change = ap (λ b. other.0 == id.0 || b) (creates_change id acts change)
 creates_change id (_ ∷ acts) change = creates_change id acts change
 
-creates_quit : (id : Id) (acts : List Act) → creates id (acts ++ Quit ∷ []) ≡ creates id acts
-creates_quit id [] = refl
-creates_quit id (Create other command ∷ acts) = ap (λ b. other.0 == id.0 || b) (creates_quit id acts)
-creates_quit id (_ ∷ acts) = creates_quit id acts
+creates_quit : (id : Id) (quit : Act) (acts : List Act) → is_quit quit ≡ true → creates id (acts ++ quit ∷ []) ≡ creates id acts
+creates_quit id Quit [] is = refl
+creates_quit id (QuitGracefully signal grace) [] is = refl
+creates_quit id (_) [] is = absurd cc
+creates_quit id quit (Create other command ∷ acts) is = ap (λ b. other.0 == id.0 || b) (creates_quit id quit acts is)
+creates_quit id quit (_ ∷ acts) is = creates_quit id quit acts is
 
 creates_more : (id : Id) (acts : List Act) (job : Id) (command : Command) → creates id (acts ++ Create job command ∷ []) ≡ (creates id acts || same job id)
 creates_more id [] job command = or-false (same job id)
@@ -63,6 +64,7 @@ creates_one id true (Create job command) is = absurd cc
 creates_one id true (Asks job ask) is = absurd cc
 creates_one id true (Change change) is = absurd cc
 creates_one id true Quit is = refl
+creates_one id true (QuitGracefully signal grace) is = refl
 creates_one id false act is = refl
 
 creates_left : (id : Id) (acts : List Act) → creates id (without_last is_quit acts) ≡ creates id acts
@@ -72,12 +74,13 @@ creates_left id (Create other command ∷ next ∷ acts) = ap (λ b. other.0 == 
 creates_left id (Asks job ask ∷ next ∷ acts) = creates_left id (next ∷ acts)
 creates_left id (Change change ∷ next ∷ acts) = creates_left id (next ∷ acts)
 creates_left id (Quit ∷ next ∷ acts) = creates_left id (next ∷ acts)
+creates_left id (QuitGracefully signal grace ∷ next ∷ acts) = creates_left id (next ∷ acts)
 
 pub made_change : (made : List Job) (acts : List Act) (change : AChange) → AreMade made acts → AreMade made (acts ++ Change change ∷ [])
 made_change made acts change is = λ id. is id ∙ sym (creates_change id acts change)
 
-pub made_quit : (made : List Job) (acts : List Act) → AreMade made acts → AreMade made (with_quit acts)
-made_quit made acts is = λ id. is id ∙ sym (creates_quit id (without_last is_quit acts) ∙ creates_left id acts)
+pub made_quit : (made : List Job) (quit : Act) (acts : List Act) → is_quit quit ≡ true → AreMade made acts → AreMade made (with_this_quit quit acts)
+made_quit made quit acts quits is = λ id. is id ∙ sym (creates_quit id quit (without_last is_quit acts) quits ∙ creates_left id acts)
 
 pub made_create : (made : List Job) (acts : List Act) (job : Job) (id : Id) (command : Command) → job.id ≡ id → AreMade made acts → AreMade (made ++ job ∷ []) (acts ++ Create id command ∷ [])
 made_create made acts job id command its is = λ other.

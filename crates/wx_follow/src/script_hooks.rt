@@ -302,6 +302,10 @@ fn perform_one(
             handler.quit();
             Ok(())
         }
+        Act::QuitGracefully { signal, grace } => {
+            handler.quit_gracefully(*signal, *grace);
+            Ok(())
+        }
     }
 }
 

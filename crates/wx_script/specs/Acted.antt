@@ -9,14 +9,14 @@ use Rattle.wx_control.specs.declared.ask.Ask.{Ask as AnAsk}
 use Rattle.wx_control.specs.declared.id.Id.{Id}
 use Rattle.wx_control.specs.declared.job.Job.{Job}
 use Rattle.wx_journal.specs.Acts.{JournalAct as Act}
-use Rattle.wx_journal.specs.declared.entry.Act.TheVariants.{Create, Ask as Asks, Change, Quit}
+use Rattle.wx_journal.specs.declared.entry.Act.TheVariants.{Create, Ask as Asks, Change, Quit, QuitGracefully}
 use Rattle.wx_journal.specs.declared.entry.Entry.{Entry}
 use Rattle.wx_journal.specs.declared.entry.Entry.TheVariants.{Filter, Show, Hand, Poll, Hook}
 use Rattle.wx_journal.specs.declared.wish.Wish.{Wish}
 use Rattle.wx_journal.specs.declared.wish.Wish.TheVariants.{Nothing}
 use Rattle.wx_journal.specs.Names.{creates, next_job}
 use Rattle.wx_machine.specs.History.{same, command}
-use Rattle.wx_machine.specs.Quits.{with_quit}
+use Rattle.wx_machine.specs.Quits.{with_quit, with_graceful_quit}
 use Rattle.wx_machine.specs.Journal.{Verdict}
 use Rattle.wx_machine.specs.Jobs.{is_seen, next_created}
 use Rattle.wx_script.specs.Answered.{Calls, IsAnswered, answered_by}
@@ -45,6 +45,7 @@ with_act p done (Create New command) = with_create p done command
 with_act p done (Asks id ask) = with_ask p done id ask
 with_act p done (Change change) = done ++ Change change ∷ []
 with_act p done Quit = with_quit done
+with_act p done (QuitGracefully signal grace) = with_graceful_quit signal grace done
 
 abbrev pub performed : List Entry → List Act → List ScriptAct → List Act
 performed p done [] = done

@@ -2,7 +2,8 @@ use Rattle.std.proofs.Common.{refl, arith, ◌∙◌}
 use Rattle.wx_journal.specs.declared.entry.TurnKind.TheVariants.{Arrive, Last}
 use Rattle.wx_machine.proofs.SteadyLemmas.{only_none}
 use Rattle.wx_machine.specs.Due.{Open}
-use Rattle.wx_machine.proofs.SettleLaws.{settle_calm}
+use Rattle.wx_machine.proofs.SettleLaws.{settle_calm, served_open}
+use Rattle.wx_action.proofs.HandLemmas.{works_served}
 use Rattle.wx_action.proofs.TurnLaws.{at_turn}
 use Rattle.wx_action.proofs.Serving.{hooks_none, continues_room, continues_grows}
 use Rattle.wx_action.proofs.BreakLemmas.{breaks_want, breaks_left}
@@ -15,7 +16,19 @@ arrive-requires g c =
 pub returns-in_ok-arrive-in-Arrive-clause-works : goal.returns-in_ok-arrive-in-Arrive-clause-works
 returns-in_ok-arrive-in-Arrive-clause-works g c =
     let d = at_turn g.start c.args.state.now c.args.at (Arrive c.in-Arrive.event c.in-Arrive.priority) c.args.journal.now.past tt (rw c.in-Arrive.is at c.requires.1.1) in
-    c.in_ok-arrive-in-Arrive.ensures.done Open d.due ∙ settle_calm c.args.journal.now.past Open d.going
+    rw c.worked.ensures (works_served g.start c.arrive.new.self c.arrive.new.journal.past c.arrive.ensures.grows.stands (served_open g.start c.arrive.new.journal.past (c.in_ok-arrive-in-Arrive.ensures.done Open d.due ∙ settle_calm c.args.journal.now.past Open d.going)))
+
+pub returns-in_ok-job_turn-in-Job-clause-works : goal.returns-in_ok-job_turn-in-Job-clause-works
+returns-in_ok-job_turn-in-Job-clause-works g c = rw c.worked-in-Job.ensures (works_served g.start c.job_turn.new.worker c.job_turn.new.journal.past c.job_turn.ensures.continues.stands c.in_ok-job_turn-in-Job.ensures.steps.done)
+
+pub returns-in_ok-ended_turn-in-Ended-clause-works : goal.returns-in_ok-ended_turn-in-Ended-clause-works
+returns-in_ok-ended_turn-in-Ended-clause-works g c = rw c.worked-in-Ended.ensures (works_served g.start c.ended_turn.new.worker c.ended_turn.new.journal.past c.ended_turn.ensures.continues.stands c.in_ok-ended_turn-in-Ended.ensures.steps.done)
+
+pub returns-in_ok-ask_turn-in-Ask-clause-works : goal.returns-in_ok-ask_turn-in-Ask-clause-works
+returns-in_ok-ask_turn-in-Ask-clause-works g c = rw c.worked-in-Ask.ensures (works_served g.start c.ask_turn.new.worker c.ask_turn.new.journal.past c.ask_turn.ensures.grows.stands c.in_ok-ask_turn-in-Ask.ensures.settles.done)
+
+pub returns-in_ok-change_turn-in-Change-clause-works : goal.returns-in_ok-change_turn-in-Change-clause-works
+returns-in_ok-change_turn-in-Change-clause-works g c = rw c.worked-in-Change.ensures (works_served g.start c.change_turn.new.worker c.change_turn.new.journal.past c.change_turn.ensures.grows.stands c.in_ok-change_turn-in-Change.ensures.settles.done)
 
 pub returns-in-Last-clause-continues : goal.returns-in-Last-clause-continues
 returns-in-Last-clause-continues g c = continues_room _ _ _ _ _ _ _ _ _ _ _ (at_turn g.start c.args.state.now c.args.at Last c.args.journal.now.past tt (rw c.in-Last.is at c.requires.1.1)).stands refl (omega arith) only_none (hooks_none _ _ _)

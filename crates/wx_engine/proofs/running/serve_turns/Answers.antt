@@ -122,7 +122,7 @@ pub returns-in_err-kind-clause-rests : goal.returns-in_err-kind-clause-rests
 returns-in_err-kind-clause-rests g c =
     let at = (goal.at.returns-in_err-kind-clause-rests g c).After-push-in-turns in
     record {
-      stands = turn_stands g.start c.turns.state c.in-Ok.given.turn c.turns.journal.past c.push-in-turns.new.self.past c.turns.invariant.stands (rw c.in_ok-make_room.ensures.same at c.push-in-turns.ensures.past) (rw c.in_err-kind.was at c.kind_again-kind.ensures.no_end);
+      stands = turn_stands g.start c.turns.state c.in-Ok.given.turn c.turns.journal.past c.push-in-turns.new.self.past c.turns.invariant.stands c.turns.invariant.open_is (rw c.in_ok-make_room.ensures.same at c.push-in-turns.ensures.past) (rw c.in_err-kind.was at c.kind_again-kind.ensures.no_end);
       room = listed_room g at;
       rise = listed_rise g at;
     }

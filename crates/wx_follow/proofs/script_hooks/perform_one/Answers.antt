@@ -1,8 +1,15 @@
+use Rattle.std.proofs.Common.{refl}
 use Rattle.wx_follow.proofs.ActedLaws.{ok_then, made_quit, made_change}
 use Rattle.wx_follow.proofs.script_hooks.perform_one.Goals as goal
 
 pub returns-in-Quit-clause-made : goal.returns-in-Quit-clause-made
-returns-in-Quit-clause-made c = rw c.quit.ensures (made_quit c.args.made.now.items c.args.handler.now.acts c.requires.made)
+returns-in-Quit-clause-made c = rw c.quit.ensures (made_quit c.args.made.now.items _ c.args.handler.now.acts refl c.requires.made)
+
+pub returns-in-QuitGracefully-clause-done : goal.returns-in-QuitGracefully-clause-done
+returns-in-QuitGracefully-clause-done c = rw c.in-QuitGracefully.is c.quit_gracefully.ensures
+
+pub returns-in-QuitGracefully-clause-made : goal.returns-in-QuitGracefully-clause-made
+returns-in-QuitGracefully-clause-made c = rw c.quit_gracefully.ensures (made_quit c.args.made.now.items _ c.args.handler.now.acts refl c.requires.made)
 
 pub returns-in-Ask-clause-done : goal.returns-in-Ask-clause-done
 returns-in-Ask-clause-done c = rw c.in-Ask.is c.ask_or_not.ensures.done
