@@ -14,12 +14,32 @@ use wx_text::{Memory, Text};
 enum Act {
     Nothing,
     Quit,
+    QuitGracefully,
     Create,
     Ask(u32, Asked),
     // of a job that isn't there
     AskNone,
     // in these words
     Change(&'static [u8]),
+}
+
+/// How the acts of a hand ask for the end.
+#[derive(Clone, Copy)]
+enum Quit {
+    Not,
+    Abort,
+    Graceful,
+}
+
+impl Quit {
+    /// The same behind one act more: the last quit stands.
+    fn behind(self, act: Act) -> Quit {
+        match act {
+            Act::Quit => Quit::Abort,
+            Act::QuitGracefully => Quit::Graceful,
+            _ => self,
+        }
+    }
 }
 
 /// How many acts an action has at most.
@@ -77,6 +97,8 @@ pub(crate) struct Rules {
     actions: Queue<[Act; ACTS]>,
     jobs: Vec<Task>,
     outcome: Outcome,
+    // the run is to end once no job lives
+    is_graceful: bool,
     is_over: bool,
     pub(crate) world: World,
 }
@@ -95,6 +117,7 @@ impl Rules {
             actions: Queue::new(alloc),
             jobs: Vec::new(alloc),
             outcome: Outcome::Well,
+            is_graceful: false,
             is_over: false,
             world: World::new(alloc),
         }
@@ -133,6 +156,19 @@ impl Rules {
             Turn::Job(job) => self.step(job, at),
             Turn::Change => self.up(Sort::Changed),
         }
+        if self.is_graceful && self.none_lives() {
+            self.is_over = true;
+        }
+    }
+
+    /// Whether no job lives.
+    fn none_lives(&self) -> bool {
+        for task in &self.jobs {
+            if !task.is_gone {
+                return false;
+            }
+        }
+        true
     }
 
     /// An event arrives.
@@ -149,7 +185,9 @@ impl Rules {
 
     /// The worker acts.
     fn work(&mut self) {
-        if self.is_closed {
+        if self.is_graceful {
+            self.up(Sort::Quitting);
+        } else if self.is_closed {
             self.is_over = true;
         } else if self.waiting == 0 {
             self.up(Sort::Idle);
@@ -202,24 +240,41 @@ impl Rules {
     /// An event is handed.
     fn hand(&mut self) {
         self.up(Sort::Hand);
+        let mut quit = Quit::Not;
         if let Some(acts) = self.actions.next() {
             for act in &acts {
                 self.act(*act);
+                quit = quit.behind(*act);
             }
         }
         for task in &mut self.jobs {
             task.is_hidden = task.is_gone;
+        }
+        match quit {
+            Quit::Not => {}
+            Quit::Abort => self.is_over = true,
+            Quit::Graceful => self.stop_jobs(),
+        }
+    }
+
+    /// Each job that lives is stopped and deleted, and the run ends with the last of them.
+    fn stop_jobs(&mut self) {
+        self.is_graceful = true;
+        for task in &mut self.jobs {
+            if !task.is_gone {
+                task.ask(Asked::One(Control::GracefulStop), &mut self.world.counts);
+                task.ask(Asked::StopDelete, &mut self.world.counts);
+            }
         }
     }
 
     /// A handler does this.
     fn act(&mut self, act: Act) {
         match act {
-            Act::Quit => self.is_over = true,
             Act::Create => self.create(),
             Act::Ask(job, asked) => self.ask_shown(job, asked),
             Act::Change(_) => self.up(Sort::Changed),
-            Act::AskNone | Act::Nothing => {}
+            Act::AskNone | Act::Nothing | Act::Quit | Act::QuitGracefully => {}
         }
     }
 
@@ -362,6 +417,9 @@ impl Draft {
         for _ in 0..30 + self.draw(60) {
             self.put_line();
         }
+        if self.draw(8) == 0 {
+            self.put_changes();
+        }
         self.put_fault();
         self.put_left();
         self.rules.end();
@@ -478,8 +536,9 @@ impl Draft {
 
     /// An act. Only a job that was created so far is asked for something.
     fn draw_act(&mut self) -> Act {
-        match self.draw(28) {
+        match self.draw(29) {
             0 => Act::Quit,
+            28 => Act::QuitGracefully,
             1 | 2 => Act::AskNone,
             24..=27 => Act::Change(self.draw_change()),
             3..=19 if self.created > 0 => Act::Ask(self.draw(self.created), self.draw_asked()),
@@ -677,6 +736,16 @@ impl Draft {
         self.rules.give(Turn::Change, self.moment);
     }
 
+    /// Two hundred changes, with other lines between them.
+    fn put_changes(&mut self) {
+        for _ in 0..200 {
+            self.put_change();
+            if self.draw(4) == 0 {
+                self.put_line();
+            }
+        }
+    }
+
     /// A line that is not read.
     fn put_unread(&mut self) {
         let line = match self.draw(3) {
@@ -714,6 +783,7 @@ impl Draft {
         match act {
             Act::Nothing => {}
             Act::Quit => self.put(b" quit"),
+            Act::QuitGracefully => self.put(b" quitgracefully terminate 5"),
             Act::Create => self.put(b" create exec ---- 1 a"),
             Act::Ask(job, asked) => self.put_number(b" ask ", job, asked.words()),
             Act::AskNone => self.put(b" ask 900 start"),

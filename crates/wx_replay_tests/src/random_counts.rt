@@ -16,6 +16,7 @@ pub(crate) enum Sort {
     Closed,
     Idle,
     Ignored,
+    Quitting,
     Later,
     Take,
     Filter,
@@ -57,10 +58,10 @@ pub(crate) enum Sort {
 }
 
 /// How many sorts there are.
-const SORTS: usize = 41;
+const SORTS: usize = 42;
 
 /// How lines of each sort begin, and what stands behind their third word.
-const LINES: [(&[u8], &[u8], Sort); 39] = [
+const LINES: [(&[u8], &[u8], Sort); 40] = [
     (b"begin ", b"", Sort::Begin),
     (b"sent ", b"", Sort::Sent),
     (b"turn ", b"", Sort::Turn),
@@ -70,6 +71,7 @@ const LINES: [(&[u8], &[u8], Sort); 39] = [
     (b"offer ", b"closed ", Sort::Closed),
     (b"word idle", b"", Sort::Idle),
     (b"word ignored", b"", Sort::Ignored),
+    (b"word quitting", b"", Sort::Quitting),
     (b"word later", b"", Sort::Later),
     (b"take ", b"", Sort::Take),
     (b"filter ", b"", Sort::Filter),

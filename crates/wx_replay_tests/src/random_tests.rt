@@ -47,7 +47,7 @@ fn expect_run(rt: &impl Abort, alloc: Global, draft: &Draft, seed: u64) {
 
 /// What must come in some of the runs.
 const SOUGHT: [Sort; 7] = [
-    Sort::Changed,
+    Sort::Quitting,
     Sort::Grace,
     Sort::Signal,
     Sort::SentSignal,
@@ -66,13 +66,15 @@ fn add_counts(all: &mut Counts, counts: &Counts) {
 #[test]
 fn random_scripts_have_the_lines_that_are_due(rt: HostRuntime) {
     let mut all = Counts::new();
+    let mut most: u32 = 0;
     for seed in 0..300 {
         let draft = drawn(rt.alloc(), seed);
         expect_run(&rt, rt.alloc(), &draft, seed);
         add_counts(&mut all, &draft.rules.world.counts);
+        most = most.max(draft.rules.world.counts.get(Sort::Changed));
         drop(draft);
     }
-    assert!(rt; all.get(Sort::Changed) > 0);
+    assert!(rt; most >= 200 && all.get(Sort::Quitting) > 0);
     assert!(rt; all.get(Sort::Grace) > 0 && all.get(Sort::JobError) > 0);
     assert!(rt; all.get(Sort::Signal) > all.get(Sort::SentSignal));
     assert!(rt; all.get(Sort::LaterPoll) > 0 && all.get(Sort::Poll) > all.get(Sort::LaterPoll));

@@ -6,6 +6,8 @@ mod function_tests;
 #[cfg(test)]
 mod grace_tests;
 #[cfg(test)]
+mod quit_tests;
+#[cfg(test)]
 mod settings_tests;
 mod standard;
 #[cfg(test)]
