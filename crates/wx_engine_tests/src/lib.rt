@@ -7,3 +7,5 @@ mod action_tests;
 mod engine_tests;
 #[cfg(test)]
 mod own_hooks_tests;
+#[cfg(test)]
+mod settings_tests;
