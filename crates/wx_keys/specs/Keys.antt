@@ -1,13 +1,13 @@
 -- Signals and keys as events.
-use Rattle.std.specs.Prelude.{ℕ, ◌+◌, ◌==◌, nat_le, Bool, true, false, ◌&&◌, ◌||◌, if◌then◌else◌, Option, None, Some, List, [], ◌∷◌, map}
-use Rattle.std.specs.List.{filter_map}
+use Rattle.std.specs.Prelude.{ℕ, ◌+◌, ◌==◌, nat_le, Bool, true, false, ◌&&◌, ◌||◌, if◌then◌else◌, Option, None, Some, List, [], ◌∷◌, length, map}
+use Rattle.std.specs.List.{filter_map, list_any}
 use Rattle.wx_events.specs.declared.event.Event.{Event}
 use Rattle.wx_events.specs.declared.event.Tag.{Tag}
 use Rattle.wx_events.specs.declared.source.Source.{Source}
 use Rattle.wx_events.specs.declared.priority.Priority.{Priority}
 use Rattle.wx_events.specs.declared.priority.Priority.TheVariants.{High, Urgent}
 use Rattle.wx_events.specs.declared.process.Signal.{Signal}
-use Rattle.wx_events.specs.declared.process.Signal.TheVariants.{Interrupt, Terminate}
+use Rattle.wx_events.specs.declared.process.Signal.TheVariants.{Interrupt, Terminate, ForceStop, Custom, TerminalSuspend, Continue}
 use Rattle.wx_events.specs.declared.keyboard.Keyboard.{Keyboard}
 use Rattle.wx_events.specs.declared.keyboard.Keyboard.TheVariants.{Eof, Key}
 use Rattle.wx_events.specs.declared.keyboard.KeyCode.{KeyCode}
@@ -28,6 +28,14 @@ signal_priority s = High
 abbrev pub signal_event : Signal → Event × Priority
 signal_event s = (record { tags = Tag.Source (signal_source s) ∷ Tag.Signal s ∷ [] }, signal_priority s)
 
+-- Whether a signal to the program is heard: those of job control are only where this is on, and two sorts never are.
+abbrev pub hears_signal : Bool → Signal → Bool
+hears_signal job_control ForceStop = false
+hears_signal job_control (Custom n) = false
+hears_signal job_control TerminalSuspend = job_control
+hears_signal job_control Continue = job_control
+hears_signal job_control s = true
+
 -- ---- keys
 
 abbrev pub pressed : KeyCode → Bool → Keyboard
@@ -37,10 +45,14 @@ pressed key ctrl = Key key (record { ctrl = ctrl })
 abbrev pub is_between : ℕ → ℕ → ℕ → Bool
 is_between low high b = nat_le low b && nat_le b high
 
+-- two bytes are the end of the input
+abbrev pub is_end : ℕ → Bool
+is_end b = b == 3 || b == 4
+
 -- what a byte of the keyboard says: control bytes are letters with Ctrl but for the end of the input, Enter and Escape
 abbrev pub byte_key : ℕ → Option Keyboard
 byte_key b =
-    if b == 3 || b == 4 then Some Eof
+    if is_end b then Some Eof
     else (if b == 13 then Some (pressed Enter false)
     else (if is_between 1 26 b then Some (pressed (Char (b + 96)) true)
     else (if b == 27 then Some (pressed Escape false)
@@ -57,6 +69,19 @@ up_to_eof (Key key modifiers ∷ keys) = Key key modifiers ∷ up_to_eof keys
 abbrev pub read_keys : List ℕ → List Keyboard
 read_keys [] = Eof ∷ []
 read_keys (b ∷ bytes) = up_to_eof (filter_map byte_key (b ∷ bytes))
+
+-- a read from the keyboard takes at most 10 bytes
+abbrev pub fits_read : List ℕ → Bool
+fits_read bytes = nat_le (length bytes) 10
+
+-- a read holds the end of the input: it has no bytes, or one of them is that
+abbrev pub ends_input : List ℕ → Bool
+ends_input [] = true
+ends_input (b ∷ bytes) = list_any is_end (b ∷ bytes)
+
+abbrev pub is_eof : Keyboard → Bool
+is_eof Eof = true
+is_eof (Key key modifiers) = false
 
 abbrev pub key_event : Keyboard → Event
 key_event key = record { tags = Tag.Source Source.Keyboard ∷ Tag.Keyboard key ∷ [] }

@@ -1,6 +1,7 @@
 // Keys as events.
 ghost use Rattle.std.specs.Prelude.{◌≡◌, IfOk};
-ghost use Rattle.wx_keys.specs.Keys.{pressed, byte_key, key_event, key_events};
+ghost use Rattle.std.specs.List.{list_any};
+ghost use Rattle.wx_keys.specs.Keys.{pressed, is_eof, read_keys, byte_key, ends_input, fits_read, key_event, key_events};
 
 use crate::signal::event_of;
 use std::alloc::Global;
@@ -58,4 +59,28 @@ pub fn key_events(alloc: Global, bytes: &[u8]) -> Result<List<Event>, Memory>
         }
     }
     Ok(events)
+}
+
+/// Whether a read from the keyboard holds the end of the input: it has no bytes, or byte 3 or 4 is among them. So it is just
+/// where the end is among its keys.
+pub fn ends_input(bytes: &[u8]) -> bool
+    ensures ends { result ≡ ends_input bytes.now }
+    ensures keys { result ≡ list_any is_eof (read_keys bytes.now) }
+{
+    if bytes.is_empty() {
+        return true;
+    }
+    for byte in bytes {
+        if let 3 | 4 = *byte {
+            return true;
+        }
+    }
+    false
+}
+
+/// Whether so many bytes can be one read from the keyboard, which takes at most 10.
+pub fn fits_read(bytes: &[u8]) -> bool
+    ensures { result ≡ fits_read bytes.now }
+{
+    bytes.len() <= 10
 }

@@ -5,6 +5,6 @@ mod keys;
 mod signal;
 mod tagged;
 
-pub use keys::{byte_to_keyboard, key_events};
-pub use signal::signal_event;
+pub use keys::{byte_to_keyboard, ends_input, fits_read, key_events};
+pub use signal::{hears_signal, signal_event};
 pub use tagged::{Completions, Paths, Signals, Tagged};

@@ -1,6 +1,6 @@
 // Signals as events.
 ghost use Rattle.std.specs.Prelude.{◌≡◌, [], ◌∷◌, IfOk};
-ghost use Rattle.wx_keys.specs.Keys.{signal_source, signal_priority, signal_event};
+ghost use Rattle.wx_keys.specs.Keys.{signal_source, signal_priority, signal_event, hears_signal};
 
 use std::alloc::Global;
 use wx_events::{Event, Priority, Signal, Source, Tag};
@@ -45,4 +45,16 @@ pub fn signal_event(alloc: Global, signal: Signal) -> Result<(Event, Priority), 
     let source = Tag::Source(source_of(signal));
     let event = event_of(alloc, source, Tag::Signal(signal))?;
     Ok((event, priority_of(signal)))
+}
+
+/// Whether a signal to this program is heard. ForceStop and Custom never are, TerminalSuspend and Continue only where job
+/// control is on, and all others always.
+pub fn hears_signal(signal: Signal, job_control: bool) -> bool
+    ensures { result ≡ hears_signal job_control signal }
+{
+    match signal {
+        Signal::ForceStop | Signal::Custom(_) => false,
+        Signal::TerminalSuspend | Signal::Continue => job_control,
+        _ => true,
+    }
 }
