@@ -6,6 +6,7 @@ use Rattle.wx_words.specs.Choices.{Row, row, Behind, fields}
 use Rattle.wx_words.specs.ChoiceLaws.{MadeAgain, SpeltSo, choice}
 use Rattle.wx_words.specs.Parts.{line, nothing, both, renamed, as_line, number}
 use Rattle.wx_events.specs.Events.{priority, event}
+use Rattle.wx_events.specs.Ends.{signal}
 use Rattle.wx_events.specs.declared.priority.Priority.{Priority}
 use Rattle.wx_events.specs.declared.event.Event.{Event}
 use Rattle.wx_control.specs.Ids.{id}
@@ -13,9 +14,10 @@ use Rattle.wx_control.specs.Asks.{ask}
 use Rattle.wx_control.specs.declared.id.Id.{Id}
 use Rattle.wx_control.specs.declared.ask.Ask.{Ask as AnAsk}
 use Rattle.wx_config.specs.ChangeWords.{change}
+use Rattle.wx_journal.specs.Bytes.{bytes}
 use Rattle.wx_journal.specs.declared.entry.Turn.{Turn}
 use Rattle.wx_journal.specs.declared.entry.TurnKind.{TurnKind}
-use Rattle.wx_journal.specs.declared.entry.TurnKind.TheVariants.{Arrive, Work, Job, Ended, Ask, Change, Last}
+use Rattle.wx_journal.specs.declared.entry.TurnKind.TheVariants.{Arrive, Signal, Keys, Work, Job, Ended, Ask, Change, Last}
 
 -- an event with its priority, which stands before it
 abbrev pub ranked : Spelling line (Priority × Event)
@@ -31,6 +33,8 @@ make_ask_turn p = Ask p.0 p.1
 abbrev pub kind_rows : List (Row line TurnKind)
 kind_rows =
     row (codes "arrive") ranked make_arrive
+    ∷ row (codes "signal") signal Signal
+    ∷ row (codes "keys") bytes Keys
     ∷ row (codes "work") nothing (λ u. Work)
     ∷ row (codes "job") id Job
     ∷ row (codes "ended") (as_line number) Ended
@@ -41,6 +45,8 @@ kind_rows =
 
 abbrev pub kind_word : TurnKind → List ℕ
 kind_word (Arrive _ _) = codes "arrive"
+kind_word (Signal _) = codes "signal"
+kind_word (Keys _) = codes "keys"
 kind_word Work = codes "work"
 kind_word (Job _) = codes "job"
 kind_word (Ended _) = codes "ended"
@@ -50,6 +56,8 @@ kind_word Last = codes "last"
 
 abbrev pub kind_behind : TurnKind → Behind line
 kind_behind (Arrive e p) = fields ranked (p, e)
+kind_behind (Signal s) = fields signal s
+kind_behind (Keys read) = fields bytes read
 kind_behind (Job job) = fields id job
 kind_behind (Ended child) = fields (as_line number) child
 kind_behind (Ask job wish) = fields (both id ask) (job, wish)

@@ -1,6 +1,6 @@
 -- Moments and names in a journal. It is a list of entries, the newest first, so each definition goes by the newest entry.
 use Rattle.std.specs.Prelude.{◌≡◌, ℕ, ◌+◌, ◌<◌, max, Bool, true, false, ◌==◌, ◌||◌, if◌then◌else◌, Option, None, Some, List, [], ◌∷◌}
-use Rattle.std.specs.List.{AllByRecursion}
+use Rattle.std.specs.List.{AllByRecursion, list_any}
 use Rattle.wx_control.specs.declared.id.Id.{Id}
 use Rattle.wx_journal.specs.Acts.{JournalAct as Act}
 use Rattle.wx_journal.specs.declared.entry.Act.TheVariants.{Create, Ask, Change, Quit, QuitGracefully}
@@ -64,6 +64,14 @@ next_job (_ ∷ p) = next_job p
 -- The id of a job that is made or created is new: it is the next one.
 abbrev pub IsNextJob : ℕ → Id → Type 0
 IsNextJob next id = id.0 ≡ next
+
+-- a job of this id was made
+abbrev pub makes : Id → Entry → Bool
+makes id (Made job) = job.0 == id.0
+makes id (_) = false
+
+abbrev pub was_made : Id → List Entry → Bool
+was_made id p = list_any (makes id) p
 
 -- a job of this name is created by one of these acts, and by those of an entry of this journal
 abbrev pub creates : Id → List Act → Bool

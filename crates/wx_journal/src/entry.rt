@@ -2,6 +2,7 @@
 ghost use Rattle.std.specs.Prelude.{◌≡◌};
 
 use crate::beginning::Beginning;
+use crate::bytes::copy_bytes;
 use crate::child::{HostFault, SpawnTag};
 use crate::wish::Wish;
 use std::alloc::Global;
@@ -17,6 +18,10 @@ use wx_text::{Copies, List, Memory};
 pub enum TurnKind {
     /// An event arrives.
     Arrive(Event, Priority),
+    /// This signal was sent to the program.
+    Signal(Signal),
+    /// These bytes were read from the keyboard.
+    Keys(List<u8>),
     /// The worker acts.
     Work,
     /// The job of this name takes a step.
@@ -212,6 +217,8 @@ impl Copies for TurnKind {
             TurnKind::Arrive(event, priority) => {
                 Ok(TurnKind::Arrive(event.copy(alloc)?, *priority))
             }
+            TurnKind::Signal(signal) => Ok(TurnKind::Signal(*signal)),
+            TurnKind::Keys(bytes) => Ok(TurnKind::Keys(copy_bytes(alloc, bytes.as_slice())?)),
             TurnKind::Work => Ok(TurnKind::Work),
             TurnKind::Job(job) => Ok(TurnKind::Job(*job)),
             TurnKind::Ended(child) => Ok(TurnKind::Ended(*child)),

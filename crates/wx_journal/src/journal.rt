@@ -1,13 +1,16 @@
 // The journal of a run.
-ghost use Rattle.std.specs.Prelude.{◌≡◌, ◌+◌, ◌<◌, ◌≤◌, ◌^◌, ◌==◌, if◌then◌else◌, List, [], ◌∷◌, length, reverse, OnOk, OnErr, IfOk};
+ghost use Rattle.std.specs.Prelude.{◌≡◌, ◌+◌, ◌<◌, ◌≤◌, ◌^◌, ◌==◌, if◌then◌else◌, List, false, [], ◌∷◌, length, reverse, OnOk, OnErr, IfOk};
+ghost use Rattle.std.specs.List.{list_any};
 ghost use Rattle.wx_journal.specs.declared.entry.Entry.{Entry as AnEntry};
 ghost use Rattle.std.specs.Slice.Iter.{iter_rest};
-ghost use Rattle.wx_journal.specs.Names.{names_ticket, names_child, ticket_count, child_count, next_job};
+ghost use Rattle.wx_journal.specs.Names.{names_ticket, names_child, ticket_count, child_count, next_job, was_made, makes};
+ghost use Rattle.wx_journal.specs.Counted.{AreAllMade};
 
 use crate::entry::Entry;
 use std::alloc::Global;
 use std::marker::Model;
 use std::slice;
+use wx_control::Id;
 use wx_text::Memory;
 
 /// The entries of a journal, in the order in which they came.
@@ -20,6 +23,7 @@ pub struct Journal {
     tickets: u64,
     children: u64,
     next_job: u64,
+    gaps: bool,
 }
 
 impl Model for Journal {
@@ -31,7 +35,7 @@ impl Model for Journal {
 
     ghost view = { λ j. record { past = reverse j.entries.items; spare = vec_capacity j.entries - vec_len j.entries } };
 
-    ghost invariant = { λ j. AreCounted j.tickets j.children j.next_job (reverse j.entries.items) };
+    ghost invariant = { λ j. AreCounted j.tickets j.children j.next_job j.gaps (reverse j.entries.items) };
 }
 
 impl Journal {
@@ -44,6 +48,7 @@ impl Journal {
             tickets: 0,
             children: 0,
             next_job: 0,
+            gaps: false,
         })
     }
 
@@ -67,6 +72,7 @@ impl Journal {
     {
         self.tickets = counted(self.entries.as_slice(), self.tickets, names_ticket(&entry));
         self.children = counted(self.entries.as_slice(), self.children, names_child(&entry));
+        self.gaps = has_gaps(self.gaps, self.next_job, &entry);
         self.next_job = next_job(self.next_job, &entry);
         self.entries.push_reserved(entry);
     }
@@ -98,6 +104,16 @@ impl Journal {
         ensures { result ≡ next_job self.now.past }
     {
         self.next_job
+    }
+
+    /// Whether a job of this id was made. It looks at the entries only where an id was left out.
+    pub fn was_made(&self, id: Id) -> bool
+        ensures { result ≡ was_made id self.now.past }
+    {
+        if self.next_job <= id.0 as u64 {
+            return false;
+        }
+        !self.gaps || any_makes(self.entries.as_slice(), id)
     }
 
     /// How many entries there are.
@@ -142,6 +158,33 @@ fn names_child(entry: &Entry) -> bool
     ensures { result ≡ names_child entry.now }
 {
     matches!(entry, Entry::Spawn { .. })
+}
+
+/// Whether this entry tells that a job of this id was made.
+fn makes(entry: &Entry, id: Id) -> bool
+    ensures { result ≡ makes id entry.now }
+{
+    match entry {
+        Entry::Made(job) => *job == id,
+        _ => false,
+    }
+}
+
+/// Whether one of these entries tells that a job of this id was made.
+fn any_makes(entries: &[Entry], id: Id) -> bool
+    ensures { result ≡ list_any (makes id) entries.now }
+{
+    entries.iter().any(|entry| makes(entry, id))
+}
+
+/// Whether an id was left out, behind this entry, where it was so before: one that makes a job above the next one does.
+fn has_gaps(before: bool, next: u64, entry: &Entry) -> bool
+    ensures { (p : List AnEntry) → next ≡ next_job p → (before ≡ false → AreAllMade p) → result ≡ false → AreAllMade (entry.now ∷ p) }
+{
+    match entry {
+        Entry::Made(id) => before || next < id.0 as u64,
+        _ => before,
+    }
 }
 
 /// The id of the next new job, behind this entry, where it was this before.

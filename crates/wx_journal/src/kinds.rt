@@ -1,4 +1,5 @@
 // Turns, and what they bring, as words.
+use crate::bytes::{BytesRef, read_bytes};
 use crate::entry::{Turn, TurnKind};
 use std::alloc::Global;
 use wx_text::{Memory, Text};
@@ -13,6 +14,8 @@ impl Spelled for TurnKind {
     fn put_after(&self, out: &mut Text) -> Result<(), Memory> {
         match self {
             TurnKind::Arrive(event, priority) => put_row(b"arrive", &(priority, event), out),
+            TurnKind::Signal(signal) => put_row(b"signal", &signal, out),
+            TurnKind::Keys(bytes) => put_row(b"keys", &BytesRef { bytes }, out),
             TurnKind::Work => put_word(b"work", out),
             TurnKind::Job(job) => put_row(b"job", &job, out),
             TurnKind::Ended(child) => put_row(b"ended", &child, out),
@@ -25,6 +28,8 @@ impl Spelled for TurnKind {
     fn read(alloc: Global, line: &mut Words) -> Result<Option<TurnKind>, Memory> {
         read_rows!(alloc, line;
             b"arrive" (priority, event) => TurnKind::Arrive(event, priority),
+            b"signal" (signal) => TurnKind::Signal(signal),
+            b"keys" (bytes = read_bytes) => TurnKind::Keys(bytes),
             b"work" => TurnKind::Work,
             b"job" (job) => TurnKind::Job(job),
             b"ended" (child) => TurnKind::Ended(child),

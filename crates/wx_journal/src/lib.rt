@@ -4,6 +4,7 @@
 mod acts;
 mod answers;
 mod beginning;
+mod bytes;
 mod child;
 mod entry;
 mod journal;
@@ -17,6 +18,7 @@ pub use answers::{
     HookedRef, ReadyRef, VerdictRef, answers_are_read_again, read_ready, read_verdict,
 };
 pub use beginning::Beginning;
+pub use bytes::copy_bytes;
 pub use child::{HostFault, SpawnTag};
 pub use entry::{Act, Entry, Named, Offered, Turn, TurnKind, Word};
 pub use journal::{Entries, Journal};

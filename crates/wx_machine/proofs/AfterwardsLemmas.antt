@@ -114,7 +114,7 @@ with_so id t p (Some control) x own is graceful e =
 
 last_graceful : (id : Id) (p : List Entry) (x : ℕ × Control) → NamesTickets p → picked_last id p ≡ Some x → is_graceful x.1 ≡ true → picks_grace id p ≡ true
 last_graceful id [] x own e graceful = cc
-last_graceful id (Made job ∷ p) x own e graceful = last_graceful id p x own (refused (same job id) (picked_last id p) x e).1 graceful
+last_graceful id (Made job ∷ p) x own e graceful = let other = refused (same job id) (picked_last id p) x e in rw other.0 (last_graceful id p x own other.1 graceful)
 last_graceful id (Pick job t ∷ p) x own e graceful = by_test (same job id) e (λ h. last_graceful id p x own h graceful)
   where
     by_test : (b : Bool) → cond b (with_ticket t (picked_control id t p)) (picked_last id p) ≡ Some x → (picked_last id p ≡ Some x → picks_grace id p ≡ true) → cond b (asks_grace t p) (picks_grace id p) ≡ true

@@ -1,10 +1,8 @@
 -- The jobs of a run: their names, their commands, their children, and the plans that are followed for them.
-use Rattle.std.proofs.Common.{◌≡◌, ◌≢◌, ℕ, ◌≤◌, ◌<◌, Bool, true, false, cond, List, [], ◌∷◌, ◌++◌, inl, inr, arith, refl, ap, sym, subst, ◌∙◌, eq-eqb, ne_eqb}
-use Rattle.std.specs.Prelude.{Option, None, Some, ◌||◌, not, nat_lt, ◌⊎◌}
-use Rattle.std.specs.List.{AllByRecursion, filter, list_any}
-use Rattle.std.proofs.Math.Arith.{lt_of_le-ne}
-use Rattle.std.proofs.lemmas.Bool.{eqb-true, eqb-false, ltb-true, ltb-false, and_parts, or_left, or_right}
-use Rattle.wx_words.specs.EachLaws.{each_weaker, each_filter}
+use Rattle.std.proofs.Common.{◌≡◌, ◌≢◌, ℕ, ◌<◌, Bool, true, false, cond, List, [], ◌∷◌, ◌++◌, inl, inr, arith, refl, ap, sym, subst, ◌∙◌, eq-eqb, ne_eqb}
+use Rattle.std.specs.Prelude.{Option, None, Some, ◌||◌, ◌&&◌, not}
+use Rattle.std.specs.List.{filter, list_any}
+use Rattle.std.proofs.lemmas.Bool.{eqb-true, eqb-false, or_left, or_right}
 use Rattle.wx_words.specs.OptionLaws.{neither}
 use Rattle.wx_command.specs.declared.command.Command.{Command}
 use Rattle.wx_control.specs.declared.id.Id.{Id}
@@ -15,203 +13,65 @@ use Rattle.wx_control.specs.Asks.{sends_of}
 use Rattle.wx_journal.specs.Acts.{JournalAct as Act}
 use Rattle.wx_journal.specs.declared.entry.Act.TheVariants.{Create}
 use Rattle.wx_journal.specs.declared.entry.Entry.{Entry}
-use Rattle.wx_journal.specs.declared.entry.Entry.TheVariants.{Turn as Turned, TurnFault, Hand, Made, Changed, Gone}
-use Rattle.wx_journal.specs.Names.{creates, is_created, above, next_job, NamesItsOwn}
+use Rattle.wx_journal.specs.declared.entry.Entry.TheVariants.{Turn as Turned, TurnFault, Hand, Made, Changed}
+use Rattle.wx_journal.specs.Names.{creates, is_created, above, next_job, was_made, NamesItsOwn}
 use Rattle.wx_journal.specs.Told.{tell_if, is_world, is_hooks, is_turn}
 use Rattle.wx_machine.specs.History.{same, lives, child, is_child, creation, or_else, command, JobHistory}
 use Rattle.wx_machine.specs.Leaves.{SameHistory}
 use Rattle.wx_machine.specs.Table.{Plan, Done, step_plan, ask_second, ask_plan, end_plan}
 use Rattle.wx_machine.specs.Case.{PlanAdmits, next, PlanLeads, PlanHere, PlanThen}
-use Rattle.wx_machine.proofs.Owners.{either, self, same-is, children_named, child_owner}
+use Rattle.wx_machine.proofs.Owners.{self, same-is, children_named, child_owner}
 use Rattle.wx_machine.proofs.Always.{Always, always_now, always_next, always_also}
 use Rattle.wx_machine.proofs.Sound.{Fits, IsSound, Sound, sound_step, sound_end}
 use Rattle.wx_machine.specs.Start.{Start}
-use Rattle.wx_machine.specs.Jobs.{with_id, set, is_seen, UnseenRunNone, jobs, parent_among, parent, AreLawful, AreRising, AreBelow}
+use Rattle.wx_machine.specs.Jobs.{with_id, set, is_seen, UnseenRunNone, parent_among, parent, is_free, MayCreate, but, AreLawfulBy, AreLawful}
 use Rattle.wx_machine.specs.Quits.{is_aborting}
 use Rattle.wx_machine.proofs.SettleLaws.{aborting_over}
 use Rattle.wx_machine.specs.Due.{Agenda, Admits, plans, rest, settle, agenda, Due}
-use Rattle.wx_machine.specs.RunLaws.{was_made, AreMadeOnce}
 use Rattle.wx_machine.specs.Kept.{StaysQuiet, More}
 use Rattle.wx_machine.specs.Leads.{Follows, Then}
 use Rattle.wx_machine.specs.Turns.{SameTurns, StaysInTurn}
 use Rattle.wx_machine.proofs.PlanLaws.{plan_fit}
-use Rattle.wx_machine.proofs.Lawful.{IsOfPlan, MadeInOrder}
-use Rattle.wx_machine.proofs.Orderly.{IsOrderly}
+use Rattle.wx_machine.proofs.Lawful.{IsOfPlan}
 use Rattle.wx_machine.proofs.RunLaws.{follow_plan}
-
--- ---- names in lists
-
-abbrev pub IsIn : Id → List Id → Type 0
-IsIn id [] = ⊥
-IsIn id (job ∷ ids) = (job ≡ id) ⊎ IsIn id ids
-
--- where a job has its place, it and the others are there
-new_at : (id x : Id) (xs : List Id) (job : Id) (b c : Bool) → same x job ≡ c → job ≡ id → IsIn id (with_id job xs) → IsIn id (cond b (x ∷ with_id job xs) (cond c (x ∷ xs) (job ∷ x ∷ xs)))
-new_at id x xs job true c is e h = inr h
-new_at id x xs job false true is e h = inl (same-is x job is ∙ e)
-new_at id x xs job false false is e h = inl e
-
-in_new : (id : Id) (xs : List Id) (job : Id) → job ≡ id → IsIn id (with_id job xs)
-in_new id [] job e = inl e
-in_new id (x ∷ xs) job e = new_at id x xs job (nat_lt x.0 job.0) (same x job) refl e (in_new id xs job e)
-
-others_at : (id x : Id) (xs ys : List Id) (job : Id) (b c : Bool) → (IsIn id xs → IsIn id ys) → IsIn id (x ∷ xs) → IsIn id (cond b (x ∷ ys) (cond c (x ∷ xs) (job ∷ x ∷ xs)))
-others_at id x xs ys job true c more (inl e) = inl e
-others_at id x xs ys job true c more (inr h) = inr (more h)
-others_at id x xs ys job false true more h = h
-others_at id x xs ys job false false more h = inr h
-
-in_others : (id : Id) (xs : List Id) (job : Id) → IsIn id xs → IsIn id (with_id job xs)
-in_others id [] job h = absurd h
-in_others id (x ∷ xs) job h = others_at id x xs (with_id job xs) job (nat_lt x.0 job.0) (same x job) (λ g. in_others id xs job g) h
-
-of_two : (id job : Id) (b c : Bool) (x : Id) (xs ys : List Id) → (IsIn id ys → IsIn id xs ⊎ (job ≡ id)) → IsIn id (cond b (x ∷ ys) (cond c (x ∷ xs) (job ∷ x ∷ xs))) → IsIn id (x ∷ xs) ⊎ (job ≡ id)
-of_two id job true c x xs ys more (inl e) = inl (inl e)
-of_two id job true c x xs ys more (inr h) = elim (more h) [ inl g ↦ inl (inr g) | inr e ↦ inr e ]
-of_two id job false true x xs ys more h = inl h
-of_two id job false false x xs ys more (inl e) = inr e
-of_two id job false false x xs ys more (inr h) = inl h
-
-of_with : (id : Id) (xs : List Id) (job : Id) → IsIn id (with_id job xs) → IsIn id xs ⊎ (job ≡ id)
-of_with id [] job (inl e) = inr e
-of_with id [] job (inr h) = absurd h
-of_with id (x ∷ xs) job h = of_two id job (nat_lt x.0 job.0) (same x job) x xs (with_id job xs) (λ g. of_with id xs job g) h
-
--- what is known of each and of the new one is known of all
-pub each_with : (P : Id → Type 0) (job : Id) (xs : List Id) → P job → AllByRecursion P xs → AllByRecursion P (with_id job xs)
-each_with P job [] h all = (h, tt)
-each_with P job (x ∷ xs) h all = either (AllByRecursion P) (nat_lt x.0 job.0) (x ∷ with_id job xs) _ (all.0, each_with P job xs h all.1) (either (AllByRecursion P) (same x job) (x ∷ xs) (job ∷ x ∷ xs) all (h, all))
-
--- a job that is in the set is seen
-pub any_in : (id : Id) (ids : List Id) → IsIn id ids → list_any (λ job. same job id) ids ≡ true
-any_in id [] none = absurd none
-any_in id (job ∷ ids) (inl is) = rw (is, self id) refl
-any_in id (job ∷ ids) (inr later) = ap (λ b. same job id || b) (any_in id ids later) ∙ or_right (same job id) true refl
-
--- one that is seen is in it
-first_or : (job id : Id) (ids : List Id) (b t : Bool) → same job id ≡ b → (t ≡ true → IsIn id ids) → (b || t) ≡ true → IsIn id (job ∷ ids)
-first_or job id ids true t is more e = inl (same-is job id is)
-first_or job id ids false t is more e = inr (more e)
-
-seen_in : (id : Id) (ids : List Id) → list_any (λ job. same job id) ids ≡ true → IsIn id ids
-seen_in id [] e = absurd cc
-seen_in id (job ∷ ids) e = first_or job id ids (same job id) (list_any (λ other. same other id) ids) refl (λ g. seen_in id ids g) e
-
-in_kept : (id : Id) (b : Bool) (x : Id) (xs : List Id) → IsIn id xs → IsIn id (cond b (x ∷ xs) xs)
-in_kept id true x xs h = inr h
-in_kept id false x xs h = h
-
-pub in_filter : (test : Id → Bool) (id : Id) (xs : List Id) → IsIn id xs → test id ≡ true → IsIn id (filter test xs)
-in_filter test id [] h t = absurd h
-in_filter test id (x ∷ xs) (inl e) t = let is : test x ≡ true = ap test e ∙ t in rw is (inl e)
-in_filter test id (x ∷ xs) (inr h) t = in_kept id (test x) x (filter test xs) (in_filter test id xs h t)
-
-of_kept : (test : Id → Bool) (id : Id) (b : Bool) (x : Id) (xs ys : List Id) → test x ≡ b → (IsIn id xs → IsIn id ys × (test id ≡ true)) → IsIn id (cond b (x ∷ xs) xs) → ((x ≡ id) ⊎ IsIn id ys) × (test id ≡ true)
-of_kept test id true x xs ys is more (inl e) = (inl e, ap test (sym e) ∙ is)
-of_kept test id true x xs ys is more (inr h) = let g = more h in (inr g.0, g.1)
-of_kept test id false x xs ys is more h = let g = more h in (inr g.0, g.1)
-
-pub of_filter : (test : Id → Bool) (id : Id) (xs : List Id) → IsIn id (filter test xs) → IsIn id xs × (test id ≡ true)
-of_filter test id [] h = absurd h
-of_filter test id (x ∷ xs) h = of_kept test id (test x) x (filter test xs) xs refl (λ g. of_filter test id xs g) h
-
--- what holds of each holds of one
-pub all_in : (P : Id → Type 0) (id : Id) (xs : List Id) → AllByRecursion P xs → IsIn id xs → P id
-all_in P id [] all h = absurd h
-all_in P id (x ∷ xs) all (inl e) = subst P e all.0
-all_in P id (x ∷ xs) all (inr h) = all_in P id xs all.1 h
-
--- ---- a job that lives is in the set
-
-in_made : (id job : Id) (b : Bool) (p : List Entry) → same job id ≡ b → (lives id p ≡ true → IsIn id (set p)) → (b || lives id p) ≡ true → IsIn id (with_id job (set p))
-in_made id job true p is more e = in_new id (set p) job (same-is job id is)
-in_made id job false p is more e = in_others id (set p) job (more e)
-
-pub in_set : (id : Id) (p : List Entry) → lives id p ≡ true → IsIn id (set p)
-in_set id [] e = absurd cc
-in_set id (Made job ∷ p) e = in_made id job (same job id) p refl (λ g. in_set id p g) e
-in_set id (Gone job ∷ p) e = in_set id p (and_parts (not (same job id)) (lives id p) e).1
-in_set id (Hand n names acts ∷ p) e = in_filter (λ job. lives job p) id (set p) (in_set id p e) e
-in_set id (_ ∷ p) e = in_set id p e
-
-pub in_jobs : (id : Id) (p : List Entry) → lives id p ≡ true → IsIn id (jobs p)
-in_jobs id p e = in_filter (λ job. lives job p) id (set p) (in_set id p e) e
-
--- ---- the names of the set rise, and are those of jobs that were made
-
-above_one : (n : ℕ) (id : Id) → id.0 < above n id
-above_one n id = omega arith
-
-above_others : (n m : ℕ) (id : Id) → m < n → m < above n id
-above_others n m id lt = omega arith
-
-below_rise : (n : ℕ) (job : Id) (ids : List Id) → AreBelow n ids → AreBelow (above n job) ids
-below_rise n job ids h = each_weaker (λ id. id.0 < n) (λ id. id.0 < above n job) (λ id lt. above_others n id.0 job lt) ids h
-
-rising_at : (x : Id) (xs : List Id) (job : Id) (b c : Bool) → nat_lt x.0 job.0 ≡ b → same x job ≡ c → AreRising (x ∷ xs) → AreRising (with_id job xs) → AreRising (cond b (x ∷ with_id job xs) (cond c (x ∷ xs) (job ∷ x ∷ xs)))
-rising_at x xs job true c lt is r h = (each_with (λ j. x.0 < j.0) job xs (ltb-true x.0 job.0 lt) r.0, h)
-rising_at x xs job false true lt is r h = r
-rising_at x xs job false false lt is r h =
-    let below : job.0 < x.0 = lt_of_le-ne (ltb-false x.0 job.0 lt) (λ e. eqb-false x.0 job.0 is (sym e)) in
-    ((below, each_weaker (λ j. x.0 < j.0) (λ j. job.0 < j.0) (λ j more. omega (arith, below, more)) xs r.0), r)
-
-rising_with : (job : Id) (xs : List Id) → AreRising xs → AreRising (with_id job xs)
-rising_with job [] r = (tt, tt)
-rising_with job (x ∷ xs) r = rising_at x xs job (nat_lt x.0 job.0) (same x job) refl refl r (rising_with job xs r.1)
-
-rising_kept : (b : Bool) (x : Id) (xs : List Id) → AllByRecursion (λ job. x.0 < job.0) xs → AreRising xs → AreRising (cond b (x ∷ xs) xs)
-rising_kept true x xs h r = (h, r)
-rising_kept false x xs h r = r
-
-rising_filter : (test : Id → Bool) (xs : List Id) → AreRising xs → AreRising (filter test xs)
-rising_filter test [] r = tt
-rising_filter test (x ∷ xs) r = rising_kept (test x) x (filter test xs) (each_filter (λ job. x.0 < job.0) test xs r.0) (rising_filter test xs r.1)
-
-pub record IsRising (p : List Entry) : Type 0 where
-  pub rising : AreRising (set p)
-  pub below : AreBelow (next_job p) (set p)
-
--- so it is of each journal, whatever it names
-pub set_rising : (p : List Entry) → IsRising p
-set_rising [] = record { rising = tt; below = tt }
-set_rising (Made id ∷ p) =
-    let h = set_rising p in record {
-      rising = rising_with id (set p) h.rising;
-      below = each_with (λ job. job.0 < above (next_job p) id) id (set p) (above_one (next_job p) id) (below_rise (next_job p) id (set p) h.below);
-    }
-set_rising (Hand n names acts ∷ p) =
-    let h = set_rising p in record {
-      rising = rising_filter (λ id. lives id p) (set p) h.rising;
-      below = each_filter (λ id. id.0 < next_job p) (λ id. lives id p) (set p) h.below;
-    }
-set_rising (_ ∷ p) = let h = set_rising p in record { rising = h.rising; below = h.below }
-
--- ---- ids made are distinct
-
-new_id : (id : Id) (p : List Entry) → next_job p ≤ id.0 → was_made id p ≡ false
-new_id id [] le = refl
-new_id id (Made job ∷ p) le =
-    let other : same job id ≡ false = ne_eqb job.0 id.0 (λ e. absurd (omega arith)) in
-    rw (other, new_id id p (omega arith)) refl
-new_id id (_ ∷ p) le = new_id id p le
-
-made_once : (p : List Entry) → MadeInOrder p → AreMadeOnce p
-made_once [] made = tt
-made_once (Made id ∷ p) made = let is : id.0 ≡ next_job p = made.0 in (new_id id p (omega arith), made_once p made.1)
-made_once (_ ∷ p) made = made_once p made.1
-
-pub run_makes_once : (s : Start) (p : List Entry) → IsOrderly s p → AreMadeOnce p
-run_makes_once s p o = made_once p o.in_order
+use Rattle.wx_machine.proofs.JobSets.{IsIn, in_others, of_with, any_in, seen_in, in_filter, of_filter, all_in, above_one, above_others, set_rising}
 
 -- ---- each job of the set has a command, which stays
 
-creation_none : (n : ℕ) (id : Id) (acts : List Act) → AreLawful n acts → id.0 < n → creation id acts ≡ None
-creation_none n id [] l lt = refl
-creation_none n id (Create job command ∷ acts) l lt = rw (ne_eqb job.0 id.0 (λ e. let is : job.0 ≡ n = l.0 in absurd (omega arith))) (creation_none (above n job) id acts l.1 (above_others n id.0 job lt))
-creation_none n id (_ ∷ acts) l lt = creation_none n id acts l lt
+-- an id that may be given is none that is taken
+may_apart : (free : Id → Bool) (next : ℕ) (job id : Id) → MayCreate free next job → id.0 < next → free id ≡ false → same job id ≡ false
+may_apart free next job id (inl is) lt taken = ne_eqb job.0 id.0 (λ e. absurd (omega (arith, is, lt)))
+may_apart free next job id (inr e) lt taken = by_name (same job id) refl
+  where
+    by_name : (b : Bool) → same job id ≡ b → b ≡ false
+    by_name true is = let both : true ≡ false = sym e ∙ ap free (same-is job id is) ∙ taken in absurd cc
+    by_name false is = refl
 
-pub command_kept : (p : List Entry) (n : ℕ) (names : List ℕ) (acts : List Act) (id : Id) → AreLawful (next_job p) acts → IsIn id (set p) → command id (Hand n names acts ∷ p) ≡ command id p
-command_kept p n names acts id lawful here = ap (λ o. or_else o (command id p)) (creation_none (next_job p) id acts lawful (all_in (λ job. job.0 < next_job p) id (set p) (set_rising p).below here))
+but_taken : (job id : Id) (free : Id → Bool) → free id ≡ false → but job free id ≡ false
+but_taken job id free taken = rw taken (and_none (not (same job id)))
+  where
+    and_none : (b : Bool) → (b && false) ≡ false
+    and_none true = refl
+    and_none false = refl
+
+apart_turned : (id job : Id) → same id job ≡ false → same job id ≡ false
+apart_turned id job e = ne_eqb job.0 id.0 (λ is. absurd (eqb-false id.0 job.0 e (sym is)))
+
+creation_none : (free : Id → Bool) (next : ℕ) (id : Id) (acts : List Act) → AreLawfulBy free next acts → id.0 < next → free id ≡ false → creation id acts ≡ None
+creation_none free next id [] l lt taken = refl
+creation_none free next id (Create job command ∷ acts) l lt taken =
+    rw (may_apart free next job id l.0 lt taken) (creation_none (but job free) (above next job) id acts l.1 (above_others next id.0 job lt) (but_taken job id free taken))
+creation_none free next id (_ ∷ acts) l lt taken = creation_none free next id acts l lt taken
+
+seen_taken : (made seen : Bool) → seen ≡ true → (made && not seen) ≡ false
+seen_taken true true e = refl
+seen_taken false seen e = refl
+seen_taken true false e = absurd cc
+
+pub command_kept : (p : List Entry) (n : ℕ) (names : List ℕ) (acts : List Act) (id : Id) → AreLawful p acts → IsIn id (set p) → command id (Hand n names acts ∷ p) ≡ command id p
+command_kept p n names acts id lawful here =
+    ap (λ o. or_else o (command id p))
+    (creation_none (is_free p) (next_job p) id acts lawful (all_in (λ job. job.0 < next_job p) id (set p) (set_rising p).below here) (seen_taken (was_made id p) (is_seen id p) (any_in id (set p) here)))
 
 created_in : (id : Id) (p : List Entry) → NamesItsOwn p → IsIn id (set p) → is_created id p ≡ true
 created_in id [] own h = absurd h
@@ -488,14 +348,14 @@ parent_is_none c p never = found_none c p (parent c p) refl never
 
 -- ---- the command of a job that lawful acts create
 
-lawful_later : (n : ℕ) (before : List Act) (id : Id) (what : Command) (after : List Act) → AreLawful n (before ++ Create id what ∷ after) → n ≤ id.0
-lawful_later n [] id what after l = let is : id.0 ≡ n = l.0 in omega arith
-lawful_later n (Create job command ∷ before) id what after l = let later : above n job ≤ id.0 = lawful_later (above n job) before id what after l.1 in omega arith
-lawful_later n (_ ∷ before) id what after l = lawful_later n before id what after l
+-- none of those behind has the id of one that is taken
+later_apart : (free : Id → Bool) (next : ℕ) (before : List Act) (id : Id) (what : Command) (after : List Act) (job : Id) → AreLawfulBy free next (before ++ Create id what ∷ after) → job.0 < next → free job ≡ false → same job id ≡ false
+later_apart free next [] id what after job l lt taken = apart_turned id job (may_apart free next id job l.0 lt taken)
+later_apart free next (Create other command ∷ before) id what after job l lt taken = later_apart (but other free) (above next other) before id what after job l.1 (above_others next job.0 other lt) (but_taken other job free taken)
+later_apart free next (_ ∷ before) id what after job l lt taken = later_apart free next before id what after job l lt taken
 
-pub creation_is : (n : ℕ) (before : List Act) (id : Id) (what : Command) (after : List Act) → AreLawful n (before ++ Create id what ∷ after) → creation id (before ++ Create id what ∷ after) ≡ Some what
-creation_is n [] id what after l = rw (eq-eqb id.0 id.0 refl) refl
-creation_is n (Create job command ∷ before) id what after l =
-    let later : above n job ≤ id.0 = lawful_later (above n job) before id what after l.1 in
-    rw (ne_eqb job.0 id.0 (λ e. absurd (omega arith))) (creation_is (above n job) before id what after l.1)
-creation_is n (_ ∷ before) id what after l = creation_is n before id what after l
+pub creation_is : (free : Id → Bool) (next : ℕ) (before : List Act) (id : Id) (what : Command) (after : List Act) → AreLawfulBy free next (before ++ Create id what ∷ after) → creation id (before ++ Create id what ∷ after) ≡ Some what
+creation_is free next [] id what after l = rw (eq-eqb id.0 id.0 refl) refl
+creation_is free next (Create job command ∷ before) id what after l =
+    rw (later_apart (but job free) (above next job) before id what after job l.1 (above_one next job) (rw (self job) refl)) (creation_is (but job free) (above next job) before id what after l.1)
+creation_is free next (_ ∷ before) id what after l = creation_is free next before id what after l

@@ -19,7 +19,7 @@ use Rattle.wx_machine.specs.Journal.{window}
 use Rattle.wx_machine.specs.Jobs.{set, jobs, first_end, end}
 use Rattle.wx_machine.specs.Due.{Agenda, Ends, settle, agenda, Admits, Due, rest, IsRun}
 use Rattle.wx_machine.specs.Answer.{Dying, Alive, Dies}
-use Rattle.wx_machine.specs.RunLaws.{IsBatched, AreBatches, NoneUrgentWaits, NoneUnseenIsShown, NoneIsShownClosed, AreMadeOnce, AreServed, AreRevised}
+use Rattle.wx_machine.specs.RunLaws.{IsBatched, AreBatches, NoneUrgentWaits, NoneUnseenIsShown, NoneIsShownClosed, AreMadeByRule, AreServed, AreRevised}
 use Rattle.wx_machine.specs.Kept.{StaysQuiet, More}
 use Rattle.wx_machine.specs.Leads.{Follows, Then}
 use Rattle.wx_machine.specs.Turns.{SameTurns, StaysInTurn}
@@ -27,7 +27,8 @@ use Rattle.wx_machine.proofs.PlanLaws.{of_end, end_is_plan, end_placed, names_en
 use Rattle.wx_machine.proofs.Lawful.{IsOfEnd}
 use Rattle.wx_machine.proofs.Orderly.{GoneRunNone}
 use Rattle.wx_machine.proofs.RunLaws.{gone_gone, free_end}
-use Rattle.wx_machine.proofs.AllJobs.{IsIn, of_filter, in_jobs, agenda_plan, turns_plan, same_turns}
+use Rattle.wx_machine.proofs.AllJobs.{agenda_plan, turns_plan, same_turns}
+use Rattle.wx_machine.proofs.JobSets.{IsIn, of_filter, in_jobs}
 
 -- ---- what an end leaves
 
@@ -38,7 +39,7 @@ pub record KeepsAll (s : Start) (q p : List Entry) : Type 0 where
   pub calm : NoneUrgentWaits q → NoneUrgentWaits p
   pub shows : NoneUnseenIsShown q → NoneUnseenIsShown p
   pub shows_open : NoneIsShownClosed q → NoneIsShownClosed p
-  pub made_once : AreMadeOnce q → AreMadeOnce p
+  pub made_by_rule : AreMadeByRule q → AreMadeByRule p
   pub placed : IsPlaced q → IsPlaced p
   pub served : AreServed s q → AreServed s p
   pub revised : AreRevised s q → AreRevised s p
@@ -57,7 +58,7 @@ keeps_one s p (Dropped c) o own = record {
   calm = λ h. h;
   shows = λ h. h;
   shows_open = λ h. h;
-  made_once = λ h. h;
+  made_by_rule = λ h. h;
   placed = end_placed (Dropped c) p tt;
   served = λ h. h;
   revised = λ h. h;
@@ -75,7 +76,7 @@ keeps_one s p (Gone job) o own = record {
   calm = λ h. h;
   shows = λ h. h;
   shows_open = λ h. h;
-  made_once = λ h. h;
+  made_by_rule = λ h. h;
   placed = end_placed (Gone job) p tt;
   served = λ h. h;
   revised = λ h. h;
@@ -96,7 +97,7 @@ keeps_then s q p r a b = record {
   calm = λ h. b.calm (a.calm h);
   shows = λ h. b.shows (a.shows h);
   shows_open = λ h. b.shows_open (a.shows_open h);
-  made_once = λ h. b.made_once (a.made_once h);
+  made_by_rule = λ h. b.made_by_rule (a.made_by_rule h);
   placed = λ h. b.placed (a.placed h);
   served = λ h. b.served (a.served h);
   revised = λ h. b.revised (a.revised h);
@@ -111,7 +112,7 @@ keeps_then s q p r a b = record {
 
 pub dying_keeps : (s : Start) (q p : List Entry) → Dying q p → KeepsAll s q p
 dying_keeps s q p l = elim l as (λ p _. KeepsAll s q p) [
-  | Alive ↦ record { batched = λ h. h; batches = λ h. h; calm = λ h. h; shows = λ h. h; shows_open = λ h. h; made_once = λ h. h; placed = λ h. h; served = λ h. h; revised = λ h. h; same_window = refl; turns = λ p₀ h. h; own = λ h. h; quiet = λ p₀ a. a; same_set = refl; commands = λ id. refl; gone = λ id h. h }
+  | Alive ↦ record { batched = λ h. h; batches = λ h. h; calm = λ h. h; shows = λ h. h; shows_open = λ h. h; made_by_rule = λ h. h; placed = λ h. h; served = λ h. h; revised = λ h. h; same_window = refl; turns = λ p₀ h. h; own = λ h. h; quiet = λ p₀ a. a; same_set = refl; commands = λ id. refl; gone = λ id h. h }
   | Dies e p (l → h) d ↦ keeps_then s q p (e ∷ p) h (keeps_one s p e (of_end p e d) (λ own. (names_end p e own d, own)))
 ]
 

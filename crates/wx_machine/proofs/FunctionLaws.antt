@@ -32,7 +32,8 @@ use Rattle.wx_machine.proofs.PlanLaws.{lawful_now, of_end, end_is_plan}
 use Rattle.wx_machine.proofs.Lawful.{IsOfPlan, IsOfEnd}
 use Rattle.wx_machine.proofs.Orderly.{IsFit, IsOrderly}
 use Rattle.wx_machine.proofs.RunLaws.{follow_plan, orderly, orderly_turn, open_at_turn}
-use Rattle.wx_machine.proofs.AllJobs.{created_command, in_set, is_child_some, parent_runs, parent_none, one_parent}
+use Rattle.wx_machine.proofs.AllJobs.{created_command, is_child_some, parent_runs, parent_none, one_parent}
+use Rattle.wx_machine.proofs.JobSets.{in_set}
 
 -- a word that a plan brings is said of this job
 abbrev Speaks : Id → List Entry → Entry → Plan → Type 0

@@ -1,5 +1,5 @@
 -- No function is begun of a job that doesn't live.
-use Rattle.std.proofs.Common.{◌≡◌, ◌≤◌, Bool, true, false, cond, List, [], ◌∷◌, None, Ok, refl, arith, ne_eqb}
+use Rattle.std.proofs.Common.{◌≡◌, Bool, true, false, cond, List, [], ◌∷◌, None, Ok, refl}
 use Rattle.std.specs.Prelude.{◌==◌, ◌&&◌, ◌||◌, not}
 use Rattle.wx_control.specs.declared.id.Id.{Id}
 use Rattle.wx_control.specs.declared.level.Level.{Level}
@@ -7,21 +7,7 @@ use Rattle.wx_control.specs.declared.level.Level.TheVariants.{Normal, High, Urge
 use Rattle.wx_control.specs.Levels.{rank}
 use Rattle.wx_journal.specs.declared.entry.Entry.{Entry}
 use Rattle.wx_journal.specs.declared.entry.Entry.TheVariants.{Made, Asked, Pick, GraceOver, Signal, Raise, Gone, Begun, Poll}
-use Rattle.wx_journal.specs.Names.{next_job}
 use Rattle.wx_machine.specs.History.{same, lives, has_above, without, waits, picked_control, child, is_child, with_ticket, picked_last, begun_with, begun}
-
-and_false : (b : Bool) → (b && false) ≡ false
-and_false true = refl
-and_false false = refl
-
--- a job that was never made doesn't live
-pub new_dead : (id : Id) (p : List Entry) → next_job p ≤ id.0 → lives id p ≡ false
-new_dead id [] le = refl
-new_dead id (Made job ∷ p) le =
-    let other : same job id ≡ false = ne_eqb job.0 id.0 (λ e. absurd (omega arith)) in
-    rw (other, new_dead id p (omega arith)) refl
-new_dead id (Gone job ∷ p) le = rw (new_dead id p le) (and_false (not (same job id)))
-new_dead id (_ ∷ p) le = new_dead id p le
 
 -- behind the entry that a job was made it lives
 or_dead : (a b : Bool) → (a || b) ≡ false → (a ≡ false) × (b ≡ false)

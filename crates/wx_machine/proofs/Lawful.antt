@@ -4,12 +4,13 @@ use Rattle.wx_control.specs.declared.id.Id.{Id}
 use Rattle.wx_journal.specs.declared.entry.Entry.{Entry}
 use Rattle.wx_journal.specs.declared.entry.Entry.TheVariants.{Made, Asked, Changed, GraceOver, Spawn, Signal, Dropped, Gone}
 use Rattle.wx_journal.specs.Sorts.{sort}
-use Rattle.wx_journal.specs.Names.{Names, next_job, IsNextJob}
+use Rattle.wx_journal.specs.Names.{Names, next_job}
 use Rattle.wx_machine.specs.History.{lives, child, grace}
 use Rattle.wx_machine.specs.declared.grace.Grace.{Grace}
 use Rattle.wx_machine.specs.Table.{Plan}
 use Rattle.wx_machine.specs.Afterwards.{IsAtLevel}
 use Rattle.wx_machine.specs.Case.{is_of_plan}
+use Rattle.wx_machine.specs.Jobs.{is_free, MayCreate}
 use Rattle.wx_machine.specs.Start.{Start}
 use Rattle.wx_machine.specs.Settings.{pending, revision}
 use Rattle.wx_machine.proofs.Always.{Always}
@@ -42,9 +43,9 @@ abbrev pub LetsGo : List Entry → Entry → Plan → Type 0
 LetsGo p (Dropped c) k = (id : Id) × (child id p ≡ Some c) × Goes id k
 LetsGo p (_) k = Unit {0}
 
--- each job that is made is new
+-- each job that is made is new, or made again
 abbrev pub InOrder : List Entry → Entry → Type 0
-InOrder p (Made job) = IsNextJob (next_job p) job
+InOrder p (Made job) = MayCreate (is_free p) (next_job p) job
 InOrder p (_) = Unit {0}
 
 abbrev pub MadeInOrder : List Entry → Type 0

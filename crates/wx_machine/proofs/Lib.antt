@@ -10,10 +10,12 @@ pub mod FunctionLaws
 pub mod Functions
 pub mod Graces
 pub mod Holders
+pub mod JobSets
 pub mod AllJobs
 pub mod KeptLemmas
 pub mod Lawful
 pub mod LifeLaws
+pub mod MadeLaws
 pub mod Moves
 pub mod OneJob
 pub mod Orderly

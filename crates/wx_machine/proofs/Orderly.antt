@@ -3,7 +3,7 @@ use Rattle.std.specs.Prelude.{◌≡◌, ◌<◌, false, None, List, length}
 use Rattle.wx_control.specs.declared.id.Id.{Id}
 use Rattle.wx_journal.specs.declared.entry.Entry.{Entry}
 use Rattle.wx_journal.specs.declared.entry.Entry.TheVariants.{Begin, Sent, Offer, Word as Said, Take, Filter, Show, Hand}
-use Rattle.wx_journal.specs.Names.{event_count, next_job, NamesItem, NamesItsOwn}
+use Rattle.wx_journal.specs.Names.{event_count, NamesItem, NamesItsOwn}
 use Rattle.wx_machine.specs.History.{lives, child}
 use Rattle.wx_machine.specs.TicketLaws.{IsPlaced}
 use Rattle.wx_machine.specs.Start.{Start}
@@ -28,7 +28,7 @@ IsBrought s p (Said word) = Unit {0}
 IsBrought s p (Take name) = IsGreatest name (bag p) × (closed p ≡ false)
 IsBrought s p (Filter n name answer) = (name < event_count p) × (passes_unseen name p ≡ false) × (closed p ≡ false)
 IsBrought s p (Show n error wish) = closed p ≡ false
-IsBrought s p (Hand n names acts) = (names ≡ window p) × AreLawful (next_job p) acts × (0 < length (window p))
+IsBrought s p (Hand n names acts) = (names ≡ window p) × AreLawful p acts × (0 < length (window p))
 IsBrought s p (_) = ⊥
 
 -- each entry that this point may bring behind these is such, whatever is answered
@@ -58,7 +58,7 @@ IsGoing p (_) = is_quitting p ≡ false
 abbrev pub GoneRunNone : List Entry → Type 0
 GoneRunNone p = (id : Id) → lives id p ≡ false → child id p ≡ None
 
--- It names only what its own entries made, makes jobs in the order of their ids, lets no child of a job run that doesn't
+-- It names only what its own entries made, makes jobs under new ids, in their order, or again, lets no child of a job run that doesn't
 -- live, has its tickets placed, and owes what fits. The empty journal is such, and each that is stays so with an entry that is
 -- due, or with a turn.
 pub record IsOrderly (s : Start) (p : List Entry) : Type 0 where

@@ -1,5 +1,5 @@
 -- What the plans of a run let come, and what they name.
-use Rattle.std.proofs.Common.{◌≡◌, ℕ, ◌+◌, ◌≤◌, Bool, true, false, cond, List, [], ◌∷◌, arith, refl, ap, sym, subst, ◌∙◌, eq-eqb}
+use Rattle.std.proofs.Common.{◌≡◌, ℕ, ◌+◌, Bool, true, false, cond, List, [], ◌∷◌, arith, refl, ap, sym, subst, ◌∙◌, eq-eqb}
 use Rattle.std.specs.Prelude.{◌==◌, ◌||◌, ◌<◌, T, Option, None, Some, length}
 use Rattle.std.proofs.lemmas.Bool.{or_right}
 use Rattle.wx_command.specs.declared.command.Command.{Command}
@@ -18,13 +18,14 @@ use Rattle.wx_journal.specs.declared.entry.Entry.{Entry}
 use Rattle.wx_journal.specs.declared.entry.Entry.TheVariants.{Word as Said, Made, Asked, Changed, GraceOver, Spawn, Signal, Dropped, Gone}
 use Rattle.wx_journal.specs.Sorts.{Subject, OfRun, OfTurn, OfEvents, OfSettings, sort}
 use Rattle.wx_journal.specs.declared.entry.Word.TheVariants.{Ignored}
-use Rattle.wx_journal.specs.Names.{Names, NamesItsOwn, creates, is_created, next_job, ticket_count}
+use Rattle.wx_journal.specs.Names.{Names, NamesItsOwn, creates, is_created, ticket_count}
 use Rattle.wx_machine.specs.History.{same, lives, child}
 use Rattle.wx_machine.specs.Table.{Plan, Done, adds, asks, step_plan, ask_second, ask_plan, drop_plan, end_plan}
 use Rattle.wx_machine.specs.Case.{PlanAdmits, is_planned, next}
 use Rattle.wx_machine.specs.TicketLaws.{is_of, AllWait, IsPlaced}
 use Rattle.wx_machine.proofs.Owners.{same-is, either}
-use Rattle.wx_machine.proofs.Functions.{begun_none, new_dead}
+use Rattle.wx_machine.proofs.Functions.{begun_none}
+use Rattle.wx_machine.proofs.JobSets.{may_dead, lawful_made}
 use Rattle.wx_machine.proofs.Always.{Always, always_now, always_next, always_also}
 use Rattle.wx_machine.proofs.Sound.{IsOwn, Fits, own_fit, own_runs, IsSound, Sound, sound_step, sound_ask, sound_end}
 use Rattle.wx_machine.specs.Afterwards.{IsAtLevel}
@@ -98,11 +99,11 @@ each_asked id level first (Some c) k p at also one two = λ a. (
   λ b. (record { names = refl; in_order = tt; free = also; of_plan = tt; lets_go = tt }, two c),
 )
 
-each_acts : (there : Id → Bool) (r : ℕ) (acts : List Act) (p : List Entry) → ((id : Id) → creates id acts ≡ true → is_created id p ≡ true) → AreLawful (next_job p) acts → Always IsLawful p (act_plan there r acts)
+each_acts : (there : Id → Bool) (r : ℕ) (acts : List Act) (p : List Entry) → ((id : Id) → creates id acts ≡ true → is_created id p ≡ true) → AreLawful p acts → Always IsLawful p (act_plan there r acts)
 each_acts there r [] p h l = tt
 each_acts there r (Create id command ∷ acts) p h l = λ a. (
   record { names = h id (rw (eq-eqb id.0 id.0 refl) refl); in_order = l.0; free = tt; of_plan = tt; lets_go = tt },
-  each_acts (λ job. same id job || there job) r acts (Made id ∷ p) (λ job e. h job (or_right (id.0 == job.0) (creates job acts) e)) l.1,
+  each_acts (λ job. same id job || there job) r acts (Made id ∷ p) (λ job e. h job (or_right (id.0 == job.0) (creates job acts) e)) (lawful_made p id acts l.1),
 )
 each_acts there r (Ask id ask ∷ acts) p h l =
     either (Always IsLawful p) (there id) _ _
@@ -113,37 +114,37 @@ each_acts there r (Quit ∷ acts) p h l = each_acts there r acts p h l
 each_acts there r (QuitGracefully signal grace ∷ acts) p h l = each_acts there r acts p h l
 
 -- tickets stay placed, where what comes behind the asks keeps that
-placed_asked : (id : Id) (level : Level) (first : Control) (second : Option Control) (k : Plan) (p : List Entry) → IsPlaced p → ((q : List Entry) → ((job : Id) → lives job q ≡ lives job p) → next_job q ≡ next_job p → IsPlaced q → Always Placing q k)
+placed_asked : (id : Id) (level : Level) (first : Control) (second : Option Control) (k : Plan) (p : List Entry) → IsPlaced p → ((q : List Entry) → ((job : Id) → lives job q ≡ lives job p) → ((acts : List Act) → AreLawful p acts → AreLawful q acts) → IsPlaced q → Always Placing q k)
     → Always Placing p (asks id level first (ask_second id level second k))
-placed_asked id level first None k p h rest = placed_asks id level first k p h (λ one. rest _ (λ job. refl) refl one)
-placed_asked id level first (Some c) k p h rest = placed_asks id level first (asks id level c k) p h (λ one. placed_asks id level c k (Asked (ticket_count p) id level first ∷ p) one (λ two. rest _ (λ job. refl) refl two))
+placed_asked id level first None k p h rest = placed_asks id level first k p h (λ one. rest _ (λ job. refl) (λ acts l. l) one)
+placed_asked id level first (Some c) k p h rest = placed_asks id level first (asks id level c k) p h (λ one. placed_asks id level c k (Asked (ticket_count p) id level first ∷ p) one (λ two. rest _ (λ job. refl) (λ acts l. l) two))
 
 -- a job that is made lives, and so do those that lived
 lives_made : (b there living : Bool) → (b || there) ≡ true → (there ≡ true → living ≡ true) → (b || living) ≡ true
 lives_made true there living e h = refl
 lives_made false there living e h = h e
 
--- a job that is made has no function that is begun: it is new
-new_waits : (id : Id) (p : List Entry) → next_job p ≤ id.0 → AllWait is_of p (Made id)
-new_waits id p new i mine f is =
+-- a job that is made has no function that is begun: none lives under its id
+new_waits : (id : Id) (p : List Entry) → lives id p ≡ false → AllWait is_of p (Made id)
+new_waits id p dead i mine f is =
     let one : id ≡ i = same-is id i mine in
-    let none : None ≡ Some f = sym (begun_none id p (new_dead id p new)) ∙ rw one is in absurd cc
+    let none : None ≡ Some f = sym (begun_none id p dead) ∙ rw one is in absurd cc
 
-placed_acts : (there : Id → Bool) (r : ℕ) (acts : List Act) (p : List Entry) → ((id : Id) → there id ≡ true → lives id p ≡ true) → AreLawful (next_job p) acts → IsPlaced p → Always Placing p (act_plan there r acts)
+placed_acts : (there : Id → Bool) (r : ℕ) (acts : List Act) (p : List Entry) → ((id : Id) → there id ≡ true → lives id p ≡ true) → AreLawful p acts → IsPlaced p → Always Placing p (act_plan there r acts)
 placed_acts there r [] p living l h = tt
 placed_acts there r (Create id command ∷ acts) p living l h =
-    let made = placed_made id p (new_waits id p (let new : id.0 ≡ next_job p = l.0 in omega (arith, new))) h in
-    λ a. (made, placed_acts (λ job. same id job || there job) r acts (Made id ∷ p) (λ job e. lives_made (same id job) (there job) (lives job p) e (living job)) l.1 made)
+    let made = placed_made id p (new_waits id p (may_dead p id l.0)) h in
+    λ a. (made, placed_acts (λ job. same id job || there job) r acts (Made id ∷ p) (λ job e. lives_made (same id job) (there job) (lives job p) e (living job)) (lawful_made p id acts l.1) made)
 placed_acts there r (Ask id ask ∷ acts) p living l h =
     let said = placed_silent (Said Ignored) p tt h in
     either (Always Placing p) (there id) _ _
-    (placed_asked id (sends_of ask).level (sends_of ask).first (sends_of ask).second (act_plan there r acts) p h (λ q same_lives same_next asked. placed_acts there r acts q (λ job e. same_lives job ∙ living job e) (rw same_next l) asked))
+    (placed_asked id (sends_of ask).level (sends_of ask).first (sends_of ask).second (act_plan there r acts) p h (λ q same_lives same_lawful asked. placed_acts there r acts q (λ job e. same_lives job ∙ living job e) (same_lawful acts l) asked))
     (λ a. (said, placed_acts there r acts (Said Ignored ∷ p) living l said))
 placed_acts there r (Change change ∷ acts) p living l h = let told = placed_silent (Changed (r + 1)) p tt h in λ a. (told, placed_acts there (r + 1) acts (Changed (r + 1) ∷ p) living l told)
 placed_acts there r (Quit ∷ acts) p living l h = placed_acts there r acts p living l h
 placed_acts there r (QuitGracefully signal grace ∷ acts) p living l h = placed_acts there r acts p living l h
 
-pub lawful_acts : (r : ℕ) (acts : List Act) (p : List Entry) → ((id : Id) → creates id acts ≡ true → is_created id p ≡ true) → AreLawful (next_job p) acts → IsPlaced p → Lawful p (act_plan (λ id. lives id p) r acts)
+pub lawful_acts : (r : ℕ) (acts : List Act) (p : List Entry) → ((id : Id) → creates id acts ≡ true → is_created id p ≡ true) → AreLawful p acts → IsPlaced p → Lawful p (act_plan (λ id. lives id p) r acts)
 lawful_acts r acts p h l placed = record { each = each_acts (λ id. lives id p) r acts p h l; placed = placed_acts (λ id. lives id p) r acts p (λ id e. e) l placed }
 
 pub lawful_change : (r : ℕ) (p : List Entry) → IsPlaced p → Lawful p (change_plan r Done)

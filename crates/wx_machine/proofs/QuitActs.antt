@@ -9,7 +9,7 @@ use Rattle.wx_journal.specs.declared.entry.Act.TheVariants.{Create, Ask, Change,
 use Rattle.wx_journal.specs.Names.{above, creates}
 use Rattle.wx_machine.specs.declared.quit.QuitManner.{QuitManner}
 use Rattle.wx_machine.specs.declared.quit.QuitManner.TheVariants.{Abort, Graceful}
-use Rattle.wx_machine.specs.Jobs.{AreLawful}
+use Rattle.wx_machine.specs.Jobs.{but, AreLawfulBy}
 use Rattle.wx_machine.specs.Settings.{changes}
 use Rattle.wx_machine.specs.Quits.{stop_asks, quit_asks}
 
@@ -27,19 +27,19 @@ creates_quit_asks id quit ids [] = creates_asks id quit ids
 creates_quit_asks id quit ids (Create job command ∷ acts) = ap (λ (b : Bool). job.0 == id.0 || b) (creates_quit_asks id quit ids acts)
 creates_quit_asks id quit ids (_ ∷ acts) = creates_quit_asks id quit ids acts
 
-lawful_stops : (n : ℕ) (signal : Signal) (grace : ℕ) (ids : List Id) → AreLawful n (stop_asks signal grace ids)
-lawful_stops n signal grace [] = tt
-lawful_stops n signal grace (id ∷ ids) = lawful_stops n signal grace ids
+lawful_stops : (free : Id → Bool) (next : ℕ) (signal : Signal) (grace : ℕ) (ids : List Id) → AreLawfulBy free next (stop_asks signal grace ids)
+lawful_stops free next signal grace [] = tt
+lawful_stops free next signal grace (id ∷ ids) = lawful_stops free next signal grace ids
 
-lawful_asks : (n : ℕ) (quit : Option QuitManner) (ids : List Id) → AreLawful n (quit_asks quit ids)
-lawful_asks n None ids = tt
-lawful_asks n (Some Abort) ids = tt
-lawful_asks n (Some (Graceful signal grace)) ids = lawful_stops n signal grace ids
+lawful_asks : (free : Id → Bool) (next : ℕ) (quit : Option QuitManner) (ids : List Id) → AreLawfulBy free next (quit_asks quit ids)
+lawful_asks free next None ids = tt
+lawful_asks free next (Some Abort) ids = tt
+lawful_asks free next (Some (Graceful signal grace)) ids = lawful_stops free next signal grace ids
 
-pub lawful_quit_asks : (n : ℕ) (quit : Option QuitManner) (ids : List Id) (acts : List Act) → AreLawful n acts → AreLawful n (acts ++ quit_asks quit ids)
-lawful_quit_asks n quit ids [] l = lawful_asks n quit ids
-lawful_quit_asks n quit ids (Create id command ∷ acts) l = (l.0, lawful_quit_asks (above n id) quit ids acts l.1)
-lawful_quit_asks n quit ids (_ ∷ acts) l = lawful_quit_asks n quit ids acts l
+pub lawful_quit_asks : (free : Id → Bool) (next : ℕ) (quit : Option QuitManner) (ids : List Id) (acts : List Act) → AreLawfulBy free next acts → AreLawfulBy free next (acts ++ quit_asks quit ids)
+lawful_quit_asks free next quit ids [] l = lawful_asks free next quit ids
+lawful_quit_asks free next quit ids (Create id command ∷ acts) l = (l.0, lawful_quit_asks (but id free) (above next id) quit ids acts l.1)
+lawful_quit_asks free next quit ids (_ ∷ acts) l = lawful_quit_asks free next quit ids acts l
 
 changes_stops : (signal : Signal) (grace : ℕ) (ids : List Id) → changes (stop_asks signal grace ids) ≡ []
 changes_stops signal grace [] = refl

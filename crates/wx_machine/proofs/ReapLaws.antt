@@ -9,7 +9,7 @@ use Rattle.wx_journal.specs.Names.{NamesItsOwn}
 use Rattle.wx_machine.specs.History.{same, lives, child, unless, reaped_child, still_running, is_child}
 use Rattle.wx_machine.specs.Table.{Plan, Done, adds, drop_plan}
 use Rattle.wx_machine.specs.Case.{PlanAdmits, next}
-use Rattle.wx_machine.specs.JobLaws.{unreaped, AreReaped, IsReaping, AfterFaults, NamesChildren, NamesTickets}
+use Rattle.wx_machine.specs.JobLaws.{unreaped, AreReaped, IsReaping, Earlier, EachIsReaping, AfterFaults, NamesChildren, NamesTickets}
 use Rattle.wx_machine.specs.Afterwards.{GoesOnAfterFaults}
 use Rattle.wx_machine.proofs.Owners.{self, same-is, children_named}
 use Rattle.wx_machine.proofs.Tickets.{tickets_named}
@@ -23,9 +23,10 @@ use Rattle.wx_journal.specs.Lines.{Answer}
 use Rattle.wx_machine.specs.Answer.{Dying, Alive, Dies, IsComplete, IsBroken, Wishes, MemoryCuts, Answers}
 use Rattle.wx_machine.proofs.Orderly.{IsFit, GoneRunNone}
 use Rattle.wx_machine.proofs.RunLaws.{brought, orderly, free, free_end}
-use Rattle.wx_machine.proofs.AllJobs.{IsIn, in_jobs, is_child_some, one_parent}
+use Rattle.wx_machine.proofs.AllJobs.{is_child_some, one_parent}
+use Rattle.wx_machine.proofs.JobSets.{IsIn, in_jobs, may_dead}
 use Rattle.wx_machine.proofs.PlanLaws.{lawful_now, of_end}
-use Rattle.wx_machine.proofs.Lawful.{IsOfEnd, IsFree}
+use Rattle.wx_machine.proofs.Lawful.{InOrder, IsOfEnd, IsFree}
 use Rattle.wx_machine.proofs.EndLaws.{dying_none, no_child}
 
 -- ---- a child that was let go
@@ -35,9 +36,10 @@ abbrev pub is_let_go : Id → List Entry → Bool
 is_let_go id (Dropped c ∷ p) = is_child c (child id p)
 is_let_go id (_) = false
 
--- Each child of a job was reaped before the next spawn. While the job lives a last one that wasn't is the one that runs, but
--- for where this was just let go, and then nothing is due but that the job is gone.
+-- Each child of a job was reaped before the next spawn, in each of its histories. While the job lives a last one that wasn't is the
+-- one that runs, but for where this was just let go, and then nothing is due but that the job is gone.
 pub record IsReaped (s : Start) (p : List Entry) : Type 0 where
+  pub before : (id : Id) → Earlier id (IsReaping id) p
   pub each : (id : Id) → AreReaped id p
   pub last : (id : Id) → lives id p ≡ true → is_let_go id p ≡ false → unreaped id p ≡ child id p
   pub next : (id : Id) → is_let_go id p ≡ true → (e : Entry) → Due s p e → e ≡ Gone id
@@ -107,42 +109,53 @@ another job id other is =
 each_spawned : (s : Start) (p : List Entry) (e : Entry) (job : Id) → (e ≡ Gone job → ⊥) → Due s p e → IsReaped s p → (lives job p ≡ true) × (child job p ≡ None) → (id : Id) → same job id ≡ true → unreaped id p ≡ None
 each_spawned s p e job other d h free id is = subst (λ j. unreaped j p ≡ None) (same-is job id is) (last_before s p e job other d h free.0 ∙ free.1)
 
-reaps_on : (s : Start) (p : List Entry) (e : Entry) → NamesItsOwn p → IsFit s p (agenda s p) → Due s p e → IsReaped s p → IsReaped s (e ∷ p)
-reaps_on s p (Made job) own fit d h = record {
+-- a job that is made again doesn't live, so its children were reaped, and none runs
+reaped_made : (s : Start) (p : List Entry) (job id : Id) → lives job p ≡ false → GoneRunNone p → IsReaped s p → same job id ≡ true → IsReaping id p
+reaped_made s p job id dead idle h mine =
+    let gone : lives id p ≡ false = subst (λ i. lives i p ≡ false) (same-is job id mine) dead in
+    record { each = h.each id; last = λ alive. (let both : true ≡ false = sym alive ∙ gone in absurd cc); none = λ g. idle id gone }
+
+reaps_on : (s : Start) (p : List Entry) (e : Entry) → NamesItsOwn p → InOrder p e → GoneRunNone p → IsFit s p (agenda s p) → Due s p e → IsReaped s p → IsReaped s (e ∷ p)
+reaps_on s p (Made job) own may idle fit d h = record {
+  before = λ id. (reaped_made s p job id (may_dead p job may) idle h, h.before id);
   each = λ id other. h.each id;
   last = λ id alive other. last_made (same job id) (lives id p) (unreaped id p) (child id p) alive (λ l. last_before s p (Made job) id (λ is. cc) d h l);
   next = λ id is. absurd cc;
 }
-reaps_on s p (Spawn c job tag what (Ok done)) own fit d h =
+reaps_on s p (Spawn c job tag what (Ok done)) own may idle fit d h =
     let free_is = free s p (agenda s p) (Spawn c job tag what (Ok done)) d fit own in record {
+      before = h.before;
       each = λ id. (λ is. each_spawned s p (Spawn c job tag what (Ok done)) job (λ is. cc) d h free_is id is, h.each id);
       last = λ id alive other. ap (cond (same job id) (Some c)) (last_before s p (Spawn c job tag what (Ok done)) id (λ is. cc) d h alive);
       next = λ id is. absurd cc;
     }
-reaps_on s p (Spawn c job tag what (Err fault)) own fit d h =
+reaps_on s p (Spawn c job tag what (Err fault)) own may idle fit d h =
     let free_is = free s p (agenda s p) (Spawn c job tag what (Err fault)) d fit own in record {
+      before = h.before;
       each = λ id. (λ is. each_spawned s p (Spawn c job tag what (Err fault)) job (λ is. cc) d h free_is id is, h.each id);
       last = λ id alive other. last_before s p (Spawn c job tag what (Err fault)) id (λ is. cc) d h alive;
       next = λ id is. absurd cc;
     }
-reaps_on s p (Dropped c) own fit d h = record {
+reaps_on s p (Dropped c) own may idle fit d h = record {
+  before = h.before;
   each = h.each;
   last = λ id alive other. last_before s p (Dropped c) id (λ is. cc) d h alive ∙ sym (unless_other c (child id p) other);
   next = λ id is e due. next_dropped s p (agenda s p) c id e own fit (is_child_some c (child id p) is) d due;
 }
-reaps_on s p (Gone job) own fit d h = record {
+reaps_on s p (Gone job) own may idle fit d h = record {
+  before = h.before;
   each = h.each;
   last = λ id alive other. (let both = alive_other (same job id) (lives id p) alive in last_before s p (Gone job) id (another job id both.0) d h both.1);
   next = λ id is. absurd cc;
 }
-reaps_on s p (e) own fit d h = record { each = h.each; last = λ id alive other. ap (still_running (reaped_child e)) (last_before s p e id (λ is. cc) d h alive); next = λ id is. absurd cc }
+reaps_on s p (e) own may idle fit d h = record { before = h.before; each = h.each; last = λ id alive other. ap (still_running (reaped_child e)) (last_before s p e id (λ is. cc) d h alive); next = λ id is. absurd cc }
 
 -- ---- whole runs
 
 -- what holds of the children of every run, also where one was just let go
 run_reaped : (s : Start) (p : List Entry) → IsRun s p → IsReaped s p
-run_reaped s [] r = record { each = λ id. tt; last = λ id alive other. refl; next = λ id is. absurd cc }
-run_reaped s (e ∷ p) r = let o = orderly s p r.1 in reaps_on s p e o.own o.fit r.0 (run_reaped s p r.1)
+run_reaped s [] r = record { before = λ id. tt; each = λ id. tt; last = λ id alive other. refl; next = λ id is. absurd cc }
+run_reaped s (e ∷ p) r = let o = orderly s p r.1 in reaps_on s p e o.own (orderly s (e ∷ p) r).in_order.0 o.idle o.fit r.0 (run_reaped s p r.1)
 
 -- ---- what faults leave
 
@@ -207,25 +220,36 @@ dying_each q p id l start = elim l as (λ p _. AreReaped id p) [
   | Dies e p (l → h) d ↦ each_end p e id (of_end p e d) h
 ]
 
+before_end : (p : List Entry) (e : Entry) (id : Id) → IsOfEnd e → Earlier id (IsReaping id) p → Earlier id (IsReaping id) (e ∷ p)
+before_end p (Dropped c) id o h = h
+before_end p (Gone job) id o h = h
+before_end p (_) id o h = absurd o
+
+dying_before : (q p : List Entry) (id : Id) → Dying q p → Earlier id (IsReaping id) q → Earlier id (IsReaping id) p
+dying_before q p id l start = elim l as (λ p _. Earlier id (IsReaping id) p) [
+  | Alive ↦ start
+  | Dies e p (l → h) d ↦ before_end p e id (of_end p e d) h
+]
+
 ended : (p : List Entry) (id : Id) → AreReaped id p → GoneRunNone p → jobs p ≡ [] → IsReaping id p
 ended p id each gone none = record { each = each; last = λ alive. absurd (subst (IsIn id) none (in_jobs id p alive)); none = gone id }
 
 -- The children of each job were reaped, and none runs. What faults left is as it must be.
 pub record HasReaped (p : List Entry) : Type 0 where
-  pub reaped : (id : Id) → IsReaping id p
+  pub reaped : (id : Id) → EachIsReaping id p
   pub none : (id : Id) → child id p ≡ None
   pub failed : AfterFaults p
   pub afterwards : GoesOnAfterFaults p
 
-has_reaped : (p : List Entry) → ((id : Id) → AreReaped id p) → GoneRunNone p → jobs p ≡ [] → AfterFaults p → GoesOnAfterFaults p → HasReaped p
-has_reaped p each gone none failed afterwards = record { reaped = λ id. ended p id (each id) gone none; none = λ id. no_child p id gone none; failed = failed; afterwards = afterwards }
+has_reaped : (p : List Entry) → ((id : Id) → AreReaped id p) → ((id : Id) → Earlier id (IsReaping id) p) → GoneRunNone p → jobs p ≡ [] → AfterFaults p → GoesOnAfterFaults p → HasReaped p
+has_reaped p each before gone none failed afterwards = record { reaped = λ id. record { now = ended p id (each id) gone none; before = before id }; none = λ id. no_child p id gone none; failed = failed; afterwards = afterwards }
 
 complete_reaps : (s : Start) (p : List Entry) → IsComplete s p → HasReaped p
-complete_reaps s p c = has_reaped p (run_reaped s p c.run).each (orderly s p c.run).idle c.none (run_after_faults s p c.run) (run_goes_on s p c.run)
+complete_reaps s p c = has_reaped p (run_reaped s p c.run).each (run_reaped s p c.run).before (orderly s p c.run).idle c.none (run_after_faults s p c.run) (run_goes_on s p c.run)
 
 broken_reaps : (place : List Entry → Type 0) (s : Start) (p : List Entry) → IsBroken place s p → HasReaped p
 broken_reaps place s p b =
-    has_reaped p (λ id. dying_each b.before p id b.dying ((run_reaped s b.before b.run).each id)) (dying_none b.before p b.dying (orderly s b.before b.run).idle) b.none
+    has_reaped p (λ id. dying_each b.before p id b.dying ((run_reaped s b.before b.run).each id)) (λ id. dying_before b.before p id b.dying ((run_reaped s b.before b.run).before id)) (dying_none b.before p b.dying (orderly s b.before b.run).idle) b.none
     (dying_after_faults b.before p b.dying (run_after_faults s b.before b.run)) (dying_goes_on b.before p b.dying (run_goes_on s b.before b.run))
 
 -- whatever a run answers

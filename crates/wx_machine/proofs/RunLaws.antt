@@ -23,7 +23,7 @@ use Rattle.wx_journal.specs.Acts.{JournalAct as Act}
 use Rattle.wx_journal.specs.declared.entry.Named.{Named}
 use Rattle.wx_journal.specs.declared.entry.Turn.{Turn}
 use Rattle.wx_journal.specs.declared.entry.TurnKind.{TurnKind}
-use Rattle.wx_journal.specs.declared.entry.TurnKind.TheVariants.{Arrive, Work, Job, Ended, Ask, Change, Last}
+use Rattle.wx_journal.specs.declared.entry.TurnKind.TheVariants.{Arrive, Signal, Keys, Work, Job, Ended, Ask, Change, Last}
 use Rattle.wx_journal.specs.declared.entry.Word.{Word}
 use Rattle.wx_journal.specs.declared.entry.Word.TheVariants.{Idle, Ignored, Quitting}
 use Rattle.wx_journal.specs.Names.{moment, event_count, creates, is_created, next_job, Names, NamesItsOwn}
@@ -35,12 +35,15 @@ use Rattle.wx_machine.specs.Case.{PlanAdmits, next}
 use Rattle.wx_machine.proofs.Owners.{either, same-is}
 use Rattle.wx_machine.proofs.Places.{IsSilent, placed_none, placed_silent}
 use Rattle.wx_machine.specs.Start.{Start}
-use Rattle.wx_machine.specs.Jobs.{living, parent, jobs, first_end, end, AreLawful, change_plan, act_plan, with_created, with_quit_asks}
+use Rattle.wx_machine.specs.Keyboard.{hears_keys}
+use Rattle.wx_keys.specs.Keys.{hears_signal, key_events}
+use Rattle.wx_machine.specs.Jobs.{living, parent, jobs, first_end, end, is_free, AreLawful, change_plan, act_plan, with_created, with_quit_asks}
 use Rattle.wx_machine.specs.Quits.{quit_of, is_aborting, graceful}
+use Rattle.wx_machine.proofs.JobSets.{lawful_hand}
 use Rattle.wx_machine.proofs.QuitActs.{creates_quit_asks, lawful_quit_asks, changes_quit_asks}
-use Rattle.wx_machine.specs.Settings.{turn_changes, pending, revision, change_count}
+use Rattle.wx_machine.specs.Settings.{turn_changes, pending, settings, revision, change_count}
 use Rattle.wx_machine.specs.Journal.{listed, passes_unseen, lets_pass, closed, ending, named, bag, one_if, and_one, is_among, unhanded, passed, window, batches, is_over, is_urgent_named, is_urgent_in}
-use Rattle.wx_machine.specs.Due.{IsGreatest, Point, Takes, Filters, Hands, Agenda, Open, Comes, Plans, Ends, Breaks, IsTurn, Admits, sends, plans, says, stays, rest, job_turn, ended_turn, work_going, turn_agenda, after_pass, after_drop, after_show, after_hand, follow, is_quitting, settle, agenda, Due, IsRun}
+use Rattle.wx_machine.specs.Due.{IsGreatest, Point, Takes, Filters, Hands, Agenda, Open, Comes, Plans, Ends, Breaks, IsTurn, Admits, sends, plans, says, stays, rest, job_turn, ended_turn, work_going, turn_agenda, after_pass, after_drop, after_show, after_hand, follow, is_quitting, settle, agenda, Due, IsRun, offers, keys_open, before}
 use Rattle.wx_machine.proofs.BagLaws.{NamesBelow, bag_facts}
 use Rattle.wx_machine.specs.Leads.{Leads, Here, Then, Follows}
 use Rattle.wx_machine.proofs.Orderly.{IsQuiet, IsBrought, IsLasting, IsFit, IsGoing, GoneRunNone, IsOrderly}
@@ -157,6 +160,15 @@ lasting_stays s x e more l = l
 fit_says : (s : Start) (p : List Entry) (word : Word) → IsFit s p (says word)
 fit_says s p word = (λ a. tt, tt)
 
+-- so does what the keys of a read owe
+lasting_offers : (s : Start) (events : List Event) → IsLasting s (offers events)
+lasting_offers s [] = tt
+lasting_offers s (event ∷ events) = (λ p a. (refl, tt, refl), lasting_offers s events)
+
+fit_keys : (s : Start) (p : List Entry) (events : List Event) → IsFit s p (keys_open events)
+fit_keys s p [] = fit_says s p Idle
+fit_keys s p (event ∷ events) = (λ a. (refl, tt, refl), lasting_offers s events)
+
 fit_job : (s : Start) (p : List Entry) (id : Id) (command : Option Command) → NamesItsOwn p → IsPlaced p → IsFit s p (job_turn id command p)
 fit_job s p id None own h = fit_says s p Ignored
 fit_job s p id (Some command) own h = fit_plans s p (step_plan id command p) Open (lawful_step id command p own h) tt (revised_step s id command p)
@@ -190,6 +202,8 @@ fit_change s p change false wait h = fit_plans s p (change_plan (revision s p) D
 
 fit_turn : (s : Start) (p : List Entry) (kind : TurnKind) (at : ℕ) → pending p ≡ turn_changes kind → NamesItsOwn p → IsPlaced p → IsFit s p (turn_agenda s kind at p)
 fit_turn s p (Arrive event priority) at wait own h = (λ a. (refl, tt, refl), tt)
+fit_turn s p (Signal signal) at wait own h = either (IsFit s p) (hears_signal (settings s p).signal_job_control signal) _ _ (λ a. (refl, tt, refl), tt) (fit_says s p Ignored)
+fit_turn s p (Keys bytes) at wait own h = either (IsFit s p) (hears_keys s (before p)) _ _ (fit_keys s p (key_events bytes)) (fit_says s p Ignored)
 fit_turn s p Work at wait own h = either (IsFit s p) (graceful p) (says Quitting) (work_going s p at) (fit_says s p Quitting) (fit_work s p at (closed p) (is_over s p at) (length (bag p) == 0) refl refl)
 fit_turn s p (Job id) at wait own h = fit_job s p id (living id p) own h
 fit_turn s p (Ended c) at wait own h = fit_ended s p (parent c p) own h
@@ -197,12 +211,12 @@ fit_turn s p (Ask id ask) at wait own h = fit_ask s p id ask (lives id p) refl o
 fit_turn s p (Change change) at wait own h = fit_change s p change (revision s p == last_revision) wait h
 fit_turn s p Last at wait own h = tt
 
-fit_hand : (s : Start) (p : List Entry) (n : ℕ) (names : List ℕ) (acts : List Act) → AreLawful (next_job p) acts → IsPlaced (Hand n names acts ∷ p) → IsFit s (Hand n names acts ∷ p) (after_hand s acts p)
+fit_hand : (s : Start) (p : List Entry) (n : ℕ) (names : List ℕ) (acts : List Act) → AreLawful p acts → IsPlaced (Hand n names acts ∷ p) → IsFit s (Hand n names acts ∷ p) (after_hand s acts p)
 fit_hand s p n names acts lawful h =
     let quit = quit_of acts in
     let ids = with_created acts (jobs p) in
     fit_plans s (Hand n names acts ∷ p) (act_plan (λ id. lives id p) (revision s p) (with_quit_asks p acts)) Open
-    (lawful_acts (revision s p) (with_quit_asks p acts) (Hand n names acts ∷ p) (λ id e. or_left (creates id acts) (is_created id p) (sym (creates_quit_asks id quit ids acts) ∙ e)) (lawful_quit_asks (next_job p) quit ids acts lawful) h)
+    (lawful_acts (revision s p) (with_quit_asks p acts) (Hand n names acts ∷ p) (λ id e. or_left (creates id acts) (is_created id p) (sym (creates_quit_asks id quit ids acts) ∙ e)) (lawful_hand p n names acts (with_quit_asks p acts) (lawful_quit_asks (is_free p) (next_job p) quit ids acts lawful)) h)
     tt
     (revised_acts s (λ id. lives id p) (revision s p) (with_quit_asks p acts) (Hand n names acts ∷ p) refl (sym (changes_quit_asks quit ids acts)))
 
@@ -410,8 +424,8 @@ pub orderly : (s : Start) (p : List Entry) → IsRun s p → IsOrderly s p
 orderly s [] r = orderly_none s
 orderly s (e ∷ p) r = orderly_more s e p r.0 (orderly s p r.1)
 
--- a batch that may come is the window, which isn't empty, and asks only for jobs that were never there
-pub hand_is : (s : Start) (p : List Entry) (n : ℕ) (names : List ℕ) (acts : List Act) → IsOrderly s p → Due s p (Hand n names acts) → (names ≡ window p) × AreLawful (next_job p) acts × (0 < length (window p))
+-- a batch that may come is the window, which isn't empty, and asks only for jobs that aren't there
+pub hand_is : (s : Start) (p : List Entry) (n : ℕ) (names : List ℕ) (acts : List Act) → IsOrderly s p → Due s p (Hand n names acts) → (names ≡ window p) × AreLawful p acts × (0 < length (window p))
 hand_is s p n names acts o d = admitted s p (agenda s p) (Hand n names acts) (λ i. i) (λ i. i) d o.fit
 
 -- ---- the passed events are the batches and then the window
@@ -518,6 +532,10 @@ waits_work s p at false true empty now e h = record {
 waits_work s p at false false true now e h = h
 waits_work s p at false false false now e h = h
 
+waits_keys : (s : Start) (p : List Entry) (events : List Event) → NoneUrgentWaits p → Waits s p (keys_open events)
+waits_keys s p [] h = h
+waits_keys s p (event ∷ events) h = h
+
 waits_job : (s : Start) (p : List Entry) (id : Id) (command : Option Command) → NoneUrgentWaits p → Waits s p (job_turn id command p)
 waits_job s p id None h = h
 waits_job s p id (Some command) h = waits_plans s p (step_plan id command p) Open tt h
@@ -528,6 +546,8 @@ waits_ended s p (Some id) h = waits_job s p id (living id p) h
 
 waits_turn : (s : Start) (p : List Entry) (kind : TurnKind) (at : ℕ) → moment p ≡ at → NoneUrgentWaits p → Waits s p (turn_agenda s kind at p)
 waits_turn s p (Arrive event priority) at now h = h
+waits_turn s p (Signal signal) at now h = either (Waits s p) (hears_signal (settings s p).signal_job_control signal) _ (says Ignored) h h
+waits_turn s p (Keys bytes) at now h = either (Waits s p) (hears_keys s (before p)) (keys_open (key_events bytes)) (says Ignored) (waits_keys s p (key_events bytes) h) h
 waits_turn s p Work at now h = either (Waits s p) (graceful p) (says Quitting) (work_going s p at) h (waits_work s p at (closed p) (is_over s p at) (length (bag p) == 0) now refl h)
 waits_turn s p (Job id) at now h = waits_job s p id (living id p) h
 waits_turn s p (Ended c) at now h = waits_ended s p (parent c p) h

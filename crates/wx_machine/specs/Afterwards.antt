@@ -56,9 +56,10 @@ asks_grace ticket [] = false
 asks_grace ticket (Asked t job level control ∷ p) = if t == ticket then is_graceful control else asks_grace ticket p
 asks_grace ticket (_ ∷ p) = asks_grace ticket p
 
--- the control that was picked last for the job is such a one
+-- the control that was picked last for the job, since it was made, is such a one
 abbrev pub picks_grace : Id → List Entry → Bool
 picks_grace id [] = false
+picks_grace id (Made job ∷ p) = not (same job id) && picks_grace id p
 picks_grace id (Pick job ticket ∷ p) = if same job id then asks_grace ticket p else picks_grace id p
 picks_grace id (_ ∷ p) = picks_grace id p
 

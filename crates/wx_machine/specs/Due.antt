@@ -3,17 +3,20 @@ use Rattle.std.specs.Prelude.{◌≡◌, ℕ, Bool, true, false, T, ◌||◌, �
 use Rattle.std.specs.Option.{IsSomeAnd}
 use Rattle.wx_events.specs.declared.event.Event.{Event}
 use Rattle.wx_events.specs.declared.priority.Priority.{Priority}
+use Rattle.wx_events.specs.declared.priority.Priority.TheVariants.{Normal}
+use Rattle.wx_events.specs.declared.process.Signal.{Signal as ASignal}
+use Rattle.wx_keys.specs.Keys.{signal_event, hears_signal, key_events}
 use Rattle.prio_channel.specs.Channel.{AllAtMost}
 use Rattle.wx_journal.specs.declared.entry.Entry.{Entry}
 use Rattle.wx_journal.specs.declared.entry.Entry.TheVariants.{Begin, Sent, Turn as Turned, TurnFault, Offer, Word as Said, Take, Filter, Show, Hand}
 use Rattle.wx_journal.specs.Acts.{JournalAct as Act}
 use Rattle.wx_journal.specs.declared.entry.Named.{Named}
 use Rattle.wx_journal.specs.declared.entry.TurnKind.{TurnKind}
-use Rattle.wx_journal.specs.declared.entry.TurnKind.TheVariants.{Arrive, Work, Job, Ended, Ask, Change, Last}
+use Rattle.wx_journal.specs.declared.entry.TurnKind.TheVariants.{Arrive, Signal, Keys, Work, Job, Ended, Ask, Change, Last}
 use Rattle.wx_journal.specs.declared.entry.Word.{Word}
 use Rattle.wx_journal.specs.declared.entry.Word.TheVariants.{Idle, Ignored, Quitting}
 use Rattle.wx_journal.specs.Told.{is_turn}
-use Rattle.wx_journal.specs.Names.{moment, event_count, next_job}
+use Rattle.wx_journal.specs.Names.{moment, event_count}
 use Rattle.wx_command.specs.declared.command.Command.{Command}
 use Rattle.wx_config.specs.Changes.{last_revision}
 use Rattle.wx_error.specs.declared.runtime.RuntimeError.{RuntimeError}
@@ -28,6 +31,7 @@ use Rattle.wx_machine.specs.Table.{Plan, Done, step_plan, ask_plan}
 use Rattle.wx_machine.specs.Case.{PlanAdmits, next}
 use Rattle.wx_machine.specs.Start.{Start}
 use Rattle.wx_machine.specs.Jobs.{living, parent, jobs, AreLawful, change_plan, act_plan, with_quit_asks, end}
+use Rattle.wx_machine.specs.Keyboard.{hears_keys}
 use Rattle.wx_machine.specs.Settings.{settings, revision, MayChange}
 use Rattle.wx_machine.specs.Quits.{is_aborting, graceful}
 use Rattle.wx_machine.specs.Journal.{is_urgent_named, passes_unseen, lets_pass, closed, ending, named, bag, offered, window, is_over}
@@ -80,7 +84,7 @@ PointAnswer s p (Says word) = Unit {0}
 PointAnswer s p Takes = (name : ℕ) × IsGreatest name (bag p)
 PointAnswer s p (Filters name) = Result Bool RuntimeError
 PointAnswer s p (Shows error) = Wish
-PointAnswer s p Hands = (acts : List Act) × AreLawful (next_job p) acts × MayChange (revision s p) acts
+PointAnswer s p Hands = (acts : List Act) × AreLawful p acts × MayChange (revision s p) acts
 
 -- the entry behind these, with this answer
 abbrev pub brings : (s : Start) → (p : List Entry) → (x : Point) → PointAnswer s p x → Entry
@@ -144,6 +148,29 @@ rest e (k) = k
 
 -- ---- what an entry leaves owed
 
+-- A signal is offered as an event where it is heard, and else ignored.
+abbrev pub signal_turn : Bool → ASignal → Agenda
+signal_turn job_control signal = if hears_signal job_control signal then Comes (Offers (signal_event signal).0 (signal_event signal).1) Open else says Ignored
+
+-- each of these events of keys is offered
+abbrev pub offers : List Event → Agenda
+offers [] = Open
+offers (event ∷ events) = Comes (Offers event Normal) (offers events)
+
+-- Of a read from the keyboard each key is offered, where it has any.
+abbrev pub keys_open : List Event → Agenda
+keys_open [] = says Idle
+keys_open (event ∷ events) = offers (event ∷ events)
+
+-- It is ignored where keys weren't heard before its turn.
+abbrev pub keys_turn : Bool → List ℕ → Agenda
+keys_turn heard bytes = if heard then keys_open (key_events bytes) else says Ignored
+
+-- the entries before the newest
+abbrev pub before : List Entry → List Entry
+before [] = []
+before (e ∷ p) = p
+
 -- A Work turn: where a graceful quit was asked for it says so; else the end, where the queue is closed; else hand the window where
 -- the throttle is over, else say idle where the queue is empty, else take an event.
 abbrev pub work_open : Start → List Entry → ℕ → Agenda
@@ -174,6 +201,8 @@ change_turn revision = if revision == last_revision then says Ignored else plans
 -- what a turn of this kind and moment owes, behind its entry
 abbrev pub turn_agenda : Start → TurnKind → ℕ → List Entry → Agenda
 turn_agenda s (Arrive event priority) at p = Comes (Offers event priority) Open
+turn_agenda s (Signal signal) at p = signal_turn (settings s p).signal_job_control signal
+turn_agenda s (Keys bytes) at p = keys_turn (hears_keys s (before p)) bytes
 turn_agenda s Work at p = work s p at
 turn_agenda s (Job id) at p = job_turn id (living id p) p
 turn_agenda s (Ended c) at p = ended_turn (parent c p) p

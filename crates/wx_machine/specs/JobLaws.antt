@@ -35,6 +35,18 @@ pub record IsReaping (id : Id) (p : List Entry) : Type 0 where
   pub last : lives id p ≡ true → unreaped id p ≡ child id p
   pub none : lives id p ≡ false → child id p ≡ None
 
+-- What holds of a job since it was last made held of it, each time that it was made again, until then: so it is of each of its
+-- histories but the last.
+abbrev pub Earlier : Id → (List Entry → Type 0) → List Entry → Type 0
+Earlier id P [] = Unit {0}
+Earlier id P (Made job ∷ p) = (same job id ≡ true → P p) × Earlier id P p
+Earlier id P (_ ∷ p) = Earlier id P p
+
+-- each history of the job was such: the last one, and the earlier ones
+pub record EachIsReaping (id : Id) (p : List Entry) : Type 0 where
+  pub now : IsReaping id p
+  pub before : Earlier id (IsReaping id) p
+
 -- the child of this name runs: it is that of some job
 abbrev pub Runs : ℕ → List Entry → Type 0
 Runs c p = (id : Id) × (child id p ≡ Some c)

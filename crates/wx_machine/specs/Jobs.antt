@@ -1,5 +1,5 @@
 -- What a journal says of the jobs of an engine.
-use Rattle.std.specs.Prelude.{◌≡◌, ℕ, ◌+◌, ◌<◌, Bool, false, ◌||◌, ◌==◌, nat_lt, if◌then◌else◌, Option, None, Some, List, [], ◌∷◌, ◌++◌}
+use Rattle.std.specs.Prelude.{◌≡◌, ℕ, ◌+◌, ◌<◌, Bool, false, ◌||◌, ◌&&◌, not, true, ◌⊎◌, ◌==◌, nat_lt, if◌then◌else◌, Option, None, Some, List, [], ◌∷◌, ◌++◌}
 use Rattle.std.specs.List.{filter, list_any, AllByRecursion}
 use Rattle.wx_command.specs.declared.command.Command.{Command}
 use Rattle.wx_control.specs.declared.id.Id.{Id}
@@ -9,7 +9,7 @@ use Rattle.wx_journal.specs.declared.entry.Act.TheVariants.{Create, Ask, Change,
 use Rattle.wx_journal.specs.declared.entry.Entry.{Entry}
 use Rattle.wx_journal.specs.declared.entry.Entry.TheVariants.{Word as Said, Hand, Made, Changed}
 use Rattle.wx_journal.specs.declared.entry.Word.TheVariants.{Ignored}
-use Rattle.wx_journal.specs.Names.{above, IsNextJob}
+use Rattle.wx_journal.specs.Names.{above, next_job, creates, IsNextJob, was_made}
 use Rattle.wx_machine.specs.History.{same, lives, child, is_child, command}
 use Rattle.wx_machine.specs.Table.{Plan, Done, adds, ask_plan, end_plan}
 use Rattle.wx_machine.specs.Quits.{quit_of, quit_asks}
@@ -50,14 +50,47 @@ parent_among (id ∷ ids) c p = if is_child c (child id p) then Some id else par
 abbrev pub parent : ℕ → List Entry → Option Id
 parent c p = parent_among (set p) c p
 
--- acts are lawful where each job that they create is new
-abbrev pub AreLawful : ℕ → List Act → Type 0
-AreLawful next [] = Unit {0}
-AreLawful next (Create id command ∷ acts) = IsNextJob next id × AreLawful (above next id) acts
-AreLawful next (Ask id ask ∷ acts) = AreLawful next acts
-AreLawful next (Change change ∷ acts) = AreLawful next acts
-AreLawful next (Quit ∷ acts) = AreLawful next acts
-AreLawful next (QuitGracefully signal grace ∷ acts) = AreLawful next acts
+-- a job may be made again under this id: one was made, and a handler sees it no longer
+abbrev pub is_free : List Entry → Id → Bool
+is_free p id = was_made id p && not (is_seen id p)
+
+-- A job is created under the next id, or again under one that is free.
+abbrev pub MayCreate : (Id → Bool) → ℕ → Id → Type 0
+MayCreate free next id = IsNextJob next id ⊎ (free id ≡ true)
+
+-- of these ids, those but this one
+abbrev pub but : Id → (Id → Bool) → Id → Bool
+but id free job = not (same id job) && free job
+
+-- acts are lawful where each job that they create may be, by the ids that are free and the next one: none creates two jobs of one id
+abbrev pub AreLawfulBy : (Id → Bool) → ℕ → List Act → Type 0
+AreLawfulBy free next [] = Unit {0}
+AreLawfulBy free next (Create id command ∷ acts) = MayCreate free next id × AreLawfulBy (but id free) (above next id) acts
+AreLawfulBy free next (Ask id ask ∷ acts) = AreLawfulBy free next acts
+AreLawfulBy free next (Change change ∷ acts) = AreLawfulBy free next acts
+AreLawfulBy free next (Quit ∷ acts) = AreLawfulBy free next acts
+AreLawfulBy free next (QuitGracefully signal grace ∷ acts) = AreLawfulBy free next acts
+
+-- acts that are asked for behind these entries
+abbrev pub AreLawful : List Entry → List Act → Type 0
+AreLawful p acts = AreLawfulBy (is_free p) (next_job p) acts
+
+-- the ids that are still free behind these acts
+abbrev pub free_behind : (Id → Bool) → List Act → Id → Bool
+free_behind free [] = free
+free_behind free (Create id command ∷ acts) = free_behind (but id free) acts
+free_behind free (Ask id ask ∷ acts) = free_behind free acts
+free_behind free (Change change ∷ acts) = free_behind free acts
+free_behind free (Quit ∷ acts) = free_behind free acts
+free_behind free (QuitGracefully signal grace ∷ acts) = free_behind free acts
+
+-- a job of this id was made, or one of these acts creates one
+abbrev pub is_given : List Entry → List Act → Id → Bool
+is_given p acts id = creates id acts || was_made id p
+
+-- the job of this id is there: one of these acts creates it, or a handler sees it
+abbrev pub is_there : List Entry → List Act → Id → Bool
+is_there p acts id = creates id acts || is_seen id p
 
 -- the id of the next new job, behind these acts
 abbrev pub next_created : ℕ → List Act → ℕ

@@ -10,6 +10,7 @@ pub mod JobLaws
 pub mod Jobs
 pub mod Journal
 pub mod Kept
+pub mod Keyboard
 pub mod Last
 pub mod Leads
 pub mod Leaves

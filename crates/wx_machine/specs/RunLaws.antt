@@ -1,11 +1,12 @@
 -- What holds of every run.
-use Rattle.std.specs.Prelude.{◌≡◌, ℕ, ◌+◌, ◌<◌, ◌≤◌, Bool, true, false, ◌||◌, List, [], ◌∷◌, ◌++◌, length}
+use Rattle.std.specs.Prelude.{◌≡◌, ℕ, ◌+◌, ◌<◌, ◌≤◌, Bool, true, false, None, ◌⊎◌, List, [], ◌∷◌, ◌++◌, length}
 use Rattle.std.specs.List.{AllByRecursion, flat_map}
 use Rattle.wx_journal.specs.declared.entry.Entry.{Entry}
 use Rattle.wx_journal.specs.declared.entry.Entry.TheVariants.{Turn as Turned, TurnFault, Filter, Show, Hand, Made, Changed}
 use Rattle.wx_control.specs.declared.id.Id.{Id}
-use Rattle.wx_journal.specs.Names.{moment}
-use Rattle.wx_machine.specs.History.{same}
+use Rattle.wx_journal.specs.Names.{moment, was_made}
+use Rattle.wx_machine.specs.History.{lives, child}
+use Rattle.wx_machine.specs.Jobs.{is_seen}
 use Rattle.wx_machine.specs.Start.{Start}
 use Rattle.wx_machine.specs.Settings.{pending, revision, change_count}
 use Rattle.wx_machine.specs.Journal.{is_urgent_named, passes_unseen, closed, passed, batches, window, is_over}
@@ -63,17 +64,23 @@ NoneIsShownClosed (Filter n name answer ∷ p) = (closed p ≡ false) × NoneIsS
 NoneIsShownClosed (Show n error wish ∷ p) = (closed p ≡ false) × NoneIsShownClosed p
 NoneIsShownClosed (_ ∷ p) = NoneIsShownClosed p
 
--- a job of this id was made
-abbrev pub was_made : Id → List Entry → Bool
-was_made id [] = false
-was_made id (Made job ∷ p) = same job id || was_made id p
-was_made id (_ ∷ p) = was_made id p
+-- a job is made under a new id: the least one under which none was made
+pub record IsNewId (p : List Entry) (id : Id) : Type 0 where
+  pub new : was_made id p ≡ false
+  pub least : (other : Id) → other.0 < id.0 → was_made other p ≡ true
 
--- ids made are distinct
-abbrev pub AreMadeOnce : List Entry → Type 0
-AreMadeOnce [] = Unit {0}
-AreMadeOnce (Made id ∷ p) = (was_made id p ≡ false) × AreMadeOnce p
-AreMadeOnce (_ ∷ p) = AreMadeOnce p
+-- or again, under the id of a job that was made before and is gone, which no handler sees, and of which no child runs
+pub record IsMadeAgain (p : List Entry) (id : Id) : Type 0 where
+  pub before : was_made id p ≡ true
+  pub unseen : is_seen id p ≡ false
+  pub gone : lives id p ≡ false
+  pub idle : child id p ≡ None
+
+-- so it was with each job that was made: new ids are distinct
+abbrev pub AreMadeByRule : List Entry → Type 0
+AreMadeByRule [] = Unit {0}
+AreMadeByRule (Made id ∷ p) = (IsNewId p id ⊎ IsMadeAgain p id) × AreMadeByRule p
+AreMadeByRule (_ ∷ p) = AreMadeByRule p
 
 -- Each entry that tells a change answers one that waits. It names the revision of the settings that stand then, which is that of the
 -- start with one more for each change so far.
