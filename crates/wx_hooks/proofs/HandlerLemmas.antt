@@ -1,6 +1,7 @@
 -- What a handler keeps while its acts grow.
-use Rattle.std.proofs.Common.{◌≡◌, ◌≢◌, ℕ, ◌+◌, ◌-◌, ◌^◌, ◌<◌, ◌≤◌, Bool, true, false, cond, List, [], ◌∷◌, ◌++◌, length, refl, ap, sym, subst, ◌∙◌, arith, length-append}
-use Rattle.std.specs.Prelude.{Option, None, Some, min, vec_len, vec_capacity}
+use Rattle.std.proofs.Common.{◌≡◌, ◌≢◌, ℕ, ◌+◌, ◌-◌, ◌^◌, ◌<◌, ◌≤◌, Bool, true, false, cond, List, [], ◌∷◌, ◌++◌, length, inl, inr, refl, ap, sym, subst, ◌∙◌, arith, length-append}
+use Rattle.std.specs.Prelude.{◌&&◌, not, Option, None, Some, is_none, min, vec_len, vec_capacity}
+use Rattle.std.proofs.lemmas.Bool.{or_parts}
 use Rattle.std.proofs.lemmas.List.{append-nil}
 use Rattle.wx_events.specs.declared.event.Event.{Event}
 use Rattle.wx_config.specs.Changes.{last_revision}
@@ -10,7 +11,9 @@ use Rattle.wx_command.specs.declared.command.Command.{Command}
 use Rattle.wx_control.specs.declared.id.Id.{Id}
 use Rattle.wx_control.specs.declared.ask.Ask.{Ask as AnAsk}
 use Rattle.wx_control.specs.Flags.{Flag}
-use Rattle.wx_journal.specs.Names.{above, next_job, IsNextJob}
+use Rattle.wx_journal.specs.Names.{above, next_job, creates, was_made}
+use Rattle.wx_machine.specs.History.{same}
+use Rattle.wx_machine.proofs.JobSets.{made_below}
 use Rattle.wx_journal.specs.declared.entry.Entry.{Entry}
 use Rattle.wx_journal.specs.Acts.{JournalAct as Act}
 use Rattle.wx_journal.specs.declared.entry.Act.TheVariants.{Create, Ask, Change, Quit, QuitGracefully}
@@ -20,7 +23,7 @@ use Rattle.wx_hooks.specs.declared.handler.Todo.TheVariants as todo
 use Rattle.wx_hooks.specs.declared.held.Held.{Held}
 use Rattle.wx_hooks.specs.Handled.{asks_of}
 use Rattle.wx_machine.specs.Quits.{is_quit, with_this_quit}
-use Rattle.wx_machine.specs.Jobs.{AreLawful, next_created}
+use Rattle.wx_machine.specs.Jobs.{is_seen, is_free, but, AreLawfulBy, free_behind, is_there, next_created}
 use Rattle.wx_machine.specs.Last.{last_added, without_last}
 use Rattle.wx_hooks.specs.KeptHandler.{HasSecondRoom, HasQuitRoom, AreTwice, StaysTwice, AddsTwice, QuitsTwice, IsKept, IsRevisionKept, quit_room}
 use Rattle.wx_hooks.proofs.QuitLemmas.{room_for_quit}
@@ -62,13 +65,24 @@ next_grows n (QuitGracefully signal grace ∷ acts) = next_grows n acts
 
 -- ---- lawful acts stay lawful
 
-lawful_append : (n : ℕ) (acts more : List Act) → AreLawful n acts → AreLawful (next_created n acts) more → AreLawful n (acts ++ more)
-lawful_append n [] more l m = m
-lawful_append n (Create job other ∷ acts) more l m = (l.0, lawful_append (above n job) acts more l.1 m)
-lawful_append n (Ask job first ∷ acts) more l m = lawful_append n acts more l m
-lawful_append n (Change change ∷ acts) more l m = lawful_append n acts more l m
-lawful_append n (Quit ∷ acts) more l m = lawful_append n acts more l m
-lawful_append n (QuitGracefully signal grace ∷ acts) more l m = lawful_append n acts more l m
+lawful_append : (free : Id → Bool) (n : ℕ) (acts more : List Act) → AreLawfulBy free n acts → AreLawfulBy (free_behind free acts) (next_created n acts) more → AreLawfulBy free n (acts ++ more)
+lawful_append free n [] more l m = m
+lawful_append free n (Create job other ∷ acts) more l m = (l.0, lawful_append (but job free) (above n job) acts more l.1 m)
+lawful_append free n (Ask job first ∷ acts) more l m = lawful_append free n acts more l m
+lawful_append free n (Change change ∷ acts) more l m = lawful_append free n acts more l m
+lawful_append free n (Quit ∷ acts) more l m = lawful_append free n acts more l m
+lawful_append free n (QuitGracefully signal grace ∷ acts) more l m = lawful_append free n acts more l m
+
+-- an id under which these acts create none is as free as before
+still_free : (free : Id → Bool) (acts : List Act) (id : Id) → creates id acts ≡ false → free id ≡ true → free_behind free acts id ≡ true
+still_free free [] id other is = is
+still_free free (Create job command ∷ acts) id other is =
+    let parts = or_parts (same job id) (creates id acts) other in
+    still_free (but job free) acts id parts.1 (rw (parts.0, is) refl)
+still_free free (Ask job ask ∷ acts) id other is = still_free free acts id other is
+still_free free (Change change ∷ acts) id other is = still_free free acts id other is
+still_free free (Quit ∷ acts) id other is = still_free free acts id other is
+still_free free (QuitGracefully signal grace ∷ acts) id other is = still_free free acts id other is
 
 -- ---- what has to be done
 
@@ -120,6 +134,19 @@ twice_adds names acts m n act (Some old) (Some new) t room a =
       room = λ twice is. let same_len : vec_len twice.acts ≡ vec_len new.acts = cc in let same_room : vec_capacity twice.acts ≡ vec_capacity new.acts = cc in omega (arith, a.2, a.3);
     }
 
+-- it still does
+pub still_added : (act : Act) (a b : Option Second) → AddsTwice act a b → is_none b ≡ is_none a
+still_added act None None h = refl
+still_added act (Some x) (Some y) h = refl
+still_added act None (Some y) h = absurd h
+still_added act (Some x) None h = absurd h
+
+pub still_there : (a b : Option Second) → StaysTwice a b → is_none b ≡ is_none a
+still_there None None h = refl
+still_there (Some x) (Some y) h = refl
+still_there None (Some y) h = absurd h
+still_there (Some x) None h = absurd h
+
 -- ---- what a handler keeps
 
 -- where only room was taken
@@ -147,7 +174,30 @@ kept_create past shown names events ids acts room second mid second' rest id com
       shown = k.shown;
       are_events = k.are_events;
       next = rw e (omega arith);
-      lawful = lawful_append (next_job past) acts (Create id command ∷ []) k.lawful (omega arith, tt);
+      lawful = lawful_append (is_free past) (next_job past) acts (Create id command ∷ []) k.lawful (inl (omega arith), tt);
+      todo = todo_append acts rest (Create id command ∷ []) (todo.Create held ∷ []) k.todo (new, tt);
+      room = rw (last_added is_quit acts (Create id command)) (omega (arith, length-append acts (Create id command ∷ [])));
+      twice = rw (last_added is_quit acts (Create id command)) (twice_adds names acts (quit_room acts) 1 (Create id command) mid second' (twice_stays names acts (quit_room acts) second mid k.twice stays) free adds);
+    })
+
+-- an id of a job that was made, and is neither seen nor created, is free
+again_free : (made seen : Bool) → made ≡ true → seen ≡ false → (made && not seen) ≡ true
+again_free true false e f = refl
+again_free true true e f = absurd cc
+again_free false seen e f = absurd cc
+
+-- a job was created again
+pub kept_again : (past : List Entry) (shown : List Held) (names : List ℕ) (events : List Event) (ids : ℕ) (acts : List Act) (room : ℕ) (second mid second' : Option Second) (rest : List Todo) (id : Id) (command : Command) (held : Held) (acts' : List Act) (room' : ℕ) (rest' : List Todo) → IsKept past shown names events ids acts room second rest → was_made id past ≡ true → is_there past acts id ≡ false → IsNew held id command → length acts + 2 ≤ room' → StaysTwice second mid → HasSecondRoom 2 mid → AddsTwice (Create id command) mid second' → acts' ≡ acts ++ Create id command ∷ [] → rest' ≡ rest ++ todo.Create held ∷ [] → IsKept past shown names events ids acts' room' second' rest'
+kept_again past shown names events ids acts room second mid second' rest id command held acts' room' rest' k made other new here stays free adds acts_is rest_is =
+    let parts = or_parts (creates id acts) (is_seen id past) other in
+    let e : next_created (next_job past) (acts ++ Create id command ∷ []) ≡ above (next_created (next_job past) acts) id = next_append (next_job past) acts (Create id command ∷ []) in
+    let below : id.0 < next_job past = made_below id past made in
+    let same_next : above (next_created (next_job past) acts) id ≡ next_created (next_job past) acts = omega (arith, below, next_grows (next_job past) acts) in
+    rw (acts_is, rest_is) (record {
+      shown = k.shown;
+      are_events = k.are_events;
+      next = rw (e, same_next) k.next;
+      lawful = lawful_append (is_free past) (next_job past) acts (Create id command ∷ []) k.lawful (inr (still_free (is_free past) acts id parts.0 (again_free (was_made id past) (is_seen id past) made parts.1)), tt);
       todo = todo_append acts rest (Create id command ∷ []) (todo.Create held ∷ []) k.todo (new, tt);
       room = rw (last_added is_quit acts (Create id command)) (omega (arith, length-append acts (Create id command ∷ [])));
       twice = rw (last_added is_quit acts (Create id command)) (twice_adds names acts (quit_room acts) 1 (Create id command) mid second' (twice_stays names acts (quit_room acts) second mid k.twice stays) free adds);
@@ -158,7 +208,7 @@ kept_ask past shown names events ids acts room second mid second' rest id ask do
   shown = k.shown;
   are_events = k.are_events;
   next = rw (next_append (next_job past) acts (Ask id ask ∷ [])) k.next;
-  lawful = lawful_append (next_job past) acts (Ask id ask ∷ []) k.lawful tt;
+  lawful = lawful_append (is_free past) (next_job past) acts (Ask id ask ∷ []) k.lawful tt;
   todo = todo_append acts rest (Ask id ask ∷ []) (todo.Ask id ask done ∷ []) k.todo (refl, refl, tt);
   room = rw (last_added is_quit acts (Ask id ask)) (omega (arith, length-append acts (Ask id ask ∷ [])));
   twice = rw (last_added is_quit acts (Ask id ask)) (twice_adds names acts (quit_room acts) 1 (Ask id ask) mid second' (twice_stays names acts (quit_room acts) second mid k.twice stays) free adds);
@@ -169,7 +219,7 @@ kept_change past shown names events ids acts room second mid second' rest change
   shown = k.shown;
   are_events = k.are_events;
   next = rw (next_append (next_job past) acts (Change change ∷ [])) k.next;
-  lawful = lawful_append (next_job past) acts (Change change ∷ []) k.lawful tt;
+  lawful = lawful_append (is_free past) (next_job past) acts (Change change ∷ []) k.lawful tt;
   todo = todo_append acts rest (Change change ∷ []) (todo.Change change ∷ []) k.todo (refl, tt);
   room = rw (last_added is_quit acts (Change change)) (omega (arith, length-append acts (Change change ∷ [])));
   twice = rw (last_added is_quit acts (Change change)) (twice_adds names acts (quit_room acts) 1 (Change change) mid second' (twice_stays names acts (quit_room acts) second mid k.twice stays) free adds);
@@ -233,10 +283,10 @@ next_quit n Quit is = refl
 next_quit n (QuitGracefully signal grace) is = refl
 next_quit n (_) is = absurd cc
 
-lawful_quit : (n : ℕ) (quit : Act) → is_quit quit ≡ true → AreLawful n (quit ∷ [])
-lawful_quit n Quit is = tt
-lawful_quit n (QuitGracefully signal grace) is = tt
-lawful_quit n (_) is = absurd cc
+lawful_quit : (free : Id → Bool) (n : ℕ) (quit : Act) → is_quit quit ≡ true → AreLawfulBy free n (quit ∷ [])
+lawful_quit free n Quit is = tt
+lawful_quit free n (QuitGracefully signal grace) is = tt
+lawful_quit free n (_) is = absurd cc
 
 changes_quit : (quit : Act) → is_quit quit ≡ true → changes (quit ∷ []) ≡ []
 changes_quit Quit is = refl
@@ -253,18 +303,18 @@ revision_quit quit revision acts acts' kept quits k is =
     let left = changes_append (without_last is_quit acts) (quit ∷ []) ∙ ap (λ (cs : List AChange). changes (without_last is_quit acts) ++ cs) (changes_quit quit quits) ∙ append-nil (changes (without_last is_quit acts)) ∙ changes_left acts in
     rw is (record { counted = k.counted ∙ ap (λ (cs : List AChange). revision + length cs) (sym left); fits = k.fits })
 
-lawful_one : (n : ℕ) (b : Bool) (act : Act) → AreLawful n (act ∷ []) → AreLawful n (cond b [] (act ∷ []))
-lawful_one n true act l = tt
-lawful_one n false act l = l
+lawful_one : (free : Id → Bool) (n : ℕ) (b : Bool) (act : Act) → AreLawfulBy free n (act ∷ []) → AreLawfulBy free n (cond b [] (act ∷ []))
+lawful_one free n true act l = tt
+lawful_one free n false act l = l
 
-lawful_left : (n : ℕ) (acts : List Act) → AreLawful n acts → AreLawful n (without_last is_quit acts)
-lawful_left n [] l = tt
-lawful_left n (act ∷ []) l = lawful_one n (is_quit act) act l
-lawful_left n (Create job other ∷ next ∷ acts) l = (l.0, lawful_left (above n job) (next ∷ acts) l.1)
-lawful_left n (Ask job ask ∷ next ∷ acts) l = lawful_left n (next ∷ acts) l
-lawful_left n (Change change ∷ next ∷ acts) l = lawful_left n (next ∷ acts) l
-lawful_left n (Quit ∷ next ∷ acts) l = lawful_left n (next ∷ acts) l
-lawful_left n (QuitGracefully signal grace ∷ next ∷ acts) l = lawful_left n (next ∷ acts) l
+lawful_left : (free : Id → Bool) (n : ℕ) (acts : List Act) → AreLawfulBy free n acts → AreLawfulBy free n (without_last is_quit acts)
+lawful_left free n [] l = tt
+lawful_left free n (act ∷ []) l = lawful_one free n (is_quit act) act l
+lawful_left free n (Create job other ∷ next ∷ acts) l = (l.0, lawful_left (but job free) (above n job) (next ∷ acts) l.1)
+lawful_left free n (Ask job ask ∷ next ∷ acts) l = lawful_left free n (next ∷ acts) l
+lawful_left free n (Change change ∷ next ∷ acts) l = lawful_left free n (next ∷ acts) l
+lawful_left free n (Quit ∷ next ∷ acts) l = lawful_left free n (next ∷ acts) l
+lawful_left free n (QuitGracefully signal grace ∷ next ∷ acts) l = lawful_left free n (next ∷ acts) l
 
 todo_one : (b : Bool) (act : Act) (rest : List Todo) → is_quit act ≡ b → AreTodo (act ∷ []) rest → AreTodo (cond b [] (act ∷ [])) rest
 todo_one true (Create job other) rest is t = absurd cc
@@ -316,7 +366,7 @@ kept_quit quit past shown names events ids acts room second second' rest acts' r
       shown = k.shown;
       are_events = k.are_events;
       next = rw (next_append (next_job past) (without_last is_quit acts) (quit ∷ []), next_quit _ quit is, next_left (next_job past) acts) k.next;
-      lawful = lawful_append (next_job past) (without_last is_quit acts) (quit ∷ []) (lawful_left (next_job past) acts k.lawful) (lawful_quit _ quit is);
+      lawful = lawful_append (is_free past) (next_job past) (without_last is_quit acts) (quit ∷ []) (lawful_left (is_free past) (next_job past) acts k.lawful) (lawful_quit _ _ quit is);
       todo = subst (AreTodo (with_this_quit quit acts)) (append-nil rest) (todo_append (without_last is_quit acts) rest (quit ∷ []) [] (todo_left acts rest k.todo) (todo_quit quit is));
       room = rw (last_added is_quit (without_last is_quit acts) quit, is) (omega (arith, k.room, room_for_quit acts, length-append (without_last is_quit acts) (quit ∷ [])));
       twice = rw (last_added is_quit (without_last is_quit acts) quit, is) (twice_quit quit names acts (quit_room acts) second second' k.twice quits);

@@ -7,7 +7,7 @@ use Rattle.wx_journal.specs.declared.entry.Entry.{Entry}
 use Rattle.wx_machine.specs.Leaves.{SameHistory}
 use Rattle.wx_machine.specs.Leaves.{LeavesOthers}
 use Rattle.wx_machine.specs.Jobs.{set}
-use Rattle.wx_machine.proofs.AllJobs.{IsIn}
+use Rattle.wx_machine.proofs.JobSets.{IsIn}
 use Rattle.wx_job.specs.Stands.{TaskStands, SameJob}
 use Rattle.wx_job.proofs.StandsLemmas.{stands_history}
 use Rattle.wx_hooks.specs.declared.held.Held.{Held}

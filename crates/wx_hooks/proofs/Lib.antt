@@ -1,4 +1,5 @@
 pub mod EndLemmas
+pub mod GivenIds
 pub mod HandlerLemmas
 pub mod HeldLemmas
 pub mod JobListLemmas

@@ -10,6 +10,7 @@ use Rattle.wx_machine.specs.Table.{Plan}
 use Rattle.wx_machine.specs.Case.{PlanLeads, PlanHere, PlanThen}
 use Rattle.wx_machine.specs.Start.{Start}
 use Rattle.wx_machine.specs.Quits.{graceful}
+use Rattle.wx_machine.specs.Keyboard.{has_ended}
 use Rattle.wx_machine.specs.Settings.{settings}
 use Rattle.wx_machine.specs.Journal.{closed, bag, window, first}
 use Rattle.wx_machine.specs.Jobs.{set}
@@ -29,9 +30,10 @@ pub record SameRest (p p' : List Entry) : Type 0 where
   pub commands_same : (i : Id) → command i p' ≡ command i p
   pub settings_same : (s : Start) → settings s p' ≡ settings s p
   pub graceful_same : graceful p' ≡ graceful p
+  pub ended_same : (s : Start) → has_ended s p' ≡ has_ended s p
 
 pub same_rest : (p : List Entry) → SameRest p p
-same_rest p = record { bag_same = refl; closed_same = refl; count_same = refl; window_same = refl; lookup_same = refl; first_same = refl; set_same = refl; commands_same = λ i. refl; settings_same = λ s. refl; graceful_same = refl }
+same_rest p = record { bag_same = refl; closed_same = refl; count_same = refl; window_same = refl; lookup_same = refl; first_same = refl; set_same = refl; commands_same = λ i. refl; settings_same = λ s. refl; graceful_same = refl; ended_same = λ s. refl }
 
 pub rest_then : (p q r : List Entry) → SameRest p q → SameRest q r → SameRest p r
 rest_then p q r a b = record {
@@ -45,6 +47,7 @@ rest_then p q r a b = record {
   commands_same = λ i. b.commands_same i ∙ a.commands_same i;
   settings_same = λ s. b.settings_same s ∙ a.settings_same s;
   graceful_same = b.graceful_same ∙ a.graceful_same;
+  ended_same = λ s. b.ended_same s ∙ a.ended_same s;
 }
 
 -- ---- a plan that makes no job and changes no setting

@@ -1,5 +1,5 @@
 -- What contracts see of the handler that is lent to an action.
-use Rattle.std.specs.Prelude.{◌≡◌, ℕ, Bool, false, Option, None, Some, List, [], ◌∷◌}
+use Rattle.std.specs.Prelude.{◌≡◌, ℕ, Bool, false, if◌then◌else◌, Option, None, Some, List, [], ◌∷◌, ◌++◌}
 use Rattle.wx_events.specs.declared.event.Event.{Event}
 use Rattle.wx_events.specs.declared.priority.Priority.{Priority}
 use Rattle.wx_journal.specs.declared.entry.Entry.{Entry}
@@ -8,7 +8,9 @@ use Rattle.wx_journal.specs.declared.entry.Act.TheVariants.{Create, Ask as Asks,
 use Rattle.wx_control.specs.declared.id.Id.{Id}
 use Rattle.wx_control.specs.declared.ask.Ask.{Ask}
 use Rattle.wx_control.specs.Sent.{Sink}
+use Rattle.wx_command.specs.declared.command.Command.{Command}
 use Rattle.wx_machine.specs.Journal.{listed}
+use Rattle.wx_machine.specs.Jobs.{is_there}
 
 -- the journal so far and the revision of the settings, the names and the events of the batch, the acts so far, and whether they
 -- were handed
@@ -32,6 +34,10 @@ asks_of (Create id command ∷ acts) = asks_of acts
 asks_of (Change change ∷ acts) = asks_of acts
 asks_of (Quit ∷ acts) = asks_of acts
 asks_of (QuitGracefully signal grace ∷ acts) = asks_of acts
+
+-- these acts, with one behind them that creates the job of this id, where it isn't there
+abbrev pub with_job : List Entry → Id → Command → List Act → List Act
+with_job p id command acts = if is_there p acts id then acts else acts ++ Create id command ∷ []
 
 -- the handler as a sink of asks: no send is counted, and none is refused for want of room
 abbrev pub sink_of : Handled → Sink Handled

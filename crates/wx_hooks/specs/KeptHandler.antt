@@ -58,7 +58,7 @@ pub record IsKept (past : List Entry) (held : List Held) (names : List ℕ) (eve
   pub shown : AreShown past held
   pub are_events : AreEvents (lookup past) names events
   pub next : ids ≡ min (next_created (next_job past) acts) (2 ^ 32 - 1)
-  pub lawful : AreLawful (next_job past) acts
+  pub lawful : AreLawful past acts
   pub todo : AreTodo acts rest
   pub room : length acts + quit_room acts ≤ act_room
   pub twice : AreTwice names acts (quit_room acts) second

@@ -1,5 +1,6 @@
 -- What has to be done for acts.
-use Rattle.std.specs.Prelude.{◌≡◌, false, List, [], ◌∷◌}
+use Rattle.std.specs.Prelude.{◌≡◌, Bool, false, Option, None, Some, List, [], ◌∷◌}
+use Rattle.std.specs.List.{find}
 use Rattle.wx_command.specs.declared.command.Command.{Command}
 use Rattle.wx_control.specs.declared.id.Id.{Id}
 use Rattle.wx_machine.specs.History.{RunsOnly}
@@ -11,6 +12,7 @@ use Rattle.wx_journal.specs.declared.entry.Entry.TheVariants.{Made}
 use Rattle.wx_hooks.specs.declared.handler.Todo.{Todo}
 use Rattle.wx_hooks.specs.declared.handler.Todo.TheVariants as todo
 use Rattle.wx_hooks.specs.declared.held.Held.{Held}
+use Rattle.wx_hooks.specs.HeldJobs.{is_of}
 
 -- This was made for a job of this id that runs this command: its handle and its task are of this job, and the task is open
 -- and stands for it behind the entry that it was made, where nothing else was created.
@@ -32,3 +34,26 @@ AreTodo (Change change ∷ acts) (todo.Change asked ∷ rest) = (asked ≡ chang
 AreTodo (Quit ∷ acts) rest = AreTodo acts rest
 AreTodo (QuitGracefully signal grace ∷ acts) rest = AreTodo acts rest
 AreTodo (_) (_) = ⊥
+
+-- ---- the job of an id
+
+-- this is to create the job of this id
+abbrev pub is_creation : Id → Todo → Bool
+is_creation id (todo.Create held) = is_of id held
+is_creation id (_) = false
+
+abbrev pub held_by : Option Todo → Option Held
+held_by (Some (todo.Create held)) = Some held
+held_by (_) = None
+
+-- what is to be held of the job that is created under this id
+abbrev pub created_under : Id → List Todo → Option Held
+created_under id rest = held_by (find (is_creation id) rest)
+
+abbrev pub first_of : Option Held → Option Held → Option Held
+first_of None other = other
+first_of (Some held) other = Some held
+
+-- the same, or what is held of it already
+abbrev pub held_under : Id → List Held → List Todo → Option Held
+held_under id held rest = first_of (find (is_of id) held) (created_under id rest)

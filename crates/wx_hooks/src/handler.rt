@@ -1,22 +1,25 @@
 // The handler that is lent to an action: it shows the batch and the jobs, and collects acts.
-ghost use Rattle.std.specs.Prelude.{◌≡◌, ◌∷◌, ◌++◌, [], ◌<◌, ◌≤◌, ◌+◌, ◌-◌, ◌^◌, true, false, is_none, is_some, length, vec_len, vec_capacity, Err, IfSome, IfOk, IfErr, OnOk, OnErr};
+ghost use Rattle.std.specs.Prelude.{◌≡◌, Some, ◌∷◌, ◌++◌, [], ◌<◌, ◌≤◌, ◌+◌, ◌-◌, ◌^◌, true, false, is_none, is_some, length, vec_len, vec_capacity, option_map, Err, IfSome, IfOk, IfErr, OnOk, OnErr};
+ghost use Rattle.std.specs.List.{find};
 ghost use Rattle.wx_control.specs.Sent.{sent as after_send};
 ghost use Rattle.wx_control.specs.declared.sink.Refused.TheVariants.{Memory as WantOfMemory};
 ghost use Rattle.wx_journal.specs.Names.{next_job};
-ghost use Rattle.wx_machine.specs.History.{child};
+ghost use Rattle.wx_machine.specs.History.{child, creation};
 ghost use Rattle.wx_config.specs.Changes.{last_revision};
 ghost use Rattle.wx_journal.specs.declared.entry.Act.TheVariants.{Create, Ask as Asks, Change as Changes};
 ghost use Rattle.wx_machine.specs.Settings.{changes, MayChange};
 ghost use Rattle.wx_hooks.specs.declared.handler.ChangeRefused.TheVariants.{RevisionSpent};
 ghost use Rattle.wx_journal.specs.declared.entry.Entry.TheVariants.{Hand};
 ghost use Rattle.wx_hooks.specs.declared.handler.CreateRefused.TheVariants.{IdsSpent};
-ghost use Rattle.wx_hooks.specs.Handled.{sink_of, AreEvents, lookup, Handled};
+ghost use Rattle.wx_hooks.specs.declared.handler.GetRefused.TheVariants.{UnknownId};
+ghost use Rattle.wx_hooks.specs.Handled.{sink_of, AreEvents, lookup, with_job, Handled};
 ghost use Rattle.wx_machine.specs.Quits.{is_quit, ends_with_quit, with_this_quit, with_quit, with_graceful_quit};
+ghost use Rattle.wx_keys.specs.Tags.{all_tags, signals, paths, completions};
 ghost use Rattle.wx_hooks.specs.HeldJobs.{IsHandle, AreSeen, AreShown};
-ghost use Rattle.wx_machine.specs.Jobs.{is_seen, AreLawful, next_created};
+ghost use Rattle.wx_machine.specs.Jobs.{is_seen, is_given, is_there, AreLawful, next_created};
 ghost use Rattle.wx_machine.specs.Last.{without_last};
 ghost use Rattle.wx_hooks.specs.KeptHandler.{HasSecondRoom, HasQuitRoom, StaysTwice, AddsTwice, QuitsTwice, quit_room};
-ghost use Rattle.wx_hooks.specs.Todo.{AreTodo, IsNew};
+ghost use Rattle.wx_hooks.specs.Todo.{AreTodo, IsNew, is_creation, held_by, created_under, held_under};
 
 use crate::batch::Batch;
 use crate::copied::{with_copies, with_copy};
@@ -31,6 +34,7 @@ use wx_control::{Ask, Controls, Flag, Id, Job, Refused, Ticket};
 use wx_events::{Event, Signal};
 use wx_job::start_job;
 use wx_journal::{Act, Entry, Journal};
+use wx_keys::{Completions, Paths, Signals, Tagged};
 use wx_text::{Copies, List, Memory};
 
 /// Why no job was created.
@@ -50,6 +54,26 @@ impl From<Memory> for CreateRefused {
 
     fn from(_memory: Memory) -> CreateRefused {
         CreateRefused::Memory
+    }
+}
+
+/// Why no job is there under an id.
+#[derive(Clone, Copy, Debug, PartialEq, Eq)]
+pub enum GetRefused {
+    /// No job was made under this id.
+    UnknownId,
+    /// Want of memory.
+    Memory,
+}
+
+impl From<Memory> for GetRefused {
+    ghost use Rattle.std.specs.Prelude.{◌≡◌};
+    ghost use Rattle.wx_hooks.specs.declared.handler.GetRefused.{GetRefused};
+
+    ghost from_gives = { λ _ refusal. refusal ≡ GetRefused.Memory };
+
+    fn from(_memory: Memory) -> GetRefused {
+        GetRefused::Memory
     }
 }
 
@@ -282,6 +306,53 @@ fn new_job(alloc: Global, id: Id, command: Command) -> Result<NewJob, Memory>
     }
 }
 
+/// Whether this is to create the job of this id.
+fn is_creation(todo: &Todo, id: Id) -> bool
+    ensures { result ≡ is_creation id todo.now }
+{
+    match todo {
+        Todo::Create(held) => held.handle.id() == id,
+        _ => false,
+    }
+}
+
+/// The creation of the job of this id among these, where one is.
+fn creation_of(todo: &[Todo], id: Id) -> Option<&Todo>
+    ensures { option_map (λ one. one.now) result ≡ find (is_creation id) todo.now }
+{
+    todo.iter().find(|todo| is_creation(todo, id))
+}
+
+/// What is to be held of the job that this is to create, where it is to create one.
+fn held_by(todo: &Todo) -> Option<&Held>
+    ensures { option_map (λ held. held.now) result ≡ held_by (Some todo.now) }
+{
+    match todo {
+        Todo::Create(held) => Some(held),
+        _ => None,
+    }
+}
+
+/// What is to be held of the job that is created under this id, where one is.
+fn created_under(todo: &[Todo], id: Id) -> Option<&Held>
+    ensures { option_map (λ held. held.now) result ≡ created_under id todo.now }
+{
+    match creation_of(todo, id) {
+        Some(one) => held_by(one),
+        None => None,
+    }
+}
+
+/// What is held of the job of this id, or is to be, where one is there or is created.
+fn held_under<'b>(held: &'b JobList, todo: &'b [Todo], id: Id) -> Option<&'b Held>
+    ensures { option_map (λ held. held.now) result ≡ held_under id held.now todo.now }
+{
+    match held.get(id) {
+        Some(held) => Some(held),
+        None => created_under(todo, id),
+    }
+}
+
 /// The ticket of an ask of this job, and a copy of its flag. It fails only for want of memory.
 fn new_ticket(alloc: Global, job: &Job) -> Result<(Ticket, Flag), Memory>
     ensures gone { IfOk result (λ made. made.0.gone ≡ job.now.gone) }
@@ -352,6 +423,27 @@ impl<'a> ActionHandler<'a> {
         &self.events
     }
 
+    /// The signals that the tags of the events hold, in order. It takes no memory.
+    pub fn signals(&self) -> Signals<'_>
+        ensures { result ≡ signals (all_tags self.now.events) }
+    {
+        self.events.signals()
+    }
+
+    /// The paths that the tags of the events hold, in order, each with what it leads to. It takes no memory.
+    pub fn paths(&self) -> Paths<'_>
+        ensures { result ≡ paths (all_tags self.now.events) }
+    {
+        self.events.paths()
+    }
+
+    /// The ends of processes that the tags of the events hold, in order, each where it is known. It takes no memory.
+    pub fn completions(&self) -> Completions<'_>
+        ensures { result ≡ completions (all_tags self.now.events) }
+    {
+        self.events.completions()
+    }
+
     /// A copy of the handle on the job of this id. It answers None exactly where no job of this id was there when the
     /// handler was called: none was made, or it was gone before an earlier call. It fails only for want of memory.
     pub fn get_job(&self, alloc: Global, id: Id) -> Result<Option<Job>, Memory>
@@ -382,8 +474,8 @@ impl<'a> ActionHandler<'a> {
     }
 
     /// Creates a job that runs this command, and answers its id, the next one that wasn't given, with a handle on it. No
-    /// job that the handler shows has this id. It answers `IdsSpent` exactly where 2^32 - 1 ids were given before, and
-    /// `Memory` for want of memory. The handler stays as it was where no job is created.
+    /// job was made under this id, and none was created in this call. It answers `IdsSpent` exactly where 2^32 - 1 ids were
+    /// given before, and `Memory` for want of memory. The handler stays as it was where no job is created.
     pub fn create_job(
         &mut self,
         alloc: Global,
@@ -391,6 +483,7 @@ impl<'a> ActionHandler<'a> {
     ) -> Result<(Id, Job), CreateRefused>
         ensures id { IfOk result (λ made. made.0.0 ≡ next_created (next_job self.old.past) self.old.acts) }
         ensures new { IfOk result (λ made. is_seen made.0 self.old.past ≡ false) }
+        ensures fresh { IfOk result (λ made. is_given self.old.past self.old.acts made.0 ≡ false) }
         ensures handle { IfOk result (λ made. made.1.id ≡ made.0) }
         ensures command { IfOk result (λ made. made.1.command ≡ command) }
         ensures created { IfOk result (λ made. self.new ≡ record self.old { acts = self.old.acts ++ Create made.0 command ∷ [] }) }
@@ -418,6 +511,45 @@ impl<'a> ActionHandler<'a> {
             Todo::Create(new.held),
         );
         Ok((id, new.job))
+    }
+
+    /// A handle on the job of this id: on the one that was there when the handler was called, or was created in this call,
+    /// and else on a new one that runs this command, which is made again under this id. It answers `UnknownId` exactly
+    /// where no job was ever made under this id, and none was created in this call, and `Memory` for want of memory. The
+    /// handler stays as it was where no job is created.
+    pub fn get_or_create_job(
+        &mut self,
+        alloc: Global,
+        id: Id,
+        command: &Command,
+    ) -> Result<Job, GetRefused>
+        ensures id { IfOk result (λ job. job.id ≡ id) }
+        ensures seen { is_seen id self.old.past ≡ true → IfOk result (λ job. IsHandle self.old.past id job) }
+        ensures created { is_seen id self.old.past ≡ false → IfOk result (λ job. creation id self.new.acts ≡ Some job.command) }
+        ensures acts { OnOk result (self.new ≡ record self.old { acts = with_job self.old.past id command.now self.old.acts }) }
+        ensures refused { OnErr result (self.new ≡ self.old) }
+        ensures unknown { IfErr result (λ refusal. refusal ≡ UnknownId → is_given self.old.past self.old.acts id ≡ false) }
+        ensures exactly { is_given self.old.past self.old.acts id ≡ false → result ≡ Err UnknownId }
+    {
+        if let Some(held) = held_under(self.held, self.todo.as_slice(), id) {
+            return Ok(held.handle.copy(alloc)?);
+        }
+        if !self.journal.was_made(id) {
+            return Err(GetRefused::UnknownId);
+        }
+        let Ok(()) = reserve_act(&mut self.acts, &mut self.second, &mut self.todo) else {
+            return Err(GetRefused::Memory);
+        };
+        let new = new_job(alloc, id, command.copy(alloc)?)?;
+        put_act(
+            &mut self.acts,
+            &mut self.second,
+            &mut self.todo,
+            new.act,
+            new.twice,
+            Todo::Create(new.held),
+        );
+        Ok(new.job)
     }
 
     /// Asks for this change of the settings. It answers `RevisionSpent` exactly where the revision would be 2^64 - 1 already,
@@ -475,7 +607,7 @@ impl<'a> ActionHandler<'a> {
         requires { self.old.handed ≡ false }
         ensures entry { result ≡ Hand n self.old.names self.old.acts }
         ensures handed { self.new ≡ record self.old { handed = true } }
-        ensures lawful { AreLawful (next_job self.old.past) self.old.acts }
+        ensures lawful { AreLawful self.old.past self.old.acts }
         ensures changes { MayChange self.old.revision self.old.acts }
     {
         match self.second.take() {
@@ -492,7 +624,7 @@ impl<'a> ActionHandler<'a> {
     pub fn into_parts(self) -> (List<u64>, List<Act>, Vec<Todo>)
         ensures names { result.0 ≡ self.entry.names }
         ensures acts { result.1 ≡ self.entry.acts }
-        ensures lawful { AreLawful (next_job self.entry.past) result.1 }
+        ensures lawful { AreLawful self.entry.past result.1 }
         ensures changes { MayChange self.entry.revision result.1 }
         ensures todo { AreTodo result.1 result.2.items }
     {

@@ -3,6 +3,7 @@ use Rattle.wx_journal.specs.Names.{next_job}
 use Rattle.wx_machine.specs.Jobs.{set}
 use Rattle.wx_hooks.proofs.HandlerLemmas.{kept_room, kept_create, revision_same, revision_then, ids_left, next_grows}
 use Rattle.wx_hooks.proofs.HeldLemmas.{not_seen}
+use Rattle.wx_hooks.proofs.GivenIds.{fresh_id}
 use Rattle.wx_hooks.proofs.handler.ActionHandler.create_job.Goals as goal
 
 pub invariant_of-self : goal.invariant_of-self
@@ -27,6 +28,10 @@ invariant_of-self-2 c = (
 pub returns-clause-new : goal.returns-clause-new
 returns-clause-new c =
     rw (← ap (λ h. h.past) c.self.view_is) (not_seen (next_job c.self.inside.journal.now.past) c.in-Some.id (set c.self.inside.journal.now.past) c.self.invariant.0.shown.below (omega (arith, c.in-Some.ensures.id, c.in-Some.ensures.left, c.in-Some.ensures.counted, c.self.invariant.0.next, next_grows (next_job c.self.inside.journal.now.past) c.self.inside.acts.items)))
+
+pub returns-clause-fresh : goal.returns-clause-fresh
+returns-clause-fresh c =
+    rw (← c.self.view_is) (fresh_id c.self.inside.journal.now.past c.self.inside.acts.items c.in-Some.id (omega (arith, c.in-Some.ensures.id, c.in-Some.ensures.left, c.in-Some.ensures.counted, c.self.invariant.0.next)))
 
 pub returns-in_default-reserve_act-clause-exactly : goal.returns-in_default-reserve_act-clause-exactly
 returns-in_default-reserve_act-clause-exactly c = rw (← c.self.view_is) (λ full. absurd (ids_left _ _ c.self.invariant.0.next c.in-Some.ensures.left full))

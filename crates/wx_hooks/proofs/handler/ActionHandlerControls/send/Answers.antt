@@ -1,10 +1,7 @@
-use Rattle.std.proofs.Common.{◌≡◌, ◌∷◌, ◌++◌, ◌∙◌, [], Option, None, Some, length, ap, arith, refl}
+use Rattle.std.proofs.Common.{◌≡◌, ◌∷◌, ◌++◌, ◌∙◌, [], length, ap, arith, refl}
 use Rattle.std.specs.Prelude.{is_none}
-use Rattle.wx_journal.specs.Acts.{JournalAct as Act}
 use Rattle.wx_journal.specs.declared.entry.Act.TheVariants.{Ask}
-use Rattle.wx_hooks.specs.declared.handler.Second.{Second}
-use Rattle.wx_hooks.specs.KeptHandler.{StaysTwice, AddsTwice}
-use Rattle.wx_hooks.proofs.HandlerLemmas.{kept_room, kept_ask, revision_same, revision_then, asks_append}
+use Rattle.wx_hooks.proofs.HandlerLemmas.{kept_room, kept_ask, revision_same, revision_then, asks_append, still_added, still_there}
 use Rattle.wx_hooks.proofs.handler.ActionHandlerControls.send.Goals as goal
 
 pub invariant_of-self : goal.invariant_of-self
@@ -24,19 +21,6 @@ invariant_of-self-2 c = (
       (rw c.reserve_act.ensures.todo at c.put_act.ensures.todo),
   revision_then _ c.self.inside.acts.items _ _ _ _ c.self.invariant.1 (rw c.reserve_act.ensures.acts at c.put_act.ensures.acts) (omega arith) c.self.invariant.1.fits,
 )
-
--- what stands a second time still does
-still_added : (act : Act) (a b : Option Second) → AddsTwice act a b → is_none b ≡ is_none a
-still_added act None None h = refl
-still_added act (Some x) (Some y) h = refl
-still_added act None (Some y) h = absurd h
-still_added act (Some x) None h = absurd h
-
-still_there : (a b : Option Second) → StaysTwice a b → is_none b ≡ is_none a
-still_there None None h = refl
-still_there (Some x) (Some y) h = refl
-still_there None (Some y) h = absurd h
-still_there (Some x) None h = absurd h
 
 pub returns-clause-sink : goal.returns-clause-sink
 returns-clause-sink c =
