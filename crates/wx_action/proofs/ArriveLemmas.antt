@@ -26,7 +26,7 @@ use Rattle.wx_machine.specs.Kept.{StaysQuiet, More}
 use Rattle.wx_machine.specs.Leads.{FollowsAlone, Then}
 use Rattle.wx_machine.specs.Turns.{StaysInTurn}
 use Rattle.wx_action.specs.Serves.{AddsAlone, Grows, OwesRest, Settles}
-use Rattle.wx_action.proofs.ServesLaws.{adds, adds_none}
+use Rattle.wx_action.proofs.ServesLaws.{adds, adds_none, adds_then}
 use Rattle.wx_machine.proofs.AllJobs.{turns_over}
 use Rattle.wx_action.specs.Stands.{Stands, IsOffered, end_room}
 use Rattle.wx_action.proofs.StandsLemmas.{same_size, stands_behind, offered_is, stands_offered, stands_sent}
@@ -44,6 +44,15 @@ steps_add s w p p' d = adds s p p' d.follows d.quiet d.turns
 -- so it grows, where the room for the end is left
 pub grows : (s : Start) (w w' : Worker) (j j' : Written) → StepsOver s w' j.past j'.past → end_room w' ≡ end_room w → end_room w ≤ j'.spare → Grows s w j w' j'
 grows s w w' j j' d same room = record { stands = d.stands; adds = steps_add s w' j.past j'.past d; end_kept = same; room = λ r. omega (arith, same, room) }
+
+-- what holds whatever is answered holds where the answer is an error
+pub on_err : {T E P : Type 0} (result : Result T E) → P → OnErr result P
+on_err (Ok x) h = tt
+on_err (Err e) h = h
+
+-- one behind another
+pub grows_then : (s : Start) (w w' w'' : Worker) (j j' j'' : Written) → Grows s w j w' j' → Grows s w' j' w'' j'' → Grows s w j w'' j''
+grows_then s w w' w'' j j' j'' a b = record { stands = b.stands; adds = adds_then s j.past j'.past j''.past a.adds b.adds; end_kept = b.end_kept ∙ a.end_kept; room = λ r. b.room (a.room r) }
 
 -- where no entry was added
 pub grows_none : (s : Start) (w w' : Worker) (j j' : Written) → Stands s w' j'.past → j'.past ≡ j.past → end_room w' ≡ end_room w → (end_room w ≤ j.spare → end_room w' ≤ j'.spare) → Grows s w j w' j'

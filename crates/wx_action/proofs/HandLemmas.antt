@@ -1,6 +1,6 @@
 -- The window is handed.
 use Rattle.std.proofs.Common.{◌≡◌, ◌≢◌, ◌<◌, ◌≤◌, ℕ, Bool, true, false, cond, List, [], ◌∷◌, ◌++◌, inl, inr, refl, arith, ap, sym, subst, ◌∙◌, append_assoc, ne_eqb}
-use Rattle.std.specs.Prelude.{Option, None, Some, Result, Ok, Err, OnErr, map, not, length, ◌+◌, ◌&&◌, ◌||◌, ◌==◌}
+use Rattle.std.specs.Prelude.{Option, None, Some, map, not, length, ◌+◌, ◌&&◌, ◌||◌, ◌==◌}
 use Rattle.std.specs.List.{AllByRecursion, filter, list_any}
 use Rattle.std.proofs.lemmas.Bool.{not-false}
 use Rattle.std.proofs.lemmas.List.{length-map}
@@ -25,11 +25,11 @@ use Rattle.wx_machine.specs.Settings.{settings, revision, MayChange}
 use Rattle.wx_machine.specs.Journal.{window, turn_count}
 use Rattle.wx_machine.specs.Kept.{Quiet, Same, More}
 use Rattle.wx_action.specs.Serves.{AddsAlone, IsServed}
-use Rattle.wx_machine.specs.Jobs.{set, jobs, with_created, act_plan, AreLawful}
+use Rattle.wx_machine.specs.Jobs.{set, jobs, with_created, act_plan, is_free, AreLawfulBy, AreLawful}
 use Rattle.wx_machine.specs.declared.quit.QuitManner.{QuitManner}
 use Rattle.wx_machine.specs.Quits.{quit_of, quit_asks, is_abort, is_graceful, is_aborting, graceful}
 use Rattle.wx_machine.specs.Answer.{NoneIsToGo}
-use Rattle.wx_machine.specs.Due.{Hands, Agenda, Open, Comes, plans, after_acts, is_through, is_quitting, settle, agenda, Due}
+use Rattle.wx_machine.specs.Due.{Hands, Open, Comes, plans, after_acts, is_through, is_quitting, settle, agenda, Due}
 use Rattle.wx_machine.specs.Leads.{FollowsHooks, Then}
 use Rattle.wx_action.specs.Perform.{AreCommanded, OwesPlan, OwesActs}
 use Rattle.wx_action.specs.Stands.{Stands, Collects, Works, without_hand}
@@ -39,13 +39,14 @@ use Rattle.wx_hooks.specs.HeldJobs.{is_here}
 use Rattle.wx_hooks.specs.Todo.{AreTodo}
 use Rattle.wx_machine.specs.Turns.{StaysInTurn}
 use Rattle.wx_machine.proofs.RunLaws.{window_below, window_handed}
-use Rattle.wx_machine.proofs.AllJobs.{IsIn, command_kept, unseen_hand, creation_is, same_turns, turns_over}
+use Rattle.wx_machine.proofs.AllJobs.{command_kept, unseen_hand, creation_is, same_turns, turns_over}
+use Rattle.wx_machine.proofs.JobSets.{IsIn, lawful_hand}
 use Rattle.wx_hooks.proofs.JobsLemmas.{same_held}
 use Rattle.wx_action.proofs.StandsLemmas.{over_hand}
 use Rattle.wx_job.proofs.StandsLemmas.{lives-kept, child-kept}
 
 -- the entry of a batch that was due
-pub hand_due : (s : Start) (p : List Entry) (n : ℕ) (names : List ℕ) (acts : List Act) → agenda s p ≡ Comes Hands Open → n ≡ (settings s p).action_handler → names ≡ window p → AreLawful (next_job p) acts → MayChange (revision s p) acts → Due s p (Hand n names acts)
+pub hand_due : (s : Start) (p : List Entry) (n : ℕ) (names : List ℕ) (acts : List Act) → agenda s p ≡ Comes Hands Open → n ≡ (settings s p).action_handler → names ≡ window p → AreLawful p acts → MayChange (revision s p) acts → Due s p (Hand n names acts)
 hand_due s p n names acts due number is lawful may = rw (due, number, is) ((acts, lawful, may), refl)
 
 pub hand_follows : (s : Start) (p p' : List Entry) (n : ℕ) (names : List ℕ) (acts : List Act) (hooks hooks' : Option (List Entry)) → Due s p (Hand n names acts) → p' ≡ Hand n names acts ∷ p → hooks' ≡ tell (Hand n names acts) hooks → FollowsHooks s p hooks p' hooks'
@@ -71,7 +72,7 @@ pub all_here : (P : Held → Type 0) (hs : List Held) → AllByRecursion P hs �
 all_here P [] s = tt
 all_here P (h ∷ hs) s = all_cond P (is_here h) h (filter is_here hs) s.0 (all_here P hs s.1)
 
-tasks_hand : (p : List Entry) (n : ℕ) (names : List ℕ) (acts : List Act) (hs : List Held) → AreLawful (next_job p) acts → ((id : Id) → IsIn id (map held_id hs) → IsIn id (set p)) → AllByRecursion (HeldStands p) hs → AllByRecursion (HeldStands (Hand n names acts ∷ p)) hs
+tasks_hand : (p : List Entry) (n : ℕ) (names : List ℕ) (acts : List Act) (hs : List Held) → AreLawful p acts → ((id : Id) → IsIn id (map held_id hs) → IsIn id (set p)) → AllByRecursion (HeldStands p) hs → AllByRecursion (HeldStands (Hand n names acts ∷ p)) hs
 tasks_hand p n names acts [] lawful here stood = tt
 tasks_hand p n names acts (h ∷ hs) lawful here stood = (
   same_held p (Hand n names acts ∷ p) h (over_hand n names acts p (held_id h) (command_kept p n names acts (held_id h) lawful (here (held_id h) (inl refl)))) stood.0,
@@ -89,15 +90,15 @@ gone_runs p id (h ∷ hs) stood (inr here) dead = gone_runs p id hs stood.1 here
 
 -- ---- what the acts ask for is owed
 
-all_commanded : (p : List Entry) (n m : ℕ) (names : List ℕ) (acts before after : List Act) → acts ≡ before ++ after → AreLawful m acts → AreCommanded (Hand n names acts ∷ p) after
-all_commanded p n m names acts before [] is l = tt
-all_commanded p n m names acts before (Create id what ∷ after) is l =
-    let made : creation id acts ≡ Some what = rw is (creation_is m before id what after (rw is at l)) in
-    (ap (λ (o : Option Command). or_else o (command id p)) made, all_commanded p n m names acts (before ++ Create id what ∷ []) after (is ∙ sym (append_assoc before (Create id what ∷ []) after)) l)
-all_commanded p n m names acts before (Ask id ask ∷ after) is l = all_commanded p n m names acts (before ++ Ask id ask ∷ []) after (is ∙ sym (append_assoc before (Ask id ask ∷ []) after)) l
-all_commanded p n m names acts before (Change change ∷ after) is l = all_commanded p n m names acts (before ++ Change change ∷ []) after (is ∙ sym (append_assoc before (Change change ∷ []) after)) l
-all_commanded p n m names acts before (Quit ∷ after) is l = all_commanded p n m names acts (before ++ Quit ∷ []) after (is ∙ sym (append_assoc before (Quit ∷ []) after)) l
-all_commanded p n m names acts before (QuitGracefully signal grace ∷ after) is l = all_commanded p n m names acts (before ++ QuitGracefully signal grace ∷ []) after (is ∙ sym (append_assoc before (QuitGracefully signal grace ∷ []) after)) l
+all_commanded : (p : List Entry) (n : ℕ) (free : Id → Bool) (m : ℕ) (names : List ℕ) (acts before after : List Act) → acts ≡ before ++ after → AreLawfulBy free m acts → AreCommanded (Hand n names acts ∷ p) after
+all_commanded p n free m names acts before [] is l = tt
+all_commanded p n free m names acts before (Create id what ∷ after) is l =
+    let made : creation id acts ≡ Some what = rw is (creation_is free m before id what after (rw is at l)) in
+    (ap (λ (o : Option Command). or_else o (command id p)) made, all_commanded p n free m names acts (before ++ Create id what ∷ []) after (is ∙ sym (append_assoc before (Create id what ∷ []) after)) l)
+all_commanded p n free m names acts before (Ask id ask ∷ after) is l = all_commanded p n free m names acts (before ++ Ask id ask ∷ []) after (is ∙ sym (append_assoc before (Ask id ask ∷ []) after)) l
+all_commanded p n free m names acts before (Change change ∷ after) is l = all_commanded p n free m names acts (before ++ Change change ∷ []) after (is ∙ sym (append_assoc before (Change change ∷ []) after)) l
+all_commanded p n free m names acts before (Quit ∷ after) is l = all_commanded p n free m names acts (before ++ Quit ∷ []) after (is ∙ sym (append_assoc before (Quit ∷ []) after)) l
+all_commanded p n free m names acts before (QuitGracefully signal grace ∷ after) is l = all_commanded p n free m names acts (before ++ QuitGracefully signal grace ∷ []) after (is ∙ sym (append_assoc before (QuitGracefully signal grace ∷ []) after)) l
 
 -- jobs that live stay where those that don't leave
 kept_twice : (test : Id → Bool) (id : Id) (ids : List Id) (b : Bool) → test id ≡ b → filter test (filter test ids) ≡ filter test ids → filter test (cond b (id ∷ filter test ids) (filter test ids)) ≡ cond b (id ∷ filter test ids) (filter test ids)
@@ -129,7 +130,7 @@ pub record Handed (s : Start) (w' : Worker) (p' : List Entry) (todos : List Todo
   pub owes : OwesActs s p' todos quit ids
   pub aborts : is_aborting p' ≡ is_abort quit
 
-pub handed : (s : Start) (w w' : Worker) (n : ℕ) (names : List ℕ) (acts : List Act) (todos : List Todo) (quit : Option QuitManner) (p p' : List Entry) → Stands s w p → names ≡ window p → AreLawful (next_job p) acts → MayChange (revision s p) acts → AreTodo acts todos → quit ≡ quit_of acts
+pub handed : (s : Start) (w w' : Worker) (n : ℕ) (names : List ℕ) (acts : List Act) (todos : List Todo) (quit : Option QuitManner) (p p' : List Entry) → Stands s w p → names ≡ window p → AreLawful p acts → MayChange (revision s p) acts → AreTodo acts todos → quit ≡ quit_of acts
     → w' ≡ record w { batch = w'.batch; jobs = w'.jobs; graceful = w'.graceful } → w'.graceful ≡ (is_graceful quit || w.graceful) → w'.batch.names ≡ [] → w'.batch.events ≡ [] → w'.jobs ≡ filter is_here w.jobs → p' ≡ Hand n names acts ∷ p → Handed s w' p' todos quit (with_created acts (jobs p))
 handed s w w' n names acts todos quit p p' stands whole lawful may todo_is quits fields asked names_none events_none items grown =
     let none : window (Hand n names acts ∷ p) ≡ [] = window_handed n names acts p whole in
@@ -148,10 +149,11 @@ handed s w w' n names acts todos quit p p' stands whole lawful may todo_is quits
       tasks_kept = rw items (all_here (HeldStands (Hand n names acts ∷ p)) w.jobs tasks);
       idle_kept = unseen_hand n names acts p stands.idle_kept (λ id here dead. gone_runs p id w.jobs stands.tasks_kept (rw stands.jobs_kept here) dead);
       graceful_kept = asked ∙ ap (λ (q : Option QuitManner). is_graceful q || w.graceful) quits ∙ ap (λ (b : Bool). is_graceful (quit_of acts) || b) stands.graceful_kept;
+      ended_kept = stands.ended_kept;
     } in
     rw grown (record {
       stands = rw fields stood;
-      owes = record { acts = acts; lawful = lawful; may_change = may; is_todo = todo_is; commanded = all_commanded p n (next_job p) names acts [] acts refl lawful; waiting = refl; then = ap (λ (js : List Id). with_created acts js) (filter_twice (λ id. lives id p) (set p)); due = rw quits refl };
+      owes = record { acts = acts; lawful = lawful_hand p n names acts acts lawful; may_change = may; is_todo = todo_is; commanded = all_commanded p n (is_free p) (next_job p) names acts [] acts refl lawful; waiting = refl; then = ap (λ (js : List Id). with_created acts js) (filter_twice (λ id. lives id p) (set p)); due = rw quits refl };
       aborts = ap is_abort (sym quits);
     })
 
@@ -162,11 +164,6 @@ works_unhanded s p p' collected.Hand other c = absurd (other refl)
 works_unhanded s p p' collected.Idle other c = c.1
 works_unhanded s p p' collected.Kept other c = c.1
 works_unhanded s p p' collected.Dropped other c = c.1
-
--- what holds whatever is answered holds where the answer is an error
-pub on_err : {T E P : Type 0} (result : Result T E) → P → OnErr result P
-on_err (Ok x) h = tt
-on_err (Err e) h = h
 
 -- where acts are owed no window is to be handed
 none_after : (ends : Bool) → NoneIsToGo (after_acts ends)

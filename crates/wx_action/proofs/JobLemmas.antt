@@ -24,6 +24,7 @@ use Rattle.wx_machine.proofs.Owners.{self, same-is}
 use Rattle.wx_hooks.specs.declared.held.Held.{Held}
 use Rattle.wx_action.specs.declared.worker_state.Worker.{Worker}
 use Rattle.wx_machine.specs.Start.{Start}
+use Rattle.wx_machine.specs.Keyboard.{ended_over}
 use Rattle.wx_config.specs.Changes.{changed as changed_by, last_revision}
 use Rattle.wx_config.specs.declared.change.Change.{Change}
 use Rattle.wx_config.specs.declared.config.Config.{Config}
@@ -38,7 +39,8 @@ use Rattle.wx_machine.specs.Kept.{StaysQuiet, More}
 use Rattle.wx_machine.specs.Leads.{FollowsAlone, Follows, Then}
 use Rattle.wx_action.specs.Serves.{LeavesOff, Steps, Settles}
 use Rattle.wx_machine.specs.Turns.{StaysInTurn}
-use Rattle.wx_machine.proofs.AllJobs.{turns_over, calls_none_ask, IsIn, is_child_some, none_by_ask, none_by_step, parent_is, parent_is_none}
+use Rattle.wx_machine.proofs.AllJobs.{turns_over, calls_none_ask, is_child_some, none_by_ask, none_by_step, parent_is, parent_is_none}
+use Rattle.wx_machine.proofs.JobSets.{IsIn}
 use Rattle.wx_action.proofs.TurnLaws.{at_end_of_none, other_over_end}
 use Rattle.wx_hooks.specs.HeldJobs.{is_of, runs_child, handle_id, task_of, with_task, parked_in, parked_at}
 use Rattle.wx_action.specs.Stands.{Stands, AtTurn, IsStepOf}
@@ -128,15 +130,15 @@ ask_done s w w' id task task' ask p p' stands going due alive l fields jobs same
 
 -- ---- a change of the settings
 
-pub change_done : (s : Start) (w w' : Worker) (change : Change) (p p' : List Entry) → Stands s w p → is_quitting p ≡ false → agenda s p ≡ change_turn (revision s p) → pending p ≡ change ∷ [] → revision s p ≢ last_revision → w' ≡ record w { config = w'.config } → w'.config ≡ changed_by change w.config → p' ≡ Changed w'.config.change_signal ∷ p → AskDone s w' p p'
-change_done s w w' change p p' stands going due waits other fields config grown =
+pub change_done : (s : Start) (w w' : Worker) (change : Change) (p p' : List Entry) → Stands s w p → is_quitting p ≡ false → agenda s p ≡ change_turn (revision s p) → pending p ≡ change ∷ [] → revision s p ≢ last_revision → w' ≡ record w { config = w'.config; ended = w'.ended } → w'.ended ≡ ended_over w.config.keyboard_events w'.config.keyboard_events w.ended → w'.config ≡ changed_by change w.config → p' ≡ Changed w'.config.change_signal ∷ p → AskDone s w' p p'
+change_done s w w' change p p' stands going due waits other fields ended config grown =
     let raises : w'.config.change_signal ≡ revision s p + 1 = ap (λ (c : Config). c.change_signal) (config ∙ ap (changed_by change) stands.config_kept) ∙ raised change (settings s p) in
     let is : p' ≡ Changed (revision s p + 1) ∷ p = grown ∙ ap (λ n. Changed n ∷ p) raises in
     let owed : agenda s p ≡ plans (change_plan (revision s p) Done) Open = due ∙ ap (λ (b : Bool). cond b (says Ignored) (plans (change_plan (revision s p) Done) Open)) (ne_eqb (revision s p) last_revision other) in
     let d : Due s p (Changed (revision s p + 1)) = subst (λ (a : Agenda). Admits s p a (Changed (revision s p + 1))) (sym owed) (tt, refl) in
     let after : settings s (Changed (revision s p + 1) ∷ p) ≡ changed_by change (settings s p) = ap (λ (cs : List Change). first_changed cs (settings s p)) waits in
     rw is (record {
-      stands = stands_changed s w w' change (revision s p + 1) p stands fields (config ∙ ap (changed_by change) stands.config_kept ∙ sym after) after;
+      stands = stands_changed s w w' change (revision s p + 1) p stands fields ended (config ∙ ap (changed_by change) stands.config_kept ∙ sym after) after;
       follows = λ world hooks p₀ world₀ hooks₀ l. Then (Changed (revision s p + 1)) p world hooks l d;
       quiet = λ p₀ a. More (Changed (revision s p + 1)) p a refl;
       turns = turns_over _ _ refl;

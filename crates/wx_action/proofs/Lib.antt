@@ -2,6 +2,7 @@ pub mod ArriveLemmas
 pub mod BreakLemmas
 pub mod HandLemmas
 pub mod JobLemmas
+pub mod KeyLemmas
 pub mod PerformLemmas
 pub mod PlanLemmas
 pub mod ServesLaws

@@ -1,9 +1,10 @@
 -- What the acts of a batch ask for is done.
-use Rattle.std.proofs.Common.{◌≡◌, ◌≢◌, ℕ, ◌<◌, ◌≤◌, ◌+◌, Bool, true, false, cond, List, [], ◌∷◌, ◌++◌, length, inl, inr, arith, refl, ap, sym, subst, ◌∙◌, eq-eqb, ne_eqb}
-use Rattle.std.proofs.lemmas.Bool.{lt-ltb}
+use Rattle.std.proofs.Common.{◌≡◌, ◌≢◌, ℕ, ◌<◌, ◌≤◌, ◌+◌, Bool, true, false, cond, List, [], ◌∷◌, ◌++◌, length, inl, inr, arith, refl, ap, sym, subst, ◌∙◌, ne_eqb}
+use Rattle.std.proofs.Math.Arith.{lt_of_le-ne}
+use Rattle.std.proofs.lemmas.Bool.{le-ltb, ltb-true, ltb-false, eqb-false}
 use Rattle.std.specs.Prelude.{Option, None, Some, Result, Ok, Err, map, nat_lt, ◌||◌, ◌⊎◌}
-use Rattle.std.specs.List.{filter, AllByRecursion}
-use Rattle.wx_words.specs.EachLaws.{each_weaker}
+use Rattle.std.specs.List.{filter, list_any, AllByRecursion}
+use Rattle.wx_words.specs.EachLaws.{each_weaker, each_filter}
 use Rattle.wx_command.specs.declared.command.Command.{Command}
 use Rattle.wx_control.specs.declared.id.Id.{Id}
 use Rattle.wx_control.specs.Flags.{Flag}
@@ -16,26 +17,27 @@ use Rattle.wx_journal.specs.declared.entry.Act.TheVariants.{Create, Ask, Change,
 use Rattle.wx_journal.specs.declared.entry.Entry.{Entry}
 use Rattle.wx_journal.specs.declared.entry.Entry.TheVariants.{Word as Said, Made, Asked, Changed}
 use Rattle.wx_journal.specs.declared.entry.Word.TheVariants.{Ignored}
-use Rattle.wx_journal.specs.Names.{above, ticket_count, next_job, IsNextJob}
+use Rattle.wx_journal.specs.Names.{above, ticket_count, next_job}
 use Rattle.wx_machine.specs.History.{same, lives, command, RunsOnly}
 use Rattle.wx_machine.specs.Table.{Plan, Done, adds, asks, ask_second, ask_plan, send_plan}
 use Rattle.wx_machine.specs.Case.{PlanAdmits, next, PlanLeads, PlanHere, PlanThen, PlanFollowsAlone}
 use Rattle.wx_machine.specs.Leaves.{SameHistory, LeavesOthers}
 use Rattle.wx_job.specs.declared.task.JobTask.{JobTask}
 use Rattle.wx_job.specs.Stands.{TaskStands, SameJob, id_of}
-use Rattle.wx_machine.proofs.Owners.{other-is}
+use Rattle.wx_machine.proofs.Owners.{other-is, self}
 use Rattle.wx_machine.proofs.Frame.{frame_apart}
 use Rattle.wx_hooks.specs.declared.handler.Todo.{Todo}
 use Rattle.wx_hooks.specs.declared.handler.Todo.TheVariants as todo
 use Rattle.wx_hooks.specs.declared.held.Held.{Held}
 use Rattle.wx_action.specs.declared.worker_state.Worker.{Worker}
 use Rattle.wx_machine.specs.Start.{Start}
+use Rattle.wx_machine.specs.Keyboard.{ended_over}
 use Rattle.wx_config.specs.Changes.{changed as changed_by, last_revision}
 use Rattle.wx_config.specs.declared.change.Change.{Change as AChange}
 use Rattle.wx_config.specs.declared.config.Config.{Config}
 use Rattle.wx_machine.specs.Settings.{changes, later, pending, first_changed, settings, revision, MayChange}
 use Rattle.wx_machine.proofs.PlanLaws.{raised}
-use Rattle.wx_machine.specs.Jobs.{with_id, with_created, set, jobs, change_plan, act_plan, AreLawful, AreBelow}
+use Rattle.wx_machine.specs.Jobs.{with_id, with_created, set, is_seen, jobs, change_plan, act_plan, is_free, MayCreate, but, AreLawfulBy, AreLawful, AreRising}
 use Rattle.wx_machine.specs.declared.quit.QuitManner.{QuitManner}
 use Rattle.wx_machine.specs.Quits.{quit_asks}
 use Rattle.wx_machine.specs.Due.{Agenda, Open, settle, agenda, plans, rest, Admits, Due}
@@ -46,7 +48,8 @@ use Rattle.wx_machine.specs.Leads.{FollowsAlone, Then}
 use Rattle.wx_machine.specs.Turns.{StaysInTurn}
 use Rattle.wx_hooks.specs.HeldJobs.{with_task, with_held}
 use Rattle.wx_hooks.proofs.JobListLemmas.{all_with, ids_with}
-use Rattle.wx_machine.proofs.AllJobs.{set_rising, unseen_made, commanded_created, none_by_ask, turns_over}
+use Rattle.wx_machine.proofs.AllJobs.{unseen_made, commanded_created, none_by_ask, turns_over}
+use Rattle.wx_machine.proofs.JobSets.{set_rising, may_unseen, lawful_made}
 use Rattle.wx_action.specs.Stands.{Stands}
 use Rattle.wx_hooks.specs.JobsStand.{HeldStands, held_id}
 use Rattle.wx_action.proofs.StandsLemmas.{stands_rest, stands_behind, stands_changed}
@@ -74,18 +77,44 @@ pub record OneDone (s : Start) (w' : Worker) (rest : List Todo) (quit : Option Q
 
 -- ---- a job is made
 
--- the jobs that live, once a job was made whose id is above all of them
+-- the jobs that live, once a job was made whose id is none of them
 jobs_kept : (p : List Entry) (id x : Id) (ids : List Id) (alive : Bool) → nat_lt x.0 id.0 ≡ true → same id x ≡ false → filter (λ j. same id j || lives j p) (with_id id ids) ≡ with_id id (filter (λ j. lives j p) ids) → lives x p ≡ alive
     → filter (λ j. same id j || lives j p) (with_id id (x ∷ ids)) ≡ with_id id (filter (λ j. lives j p) (x ∷ ids))
 jobs_kept p id x ids true below other more is = rw (below, other, is) (rw below (ap (λ (js : List Id). x ∷ js) more))
 jobs_kept p id x ids false below other more is = rw (below, other, is) more
 
-jobs_among : (p : List Entry) (id : Id) (ids : List Id) → AreBelow id.0 ids → filter (λ j. same id j || lives j p) (with_id id ids) ≡ with_id id (filter (λ j. lives j p) ids)
-jobs_among p id [] below = rw (eq-eqb id.0 id.0 refl) refl
-jobs_among p id (x ∷ ids) below = jobs_kept p id x ids (lives x p) (lt-ltb x.0 id.0 below.0) (ne_eqb id.0 x.0 (λ e. absurd (omega (arith, below.0)))) (jobs_among p id ids below.1) refl
+both_false : (a b : Bool) → (a || b) ≡ false → (a ≡ false) × (b ≡ false)
+both_false true b e = absurd cc
+both_false false b e = (refl, e)
 
-jobs_made : (p : List Entry) (id : Id) → AreBelow id.0 (set p) → jobs (Made id ∷ p) ≡ with_id id (jobs p)
-jobs_made p id below = jobs_among p id (set p) below
+-- where all are above it
+filter_same : (p : List Entry) (id : Id) (ids : List Id) → AllByRecursion (λ j. id.0 < j.0) ids → filter (λ j. same id j || lives j p) ids ≡ filter (λ j. lives j p) ids
+filter_same p id [] above = refl
+filter_same p id (x ∷ ids) above = rw (ne_eqb id.0 x.0 (λ e. absurd (omega (arith, e, above.0))), filter_same p id ids above.1) refl
+
+with_first : (id : Id) (ids : List Id) → AllByRecursion (λ j. id.0 < j.0) ids → with_id id ids ≡ id ∷ ids
+with_first id [] above = refl
+with_first id (x ∷ ids) above = rw (le-ltb x.0 id.0 (omega (arith, above.0)), ne_eqb x.0 id.0 (λ e. absurd (omega (arith, e, above.0)))) refl
+
+jobs_above : (p : List Entry) (id x : Id) (ids : List Id) → AllByRecursion (λ j. id.0 < j.0) (x ∷ ids) → filter (λ j. same id j || lives j p) (with_id id (x ∷ ids)) ≡ with_id id (filter (λ j. lives j p) (x ∷ ids))
+jobs_above p id x ids above =
+    let first : with_id id (x ∷ ids) ≡ id ∷ x ∷ ids = with_first id (x ∷ ids) above in
+    let kept : filter (λ j. same id j || lives j p) (id ∷ x ∷ ids) ≡ id ∷ filter (λ j. lives j p) (x ∷ ids) = rw (self id) (ap (λ (js : List Id). id ∷ js) (filter_same p id (x ∷ ids) above)) in
+    ap (λ (js : List Id). filter (λ j. same id j || lives j p) js) first ∙ kept ∙ sym (with_first id (filter (λ j. lives j p) (x ∷ ids)) (each_filter (λ j. id.0 < j.0) (λ j. lives j p) (x ∷ ids) above))
+
+jobs_by : (p : List Entry) (id x : Id) (ids : List Id) (b : Bool) → nat_lt x.0 id.0 ≡ b → same x id ≡ false → AreRising (x ∷ ids) → filter (λ j. same id j || lives j p) (with_id id ids) ≡ with_id id (filter (λ j. lives j p) ids)
+    → filter (λ j. same id j || lives j p) (with_id id (x ∷ ids)) ≡ with_id id (filter (λ j. lives j p) (x ∷ ids))
+jobs_by p id x ids true lt other r more = jobs_kept p id x ids (lives x p) lt (ne_eqb id.0 x.0 (λ e. absurd (omega (arith, e, ltb-true x.0 id.0 lt)))) more refl
+jobs_by p id x ids false lt other r more =
+    let above : id.0 < x.0 = lt_of_le-ne (ltb-false x.0 id.0 lt) (λ e. eqb-false x.0 id.0 other (sym e)) in
+    jobs_above p id x ids (above, each_weaker (λ j. x.0 < j.0) (λ j. id.0 < j.0) (λ j more. omega (arith, above, more)) ids r.0)
+
+jobs_among : (p : List Entry) (id : Id) (ids : List Id) → AreRising ids → list_any (λ job. same job id) ids ≡ false → filter (λ j. same id j || lives j p) (with_id id ids) ≡ with_id id (filter (λ j. lives j p) ids)
+jobs_among p id [] r none = rw (self id) refl
+jobs_among p id (x ∷ ids) r none = let parts = both_false (same x id) (list_any (λ job. same job id) ids) none in jobs_by p id x ids (nat_lt x.0 id.0) refl parts.0 r (jobs_among p id ids r.1 parts.1)
+
+jobs_made : (p : List Entry) (id : Id) → is_seen id p ≡ false → jobs (Made id ∷ p) ≡ with_id id (jobs p)
+jobs_made p id unseen = jobs_among p id (set p) (set_rising p).rising unseen
 
 -- the first act that isn't a quit creates a job
 record FirstMake (s : Start) (p : List Entry) (held : Held) (rest : List Todo) (quit : Option QuitManner) (ids : List Id) : Type 0 where
@@ -93,8 +122,8 @@ record FirstMake (s : Start) (p : List Entry) (held : Held) (rest : List Todo) (
   what : Command
   acts : List Act
   is_new : IsNew held id what
-  is_next : IsNextJob (next_job p) id
-  lawful : AreLawful (above (next_job p) id) acts
+  may : MayCreate (is_free p) (next_job p) id
+  lawful : AreLawfulBy (but id (is_free p)) (above (next_job p) id) acts
   is_todo : AreTodo acts rest
   commanded : command id p ≡ Some what
   later : AreCommanded p acts
@@ -103,9 +132,9 @@ record FirstMake (s : Start) (p : List Entry) (held : Held) (rest : List Todo) (
   then : with_created acts (with_id id (jobs p)) ≡ ids
   due : agenda s p ≡ settle p (plans (adds (Made id) (act_plan (λ job. same id job || lives job p) (revision s p) (acts ++ quit_asks quit ids))) Open)
 
-first_make : (s : Start) (p : List Entry) (held : Held) (rest : List Todo) (quit : Option QuitManner) (ids : List Id) (acts : List Act) → AreLawful (next_job p) acts → MayChange (revision s p) acts → AreTodo acts (todo.Create held ∷ rest) → AreCommanded p acts → pending p ≡ changes acts → with_created acts (jobs p) ≡ ids → OwesPlan s p (acts ++ quit_asks quit ids) → FirstMake s p held rest quit ids
+first_make : (s : Start) (p : List Entry) (held : Held) (rest : List Todo) (quit : Option QuitManner) (ids : List Id) (acts : List Act) → AreLawful p acts → MayChange (revision s p) acts → AreTodo acts (todo.Create held ∷ rest) → AreCommanded p acts → pending p ≡ changes acts → with_created acts (jobs p) ≡ ids → OwesPlan s p (acts ++ quit_asks quit ids) → FirstMake s p held rest quit ids
 first_make s p held rest quit ids [] l m t k w e d = absurd t
-first_make s p held rest quit ids (Create id what ∷ acts) l m t k w e d = record { id = id; what = what; acts = acts; is_new = t.0; is_next = l.0; lawful = l.1; is_todo = t.1; commanded = k.0; later = k.1; may_change = m; waiting = w; then = e; due = d }
+first_make s p held rest quit ids (Create id what ∷ acts) l m t k w e d = record { id = id; what = what; acts = acts; is_new = t.0; may = l.0; lawful = l.1; is_todo = t.1; commanded = k.0; later = k.1; may_change = m; waiting = w; then = e; due = d }
 first_make s p held rest quit ids (Ask id ask ∷ acts) l m t k w e d = absurd t
 first_make s p held rest quit ids (Change change ∷ acts) l m t k w e d = absurd t
 first_make s p held rest quit ids (Quit ∷ acts) l m t k w e d = first_make s p held rest quit ids acts l m t k w e d
@@ -118,9 +147,12 @@ over_made i id p ne = frame_apart i (Made id) p (other-is i id ne) refl
 runs_only : (id : Id) (what : Command) (p : List Entry) → command id p ≡ Some what → RunsOnly id what p
 runs_only id what p is created made = let here : Some what ≡ Some created = sym is ∙ made in cc
 
--- a new name is none of the old ones
-new_id : (ids : List Id) (id : Id) → AreBelow id.0 ids → AllByRecursion (λ j. j ≢ id) ids
-new_id ids id below = each_weaker (λ j. j.0 < id.0) (λ j. j ≢ id) (λ j lt e. (let same : j.0 ≡ id.0 = ap (λ (i : Id). i.0) e in absurd (omega arith))) ids below
+-- the id of a job that isn't seen is none of these
+none_is : (id : Id) (ids : List Id) → list_any (λ job. same job id) ids ≡ false → AllByRecursion (λ j. j ≢ id) ids
+none_is id [] none = tt
+none_is id (x ∷ ids) none =
+    let parts = both_false (same x id) (list_any (λ job. same job id) ids) none in
+    (λ e. (let both : true ≡ false = sym (rw e (self id)) ∙ parts.0 in absurd cc), none_is id ids parts.1)
 
 tasks_made : (p : List Entry) (id : Id) (hs : List Held) → AllByRecursion (λ j. j ≢ id) (map held_id hs) → AllByRecursion (HeldStands p) hs → AllByRecursion (HeldStands (Made id ∷ p)) hs
 tasks_made p id [] ne s = tt
@@ -129,8 +161,8 @@ tasks_made p id (x ∷ hs) ne s = (same_held p (Made id ∷ p) x (over_made (hel
 made_by : (s : Start) (w w' : Worker) (held : Held) (rests : List Todo) (quit : Option QuitManner) (ids : List Id) (p : List Entry) (f : FirstMake s p held rests quit ids) → Stands s w p → w' ≡ record w { jobs = w'.jobs } → w'.jobs ≡ with_held held w.jobs → OneDone s w' rests quit ids p (Made f.id ∷ p)
 made_by s w w' held rests quit ids p f stands fields items =
     let due : Due s p (Made f.id) = subst (λ (a : Agenda). Admits s p a (Made f.id)) (sym f.due) (tt, refl) in
-    let lower : AreBelow f.id.0 (set p) = subst (λ n. AreBelow n (set p)) (sym f.is_next) (set_rising p).below in
-    let others : AllByRecursion (λ j. j ≢ f.id) (map held_id w.jobs) = rw stands.jobs_kept (new_id (set p) f.id lower) in
+    let unseen : is_seen f.id p ≡ false = may_unseen p f.id f.may in
+    let others : AllByRecursion (λ j. j ≢ f.id) (map held_id w.jobs) = rw stands.jobs_kept (none_is f.id (set p) unseen) in
     let ids = ids_with p w.jobs held stands.tasks_kept (f.is_new.handle_id ∙ sym f.is_new.task_id) (rw f.is_new.task_id others) in
     let new : HeldStands (Made f.id ∷ p) held = record {
       task_stands = f.is_new.stands p (runs_only f.id f.what p f.commanded);
@@ -153,13 +185,14 @@ made_by s w w' held rests quit ids p f stands fields items =
       tasks_kept = rw items (all_with (HeldStands (Made f.id ∷ p)) w.jobs held (tasks_made p f.id w.jobs others stands.tasks_kept) new);
       idle_kept = unseen_made f.id p stands.idle_kept;
       graceful_kept = stands.graceful_kept;
+      ended_kept = stands.ended_kept;
     } in
     record {
       stands = rw fields stood;
       follows = λ world hooks p₀ world₀ hooks₀ l. Then (Made f.id) p world hooks l due;
       quiet = λ p₀ a. More (Made f.id) p a refl;
       turns = turns_over _ _ refl;
-      owes = record { acts = f.acts; lawful = f.lawful; may_change = f.may_change; is_todo = f.is_todo; commanded = commanded_same p (Made f.id ∷ p) f.acts (λ i. refl) f.later; waiting = f.waiting; due = ap (λ (a : Agenda). settle (Made f.id ∷ p) (rest (Made f.id) a)) f.due; then = ap (λ (js : List Id). with_created f.acts js) (jobs_made p f.id lower) ∙ f.then };
+      owes = record { acts = f.acts; lawful = lawful_made p f.id f.acts f.lawful; may_change = f.may_change; is_todo = f.is_todo; commanded = commanded_same p (Made f.id ∷ p) f.acts (λ i. refl) f.later; waiting = f.waiting; due = ap (λ (a : Agenda). settle (Made f.id ∷ p) (rest (Made f.id) a)) f.due; then = ap (λ (js : List Id). with_created f.acts js) (jobs_made p f.id unseen) ∙ f.then };
     }
 
 pub made : (s : Start) (w w' : Worker) (held : Held) (rests : List Todo) (quit : Option QuitManner) (ids : List Id) (p p' : List Entry) → OwesActs s p (todo.Create held ∷ rests) quit ids → Stands s w p → w' ≡ record w { jobs = w'.jobs } → w'.jobs ≡ with_held held w.jobs → p' ≡ Made held.handle.id ∷ p → OneDone s w' rests quit ids p p'
@@ -172,7 +205,7 @@ made s w w' held rests quit ids p p' owes stands fields items grown =
 
 record FirstAsk (s : Start) (p : List Entry) (id : Id) (ask : AnAsk) (rest : List Todo) (quit : Option QuitManner) (ids : List Id) : Type 0 where
   acts : List Act
-  lawful : AreLawful (next_job p) acts
+  lawful : AreLawful p acts
   is_todo : AreTodo acts rest
   commanded : AreCommanded p acts
   may_change : MayChange (revision s p) acts
@@ -180,7 +213,7 @@ record FirstAsk (s : Start) (p : List Entry) (id : Id) (ask : AnAsk) (rest : Lis
   then : with_created acts (jobs p) ≡ ids
   due : OwesPlan s p (Ask id ask ∷ acts ++ quit_asks quit ids)
 
-first_ask : (s : Start) (p : List Entry) (id : Id) (ask : AnAsk) (done : Flag) (rest : List Todo) (quit : Option QuitManner) (ids : List Id) (acts : List Act) → AreLawful (next_job p) acts → MayChange (revision s p) acts → AreTodo acts (todo.Ask id ask done ∷ rest) → AreCommanded p acts → pending p ≡ changes acts → with_created acts (jobs p) ≡ ids → OwesPlan s p (acts ++ quit_asks quit ids) → FirstAsk s p id ask rest quit ids
+first_ask : (s : Start) (p : List Entry) (id : Id) (ask : AnAsk) (done : Flag) (rest : List Todo) (quit : Option QuitManner) (ids : List Id) (acts : List Act) → AreLawful p acts → MayChange (revision s p) acts → AreTodo acts (todo.Ask id ask done ∷ rest) → AreCommanded p acts → pending p ≡ changes acts → with_created acts (jobs p) ≡ ids → OwesPlan s p (acts ++ quit_asks quit ids) → FirstAsk s p id ask rest quit ids
 first_ask s p id ask done rest quit ids [] l m t k w e d = absurd t
 first_ask s p id ask done rest quit ids (Create job what ∷ acts) l m t k w e d = absurd t
 first_ask s p id ask done rest quit ids (Ask job asked ∷ acts) l m t k w e d = record { acts = acts; lawful = l; is_todo = t.2; commanded = k; may_change = m; waiting = w; then = e; due = rw (t.0, t.1) d }
@@ -212,7 +245,7 @@ ignored_one s w id ask acts p p' owes stands gone grown =
       asked = record {
         owes = λ acts owed. ap (λ (a : Agenda). settle (Said Ignored ∷ p) (rest (Said Ignored) a)) (ask_owed s p id ask acts false gone owed);
         commands = λ i. refl;
-        next_same = refl;
+        lawful_same = λ acts l. l;
         revision_same = refl;
         pending_same = refl;
         jobs_same = refl;
@@ -224,7 +257,7 @@ pub asked_todo : (s : Start) (id : Id) (ask : AnAsk) (done : Flag) (p p' : List 
 asked_todo s id ask done p p' a rest quit ids owes =
     let f = first_ask s p id ask done rest quit ids owes.acts owes.lawful owes.may_change owes.is_todo owes.commanded owes.waiting owes.then owes.due in record {
       acts = f.acts;
-      lawful = rw a.next_same f.lawful;
+      lawful = a.lawful_same f.acts f.lawful;
       may_change = rw a.revision_same f.may_change;
       is_todo = f.is_todo;
       commanded = commanded_same p p' f.acts a.commands f.commanded;
@@ -280,7 +313,7 @@ record Asks (s : Start) (k : Plan) (p p' : List Entry) : Type 0 where
   due : agenda s p' ≡ settle p' (plans k Open)
   jobs_same : jobs p' ≡ jobs p
   commands : (i : Id) → command i p' ≡ command i p
-  next_same : next_job p' ≡ next_job p
+  lawful_same : (acts : List Act) → AreLawful p acts → AreLawful p' acts
   acts_same : (acts : List Act) → act_plan (λ job. lives job p') (revision s p') acts ≡ act_plan (λ job. lives job p) (revision s p) acts
   revision_same : revision s p' ≡ revision s p
   pending_same : pending p' ≡ pending p
@@ -295,7 +328,7 @@ asks_one s p id level control k owed =
       due = ap (λ (a : Agenda). settle (e ∷ p) (rest e a)) owed;
       jobs_same = refl;
       commands = λ i. refl;
-      next_same = refl;
+      lawful_same = λ acts l. l;
       acts_same = λ acts. refl;
       revision_same = refl;
       pending_same = refl;
@@ -309,7 +342,7 @@ asks_then s k k' p q r a b = record {
   due = b.due;
   jobs_same = b.jobs_same ∙ a.jobs_same;
   commands = λ i. b.commands i ∙ a.commands i;
-  next_same = b.next_same ∙ a.next_same;
+  lawful_same = λ acts l. b.lawful_same acts (a.lawful_same acts l);
   acts_same = λ acts. b.acts_same acts ∙ a.acts_same acts;
   revision_same = b.revision_same ∙ a.revision_same;
   pending_same = b.pending_same ∙ a.pending_same;
@@ -348,7 +381,7 @@ asked_one s w w' id task task' ask acts p p' owes stands alive l fields jobs sam
             let one = asks_all s p id sends.level sends.first sends.second (act_plan (λ job. lives job p) (revision s p) acts) (ask_owed s p id ask acts true alive owed) in
             one.due ∙ ap (λ (i : Plan). settle asked (plans i Open)) (sym (one.acts_same acts)));
         commands = ran.commands;
-        next_same = ran.next_same;
+        lawful_same = ran.lawful_same;
         revision_same = ran.revision_same;
         pending_same = ran.pending_same;
         jobs_same = ran.jobs_same;
@@ -359,7 +392,7 @@ asked_one s w w' id task task' ask acts p p' owes stands alive l fields jobs sam
 
 record FirstChange (s : Start) (p : List Entry) (change : AChange) (rest : List Todo) (quit : Option QuitManner) (ids : List Id) : Type 0 where
   acts : List Act
-  lawful : AreLawful (next_job p) acts
+  lawful : AreLawful p acts
   is_todo : AreTodo acts rest
   commanded : AreCommanded p acts
   may_change : revision s p + 1 + length (changes acts) ≤ last_revision
@@ -367,7 +400,7 @@ record FirstChange (s : Start) (p : List Entry) (change : AChange) (rest : List 
   then : with_created acts (jobs p) ≡ ids
   due : agenda s p ≡ settle p (plans (change_plan (revision s p) (act_plan (λ job. lives job p) (revision s p + 1) (acts ++ quit_asks quit ids))) Open)
 
-first_change : (s : Start) (p : List Entry) (change : AChange) (rest : List Todo) (quit : Option QuitManner) (ids : List Id) (acts : List Act) → AreLawful (next_job p) acts → MayChange (revision s p) acts → AreTodo acts (todo.Change change ∷ rest) → AreCommanded p acts → pending p ≡ changes acts → with_created acts (jobs p) ≡ ids → OwesPlan s p (acts ++ quit_asks quit ids) → FirstChange s p change rest quit ids
+first_change : (s : Start) (p : List Entry) (change : AChange) (rest : List Todo) (quit : Option QuitManner) (ids : List Id) (acts : List Act) → AreLawful p acts → MayChange (revision s p) acts → AreTodo acts (todo.Change change ∷ rest) → AreCommanded p acts → pending p ≡ changes acts → with_created acts (jobs p) ≡ ids → OwesPlan s p (acts ++ quit_asks quit ids) → FirstChange s p change rest quit ids
 first_change s p change rest quit ids [] l m t k w e d = absurd t
 first_change s p change rest quit ids (Create job what ∷ acts) l m t k w e d = absurd t
 first_change s p change rest quit ids (Ask job asked ∷ acts) l m t k w e d = absurd t
@@ -382,8 +415,8 @@ first_of s p change rest quit ids owes = first_change s p change rest quit ids o
 pub change_fits : (s : Start) (p : List Entry) (change : AChange) (rest : List Todo) (quit : Option QuitManner) (ids : List Id) → OwesActs s p (todo.Change change ∷ rest) quit ids → revision s p < last_revision
 change_fits s p change rest quit ids owes = let f = first_of s p change rest quit ids owes in let fits = f.may_change in omega arith
 
-pub changed_one : (s : Start) (w w' : Worker) (change : AChange) (rests : List Todo) (quit : Option QuitManner) (ids : List Id) (p p' : List Entry) → OwesActs s p (todo.Change change ∷ rests) quit ids → Stands s w p → w' ≡ record w { config = w'.config } → w'.config ≡ changed_by change w.config → p' ≡ Changed w'.config.change_signal ∷ p → OneDone s w' rests quit ids p p'
-changed_one s w w' change rests quit ids p p' owes stands fields config grown =
+pub changed_one : (s : Start) (w w' : Worker) (change : AChange) (rests : List Todo) (quit : Option QuitManner) (ids : List Id) (p p' : List Entry) → OwesActs s p (todo.Change change ∷ rests) quit ids → Stands s w p → w' ≡ record w { config = w'.config; ended = w'.ended } → w'.ended ≡ ended_over w.config.keyboard_events w'.config.keyboard_events w.ended → w'.config ≡ changed_by change w.config → p' ≡ Changed w'.config.change_signal ∷ p → OneDone s w' rests quit ids p p'
+changed_one s w w' change rests quit ids p p' owes stands fields ended config grown =
     let f = first_of s p change rests quit ids owes in
     let now : w'.config ≡ changed_by change (settings s p) = config ∙ ap (changed_by change) stands.config_kept in
     let raises : w'.config.change_signal ≡ revision s p + 1 = ap (λ (c : Config). c.change_signal) now ∙ raised change (settings s p) in
@@ -392,7 +425,7 @@ changed_one s w w' change rests quit ids p p' owes stands fields config grown =
     let after : settings s (Changed (revision s p + 1) ∷ p) ≡ changed_by change (settings s p) = ap (λ (cs : List AChange). first_changed cs (settings s p)) f.waiting in
     let next : revision s (Changed (revision s p + 1) ∷ p) ≡ revision s p + 1 = ap (λ (c : Config). c.change_signal) after ∙ raised change (settings s p) in
     rw is (record {
-      stands = stands_changed s w w' change (revision s p + 1) p stands fields (config ∙ ap (changed_by change) stands.config_kept ∙ sym after) after;
+      stands = stands_changed s w w' change (revision s p + 1) p stands fields ended (config ∙ ap (changed_by change) stands.config_kept ∙ sym after) after;
       follows = λ world hooks p₀ world₀ hooks₀ l. Then (Changed (revision s p + 1)) p world hooks l due;
       quiet = λ p₀ a. More (Changed (revision s p + 1)) p a refl;
       turns = turns_over _ _ refl;

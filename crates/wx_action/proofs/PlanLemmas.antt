@@ -19,7 +19,8 @@ use Rattle.wx_machine.proofs.SettleLaws.{settle_calm}
 use Rattle.wx_machine.specs.Kept.{StaysQuiet}
 use Rattle.wx_machine.specs.Leads.{Follows}
 use Rattle.wx_machine.specs.Turns.{StaysInTurn}
-use Rattle.wx_machine.proofs.AllJobs.{set_rising, unseen_others, MakesNone, CallsNone, none_of_plan, plans_lead}
+use Rattle.wx_machine.proofs.AllJobs.{unseen_others, MakesNone, CallsNone, none_of_plan, plans_lead}
+use Rattle.wx_machine.proofs.JobSets.{set_rising}
 use Rattle.wx_action.specs.Stands.{Stands}
 use Rattle.wx_hooks.specs.JobsStand.{JobsStand, AreDistinct, held_id}
 use Rattle.wx_hooks.proofs.QuietLemmas.{SameRest, same_rest, still_led}

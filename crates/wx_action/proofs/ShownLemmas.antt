@@ -9,7 +9,7 @@ use Rattle.wx_machine.specs.History.{same, lives, child}
 use Rattle.wx_machine.specs.Jobs.{set}
 use Rattle.wx_machine.specs.Start.{Start}
 use Rattle.wx_machine.proofs.Owners.{same-is}
-use Rattle.wx_machine.proofs.AllJobs.{any_in, in_set, set_rising}
+use Rattle.wx_machine.proofs.JobSets.{any_in, in_set, set_rising}
 use Rattle.wx_hooks.specs.declared.held.Held.{Held}
 use Rattle.wx_hooks.specs.HeldJobs.{IsHandle, AreShown, is_of, is_alive, handles, runs}
 use Rattle.wx_hooks.specs.JobsStand.{HeldStands, held_id}

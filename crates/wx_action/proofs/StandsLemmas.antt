@@ -24,6 +24,9 @@ use Rattle.wx_config.specs.Changes.{changed}
 use Rattle.wx_config.specs.declared.change.Change.{Change}
 use Rattle.wx_config.specs.declared.change.Change.TheVariants.{Signal, Pathset, FileWatcher, FollowSymlinks, KeyboardEvents, Throttle, Filterer, OnError, OnAction}
 use Rattle.wx_config.specs.declared.config.Config.{Config}
+use Rattle.wx_journal.specs.declared.entry.TurnKind.{TurnKind}
+use Rattle.wx_journal.specs.declared.entry.TurnKind.TheVariants.{Keys}
+use Rattle.wx_machine.specs.Keyboard.{keyboard, ended_by, ended_over, has_ended}
 use Rattle.wx_machine.specs.Settings.{settings}
 use Rattle.wx_machine.specs.Journal.{closed, bag, offered, window}
 use Rattle.wx_machine.specs.Jobs.{set, UnseenRunNone}
@@ -48,17 +51,26 @@ over_hand n names acts p i kept = frame_apart i (Hand n names acts) p tt kept
 
 -- ---- what a worker keeps besides jobs
 
--- a word, a turn and the fault of one change nothing of it
+-- a turn of this kind is no read from the keyboard
+abbrev pub IsNoRead : TurnKind → Type 0
+IsNoRead (Keys bytes) = ⊥
+IsNoRead (_) = Unit {0}
+
+pub ended_stays : (kind : TurnKind) (on ended : Bool) → IsNoRead kind → ended_by kind on ended ≡ ended
+ended_stays (Keys bytes) on ended none = absurd none
+ended_stays (_) on ended none = refl
+
+-- a word, a turn that is no read, and the fault of one change nothing of it
 abbrev pub IsStill : Entry → Type 0
-IsStill (Turned t) = Unit {0}
+IsStill (Turned t) = IsNoRead t.kind
 IsStill (TurnFault code) = Unit {0}
 IsStill (Said word) = Unit {0}
 IsStill (_) = ⊥
 
 pub rest_over : (e : Entry) (p : List Entry) → IsStill e → SameRest p (e ∷ p)
-rest_over (Turned t) p h = record { bag_same = refl; closed_same = refl; count_same = refl; window_same = refl; lookup_same = refl; first_same = refl; set_same = refl; commands_same = λ i. refl; settings_same = λ s. refl; graceful_same = refl }
-rest_over (TurnFault code) p h = record { bag_same = refl; closed_same = refl; count_same = refl; window_same = refl; lookup_same = refl; first_same = refl; set_same = refl; commands_same = λ i. refl; settings_same = λ s. refl; graceful_same = refl }
-rest_over (Said word) p h = record { bag_same = refl; closed_same = refl; count_same = refl; window_same = refl; lookup_same = refl; first_same = refl; set_same = refl; commands_same = λ i. refl; settings_same = λ s. refl; graceful_same = refl }
+rest_over (Turned t) p h = record { bag_same = refl; closed_same = refl; count_same = refl; window_same = refl; lookup_same = refl; first_same = refl; set_same = refl; commands_same = λ i. refl; settings_same = λ s. refl; graceful_same = refl; ended_same = λ s. ended_stays t.kind (keyboard s p) (has_ended s p) h }
+rest_over (TurnFault code) p h = record { bag_same = refl; closed_same = refl; count_same = refl; window_same = refl; lookup_same = refl; first_same = refl; set_same = refl; commands_same = λ i. refl; settings_same = λ s. refl; graceful_same = refl; ended_same = λ s. refl }
+rest_over (Said word) p h = record { bag_same = refl; closed_same = refl; count_same = refl; window_same = refl; lookup_same = refl; first_same = refl; set_same = refl; commands_same = λ i. refl; settings_same = λ s. refl; graceful_same = refl; ended_same = λ s. refl }
 rest_over (_) p h = absurd h
 
 -- they name nothing, and no child runs because of one
@@ -94,6 +106,7 @@ stands_rest s w w' p p' stands own idle q fields ids tasks =
       tasks_kept = tasks;
       idle_kept = idle;
       graceful_kept = stands.graceful_kept ∙ sym q.graceful_same;
+      ended_kept = stands.ended_kept ∙ sym (q.ended_same s);
     } in
     rw fields stood
 
@@ -118,9 +131,9 @@ same_size (OnError n) c = refl
 same_size (OnAction n) c = refl
 
 -- the worker with the settings that stand behind the change
-pub stands_changed : (s : Start) (w w' : Worker) (change : Change) (named : ℕ) (p : List Entry) → Stands s w p → w' ≡ record w { config = w'.config } → w'.config ≡ settings s (Changed named ∷ p) → settings s (Changed named ∷ p) ≡ changed change (settings s p) → Stands s w' (Changed named ∷ p)
-stands_changed s w w' change named p stands fields config after =
-    let stood : Stands s (record w { config = w'.config }) (Changed named ∷ p) = record {
+pub stands_changed : (s : Start) (w w' : Worker) (change : Change) (named : ℕ) (p : List Entry) → Stands s w p → w' ≡ record w { config = w'.config; ended = w'.ended } → w'.ended ≡ ended_over w.config.keyboard_events w'.config.keyboard_events w.ended → w'.config ≡ settings s (Changed named ∷ p) → settings s (Changed named ∷ p) ≡ changed change (settings s p) → Stands s w' (Changed named ∷ p)
+stands_changed s w w' change named p stands fields ended config after =
+    let stood : Stands s (record w { config = w'.config; ended = w'.ended }) (Changed named ∷ p) = record {
       own = (tt, stands.own);
       config_kept = config;
       queue_kept = stands.queue_kept;
@@ -134,6 +147,7 @@ stands_changed s w w' change named p stands fields config after =
       tasks_kept = tasks_silent (Changed named) p w.jobs refl stands.tasks_kept;
       idle_kept = stands.idle_kept;
       graceful_kept = stands.graceful_kept;
+      ended_kept = ended ∙ ap (λ (c : Config). ended_over c.keyboard_events w'.config.keyboard_events w.ended) stands.config_kept ∙ ap (λ (c : Config). ended_over (keyboard s p) c.keyboard_events w.ended) config ∙ ap (ended_over (keyboard s p) (keyboard s (Changed named ∷ p))) stands.ended_kept;
     } in
     rw fields stood
 
@@ -187,6 +201,7 @@ stands_offered s w p event priority new Queued stands is size same_closed = reco
   tasks_kept = tasks_silent (Offer (event_count p) None Queued event priority) p w.jobs refl stands.tasks_kept;
   idle_kept = stands.idle_kept;
   graceful_kept = stands.graceful_kept;
+  ended_kept = stands.ended_kept;
 }
 stands_offered s w p event priority new Full stands is size same_closed = record {
   own = ((refl, tt), stands.own);
@@ -202,6 +217,7 @@ stands_offered s w p event priority new Full stands is size same_closed = record
   tasks_kept = tasks_silent (Offer (event_count p) None Full event priority) p w.jobs refl stands.tasks_kept;
   idle_kept = stands.idle_kept;
   graceful_kept = stands.graceful_kept;
+  ended_kept = stands.ended_kept;
 }
 stands_offered s w p event priority new Closed stands is size same_closed = record {
   own = ((refl, tt), stands.own);
@@ -217,6 +233,7 @@ stands_offered s w p event priority new Closed stands is size same_closed = reco
   tasks_kept = tasks_silent (Offer (event_count p) None Closed event priority) p w.jobs refl stands.tasks_kept;
   idle_kept = stands.idle_kept;
   graceful_kept = stands.graceful_kept;
+  ended_kept = stands.ended_kept;
 }
 
 -- the worker after an event was listed as sent
@@ -237,6 +254,7 @@ stands_sent s w p event priority new stands is size same_closed = record {
   tasks_kept = tasks_silent (Sent (event_count p) event priority) p w.jobs refl stands.tasks_kept;
   idle_kept = stands.idle_kept;
   graceful_kept = stands.graceful_kept;
+  ended_kept = stands.ended_kept;
 }
 
 -- events are at most as many as entries

@@ -9,7 +9,6 @@ use Rattle.wx_control.specs.declared.control.Control.TheVariants.{GracefulStop}
 use Rattle.wx_journal.specs.Acts.{JournalAct as Act}
 use Rattle.wx_journal.specs.declared.entry.Act.TheVariants.{Ask}
 use Rattle.wx_journal.specs.declared.entry.Entry.{Entry}
-use Rattle.wx_journal.specs.Written.{Written}
 use Rattle.wx_machine.specs.History.{lives}
 use Rattle.wx_hooks.specs.declared.held.Held.{Held}
 use Rattle.wx_hooks.specs.HeldJobs.{is_here, living_ids}
@@ -23,19 +22,8 @@ use Rattle.wx_machine.specs.Quits.{stop_asks, quit_asks}
 use Rattle.wx_machine.specs.Answer.{NoneIsToGo}
 use Rattle.wx_machine.specs.Due.{agenda}
 use Rattle.wx_action.specs.Perform.{OwesPlan, HasAsked, DoesAsk}
-use Rattle.wx_action.specs.Serves.{Grows}
 use Rattle.wx_action.specs.Stands.{Stands}
-use Rattle.wx_action.proofs.ServesLaws.{adds_then}
 use Rattle.wx_action.proofs.HandLemmas.{ids_here, all_here, plan_to_go}
-
--- what grew grows on
-pub grows_then : (s : Start) (w : Worker) (j : Written) (w₁ : Worker) (j₁ : Written) (w₂ : Worker) (j₂ : Written) → Grows s w j w₁ j₁ → Grows s w₁ j₁ w₂ j₂ → Grows s w j w₂ j₂
-grows_then s w j w₁ j₁ w₂ j₂ a b = record {
-  stands = b.stands;
-  adds = adds_then s j.past j₁.past j₂.past a.adds b.adds;
-  end_kept = b.end_kept ∙ a.end_kept;
-  room = λ r. b.room (a.room r);
-}
 
 -- the ids of the jobs that are held and aren't gone are those of the jobs that live
 same_ids : (p : List Entry) (hs : List Held) → AllByRecursion (HeldStands p) hs → map (λ h. h.handle.id) hs ≡ map held_id hs

@@ -1,5 +1,5 @@
 -- What is known of a worker directly after a turn was drawn.
-use Rattle.std.proofs.Common.{◌≡◌, ◌≢◌, ℕ, false, cond, List, [], ◌∷◌, inl, inr, refl, ap, sym, subst, ◌∙◌, ne_eqb}
+use Rattle.std.proofs.Common.{◌≡◌, ◌≢◌, ℕ, Bool, false, cond, List, [], ◌∷◌, inl, inr, refl, ap, sym, subst, ◌∙◌, ne_eqb}
 use Rattle.std.specs.Prelude.{Option, None, Some, map}
 use Rattle.std.specs.List.{AllByRecursion}
 use Rattle.wx_control.specs.declared.id.Id.{Id}
@@ -7,7 +7,7 @@ use Rattle.wx_journal.specs.declared.entry.Entry.{Entry}
 use Rattle.wx_journal.specs.declared.entry.Entry.TheVariants.{Turn as Turned}
 use Rattle.wx_journal.specs.declared.entry.Turn.{Turn}
 use Rattle.wx_journal.specs.declared.entry.TurnKind.{TurnKind}
-use Rattle.wx_journal.specs.declared.entry.TurnKind.TheVariants.{Ended}
+use Rattle.wx_journal.specs.declared.entry.TurnKind.TheVariants.{Keys, Ended}
 use Rattle.wx_journal.specs.Names.{moment, NamesItsOwn}
 use Rattle.wx_machine.specs.History.{child, is_child, names_end}
 use Rattle.wx_machine.specs.Told.{TellsNoEnd}
@@ -19,8 +19,12 @@ use Rattle.wx_machine.specs.Quits.{is_aborting}
 use Rattle.wx_machine.proofs.SettleLaws.{quiet_open, right_false, settle_calm}
 use Rattle.wx_machine.specs.Jobs.{set, parent_among, parent}
 use Rattle.wx_hooks.specs.JobsStand.{HeldStands, held_id}
+use Rattle.wx_config.specs.declared.config.Config.{Config}
+use Rattle.wx_machine.specs.Keyboard.{keyboard, ended_by}
 use Rattle.wx_action.specs.Stands.{Stands, AtTurn}
-use Rattle.wx_machine.proofs.AllJobs.{IsIn, parent_none, one_parent}
+use Rattle.wx_action.proofs.StandsLemmas.{IsNoRead, ended_stays}
+use Rattle.wx_machine.proofs.AllJobs.{parent_none, one_parent}
+use Rattle.wx_machine.proofs.JobSets.{IsIn}
 use Rattle.wx_machine.proofs.Frame.{frame_apart}
 use Rattle.wx_hooks.proofs.JobsLemmas.{same_held}
 
@@ -48,7 +52,15 @@ held_all_over : (t : Turn) (p : List Entry) (hs : List Held) → AllByRecursion 
 held_all_over t p [] other stands = tt
 held_all_over t p (h ∷ hs) other stands = (held_over t p h other.0 stands.0, held_all_over t p hs other.1 stands.1)
 
-pub stands_over : (s : Start) (w : Worker) (t : Turn) (p : List Entry) → AllByRecursion (IsApart t p) w.jobs → Stands s w p → Stands s w (Turned t ∷ p)
+-- a worker keeps what a turn of this kind says of the end of the input
+abbrev pub with_turn : TurnKind → Worker → Worker
+with_turn kind w = record w { ended = ended_by kind w.config.keyboard_events w.ended }
+
+-- which is nothing, where it is no read
+with_none : (kind : TurnKind) (w : Worker) → IsNoRead kind → with_turn kind w ≡ w
+with_none kind w none = ap (λ (b : Bool). record w { ended = b }) (ended_stays kind w.config.keyboard_events w.ended none)
+
+pub stands_over : (s : Start) (w : Worker) (t : Turn) (p : List Entry) → AllByRecursion (IsApart t p) w.jobs → Stands s w p → Stands s (with_turn t.kind w) (Turned t ∷ p)
 stands_over s w t p other stands = record {
   own = (tt, stands.own);
   config_kept = stands.config_kept;
@@ -63,6 +75,7 @@ stands_over s w t p other stands = record {
   tasks_kept = held_all_over t p w.jobs other stands.tasks_kept;
   idle_kept = stands.idle_kept;
   graceful_kept = stands.graceful_kept;
+  ended_kept = ap (λ (c : Config). ended_by t.kind c.keyboard_events w.ended) stands.config_kept ∙ ap (ended_by t.kind (keyboard s p)) stands.ended_kept;
 }
 
 -- ---- the worker stands for the journal with the turn too
@@ -77,13 +90,13 @@ pub record IsDrawn (s : Start) (w : Worker) (at : ℕ) (kind : TurnKind) (p : Li
 abbrev pub AreApartFromTurn : Worker → ℕ → TurnKind → List Entry → Type 0
 AreApartFromTurn w at kind p = AllByRecursion (IsApart (record { at = at; kind = kind }) p) w.jobs
 
-drawn : (s : Start) (w : Worker) (at : ℕ) (kind : TurnKind) (p : List Entry) (a : AtTurn s w at kind p) → AreApartFromTurn w at kind a.before → IsDrawn s w at kind p
+drawn : (s : Start) (w : Worker) (at : ℕ) (kind : TurnKind) (p : List Entry) (a : AtTurn s w at kind p) → AreApartFromTurn w at kind a.before → IsDrawn s (with_turn kind w) at kind p
 drawn s w at kind p a other =
     let h = turned s w at kind p a in record {
       due = h.due;
       going = h.going;
       now = h.now;
-      stands = subst (Stands s w) (sym a.last) (stands_over s w (record { at = at; kind = kind }) a.before other a.stands);
+      stands = subst (Stands s (with_turn kind w)) (sym a.last) (stands_over s w (record { at = at; kind = kind }) a.before other a.stands);
     }
 
 none_told : (kind : TurnKind) (running : Option ℕ) → TellsNoEnd kind → names_end kind running ≡ false
@@ -94,8 +107,26 @@ all_apart : (at : ℕ) (kind : TurnKind) (p : List Entry) (hs : List Held) → T
 all_apart at kind p [] none = tt
 all_apart at kind p (h ∷ hs) none = (none_told kind (child (held_id h) p) none, all_apart at kind p hs none)
 
-pub at_turn : (s : Start) (w : Worker) (at : ℕ) (kind : TurnKind) (p : List Entry) → TellsNoEnd kind → AtTurn s w at kind p → IsDrawn s w at kind p
-at_turn s w at kind p none a = drawn s w at kind p a (all_apart at kind a.before w.jobs none)
+-- a turn that tells no end of a child
+pub at_any_turn : (s : Start) (w : Worker) (at : ℕ) (kind : TurnKind) (p : List Entry) → TellsNoEnd kind → AtTurn s w at kind p → IsDrawn s (with_turn kind w) at kind p
+at_any_turn s w at kind p none a = drawn s w at kind p a (all_apart at kind a.before w.jobs none)
+
+-- one that changes nothing that a worker keeps: it is no read from the keyboard either
+abbrev pub LeavesWorker : TurnKind → Type 0
+LeavesWorker (Ended c) = ⊥
+LeavesWorker (Keys bytes) = ⊥
+LeavesWorker (_) = Unit {0}
+
+leaves_ends : (kind : TurnKind) → LeavesWorker kind → TellsNoEnd kind
+leaves_ends (Ended c) l = absurd l
+leaves_ends (_) l = tt
+
+leaves_input : (kind : TurnKind) → LeavesWorker kind → IsNoRead kind
+leaves_input (Keys bytes) l = absurd l
+leaves_input (_) l = tt
+
+pub at_turn : (s : Start) (w : Worker) (at : ℕ) (kind : TurnKind) (p : List Entry) → LeavesWorker kind → AtTurn s w at kind p → IsDrawn s w at kind p
+at_turn s w at kind p leaves a = subst (λ (k : Worker). IsDrawn s k at kind p) (with_none kind w (leaves_input kind leaves)) (at_any_turn s w at kind p (leaves_ends kind leaves) a)
 
 -- ---- a turn that tells the end of a child
 
@@ -125,7 +156,7 @@ none_apart at c p (id ∷ ids) (h ∷ hs) none is here =
 pub at_end_of_none : (s : Start) (w : Worker) (at c : ℕ) (p : List Entry) → AtTurn s w at (Ended c) p → parent c p ≡ None → IsDrawn s w at (Ended c) p
 at_end_of_none s w at c p a none =
     let before : parent c a.before ≡ None = sym (same_parent (record { at = at; kind = Ended c }) c a.before) ∙ sym (ap (parent c) a.last) ∙ none in
-    drawn s w at (Ended c) p a (none_apart at c a.before (set a.before) w.jobs before a.stands.jobs_kept (λ id g. g))
+    subst (λ (k : Worker). IsDrawn s k at (Ended c) p) (with_none (Ended c) w tt) (drawn s w at (Ended c) p a (none_apart at c a.before (set a.before) w.jobs before a.stands.jobs_kept (λ id g. g)))
 
 -- the tasks of all other jobs stand on
 pub other_over_end : (at c : ℕ) (id : Id) (p : List Entry) (h : Held) → NamesItsOwn p → child id p ≡ Some c → held_id h ≢ id → HeldStands p h → HeldStands (Turned (record { at = at; kind = Ended c }) ∷ p) h

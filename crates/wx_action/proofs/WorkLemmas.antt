@@ -104,6 +104,7 @@ take_done s w p p' at start x queue batch found owes takes most size same_closed
           tasks_kept = tasks_silent (Take x.0.name) p w.jobs refl stands.tasks_kept;
           idle_kept = stands.idle_kept;
           graceful_kept = stands.graceful_kept;
+          ended_kept = stands.ended_kept;
         };
         follows = λ world hooks p₀ world₀ hooks₀ l. Then (Take x.0.name) p world hooks l d;
         quiet = λ p₀ a. More _ p a refl;
@@ -168,6 +169,7 @@ to_show s w p p' at x queue owes takes most size same_closed seen grown =
           tasks_kept = tasks_silent (Take x.0.name) p w.jobs refl stands.tasks_kept;
           idle_kept = stands.idle_kept;
           graceful_kept = stands.graceful_kept;
+          ended_kept = stands.ended_kept;
         };
         follows = λ world hooks p₀ world₀ hooks₀ l. Then (Take x.0.name) p world hooks l d;
         quiet = λ p₀ a. More _ p a refl;
@@ -244,6 +246,7 @@ filter_passed s w w' p p' at n name event priority answer found owes is_listed n
       tasks_kept = tasks_silent (Filter n name answer) p w.jobs refl stands.tasks_kept;
       idle_kept = stands.idle_kept;
       graceful_kept = stands.graceful_kept;
+      ended_kept = stands.ended_kept;
     } in
     record {
       due = d;
@@ -283,6 +286,7 @@ filter_dropped s w w' p p' at n name answer found owes below number passes is_dr
       tasks_kept = tasks_silent (Filter n name answer) p w.jobs refl stands.tasks_kept;
       idle_kept = stands.idle_kept;
       graceful_kept = stands.graceful_kept;
+      ended_kept = stands.ended_kept;
     } in
     record {
       due = d;
@@ -322,6 +326,7 @@ show_done s w p p' n error wish more queue stands due number items size shut gro
         tasks_kept = tasks_silent (Show n error wish) p w.jobs refl stands.tasks_kept;
         idle_kept = stands.idle_kept;
         graceful_kept = stands.graceful_kept;
+        ended_kept = stands.ended_kept;
       });
       after = λ k owed. ap (agenda s) grown ∙ after k owed;
       newest = ap (λ q. wished q) grown;
@@ -422,6 +427,7 @@ stands_room s w p batch stands names events = record {
   tasks_kept = stands.tasks_kept;
   idle_kept = stands.idle_kept;
   graceful_kept = stands.graceful_kept;
+  ended_kept = stands.ended_kept;
 }
 
 -- there is room for an error that is to be shown

@@ -4,7 +4,6 @@ use Rattle.wx_control.specs.declared.id.Id.{Id}
 use Rattle.wx_control.specs.declared.ask.Ask.{Ask as AnAsk}
 use Rattle.wx_journal.specs.declared.entry.Entry.{Entry}
 use Rattle.wx_journal.specs.Acts.{JournalAct as Act}
-use Rattle.wx_journal.specs.Names.{next_job}
 use Rattle.wx_journal.specs.declared.entry.Act.TheVariants.{Create, Ask, Change, Quit, QuitGracefully}
 use Rattle.wx_machine.specs.History.{lives, command}
 use Rattle.wx_hooks.specs.declared.handler.Todo.{Todo}
@@ -33,7 +32,7 @@ OwesPlan s p acts = agenda s p ≡ settle p (plans (act_plan (λ id. lives id p)
 -- to be done for the acts, and their changes wait.
 pub record OwesActs (s : Start) (p : List Entry) (todo : List Todo) (quit : Option QuitManner) (ids : List Id) : Type 0 where
   pub acts : List Act
-  pub lawful : AreLawful (next_job p) acts
+  pub lawful : AreLawful p acts
   pub may_change : MayChange (revision s p) acts
   pub is_todo : AreTodo acts todo
   pub commanded : AreCommanded p acts
@@ -58,7 +57,7 @@ pub record Does {X E : Type 0} (result : Result X E) (s : Start) (p : List Entry
 pub record HasAsked (s : Start) (p : List Entry) (id : Id) (ask : AnAsk) (p' : List Entry) : Type 0 where
   pub owes : (acts : List Act) → OwesPlan s p (Ask id ask ∷ acts) → OwesPlan s p' acts
   pub commands : (i : Id) → command i p' ≡ command i p
-  pub next_same : next_job p' ≡ next_job p
+  pub lawful_same : (acts : List Act) → AreLawful p acts → AreLawful p' acts
   pub revision_same : revision s p' ≡ revision s p
   pub pending_same : pending p' ≡ pending p
   pub jobs_same : jobs p' ≡ jobs p

@@ -32,6 +32,7 @@ use Rattle.wx_action.specs.declared.work_turn.Found.TheVariants as found
 use Rattle.wx_action.specs.declared.work_turn.Worked.{Worked}
 use Rattle.wx_action.specs.declared.work_turn.Worked.TheVariants as worked
 use Rattle.wx_machine.specs.Start.{Start}
+use Rattle.wx_machine.specs.Keyboard.{has_ended}
 use Rattle.wx_machine.specs.Settings.{settings}
 use Rattle.wx_machine.specs.Quits.{graceful}
 use Rattle.wx_machine.specs.Journal.{passes_unseen, closed, named, bag, window, first, is_over}
@@ -55,6 +56,7 @@ pub record Stands (s : Start) (w : Worker) (p : List Entry) : Type 0 where
   pub tasks_kept : AllByRecursion (HeldStands p) w.jobs
   pub idle_kept : UnseenRunNone p
   pub graceful_kept : w.graceful ≡ graceful p
+  pub ended_kept : w.ended ≡ has_ended s p
 
 -- the end of all jobs takes this room, and it is there
 abbrev pub end_room : Worker → ℕ

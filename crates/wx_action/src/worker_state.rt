@@ -1,5 +1,5 @@
 // What an engine keeps between turns.
-ghost use Rattle.std.specs.Prelude.{◌≡◌, ◌∷◌, [], ◌+◌, ◌*◌, ◌^◌, ◌<◌, ◌≤◌, false, length, List, IfOk, OnOk, OnErr};
+ghost use Rattle.std.specs.Prelude.{◌≡◌, ◌∷◌, [], ◌+◌, ◌*◌, ◌^◌, ◌<◌, ◌≤◌, ◌&&◌, ◌||◌, not, false, length, List, IfOk, OnOk, OnErr};
 ghost use Rattle.wx_events.specs.declared.event.Event.{Event as AnEvent};
 ghost use Rattle.wx_events.specs.declared.priority.Priority.{Priority as APriority};
 ghost use Rattle.wx_config.specs.Changes.{changed, last_revision};
@@ -10,21 +10,25 @@ ghost use Rattle.wx_machine.specs.Kept.{OnlyHooksRoom};
 ghost use Rattle.wx_action.specs.Serves.{Grows, OwesRest};
 ghost use Rattle.wx_machine.specs.Start.{Start, IsSize};
 ghost use Rattle.wx_machine.specs.Journal.{closed, bag};
-ghost use Rattle.wx_machine.specs.Due.{Sends, Offers, Says, Agenda, Comes, begin_of};
+ghost use Rattle.wx_machine.specs.Keyboard.{ended_over};
+ghost use Rattle.wx_machine.specs.Answer.{NoneIsToGo};
+ghost use Rattle.wx_machine.specs.Due.{Sends, Offers, Says, Agenda, Comes, Open, begin_of, offers, is_quitting, agenda};
+ghost use Rattle.wx_keys.specs.Keys.{ends_input};
 ghost use Rattle.wx_action.specs.Stands.{Stands, Owes, IsOffered, end_room};
 
 use prio_channel::{PrioQueue, TrySendError};
 use std::alloc::Global;
-use wx_config::{Change, Config, RevisionSpent};
+use wx_config::{Change, Config};
 use wx_events::{Event, Priority};
 use wx_hooks::{Batch, JobList, with_copy};
 use wx_job::{Host, JobHooks};
 use wx_journal::{Entry, Journal, Named, Offered, Word};
-use wx_text::Memory;
+use wx_keys::ends_input;
+use wx_text::{List, Memory};
 
 /// What an engine keeps between turns: its settings, the queue, how many events have a name, the window, the moment at
-/// which the window's first event was taken, in nanoseconds, the jobs that a handler sees, by rising name, and whether a graceful
-/// quit was asked for.
+/// which the window's first event was taken, in nanoseconds, the jobs that a handler sees, by rising name, whether a graceful quit
+/// was asked for, and whether the end of the keyboard's input was read since keyboard events last went on, or since the start.
 #[derive(Drop, Debug)]
 pub struct Worker {
     pub config: Config,
@@ -34,6 +38,7 @@ pub struct Worker {
     pub first: u64,
     pub jobs: JobList,
     pub graceful: bool,
+    pub ended: bool,
 }
 
 /// The room for so many entries, besides what the end of so many jobs takes.
@@ -62,6 +67,7 @@ impl Worker {
                 first: 0,
                 jobs: JobList::new(alloc),
                 graceful: false,
+                ended: false,
             }),
             Err(memory) => {
                 drop(config);
@@ -153,8 +159,7 @@ impl Worker {
         Ok(())
     }
 
-    /// Offers an event that arrived to the queue. It fails only for want of memory. The worker stays as it was then, and no
-    /// entry is added.
+    /// Offers an event to the queue. It fails only for want of memory. The worker stays as it was then, and no entry is added.
     pub fn arrive(
         &mut self,
         alloc: Global,
@@ -166,6 +171,7 @@ impl Worker {
         requires owes { (more : Agenda) × Owes start self.old journal.old.past (Comes (Offers event priority) more) }
         ensures grows { Grows start self.old journal.old self.new journal.new }
         ensures done { OnOk result (OwesRest start (Offers event priority) journal.old.past journal.new.past) }
+        ensures quits { is_quitting journal.new.past ≡ is_quitting journal.old.past }
         ensures err { OnErr result (journal.new.past ≡ journal.old.past) }
         ensures same { OnErr result (self.new ≡ self.old) }
     {
@@ -187,6 +193,40 @@ impl Worker {
         Ok(())
     }
 
+    /// Offers these events of keys to the queue, one by one. It fails only for want of memory, behind any of the offers.
+    pub(crate) fn arrive_keys(
+        &mut self,
+        alloc: Global,
+        events: List<Event>,
+        journal: &mut Journal,
+    ) -> Result<(), Memory>
+        ghost start: { Start }
+        requires owes { Owes start self.old journal.old.past (offers events) }
+        requires going { is_quitting journal.old.past ≡ false }
+        ensures grows { Grows start self.old journal.old self.new journal.new }
+        ensures done { OnOk result (agenda start journal.new.past ≡ Open) }
+        ensures cut { OnErr result (NoneIsToGo (agenda start journal.new.past)) }
+    {
+        let mut left = events;
+        while let Some(event) = left.take_first() {
+            self.arrive(alloc, event, Priority::Normal, journal)?;
+        }
+        Ok(())
+    }
+
+    /// Says this of a turn. It fails only for want of memory, and adds no entry then.
+    pub fn say(&self, word: Word, journal: &mut Journal) -> Result<(), Memory>
+        ghost start: { Start }
+        requires owes { (more : Agenda) × Owes start self.now journal.old.past (Comes (Says word) more) }
+        ensures grows { Grows start self.now journal.old self.now journal.new }
+        ensures done { OnOk result (OwesRest start (Says word) journal.old.past journal.new.past) }
+        ensures err { OnErr result (journal.new.past ≡ journal.old.past) }
+    {
+        self.reserve(1, journal)?;
+        journal.push(Entry::Word(word));
+        Ok(())
+    }
+
     /// Says of a turn that what it is about isn't there. It fails only for want of memory, and adds no entry then.
     pub fn ignored(&self, journal: &mut Journal) -> Result<(), Memory>
         ghost start: { Start }
@@ -195,24 +235,42 @@ impl Worker {
         ensures done { OnOk result (OwesRest start (Says Ignored) journal.old.past journal.new.past) }
         ensures err { OnErr result (journal.new.past ≡ journal.old.past) }
     {
-        self.reserve(1, journal)?;
-        journal.push(Entry::Word(Word::Ignored));
-        Ok(())
+        self.say(Word::Ignored, journal)
+    }
+
+    /// Whether keys are heard: keyboard events are on, and the input hasn't ended.
+    pub fn hears_keys(&self) -> bool
+        ensures { result ≡ (self.now.config.keyboard_events && not self.now.ended) }
+    {
+        *self.config.keyboard_events.get() && !self.ended
+    }
+
+    /// Keeps that the input of the keyboard ended, where this read holds its end and keyboard events are on. It takes no memory.
+    pub fn keep_read(&mut self, bytes: &[u8])
+        ensures { self.new ≡ record self.old { ended = self.old.ended || (self.old.config.keyboard_events && ends_input bytes.now) } }
+    {
+        if *self.config.keyboard_events.get() && ends_input(bytes) {
+            self.ended = true;
+        }
     }
 
     /// Changes the settings, whose revision can be raised, and lists the new revision, in room that was taken.
     pub(crate) fn change(&mut self, change: Change, journal: &mut Journal)
         requires room { 1 ≤ journal.old.spare }
         requires fits { self.old.config.change_signal < last_revision }
-        ensures same { self.new ≡ record self.old { config = self.new.config } }
+        ensures same { self.new ≡ record self.old { config = self.new.config; ended = self.new.ended } }
+        ensures ended { self.new.ended ≡ ended_over self.old.config.keyboard_events self.new.config.keyboard_events self.old.ended }
         ensures changed { self.new.config ≡ changed change self.old.config }
         ensures past { journal.new.past ≡ Changed self.new.config.change_signal ∷ journal.old.past }
         ensures room { journal.new.spare + 1 ≡ journal.old.spare }
     {
-        match self.config.apply(change) {
-            Ok(()) => journal.push(Entry::Changed(self.config.change_signal)),
-            Err(RevisionSpent) => unreachable!(),
-        }
+        let before = *self.config.keyboard_events.get();
+        let Ok(()) = self.config.apply(change) else {
+            unreachable!()
+        };
+        let now = *self.config.keyboard_events.get();
+        self.ended = self.ended && (before || !now);
+        journal.push(Entry::Changed(self.config.change_signal));
     }
 }
 

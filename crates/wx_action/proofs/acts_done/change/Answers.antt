@@ -1,4 +1,4 @@
-use Rattle.std.proofs.Common.{◌≡◌, List, ◌∷◌, arith, refl, ap, sym, ◌∙◌}
+use Rattle.std.proofs.Common.{List, ◌∷◌, arith, refl, ap}
 use Rattle.wx_hooks.specs.declared.handler.Todo.{Todo}
 use Rattle.wx_hooks.specs.declared.handler.Todo.TheVariants as todo
 use Rattle.std.specs.Prelude.{Option}
@@ -16,7 +16,7 @@ change-requires-clause-fits g c = let o = c.requires.0 in rw (ap (λ k. k.change
 
 done : (g : _) (c : goal.After-change g) (rest : List Todo) (quit : Option QuitManner) (ids : List Id) → OwesActs g.start c.args.journal.now.past (todo.Change c.args.change ∷ rest) quit ids → OneDone g.start c.change.new.self rest quit ids c.args.journal.now.past c.change.new.journal.past
 done g c rest quit ids owes =
-    changed_one g.start c.args.worker.now c.change.new.self c.args.change rest quit ids c.args.journal.now.past c.change.new.journal.past owes c.requires.1 c.change.ensures.same c.change.ensures.changed (rw c.in-Ok.ensures.same at c.change.ensures.past)
+    changed_one g.start c.args.worker.now c.change.new.self c.args.change rest quit ids c.args.journal.now.past c.change.new.journal.past owes c.requires.1 c.change.ensures.same c.change.ensures.ended c.change.ensures.changed (rw c.in-Ok.ensures.same at c.change.ensures.past)
 
 pub returns-in_default-clause-grows : goal.returns-in_default-clause-grows
 returns-in_default-clause-grows g c = grows_none _ _ _ _ _ (rw c.reserve.ensures.same c.requires.1) c.reserve.ensures.same refl (λ room. omega (arith, room, c.reserve.ensures.kept))

@@ -34,7 +34,7 @@ done g c =
     let at = at_turn g.start c.args.worker.now c.requires.0 (Change c.args.change) c.args.journal.now.past tt c.requires.1 in
     let waits : pending c.args.journal.now.past ≡ c.args.change ∷ [] = ap pending c.requires.1.last in
     let other : revision g.start c.args.journal.now.past ≢ last_revision = rw (← ap (λ k. k.change_signal) at.stands.config_kept) c.if-worker.false in
-    change_done g.start c.args.worker.now c.change.new.self c.args.change c.args.journal.now.past c.change.new.journal.past at.stands at.going at.due waits other c.change.ensures.same c.change.ensures.changed
+    change_done g.start c.args.worker.now c.change.new.self c.args.change c.args.journal.now.past c.change.new.journal.past at.stands at.going at.due waits other c.change.ensures.same c.change.ensures.ended c.change.ensures.changed
     (rw c.in-Ok.ensures.same at c.change.ensures.past)
 
 pub returns-clause-grows : goal.returns-clause-grows

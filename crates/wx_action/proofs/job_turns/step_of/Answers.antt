@@ -9,7 +9,7 @@ use Rattle.wx_action.specs.Stands.{HasEndRoom}
 use Rattle.wx_machine.proofs.FaultLaws.{counts_on}
 use Rattle.wx_action.proofs.PlanLemmas.{JobDone}
 use Rattle.wx_hooks.proofs.JobListLemmas.{length_with}
-use Rattle.wx_action.proofs.HandLemmas.{on_err}
+use Rattle.wx_action.proofs.ArriveLemmas.{on_err}
 use Rattle.wx_action.proofs.JobLemmas.{lent, parked_lent, alive_held, step_done, StepStopped, step_stopped}
 use Rattle.wx_action.proofs.job_turns.step_of.Goals.{After-step}
 use Rattle.wx_action.proofs.job_turns.step_of.Goals as goal

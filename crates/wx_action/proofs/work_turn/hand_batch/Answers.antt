@@ -1,6 +1,5 @@
 use Rattle.std.proofs.Common.{◌≡◌, refl, ap, ◌∙◌}
 use Rattle.wx_journal.specs.declared.entry.Entry.TheVariants.{Hand}
-use Rattle.wx_journal.specs.Names.{next_job}
 use Rattle.wx_machine.specs.Settings.{revision, MayChange}
 use Rattle.wx_machine.specs.Journal.{window}
 use Rattle.wx_machine.specs.Due.{Due}
@@ -19,7 +18,7 @@ new-handler-requires-clause-some g c =
 pub new-handler-requires-clause-shown : goal.new-handler-requires-clause-shown
 new-handler-requires-clause-shown g c = shown g.start c.args.worker.now c.args.journal.now.past c.requires.1.0
 
-are_lawful : (g : _) (c : goal.After-leave_gone g) → AreLawful (next_job c.args.journal.now.past) c.action.new.handler.acts
+are_lawful : (g : _) (c : goal.After-leave_gone g) → AreLawful c.args.journal.now.past c.action.new.handler.acts
 are_lawful g c =
     let past_is = ap (λ h. h.past) c.action.ensures.same ∙ ap (λ h. h.past) c.new-handler.ensures in
     rw (c.into_parts-names.ensures.acts, past_is) at c.into_parts-names.ensures.lawful

@@ -23,3 +23,6 @@ returns-clause-grows g c = grows _ _ _ _ _ (done g c) refl (omega (arith, c.in-O
 
 pub returns-clause-done : goal.returns-clause-done
 returns-clause-done g c = offered_then g.start c.args.journal.now.past c.push.new.self.past c.args.self.now.named c.args.event c.args.priority c.offer_to-result.result (rw (c.in-Ok.ensures.same, c.in_ok-event.ensures.0) at c.push.ensures.past)
+
+pub returns-clause-quits : goal.returns-clause-quits
+returns-clause-quits g c = let grown = rw (c.in-Ok.ensures.same, c.in_ok-event.ensures.0) at c.push.ensures.past in rw grown refl

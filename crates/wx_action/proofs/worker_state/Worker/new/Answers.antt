@@ -16,4 +16,5 @@ returns-in-Ok-clause-stands c = λ s is. record {
   tasks_kept = search rules;
   idle_kept = λ id none. refl;
   graceful_kept = refl;
+  ended_kept = refl;
 }
