@@ -11,9 +11,9 @@ use Rattle.wx_error.specs.declared.error.CriticalError.{CriticalError}
 use Rattle.wx_error.specs.declared.error.CriticalError.TheVariants.{IoError, Memory}
 use Rattle.wx_machine.specs.Answer.{Dying, Alive, Dies, IsBroken, AtAnyPlace, Wishes, MemoryCuts, Answers}
 use Rattle.wx_journal.specs.Lines.{Answer}
-use Rattle.wx_machine.specs.RunLaws.{IsBatched, AreBatches, NoneUnseenIsShown, NoneIsShownClosed, AreMadeOnce, AreServed, AreRevised}
+use Rattle.wx_machine.specs.RunLaws.{IsBatched, AreBatches, NoneUnseenIsShown, NoneIsShownClosed, AreMadeByRule, AreServed, AreRevised}
 use Rattle.wx_machine.specs.Leads.{Leads, Here, Then}
-use Rattle.wx_machine.proofs.AllJobs.{run_makes_once}
+use Rattle.wx_machine.proofs.MadeLaws.{run_makes_by_rule}
 use Rattle.wx_machine.proofs.RunLaws.{orderly, run_is_batched, run_has_batches, run_shows, run_shows_open, run_is_served, run_is_revised}
 use Rattle.wx_machine.proofs.FunctionLaws.{run_waits, dying_waits}
 use Rattle.wx_machine.proofs.PlanLaws.{of_end}
@@ -95,10 +95,10 @@ completed s p (Err (IoError about err)) old new a (inl rose) calm none = calm ro
 completed s p (Err (IoError about err)) old new a (inr broken) calm none = unbroken (IoError about err) s p none broken
 completed s p (Err error) old new a cause calm none = unbroken error s p none a
 
--- ids made are distinct
-pub ran_makes_once : (s : Start) (p : List Entry) → Ran s p → AreMadeOnce p
-ran_makes_once s p (inl complete) = run_makes_once s p (orderly s p complete.run)
-ran_makes_once s p (inr broken) = (dying_keeps s broken.before p broken.dying).made_once (run_makes_once s broken.before (orderly s broken.before broken.run))
+-- each job was made under a new id, or again
+pub ran_makes_by_rule : (s : Start) (p : List Entry) → Ran s p → AreMadeByRule p
+ran_makes_by_rule s p (inl complete) = run_makes_by_rule s p complete.run
+ran_makes_by_rule s p (inr broken) = (dying_keeps s broken.before p broken.dying).made_by_rule (run_makes_by_rule s broken.before broken.run)
 
 -- each turn came where nothing was owed
 pub ran_is_served : (s : Start) (p : List Entry) → Ran s p → AreServed s p

@@ -23,7 +23,7 @@ use Rattle.wx_action.specs.Serves.{Serves}
 use Rattle.wx_machine.proofs.AllJobs.{same_turns}
 use Rattle.wx_engine.specs.Run.{ServesTurns}
 use Rattle.wx_machine.specs.Told.{is_last, TellsNoEnd}
-use Rattle.wx_action.proofs.TurnLaws.{at_turn, next_turn}
+use Rattle.wx_action.proofs.TurnLaws.{with_turn, at_any_turn, next_turn}
 use Rattle.wx_action.proofs.StandsLemmas.{stands_behind}
 
 -- ---- a turn that was drawn, or the fault of one
@@ -88,9 +88,10 @@ served t p mid p' grown stays =
       told = λ before. same.told before;
     }
 
--- a worker that stood for the journal before a turn stands for it with that turn, where this tells no end of a child
-pub turn_stands : (s : Start) (w : Worker) (t : Turn) (p p' : List Entry) → Stands s w p → agenda s p ≡ Open → p' ≡ Turned t ∷ p → TellsNoEnd t.kind → Stands s w p'
-turn_stands s w t p p' stands open_is grown none = (at_turn s w t.at t.kind p' none (next_turn s w p p' t.at t.kind stands open_is grown)).stands
+-- A worker that stood for the journal before a turn stands for it with that turn, where this tells no end of a child and the worker
+-- keeps what it says of the end of the input.
+pub turn_stands : (s : Start) (w w' : Worker) (t : Turn) (p p' : List Entry) → Stands s w p → agenda s p ≡ Open → p' ≡ Turned t ∷ p → TellsNoEnd t.kind → w' ≡ with_turn t.kind w → Stands s w' p'
+turn_stands s w w' t p p' stands open_is grown none kept = rw kept (at_any_turn s w t.at t.kind p' none (next_turn s w p p' t.at t.kind stands open_is grown)).stands
 
 -- and with the fault of one
 pub fault_stands : (s : Start) (w : Worker) (code : ℕ) (p p' : List Entry) → Stands s w p → p' ≡ TurnFault code ∷ p → Stands s w p'

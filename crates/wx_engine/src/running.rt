@@ -6,6 +6,7 @@ ghost use Rattle.wx_action.specs.Serves.{AddsAlone, Continues};
 ghost use Rattle.wx_machine.specs.Start.{Start, IsSize};
 ghost use Rattle.wx_machine.specs.Jobs.{jobs};
 ghost use Rattle.wx_machine.specs.Due.{agenda, begin_of, Open};
+ghost use Rattle.wx_machine.specs.Keyboard.{ended_by};
 ghost use Rattle.wx_machine.specs.Told.{is_last, TellsNoEnd};
 ghost use Rattle.wx_machine.specs.Answer.{NoneIsToGo, BreaksOff, Answers};
 ghost use Rattle.wx_action.specs.Stands.{Stands, AtTurn, HasEndRoom, Works, end_room};
@@ -13,13 +14,16 @@ ghost use Rattle.wx_engine.specs.Run.{HasCause, HasTurnCause, Stops, Rests, IsBe
 
 use crate::watchexec::Watchexec;
 use std::alloc::Global;
-use wx_action::{Worked, Worker, ask_turn, change_turn, end_jobs, ended_turn, job_turn, worker};
+use wx_action::{
+    Worked, Worker, ask_turn, change_turn, end_jobs, ended_turn, job_turn, keys_turn, signal_turn,
+    worker,
+};
 use wx_config::Config;
 use wx_control::Flag;
 use wx_error::CriticalError;
 use wx_hooks::{Hooks, World};
 use wx_job::{Host, JobHooks};
-use wx_journal::{Beginning, Entry, Journal, TurnKind};
+use wx_journal::{Beginning, Entry, Journal, TurnKind, copy_bytes};
 use wx_text::{Copies, Memory, Text};
 use wx_words::TextPath;
 
@@ -124,6 +128,14 @@ fn serve<W: World, H: Hooks>(
             state.arrive(alloc, event, priority, journal)?;
             Ok(state.worked())
         }
+        TurnKind::Signal(signal) => {
+            signal_turn(alloc, state, signal, journal)?;
+            Ok(state.worked())
+        }
+        TurnKind::Keys(bytes) => {
+            keys_turn(alloc, state, bytes, journal)?;
+            Ok(state.worked())
+        }
         TurnKind::Work => worker(alloc, state, at, world, hooks, journal),
         TurnKind::Job(id) => {
             job_turn(alloc, state, id, at, world, hooks, journal)?;
@@ -159,13 +171,24 @@ fn make_room<W: World>(state: &Worker, world: &mut W, journal: &mut Journal) -> 
     state.reserve_host(1, world)
 }
 
-/// The kind of a turn once more. It fails only for want of memory, and never where the turn tells the end of a child.
-fn kind_again(alloc: Global, kind: &TurnKind) -> Result<TurnKind, Memory>
-    ensures same { IfOk result (λ again. again ≡ kind.now) }
+/// The kind of a turn once more, which is to be served. It fails only for want of memory, and never where the turn tells the end of
+/// a child. The worker keeps then what a read from the keyboard says of the end of the input.
+fn kind_again(alloc: Global, kind: &TurnKind, state: &mut Worker) -> Result<TurnKind, Memory>
+    ensures again { IfOk result (λ again. again ≡ kind.now) }
+    ensures same { OnOk result (state.new ≡ state.old) }
     ensures no_end { OnErr result (TellsNoEnd kind.now) }
+    ensures kept { OnErr result (state.new ≡ record state.old { ended = ended_by kind.now state.old.config.keyboard_events state.old.ended }) }
 {
     match kind {
         TurnKind::Arrive(event, priority) => Ok(TurnKind::Arrive(event.copy(alloc)?, *priority)),
+        TurnKind::Signal(signal) => Ok(TurnKind::Signal(*signal)),
+        TurnKind::Keys(bytes) => match copy_bytes(alloc, bytes.as_slice()) {
+            Ok(bytes) => Ok(TurnKind::Keys(bytes)),
+            Err(memory) => {
+                state.keep_read(bytes.as_slice());
+                Err(memory)
+            }
+        },
         TurnKind::Work => Ok(TurnKind::Work),
         TurnKind::Job(id) => Ok(TurnKind::Job(*id)),
         TurnKind::Ended(child) => Ok(TurnKind::Ended(*child)),
@@ -207,7 +230,7 @@ fn serve_turns<W: World, H: Hooks>(
             }
         };
         let at = given.turn.at;
-        let kind = kind_again(alloc, &given.turn.kind);
+        let kind = kind_again(alloc, &given.turn.kind, state);
         journal.push(Entry::Turn(given.turn));
         match serve(alloc, kind?, given.done, at, state, world, hooks, journal)? {
             Worked::On => {}

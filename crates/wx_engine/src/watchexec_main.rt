@@ -4,10 +4,10 @@ ghost use Rattle.wx_control.specs.declared.id.Id.{Id as AnId};
 ghost use Rattle.wx_journal.specs.Told.{is_world, is_hooks, is_turn, anywhere, tells, Obeys, Rose};
 ghost use Rattle.wx_machine.specs.History.{child};
 ghost use Rattle.wx_machine.specs.Afterwards.{GoesOnAfterFaults};
-ghost use Rattle.wx_machine.specs.JobLaws.{IsReaping, AfterFaults};
+ghost use Rattle.wx_machine.specs.JobLaws.{EachIsReaping, AfterFaults};
 ghost use Rattle.wx_machine.specs.TicketLaws.{Throughout, AreInOnePlace, AreRaisedLast, WaitForGraces, WaitForFunctions, GracesNeedChildren};
 ghost use Rattle.wx_machine.specs.Journal.{turn_count, early_count};
-ghost use Rattle.wx_machine.specs.RunLaws.{IsBatched, AreBatches, NoneUrgentWaits, NoneUnseenIsShown, NoneIsShownClosed, MomentsRise, AreMadeOnce, AreServed, AreRevised};
+ghost use Rattle.wx_machine.specs.RunLaws.{IsBatched, AreBatches, NoneUrgentWaits, NoneUnseenIsShown, NoneIsShownClosed, MomentsRise, AreMadeByRule, AreServed, AreRevised};
 ghost use Rattle.wx_machine.specs.Answer.{Answers};
 ghost use Rattle.wx_machine.specs.Faults.{Counted};
 ghost use Rattle.wx_engine.specs.Run.{HasCause, Ran};
@@ -61,8 +61,8 @@ impl Watchexec {
         ensures after_faults { AfterFaults journal.new.past }
         ensures afterwards { GoesOnAfterFaults journal.new.past }
 
-        // Each child of a job is reaped, and none runs.
-        ensures children { (id : AnId) → IsReaping id journal.new.past }
+        // Each child of a job is reaped, in each history of its id, and none runs.
+        ensures children { (id : AnId) → EachIsReaping id journal.new.past }
         ensures none_runs { (id : AnId) → child id journal.new.past ≡ None }
 
         // At each moment a ticket of a job that lives waits, is in hand, is parked or was raised, and just one of these. It
@@ -86,7 +86,7 @@ impl Watchexec {
         ensures shown { NoneUnseenIsShown journal.new.past }
         ensures shown_open { NoneIsShownClosed journal.new.past }
         ensures offers { AreOffered self journal.new.past }
-        ensures ids { AreMadeOnce journal.new.past }
+        ensures ids { AreMadeByRule journal.new.past }
         ensures served { AreServed self journal.new.past }
         ensures revisions { AreRevised self journal.new.past }
 

@@ -5,9 +5,10 @@ ghost use Rattle.wx_journal.specs.declared.entry.Act.TheVariants.{Ask as Asks, C
 ghost use Rattle.wx_journal.specs.declared.wish.Wish.TheVariants.{Nothing};
 ghost use Rattle.wx_journal.specs.Told.{anywhere, is_hooks};
 ghost use Rattle.wx_script.specs.Answered.{AreUsed};
-ghost use Rattle.wx_script.specs.Acted.{is_made, AreMade, performed, with_create, with_ask, with_act, hands, filters, errors, polls, LeavesWords, AreHooksUsed, Wished, IsWished};
+ghost use Rattle.wx_script.specs.Acted.{is_made, AreMade, performed, with_create, with_ask, with_get, with_act, hands, filters, errors, polls, LeavesWords, AreHooksUsed, Wished, IsWished};
 ghost use Rattle.wx_script.specs.FollowLaws.{leaves_wished, uses_over, hands_among, filters_among, errors_among, polls_among, hooks_over};
 ghost use Rattle.wx_script.specs.Follows.{wished_of};
+ghost use Rattle.wx_script.specs.declared.script.ScriptAct.TheVariants.{One};
 
 use crate::replies::{line, next, passed};
 use std::alloc::Global;
@@ -16,10 +17,10 @@ use wx_config::Change;
 use wx_control::{Ask, Controls, Id, Job};
 use wx_error::RuntimeError;
 use wx_events::{Event, Priority};
-use wx_hooks::{ActionHandler, CreateRefused, ErrorHook, Hooks};
+use wx_hooks::{ActionHandler, CreateRefused, ErrorHook, GetRefused, Hooks};
 use wx_job::{JobHooks, JobTaskContext};
 use wx_journal::{Act, Entry, HostFault, Journal, Wish};
-use wx_script::{Script, Wanted};
+use wx_script::{Script, ScriptAct, Wanted};
 use wx_text::{Copies, List, Memory, Text, copy_twice};
 
 /// Hooks that ask in each call of the action handler for the next acts of a script, and for nothing after them, and answer
@@ -33,7 +34,7 @@ use wx_text::{Copies, List, Memory, Text, copy_twice};
 #[derive(Drop, Debug)]
 pub struct ScriptHooks {
     alloc: Global,
-    actions: List<List<Act<Wanted>>>,
+    actions: List<List<ScriptAct>>,
     used: usize,
     filters: List<Result<bool, RuntimeError>>,
     asked: usize,
@@ -266,11 +267,7 @@ fn answer_and_told(
 }
 
 /// Asks for these acts, one by one. It fails only for want of memory.
-fn perform(
-    alloc: Global,
-    acts: &[Act<Wanted>],
-    handler: &mut ActionHandler<'_>,
-) -> Result<(), Memory>
+fn perform(alloc: Global, acts: &[ScriptAct], handler: &mut ActionHandler<'_>) -> Result<(), Memory>
     requires fresh { handler.old.acts ≡ [] }
     ensures done { OnOk result (handler.new ≡ record handler.old { acts = performed handler.old.past [] acts.now }) }
     ensures same { handler.new ≡ record handler.old { acts = handler.new.acts } }
@@ -282,17 +279,35 @@ fn perform(
     Ok(())
 }
 
-/// Asks for an act, with the handles on the jobs that were created so far. It fails only for want of memory.
+/// Asks for an act of a script, with the handles on the jobs that were created so far. It fails only for want of memory.
 fn perform_one(
+    alloc: Global,
+    act: &ScriptAct,
+    made: &mut Vec<Job>,
+    handler: &mut ActionHandler<'_>,
+) -> Result<(), Memory>
+    requires made { AreMade handler.old.past made.old.items handler.old.acts }
+    ensures done { OnOk result (handler.new ≡ record handler.old { acts = with_act handler.old.past handler.old.acts act.now }) }
+    ensures same { handler.new ≡ record handler.old { acts = handler.new.acts } }
+    ensures made { OnOk result (AreMade handler.old.past made.new.items handler.new.acts) }
+{
+    match act {
+        ScriptAct::One(act) => perform_act(alloc, act, made, handler),
+        ScriptAct::GetOrCreate(id, command) => get_or_create(alloc, *id, command, made, handler),
+    }
+}
+
+/// Asks for an act, with the handles on the jobs that were created so far. It fails only for want of memory.
+fn perform_act(
     alloc: Global,
     act: &Act<Wanted>,
     made: &mut Vec<Job>,
     handler: &mut ActionHandler<'_>,
 ) -> Result<(), Memory>
-    requires made { AreMade made.old.items handler.old.acts }
-    ensures done { OnOk result (handler.new ≡ record handler.old { acts = with_act handler.old.past handler.old.acts act.now }) }
+    requires made { AreMade handler.old.past made.old.items handler.old.acts }
+    ensures done { OnOk result (handler.new ≡ record handler.old { acts = with_act handler.old.past handler.old.acts (One act.now) }) }
     ensures same { handler.new ≡ record handler.old { acts = handler.new.acts } }
-    ensures made { OnOk result (AreMade made.new.items handler.new.acts) }
+    ensures made { OnOk result (AreMade handler.old.past made.new.items handler.new.acts) }
 {
     match act {
         Act::Create(Wanted::New, command) => create(alloc, command, made, handler),
@@ -317,10 +332,10 @@ fn create(
     made: &mut Vec<Job>,
     handler: &mut ActionHandler<'_>,
 ) -> Result<(), Memory>
-    requires made { AreMade made.old.items handler.old.acts }
+    requires made { AreMade handler.old.past made.old.items handler.old.acts }
     ensures done { OnOk result (handler.new ≡ record handler.old { acts = with_create handler.old.past handler.old.acts command.now }) }
     ensures same { handler.new ≡ record handler.old { acts = handler.new.acts } }
-    ensures made { OnOk result (AreMade made.new.items handler.new.acts) }
+    ensures made { OnOk result (AreMade handler.old.past made.new.items handler.new.acts) }
 {
     made.reserve(1)?;
     match handler.create_job(alloc, command.copy(alloc)?) {
@@ -333,6 +348,31 @@ fn create(
     }
 }
 
+/// Asks for the job of this id, which is made again where it isn't there, and keeps the handle on it. Where none was made
+/// under this id nothing is asked for. It fails only for want of memory.
+fn get_or_create(
+    alloc: Global,
+    id: Id,
+    command: &Command,
+    made: &mut Vec<Job>,
+    handler: &mut ActionHandler<'_>,
+) -> Result<(), Memory>
+    requires made { AreMade handler.old.past made.old.items handler.old.acts }
+    ensures done { OnOk result (handler.new ≡ record handler.old { acts = with_get handler.old.past handler.old.acts id command.now }) }
+    ensures same { handler.new ≡ record handler.old { acts = handler.new.acts } }
+    ensures made { OnOk result (AreMade handler.old.past made.new.items handler.new.acts) }
+{
+    made.reserve(1)?;
+    match handler.get_or_create_job(alloc, id, command) {
+        Ok(job) => {
+            made.push_reserved(job);
+            Ok(())
+        }
+        Err(GetRefused::UnknownId) => Ok(()),
+        Err(GetRefused::Memory) => Err(Memory),
+    }
+}
+
 /// Asks this of the job of this id, where it is there or was created before. It fails only for want of memory.
 fn ask_or_not(
     alloc: Global,
@@ -341,10 +381,10 @@ fn ask_or_not(
     made: &[Job],
     handler: &mut ActionHandler<'_>,
 ) -> Result<(), Memory>
-    requires made { AreMade made.now handler.old.acts }
+    requires made { AreMade handler.old.past made.now handler.old.acts }
     ensures done { OnOk result (handler.new ≡ record handler.old { acts = with_ask handler.old.past handler.old.acts id ask.now }) }
     ensures same { handler.new ≡ record handler.old { acts = handler.new.acts } }
-    ensures made { OnOk result (AreMade made.now handler.new.acts) }
+    ensures made { OnOk result (AreMade handler.old.past made.now handler.new.acts) }
 {
     if let Some(job) = find_made(made, id) {
         return ask_of(alloc, job, ask, handler);

@@ -1,6 +1,6 @@
 -- The acts of a script, the answers of its filter and of begun functions, and the words of its spawn hooks; and the rule of
 -- hooks that follow it.
-use Rattle.std.specs.Prelude.{◌≡◌, ℕ, ◌+◌, ◌-◌, ◌^◌, min, Bool, true, nat_lt, ◌||◌, if◌then◌else◌, Option, None, Some, Ok, List, [], ◌∷◌, ◌++◌, length, get_or}
+use Rattle.std.specs.Prelude.{◌≡◌, ℕ, ◌+◌, ◌-◌, ◌^◌, min, Bool, true, not, nat_lt, ◌||◌, ◌&&◌, if◌then◌else◌, Option, None, Some, Ok, List, [], ◌∷◌, ◌++◌, length, get_or}
 use Rattle.std.specs.List.{list_any}
 use Rattle.wx_command.specs.declared.command.Command.{Command}
 use Rattle.wx_command.specs.declared.spawnable.Spawnable.{Spawnable}
@@ -14,13 +14,14 @@ use Rattle.wx_journal.specs.declared.entry.Entry.{Entry}
 use Rattle.wx_journal.specs.declared.entry.Entry.TheVariants.{Filter, Show, Hand, Poll, Hook}
 use Rattle.wx_journal.specs.declared.wish.Wish.{Wish}
 use Rattle.wx_journal.specs.declared.wish.Wish.TheVariants.{Nothing}
-use Rattle.wx_journal.specs.Names.{creates, next_job}
+use Rattle.wx_journal.specs.Names.{next_job, was_made}
 use Rattle.wx_machine.specs.History.{same, command}
 use Rattle.wx_machine.specs.Quits.{with_quit, with_graceful_quit}
 use Rattle.wx_machine.specs.Journal.{Verdict}
-use Rattle.wx_machine.specs.Jobs.{is_seen, next_created}
+use Rattle.wx_machine.specs.Jobs.{is_seen, is_there, next_created}
 use Rattle.wx_script.specs.Answered.{Calls, IsAnswered, answered_by}
-use Rattle.wx_script.specs.Wishes.{ScriptAct}
+use Rattle.wx_script.specs.declared.script.ScriptAct.{ScriptAct}
+use Rattle.wx_script.specs.declared.script.ScriptAct.TheVariants.{One, GetOrCreate}
 use Rattle.wx_script.specs.declared.script.Wanted.TheVariants.{New}
 
 -- the number of the next job, after a journal and the acts of this call so far
@@ -31,21 +32,22 @@ next_id p done = next_created (next_job p) done
 abbrev pub with_create : List Entry → List Act → Command → List Act
 with_create p done command = if nat_lt (next_id p done) (2 ^ 32 - 1) then done ++ Create (record { 0 = next_id p done }) command ∷ [] else done
 
--- the job of this id was there, or was created in this call
-abbrev pub is_there : List Entry → List Act → Id → Bool
-is_there p done id = creates id done || is_seen id p
-
--- and only of such a job something is asked
+-- only of a job that was there, or was created in this call, something is asked
 abbrev pub with_ask : List Entry → List Act → Id → AnAsk → List Act
 with_ask p done id ask = if is_there p done id then done ++ Asks id ask ∷ [] else done
 
+-- A job is made again under an id that was made, where it isn't there.
+abbrev pub with_get : List Entry → List Act → Id → Command → List Act
+with_get p done id command = if was_made id p && not (is_there p done id) then done ++ Create id command ∷ [] else done
+
 -- what a handler with these acts has after one act of a script, and after these, one by one
 abbrev pub with_act : List Entry → List Act → ScriptAct → List Act
-with_act p done (Create New command) = with_create p done command
-with_act p done (Asks id ask) = with_ask p done id ask
-with_act p done (Change change) = done ++ Change change ∷ []
-with_act p done Quit = with_quit done
-with_act p done (QuitGracefully signal grace) = with_graceful_quit signal grace done
+with_act p done (One (Create New command)) = with_create p done command
+with_act p done (One (Asks id ask)) = with_ask p done id ask
+with_act p done (One (Change change)) = done ++ Change change ∷ []
+with_act p done (One Quit) = with_quit done
+with_act p done (One (QuitGracefully signal grace)) = with_graceful_quit signal grace done
+with_act p done (GetOrCreate id command) = with_get p done id command
 
 abbrev pub performed : List Entry → List Act → List ScriptAct → List Act
 performed p done [] = done
@@ -133,6 +135,6 @@ pub record IsWished (plan : Wished) (p : List Entry) (e : Entry) : Type 0 where
 abbrev pub is_made : Id → Job → Bool
 is_made id job = same job.id id
 
--- these are handles on the jobs that these acts created
-abbrev pub AreMade : List Job → List Act → Type 0
-AreMade made acts = (id : Id) → list_any (is_made id) made ≡ creates id acts
+-- these are handles on jobs that are there behind these acts, on each that the acts created among them
+abbrev pub AreMade : List Entry → List Job → List Act → Type 0
+AreMade p made acts = (id : Id) → (list_any (is_made id) made || is_seen id p) ≡ is_there p acts id

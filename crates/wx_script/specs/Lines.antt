@@ -6,18 +6,20 @@ use Rattle.wx_words.specs.Parts.{number, u32, list_of, text}
 use Rattle.wx_words.specs.Switches.{switch}
 use Rattle.wx_words.specs.ToEnd.{read_to_end}
 use Rattle.wx_watch.specs.Watched.{watcher, watched}
+use Rattle.wx_keys.specs.Keys.{fits_read}
 use Rattle.wx_journal.specs.Answers.{done, waited, verdict, readied}
 use Rattle.wx_journal.specs.Wishes.{wish}
 use Rattle.wx_journal.specs.Kinds.{ranked, turn}
 use Rattle.wx_journal.specs.declared.entry.TurnKind.{TurnKind}
-use Rattle.wx_journal.specs.declared.entry.TurnKind.TheVariants.{Last}
+use Rattle.wx_journal.specs.declared.entry.TurnKind.TheVariants.{Keys, Last}
 use Rattle.wx_script.specs.Wishes.{script_act}
 use Rattle.wx_script.specs.declared.lines.Line.{Line}
 use Rattle.wx_script.specs.declared.lines.Line.TheVariants.{Nothing, Throttle, Size, ErrorSize, Keyboard, Follow, JobSignals, Watcher, Folder, Path, Send, Turn as Turned, Fault, Acts, Filter, Wishes, Poll, Hook, Spawn, Signal, Kill, Wait}
 
--- what a script can say that a turn brings: all but a last turn
+-- what a script can say that a turn brings: all but a last turn, and but more bytes than a read from the keyboard takes
 abbrev pub can_bring : TurnKind → Bool
 can_bring Last = false
+can_bring (Keys bytes) = fits_read bytes
 can_bring (_) = true
 
 -- what a script can say

@@ -6,11 +6,12 @@ ghost use Rattle.wx_words.specs.Parts.{list_of, text};
 ghost use Rattle.wx_script.specs.declared.lines.Line.TheVariants.{Hook};
 ghost use Rattle.wx_script.specs.Lines.{can_bring, is_scripted, if_scripted, read_set, read_form, said_in, line_in};
 
-use crate::script::Wanted;
+use crate::script::ScriptAct;
 use std::alloc::Global;
 use wx_error::RuntimeError;
 use wx_events::{Event, Priority, ProcessEnd};
-use wx_journal::{Act, HostFault, Turn, TurnKind, Wish, read_ready, read_verdict};
+use wx_journal::{HostFault, Turn, TurnKind, Wish, read_ready, read_verdict};
+use wx_keys::fits_read;
 use wx_text::{List, Memory, Text};
 use wx_watch::{WatchedPath, Watcher};
 use wx_words::{Spelled, TextPath, Words, read_result, read_rows, read_to_end};
@@ -45,7 +46,7 @@ pub enum Line {
     /// The world has no turn to give, and this is the code of its fault.
     Fault(u32),
     /// The action handler asks for this in one call.
-    Acts(List<Act<Wanted>>),
+    Acts(List<ScriptAct>),
     /// The filter answers this.
     Filter(Result<bool, RuntimeError>),
     /// The error handler wishes this.
@@ -64,12 +65,13 @@ pub enum Line {
     Wait(Result<ProcessEnd, HostFault>),
 }
 
-/// Whether a script can say that a turn brings this: all but a last turn.
+/// Whether a script can say that a turn brings this: all but a last turn, and but more bytes than a read from the keyboard takes.
 fn can_bring(kind: &TurnKind) -> bool
     ensures { result ≡ can_bring kind.now }
 {
     match kind {
         TurnKind::Last => false,
+        TurnKind::Keys(bytes) => fits_read(bytes.as_slice()),
         _ => true,
     }
 }
@@ -113,7 +115,7 @@ fn take_words(alloc: Global, line: &mut Words) -> Result<Option<Line>, Memory>
 }
 
 /// Takes what the first word calls for, or loses the place.
-#[tactic(auto, using(wx_journal::specs::Acts::act_has_word), unfolding(crate::specs::Lines::read_form))]
+#[tactic(auto, using(crate::specs::Wishes::script_act_has_word), unfolding(crate::specs::Lines::read_form))]
 fn take_form(alloc: Global, line: &mut Words) -> Result<Option<Line>, Memory>
     ensures { IfOk result (λ said. Reads line.new said (read_form line.old)) }
 {

@@ -1,12 +1,14 @@
 // What is written down for a run.
 use crate::answers::Answers;
 use std::alloc::Global;
+use wx_command::Command;
+use wx_control::Id;
 use wx_error::RuntimeError;
 use wx_events::{Event, Priority};
 use wx_journal::{Act, Turn, Wish};
 use wx_text::{Copies, List, Memory, Text};
 use wx_watch::{WatchedPath, Watcher};
-use wx_words::{Spelled, TextPath, Words};
+use wx_words::{Spelled, TextPath, Words, put_row, read_rows};
 
 /// What the world is to do when it is asked for a turn.
 #[derive(Drop, Debug)]
@@ -48,6 +50,51 @@ impl Spelled for Wanted {
     }
 }
 
+/// An act of a script.
+#[derive(Drop, Debug)]
+pub enum ScriptAct {
+    /// The handler asks for this.
+    One(Act<Wanted>),
+    /// The job of this id is asked for, and where it isn't there it is made again and runs this command.
+    GetOrCreate(Id, Command),
+}
+
+impl Copies for ScriptAct {
+    fn copy(&self, alloc: Global) -> Result<ScriptAct, Memory> {
+        match self {
+            ScriptAct::One(act) => Ok(ScriptAct::One(act.copy(alloc)?)),
+            ScriptAct::GetOrCreate(id, command) => {
+                Ok(ScriptAct::GetOrCreate(*id, command.copy(alloc)?))
+            }
+        }
+    }
+}
+
+#[tactic(auto, unfolding(crate::specs::Wishes::script_act, wx_words::specs::Parts::both))]
+impl Spelled for ScriptAct {
+    ghost use Rattle.wx_script.specs.Wishes.{script_act};
+
+    ghost spelling = { script_act };
+
+    fn put_after(&self, out: &mut Text) -> Result<(), Memory> {
+        match self {
+            ScriptAct::One(act) => act.put_after(out),
+            ScriptAct::GetOrCreate(id, command) => put_row(b"getcreate", &(id, command), out),
+        }
+    }
+
+    fn read(alloc: Global, line: &mut Words) -> Result<Option<ScriptAct>, Memory> {
+        let mut ahead = line.fork();
+        if let Some(act) = Act::read(alloc, &mut ahead)? {
+            *line = ahead;
+            return Ok(Some(ScriptAct::One(act)));
+        }
+        read_rows!(alloc, line;
+            b"getcreate" (id, command) => ScriptAct::GetOrCreate(id, command),
+        )
+    }
+}
+
 /// A run written down in advance: what the engine starts from, and what its world and its hooks do.
 #[derive(Drop, Debug)]
 pub struct Script {
@@ -74,7 +121,7 @@ pub struct Script {
     /// The turns, in order. Those after them are last turns.
     pub turns: List<ScriptTurn>,
     /// What the action handler asks for: the acts of its first call, of its second, and so on.
-    pub actions: List<List<Act<Wanted>>>,
+    pub actions: List<List<ScriptAct>>,
     /// What the filter answers: to its first call, to its second, and so on.
     pub filters: List<Result<bool, RuntimeError>>,
     /// What the error handler wishes: in its first call, in its second, and so on.

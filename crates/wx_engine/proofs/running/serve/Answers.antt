@@ -1,4 +1,4 @@
-use Rattle.std.proofs.Common.{refl, arith, ◌∙◌}
+use Rattle.std.proofs.Common.{refl, arith, inr, ◌∙◌}
 use Rattle.wx_journal.specs.declared.entry.TurnKind.TheVariants.{Arrive, Last}
 use Rattle.wx_machine.proofs.SteadyLemmas.{only_none}
 use Rattle.wx_machine.specs.Due.{Open}
@@ -56,3 +56,24 @@ returns-in_err-job_turn-in-Job-clause-breaks g c = breaks_want g.start c.job_tur
 
 pub returns-in_err-ended_turn-in-Ended-clause-breaks : goal.returns-in_err-ended_turn-in-Ended-clause-breaks
 returns-in_err-ended_turn-in-Ended-clause-breaks g c = breaks_want g.start c.ended_turn.new.journal.past c.from_residual-in_err-ended_turn-in-Ended.result c.from_residual-in_err-ended_turn-in-Ended.ensures.1 (breaks_left g.start c.args.state.now c.args.at c.args.kind c.args.journal.now.past _ c.requires.1.1 c.in_err-ended_turn-in-Ended.ensures.steps.err)
+
+pub returns-in_ok-signal_turn-in-Signal-clause-continues : goal.returns-in_ok-signal_turn-in-Signal-clause-continues
+returns-in_ok-signal_turn-in-Signal-clause-continues g c = continues_grows _ _ _ _ _ _ _ _ _ _ c.signal_turn.ensures.grows
+
+pub returns-in_err-signal_turn-in-Signal-clause-continues : goal.returns-in_err-signal_turn-in-Signal-clause-continues
+returns-in_err-signal_turn-in-Signal-clause-continues g c = continues_grows _ _ _ _ _ _ _ _ _ _ c.signal_turn.ensures.grows
+
+pub returns-in_ok-keys_turn-in-Keys-clause-continues : goal.returns-in_ok-keys_turn-in-Keys-clause-continues
+returns-in_ok-keys_turn-in-Keys-clause-continues g c = continues_grows _ _ _ _ _ _ _ _ _ _ c.keys_turn.ensures.grows
+
+pub returns-in_err-keys_turn-in-Keys-clause-continues : goal.returns-in_err-keys_turn-in-Keys-clause-continues
+returns-in_err-keys_turn-in-Keys-clause-continues g c = continues_grows _ _ _ _ _ _ _ _ _ _ c.keys_turn.ensures.grows
+
+pub returns-in_err-keys_turn-in-Keys-clause-breaks : goal.returns-in_err-keys_turn-in-Keys-clause-breaks
+returns-in_err-keys_turn-in-Keys-clause-breaks g c = breaks_want g.start c.keys_turn.new.journal.past c.from_residual-in_err-keys_turn-in-Keys.result c.from_residual-in_err-keys_turn-in-Keys.ensures.1 (inr c.in_err-keys_turn-in-Keys.ensures.cut)
+
+pub returns-in_ok-signal_turn-in-Signal-clause-works : goal.returns-in_ok-signal_turn-in-Signal-clause-works
+returns-in_ok-signal_turn-in-Signal-clause-works g c = rw c.worked-in-Signal.ensures (works_served g.start c.signal_turn.new.worker c.signal_turn.new.journal.past c.signal_turn.ensures.grows.stands c.in_ok-signal_turn-in-Signal.ensures.settles.done)
+
+pub returns-in_ok-keys_turn-in-Keys-clause-works : goal.returns-in_ok-keys_turn-in-Keys-clause-works
+returns-in_ok-keys_turn-in-Keys-clause-works g c = rw c.worked-in-Keys.ensures (works_served g.start c.keys_turn.new.worker c.keys_turn.new.journal.past c.keys_turn.ensures.grows.stands c.in_ok-keys_turn-in-Keys.ensures.done)

@@ -17,3 +17,9 @@ ghost-ask_turn g a = g.start
 
 abbrev pub ghost-change_turn : goal.ghost-change_turn
 ghost-change_turn g a = g.start
+
+abbrev pub ghost-signal_turn : goal.ghost-signal_turn
+ghost-signal_turn g a = g.start
+
+abbrev pub ghost-keys_turn : goal.ghost-keys_turn
+ghost-keys_turn g a = g.start

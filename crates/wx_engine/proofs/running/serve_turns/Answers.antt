@@ -9,6 +9,7 @@ use Rattle.wx_machine.specs.Journal.{early_count}
 use Rattle.wx_machine.specs.Kept.{KeepsOn, Past}
 use Rattle.wx_machine.specs.Leads.{Follows}
 use Rattle.wx_action.specs.Stands.{HasEndRoom}
+use Rattle.wx_action.proofs.TurnLaws.{next_turn}
 use Rattle.wx_machine.specs.Told.{is_last}
 use Rattle.wx_engine.specs.Run.{Rests, ServesTurns}
 use Rattle.wx_engine.proofs.TurnLemmas.{Drawn, turn_drawn, fault_drawn, drawn_follows, drawn_quiet, drawn_counts, early_drawn, served, turn_stands, fault_stands, turns_then}
@@ -59,16 +60,29 @@ listed g c =
       place_kept = c.in-Ok.ensures.gives.place_kept ∙ only.steady.place_kept ∙ c.turns.invariant.world_place;
     }
 
+-- the worker is as it was, where the kind of the turn was copied
+served_room : (g : _) (c : After-serve g) → HasEndRoom c.turns.state c.push-in-turns.new.self.spare (g.W.Outside.seen c.turn.new.self).spare → HasEndRoom c.kind_again-kind.new.state c.push-in-turns.new.self.spare (g.W.Outside.seen c.turn.new.self).spare
+served_room g c room = rw (rw c.in_ok-kind.was at c.kind_again-kind.ensures.same) room
+
 -- ---- and served
 
 rests : (g : _) (c : After-serve g) → HasEndRoom c.turns.state c.push-in-turns.new.self.spare (g.W.Outside.seen c.turn.new.self).spare → MomentsRise c.push-in-turns.new.self.past → Rests g.start c.serve.new.state c.serve.new.journal (g.W.Outside.seen c.serve.new.world)
 rests g c room rise = record {
   stands = c.serve.ensures.continues.stands;
-  room = c.serve.ensures.continues.room room;
+  room = c.serve.ensures.continues.room (served_room g c room);
   rise = (c.serve.ensures.continues.serves.turns c.push-in-turns.new.self.past (same_turns c.push-in-turns.new.self.past)).rise rise;
 }
 
 -- ---- the goals
+
+pub serve-requires : goal.serve-requires
+serve-requires g c = λ κs lives. (
+  lives.0,
+  (
+    lives.1,
+    rw (rw c.in_ok-kind.was at c.kind_again-kind.ensures.same, rw c.in_ok-kind.was at c.kind_again-kind.ensures.again) (next_turn g.start c.turns.state c.turns.journal.past c.push-in-turns.new.self.past c.in-Ok.given.turn.at c.in-Ok.given.turn.kind c.turns.invariant.stands c.turns.invariant.open_is (rw c.in_ok-make_room.ensures.same at c.push-in-turns.ensures.past)),
+  ),
+)
 
 pub returns-in_err-make_room-clause-rests : goal.returns-in_err-make_room-clause-rests
 returns-in_err-make_room-clause-rests g c =
@@ -121,9 +135,10 @@ returns-in-Err-clause-keeps g c = λ x₀ p₀ k. Past _ _ _ (c.turns.invariant.
 pub returns-in_err-kind-clause-rests : goal.returns-in_err-kind-clause-rests
 returns-in_err-kind-clause-rests g c =
     let at = (goal.at.returns-in_err-kind-clause-rests g c).After-push-in-turns in
+    let room = listed_room g at in
     record {
-      stands = turn_stands g.start c.turns.state c.in-Ok.given.turn c.turns.journal.past c.push-in-turns.new.self.past c.turns.invariant.stands c.turns.invariant.open_is (rw c.in_ok-make_room.ensures.same at c.push-in-turns.ensures.past) (rw c.in_err-kind.was at c.kind_again-kind.ensures.no_end);
-      room = listed_room g at;
+      stands = turn_stands g.start c.turns.state c.kind_again-kind.new.state c.in-Ok.given.turn c.turns.journal.past c.push-in-turns.new.self.past c.turns.invariant.stands c.turns.invariant.open_is (rw c.in_ok-make_room.ensures.same at c.push-in-turns.ensures.past) (rw c.in_err-kind.was at c.kind_again-kind.ensures.no_end) (rw c.in_err-kind.was at c.kind_again-kind.ensures.kept);
+      room = rw (rw c.in_err-kind.was at c.kind_again-kind.ensures.kept) (record { in_journal = room.in_journal; in_host = room.in_host });
       rise = listed_rise g at;
     }
 
@@ -153,7 +168,7 @@ returns-in-End-clause-keeps g c = λ x₀ p₀ k. c.serve.ensures.continues.keep
 
 pub turns-smaller : goal.turns-smaller
 turns-smaller g c =
-    let kind_is = rw c.in_ok-kind.was at c.kind_again-kind.ensures.same in
+    let kind_is = rw c.in_ok-kind.was at c.kind_again-kind.ensures.again in
     let comes = ap is_last (sym kind_is) ∙ c.in_ok-serve.ensures.last c.in-On.is in
     let left_is = ap (λ k. k.left) c.serve.ensures.continues.serves.steady.progress_kept in
     omega (arith, c.in-Ok.ensures.falls comes, ap (λ k. k.left) c.in_ok-make_room.ensures.rest.steady.progress_kept, left_is)
@@ -162,7 +177,7 @@ pub turns-preserved : goal.turns-preserved
 turns-preserved g c =
     let at = goal.at.turns-preserved g c in
     let v = served c.in-Ok.given.turn c.turns.journal.past c.push-in-turns.new.self.past c.serve.new.journal.past (rw c.in_ok-make_room.ensures.same at c.push-in-turns.ensures.past) (c.serve.ensures.continues.serves.turns _ (same_turns _)) in
-    let kind_is = rw c.in_ok-kind.was at c.kind_again-kind.ensures.same in
+    let kind_is = rw c.in_ok-kind.was at c.kind_again-kind.ensures.again in
     let comes = ap is_last (sym kind_is) ∙ c.in_ok-serve.ensures.last c.in-On.is in
     let left_is = ap (λ k. k.left) c.serve.ensures.continues.serves.steady.progress_kept in
     let moment_is = ap (λ k. k.moment) c.serve.ensures.continues.serves.steady.progress_kept in
@@ -170,7 +185,7 @@ turns-preserved g c =
     record {
       about = c.turns.invariant.about;
       stands = c.serve.ensures.continues.stands;
-      room = c.serve.ensures.continues.room (listed_room g at.After-push-in-turns);
+      room = c.serve.ensures.continues.room (served_room g at.After-serve (listed_room g at.After-push-in-turns));
       open_is = rw c.in-On.is at c.in_ok-serve.ensures.works;
       fault = v.fault ∙ c.turns.invariant.fault;
       now = omega (arith, v.now, moment_is, c.in-Ok.ensures.gives.moment);

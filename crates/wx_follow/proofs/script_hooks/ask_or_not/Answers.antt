@@ -9,7 +9,7 @@ returns-in-Some-clause-done c =
 
 pub returns-in-Some-clause-made : goal.returns-in-Some-clause-made
 returns-in-Some-clause-made c =
-    ok_then c.ask_of.result c.ask_of.ensures.done (λ is. rw is (made_ask c.args.made.now c.args.handler.now.acts c.in-Some.job.now.id c.args.ask.now c.requires.made))
+    ok_then c.ask_of.result c.ask_of.ensures.done (λ is. rw is (made_ask c.args.handler.now.past c.args.made.now c.args.handler.now.acts c.in-Some.job.now.id c.args.ask.now c.requires.made))
 
 pub returns-in-Some-2-clause-done : goal.returns-in-Some-2-clause-done
 returns-in-Some-2-clause-done c =
@@ -19,7 +19,7 @@ returns-in-Some-2-clause-done c =
 
 pub returns-in-Some-2-clause-made : goal.returns-in-Some-2-clause-made
 returns-in-Some-2-clause-made c =
-    ok_then c.ask_of-in-Some-2.result c.ask_of-in-Some-2.ensures.done (λ is. rw is (made_ask c.args.made.now c.args.handler.now.acts c.in-Some-2.job.id c.args.ask.now c.requires.made))
+    ok_then c.ask_of-in-Some-2.result c.ask_of-in-Some-2.ensures.done (λ is. rw is (made_ask c.args.handler.now.past c.args.made.now c.args.handler.now.acts c.in-Some-2.job.id c.args.ask.now c.requires.made))
 
 pub returns-in-None-clause-done : goal.returns-in-None-clause-done
 returns-in-None-clause-done c =

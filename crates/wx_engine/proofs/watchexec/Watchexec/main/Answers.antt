@@ -1,5 +1,5 @@
 use Rattle.wx_machine.proofs.ReapLaws.{ran_reaps}
-use Rattle.wx_engine.proofs.MainLaws.{answered_ran, ran_shows, ran_shows_open, completed, ran_makes_once, ran_is_served, ran_is_revised, ran_is_placed, ran_waits, graces_have_children}
+use Rattle.wx_engine.proofs.MainLaws.{answered_ran, ran_shows, ran_shows_open, completed, ran_makes_by_rule, ran_is_served, ran_is_revised, ran_is_placed, ran_waits, graces_have_children}
 use Rattle.wx_engine.proofs.OfferLaws.{ran_offers}
 use Rattle.wx_engine.proofs.WishLaws.{answered_granted}
 use Rattle.wx_engine.proofs.watchexec.Watchexec.main.Goals as goal
@@ -23,7 +23,7 @@ pub returns-clause-shown : goal.returns-clause-shown
 returns-clause-shown g c = ran_shows c.args.self _ (answered_ran c.args.self _ c.run.result c.run.ensures.answers)
 
 pub returns-clause-ids : goal.returns-clause-ids
-returns-clause-ids g c = ran_makes_once c.args.self _ (answered_ran c.args.self _ c.run.result c.run.ensures.answers)
+returns-clause-ids g c = ran_makes_by_rule c.args.self _ (answered_ran c.args.self _ c.run.result c.run.ensures.answers)
 
 pub returns-clause-served : goal.returns-clause-served
 returns-clause-served g c = ran_is_served c.args.self _ (answered_ran c.args.self _ c.run.result c.run.ensures.answers)
