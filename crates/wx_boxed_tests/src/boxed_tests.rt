@@ -11,7 +11,7 @@ use wx_config::{Config, Filterer};
 use wx_control::{Flag, Id, Job};
 use wx_engine::Watchexec;
 use wx_error::RuntimeError;
-use wx_events::{Event, Priority, Signal, Tag};
+use wx_events::{Event, Priority, Signal};
 use wx_hooks::{ActionHandler, ErrorHook};
 use wx_job::JobTaskContext;
 use wx_journal::HostFault;
@@ -88,23 +88,12 @@ struct Restarts {
 
 impl OnAction for Restarts {
     fn act(&mut self, handler: &mut ActionHandler<'_>) {
-        if is_interrupt(handler.events()) {
+        if handler.signals().any(|signal| signal == Signal::Interrupt) {
             handler.quit();
         } else {
             restart(self.alloc, &mut self.job, handler);
         }
     }
-}
-
-/// Whether one of these events is an interrupt.
-fn is_interrupt(events: &List<Event>) -> bool {
-    events.as_slice().iter().any(|event| {
-        event
-            .tags
-            .as_slice()
-            .iter()
-            .any(|tag| matches!(tag, Tag::Signal(Signal::Interrupt)))
-    })
 }
 
 /// Restarts the job, which is created where there is none. Where that fails the run ends.

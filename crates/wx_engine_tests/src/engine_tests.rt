@@ -50,6 +50,7 @@ fn sort(kind: &TurnKind) -> u32 {
         TurnKind::Last => 2,
         TurnKind::Job(_) | TurnKind::Ended(_) | TurnKind::Ask(_, _) => 3,
         TurnKind::Change(_) => 4,
+        TurnKind::Signal(_) | TurnKind::Keys(_) => 5,
     }
 }
 

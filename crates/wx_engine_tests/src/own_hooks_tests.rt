@@ -7,7 +7,7 @@ use std::test::Fail;
 use wx_command::Spawnable;
 use wx_control::{Id, Job};
 use wx_error::{CriticalError, RuntimeError};
-use wx_events::{Event, Priority};
+use wx_events::{Event, Priority, Signal};
 use wx_hooks::{ActionHandler, ErrorHook, Hooks};
 use wx_job::{JobHooks, JobTaskContext};
 use wx_journal::{Entry, HostFault};
@@ -32,6 +32,8 @@ enum Does {
     WantsMemory,
     /// A batch that is shown no job creates one and deletes it. One that is shown a job, which is gone by then, restarts it.
     Deletes,
+    /// A batch with an interrupt ends the run gracefully. Any other starts one job, which the first creates.
+    Ends,
     /// The filter fails, and the error handler wishes this, one after the other.
     Wishes(&'static [Says]),
 }
@@ -134,6 +136,7 @@ fn act(alloc: Global, does: Does, handler: &mut ActionHandler<'_>) -> Option<boo
         Does::Looks => is_not_shown(alloc, handler),
         Does::SetsVariable | Does::WantsMemory => start_hooked(alloc, handler),
         Does::Deletes => delete(alloc, handler),
+        Does::Ends => end_at_interrupt(alloc, handler),
         Does::Wishes(_) => None,
     }
 }
@@ -210,6 +213,17 @@ fn restart(alloc: Global, handler: &mut ActionHandler<'_>) -> Option<bool>
     };
     drop(job);
     if started { Some(true) } else { None }
+}
+
+/// Ends the run gracefully where one of the signals is an interrupt, and else starts the job.
+fn end_at_interrupt(alloc: Global, handler: &mut ActionHandler<'_>) -> Option<bool>
+    ensures same { handler.new ≡ record handler.old { acts = handler.new.acts } }
+{
+    if handler.signals().any(|signal| signal == Signal::Interrupt) {
+        handler.quit_gracefully(Signal::Terminate, 10_000_000_000);
+        return Some(true);
+    }
+    restart(alloc, handler)
 }
 
 /// Creates a job whose spawn hook is the one of the number 3.
@@ -327,6 +341,19 @@ const BATCHES: &[u8] =
 
 const RESTARTED: &[u8] =
     b"turn 0 arrive urgent 0\noffer 0 - queued urgent 0\nturn 0 work\ntake 0\nhand 0 1 0 create 0 exec ---- 1 a ask 0 start\nmade 0\nasked 0 0 normal start\nturn 0 job 0\npick 0 0\nspawn 0 0 default ---- 1 a ok\nraise 0\nturn 1 ended 0\nwait 0 success\nturn 2 arrive urgent 0\noffer 1 - queued urgent 0\nturn 2 work\ntake 1\nhand 0 1 1 ask 0 start\nasked 1 0 normal start\nturn 2 job 0\npick 0 1\nspawn 1 0 default ---- 1 a ok\nraise 1\nturn 3 arrive urgent 0\noffer 2 - queued urgent 0\nturn 3 work\ntake 2\nhand 0 1 2 quit\ndrop 1\ngone 0\nend ok lost 0\n";
+
+/// The first batch starts the job. The next has an interrupt.
+const INTERRUPT: &[u8] =
+    b"turn 0 arrive urgent 0\nturn 0 work\nturn 1 job 0\nturn 2 signal interrupt\nturn 3 work\nturn 4 job 0\nturn 5 ended 0\nturn 6 job 0\nturn 7 job 0\n";
+
+const ENDED: &[u8] =
+    b"turn 0 arrive urgent 0\noffer 0 - queued urgent 0\nturn 0 work\ntake 0\nhand 0 1 0 create 0 exec ---- 1 a ask 0 start\nmade 0\nasked 0 0 normal start\nturn 1 job 0\npick 0 0\nspawn 0 0 default ---- 1 a ok\nraise 0\nturn 2 signal interrupt\noffer 1 - queued urgent 2 source keyboard signal interrupt\nturn 3 work\ntake 1\nhand 0 1 1 quitgracefully terminate 10000000000\nasked 1 0 normal gracefulstop terminate 10000000000\nasked 2 0 normal stop\nasked 3 0 normal delete\nturn 4 job 0\npick 0 1\nsignal 0 15 ok\nturn 5 ended 0\nwait 0 success\nraise 1\nturn 6 job 0\npick 0 2\nraise 2\nturn 7 job 0\npick 0 3\nraise 3\ngone 0\nend ok lost 0\n";
+
+#[test]
+fn a_handler_ends_at_an_interrupt(rt: HostRuntime) -> Result<(), Fail> {
+    assert!(rt; runs_so(rt.alloc(), Does::Ends, INTERRUPT, ENDED)?);
+    Ok(())
+}
 
 /// One batch.
 const BATCH: &[u8] = b"turn 0 arrive urgent 0\nturn 0 work\n";

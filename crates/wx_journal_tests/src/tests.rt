@@ -394,6 +394,11 @@ fn entries_of_turns(rt: HostRuntime) {
     let alloc = rt.alloc();
     let arrival = TurnKind::Arrive(event(alloc), Priority::Low);
     expect_turn(&rt, alloc, arrival, b"turn 7 arrive low 0");
+    let signal = TurnKind::Signal(Signal::Interrupt);
+    expect_turn(&rt, alloc, signal, b"turn 7 signal interrupt");
+    let bytes = vec![in alloc; 3u8, 0, 255].expect(&rt, "three bytes");
+    let keys = TurnKind::Keys(List::from_vec(bytes));
+    expect_turn(&rt, alloc, keys, b"turn 7 keys 3 3 0 255");
     expect_turn(&rt, alloc, TurnKind::Work, b"turn 7 work");
     expect_turn(&rt, alloc, TurnKind::Job(Id(3)), b"turn 7 job 3");
     expect_turn(&rt, alloc, TurnKind::Ended(2), b"turn 7 ended 2");
@@ -517,6 +522,11 @@ fn entries_of_waits(rt: HostRuntime) {
 
 const TURNS: &str = "\
 arrive high 0
+signal suspend
+signal custom.-7
+keys 0
+keys 3 0 3 255
+keys 12 1 2 3 4 5 6 7 8 9 10 11 12
 work
 job 4294967295
 ended 18446744073709551615
@@ -531,6 +541,15 @@ last
 
 const NO_TURNS: &str = "\
 arrive 0 high
+signal
+signal 2
+signal stop
+keys
+keys 1
+keys 1 256
+keys 1 -1
+keys 2 1
+keys 1 1 1
 work 1
 job
 job x

@@ -2,7 +2,7 @@
 use crate::cases::{expect_yes, put_words, read_line};
 use std::alloc::Global;
 use wx_events::{Event, KeyCode, Keyboard, Priority, Signal};
-use wx_keys::{Tagged, byte_to_keyboard, key_events, signal_event};
+use wx_keys::{Tagged, byte_to_keyboard, ends_input, hears_signal, key_events, signal_event};
 use wx_text::{List, Memory, Text};
 use wx_words::{Spelled, number_of};
 
@@ -131,6 +131,62 @@ const READS: &str = "\
 fn reads_as_events(rt: HostRuntime) {
     for case in READS.lines() {
         expect_yes(&rt, is_read_case(rt.alloc(), case), case);
+    }
+}
+
+/// Whether a read is said to hold the end of the input just where the events of the case end with it.
+fn is_end_case(alloc: Global, case: &str) -> Result<bool, Memory> {
+    let Some((text, expected)) = case.split_once('|') else {
+        return Ok(false);
+    };
+    let bytes = bytes_in(alloc, text)?;
+    Ok(ends_input(bytes.as_slice()) == expected.ends_with("key eof"))
+}
+
+#[test]
+fn reads_that_hold_the_end(rt: HostRuntime) {
+    for case in READS.lines() {
+        expect_yes(&rt, is_end_case(rt.alloc(), case), case);
+    }
+}
+
+/// Whether the case is a signal, and when it is heard.
+fn is_heard_case(alloc: Global, case: &str) -> Result<bool, Memory> {
+    let Some((text, expected)) = case.split_once('|') else {
+        return Ok(false);
+    };
+    let Some(signal) = read_line::<Signal>(alloc, text)? else {
+        return Ok(false);
+    };
+    let when = match (hears_signal(signal, false), hears_signal(signal, true)) {
+        (true, true) => "always",
+        (false, true) => "with job control",
+        (false, false) => "never",
+        (true, false) => "without job control",
+    };
+    Ok(when == expected)
+}
+
+/// Each line: a signal, and when it is heard.
+const HEARD: &str = "\
+hangup|always
+forcestop|never
+interrupt|always
+quit|always
+terminate|always
+user1|always
+user2|always
+continue|with job control
+suspend|with job control
+custom.2|never
+custom.18|never
+custom.-7|never
+";
+
+#[test]
+fn signals_that_are_heard(rt: HostRuntime) {
+    for case in HEARD.lines() {
+        expect_yes(&rt, is_heard_case(rt.alloc(), case), case);
     }
 }
 

@@ -10,4 +10,6 @@ mod random_counts;
 #[cfg(test)]
 mod random_jobs;
 #[cfg(test)]
+mod random_rules;
+#[cfg(test)]
 mod random_tests;

@@ -1,383 +1,13 @@
-// Random scripts. How many lines of each sort their journals have is known by counting alone.
+// Random scripts, drawn beside what is due in their runs.
 ghost use Rattle.std.specs.Prelude.{◌<◌};
 
 use crate::random_counts::Sort;
-use crate::random_jobs::{Answers, Asked, Control, Queue, Task, World};
+use crate::random_jobs::{Asked, Control, Queue};
+use crate::random_rules::{ACTS, Act, Rules, Turn, Verdict, Wished};
 use rand_pcg::Pcg32;
 use rand_pcg::rand_core::Rng;
 use std::alloc::Global;
-use wx_replay::Status;
 use wx_text::{Memory, Text};
-
-/// What an action does.
-#[derive(Clone, Copy)]
-enum Act {
-    Nothing,
-    Quit,
-    QuitGracefully,
-    Create,
-    Ask(u32, Asked),
-    // of a job that isn't there
-    AskNone,
-    // in these words
-    Change(&'static [u8]),
-}
-
-/// How the acts of a hand ask for the end.
-#[derive(Clone, Copy)]
-enum Quit {
-    Not,
-    Abort,
-    Graceful,
-}
-
-impl Quit {
-    /// The same behind one act more: the last quit stands.
-    fn behind(self, act: Act) -> Quit {
-        match act {
-            Act::Quit => Quit::Abort,
-            Act::QuitGracefully => Quit::Graceful,
-            _ => self,
-        }
-    }
-}
-
-/// How many acts an action has at most.
-const ACTS: usize = 7;
-
-/// What a filter answers.
-#[derive(Clone, Copy)]
-enum Verdict {
-    Pass,
-    Reject,
-    Fail,
-    Exit,
-}
-
-/// What an error handler wishes.
-#[derive(Clone, Copy)]
-enum Wished {
-    Nothing,
-    Elevate,
-    Exit,
-    Critical,
-}
-
-/// With what a run ends.
-#[derive(Clone, Copy)]
-enum Outcome {
-    Well,
-    Fault(u32),
-    Elevated,
-    Critical,
-}
-
-/// What a turn brings: an event, which may be urgent, or the end of a child, or what is asked of a job or done by it.
-#[derive(Clone, Copy)]
-enum Turn {
-    Arrive(bool),
-    Work,
-    Ended(u32),
-    Ask(u32, Asked),
-    Job(u32),
-    Change,
-}
-
-/// What is due where each event that passes is handed at once, and each spawn, kill and wait goes well. Of the events that wait
-/// some are urgent. Either each other event has a tag, or none has.
-#[derive(Drop)]
-pub(crate) struct Rules {
-    size: u32,
-    waiting: u32,
-    urgent: u32,
-    is_tagged: bool,
-    verdicts: Answers<Verdict>,
-    wishes: Answers<Wished>,
-    is_closed: bool,
-    actions: Queue<[Act; ACTS]>,
-    jobs: Vec<Task>,
-    outcome: Outcome,
-    // the run is to end once no job lives
-    is_graceful: bool,
-    is_over: bool,
-    pub(crate) world: World,
-}
-
-impl Rules {
-    /// Those of a script of which nothing is drawn yet.
-    fn new(alloc: Global) -> Rules {
-        Rules {
-            size: 0,
-            waiting: 0,
-            urgent: 0,
-            is_tagged: false,
-            verdicts: Answers::new(alloc),
-            wishes: Answers::new(alloc),
-            is_closed: false,
-            actions: Queue::new(alloc),
-            jobs: Vec::new(alloc),
-            outcome: Outcome::Well,
-            is_graceful: false,
-            is_over: false,
-            world: World::new(alloc),
-        }
-    }
-
-    /// Counts one more of this sort.
-    fn up(&mut self, sort: Sort) {
-        self.world.counts.up(sort);
-    }
-
-    /// An event is sent before the run.
-    fn send(&mut self, is_urgent: bool) {
-        self.up(Sort::Sent);
-        self.wait(is_urgent);
-    }
-
-    /// An event waits.
-    fn wait(&mut self, is_urgent: bool) {
-        self.waiting = self.waiting.saturating_add(1);
-        if is_urgent {
-            self.urgent = self.urgent.saturating_add(1);
-        }
-    }
-
-    /// Gives a turn at this moment, where the run isn't over.
-    fn give(&mut self, turn: Turn, at: u64) {
-        if self.is_over {
-            return;
-        }
-        self.up(Sort::Turn);
-        match turn {
-            Turn::Arrive(is_urgent) => self.arrive(is_urgent),
-            Turn::Work => self.work(),
-            Turn::Ended(child) => self.end_child(child, at),
-            Turn::Ask(job, asked) => self.ask(job, asked),
-            Turn::Job(job) => self.step(job, at),
-            Turn::Change => self.up(Sort::Changed),
-        }
-        if self.is_graceful && self.none_lives() {
-            self.is_over = true;
-        }
-    }
-
-    /// Whether no job lives.
-    fn none_lives(&self) -> bool {
-        for task in &self.jobs {
-            if !task.is_gone {
-                return false;
-            }
-        }
-        true
-    }
-
-    /// An event arrives.
-    fn arrive(&mut self, is_urgent: bool) {
-        if self.is_closed {
-            self.up(Sort::Closed);
-        } else if self.waiting < self.size {
-            self.wait(is_urgent);
-            self.up(Sort::Queued);
-        } else {
-            self.up(Sort::Full);
-        }
-    }
-
-    /// The worker acts.
-    fn work(&mut self) {
-        if self.is_graceful {
-            self.up(Sort::Quitting);
-        } else if self.is_closed {
-            self.is_over = true;
-        } else if self.waiting == 0 {
-            self.up(Sort::Idle);
-        } else {
-            self.waiting -= 1;
-            self.take();
-        }
-    }
-
-    /// An event is taken, an urgent one where there is one, and handed where it passes.
-    fn take(&mut self) {
-        self.up(Sort::Take);
-        if self.urgent > 0 {
-            self.urgent -= 1;
-            self.hand();
-        } else if !self.is_tagged || self.passes() {
-            self.hand();
-        }
-    }
-
-    /// Whether the filter lets an event pass.
-    fn passes(&mut self) -> bool {
-        self.up(Sort::Filter);
-        match self.verdicts.answers.next().unwrap_or(Verdict::Pass) {
-            Verdict::Pass => return true,
-            Verdict::Reject => {}
-            Verdict::Fail => self.show(),
-            Verdict::Exit => self.is_closed = true,
-        }
-        false
-    }
-
-    /// An error is shown.
-    fn show(&mut self) {
-        self.up(Sort::Show);
-        match self.wishes.answers.next().unwrap_or(Wished::Nothing) {
-            Wished::Nothing => {}
-            Wished::Exit => self.is_closed = true,
-            Wished::Elevate => self.end_with(Outcome::Elevated),
-            Wished::Critical => self.end_with(Outcome::Critical),
-        }
-    }
-
-    /// The run ends with this.
-    fn end_with(&mut self, outcome: Outcome) {
-        self.outcome = outcome;
-        self.is_over = true;
-    }
-
-    /// An event is handed.
-    fn hand(&mut self) {
-        self.up(Sort::Hand);
-        let mut quit = Quit::Not;
-        if let Some(acts) = self.actions.next() {
-            for act in &acts {
-                self.act(*act);
-                quit = quit.behind(*act);
-            }
-        }
-        for task in &mut self.jobs {
-            task.is_hidden = task.is_gone;
-        }
-        match quit {
-            Quit::Not => {}
-            Quit::Abort => self.is_over = true,
-            Quit::Graceful => self.stop_jobs(),
-        }
-    }
-
-    /// Each job that lives is stopped and deleted, and the run ends with the last of them.
-    fn stop_jobs(&mut self) {
-        self.is_graceful = true;
-        for task in &mut self.jobs {
-            if !task.is_gone {
-                task.ask(Asked::One(Control::GracefulStop), &mut self.world.counts);
-                task.ask(Asked::StopDelete, &mut self.world.counts);
-            }
-        }
-    }
-
-    /// A handler does this.
-    fn act(&mut self, act: Act) {
-        match act {
-            Act::Create => self.create(),
-            Act::Ask(job, asked) => self.ask_shown(job, asked),
-            Act::Change(_) => self.up(Sort::Changed),
-            Act::AskNone | Act::Nothing | Act::Quit | Act::QuitGracefully => {}
-        }
-    }
-
-    /// A job is created.
-    fn create(&mut self) {
-        self.up(Sort::Made);
-        let task = Task::new(*self.jobs.allocator());
-        let done = push(&mut self.jobs, task);
-        self.world.counts.keep(done);
-    }
-
-    /// A handler asks this of a job, where it is shown.
-    fn ask_shown(&mut self, job: u32, asked: Asked) {
-        if let Some(task) = self.jobs.get_mut(job as usize) {
-            if !task.is_hidden {
-                task.ask(asked, &mut self.world.counts);
-            }
-        }
-    }
-
-    /// This child has ended, where it runs.
-    fn end_child(&mut self, child: u32, at: u64) {
-        if !self.ends_of(child, at) {
-            self.up(Sort::Ignored);
-        }
-    }
-
-    /// Whether this child runs, whose job takes a step then.
-    fn ends_of(&mut self, child: u32, at: u64) -> bool {
-        for task in &mut self.jobs {
-            if task.runs(child) {
-                task.end(at, &mut self.world);
-                return true;
-            }
-        }
-        false
-    }
-
-    /// This is asked of a job, which was made or was not.
-    fn ask(&mut self, job: u32, asked: Asked) {
-        match self.jobs.get_mut(job as usize) {
-            Some(task) => task.ask(asked, &mut self.world.counts),
-            None => self.up(Sort::Ignored),
-        }
-    }
-
-    /// A job takes a step at this moment, which was made or was not.
-    fn step(&mut self, job: u32, at: u64) {
-        match self.jobs.get_mut(job as usize) {
-            Some(task) => task.step(at, &mut self.world),
-            None => self.up(Sort::Ignored),
-        }
-    }
-
-    /// There is no turn to give.
-    fn fail(&mut self, code: u32) {
-        if !self.is_over {
-            self.up(Sort::Fault);
-            self.end_with(Outcome::Fault(code));
-        }
-    }
-
-    /// The script is at its end.
-    fn end(&mut self) {
-        if !self.is_over {
-            self.up(Sort::Turn);
-        }
-        self.up(Sort::Begin);
-        for task in &mut self.jobs {
-            task.let_go(&mut self.world.counts);
-        }
-        self.up(Sort::End);
-        self.up(Sort::Other);
-    }
-
-    /// Appends the end line, behind the line feed before it.
-    pub(crate) fn put_end(&self, line: &mut Text) -> Result<(), Memory> {
-        line.append(match self.outcome {
-            Outcome::Well => b"\nend ok",
-            Outcome::Fault(_) => b"\nend error io turn ",
-            Outcome::Elevated => b"\nend error elevated filterer a b none",
-            Outcome::Critical => b"\nend error external c",
-        })?;
-        if let Outcome::Fault(code) = self.outcome {
-            line.append_number(u64::from(code))?;
-        }
-        line.append(b" lost 0\n")
-    }
-
-    /// How the program ends.
-    pub(crate) fn status(&self) -> Status {
-        match self.outcome {
-            Outcome::Well => Status::Done,
-            _ => Status::Critical,
-        }
-    }
-}
-
-/// Adds an item at the end.
-fn push<T: Drop>(items: &mut Vec<T>, item: T) -> Result<(), Memory> {
-    items.push(item)?;
-    Ok(())
-}
 
 /// A script that is being drawn.
 #[derive(Drop)]
@@ -417,12 +47,56 @@ impl Draft {
         for _ in 0..30 + self.draw(60) {
             self.put_line();
         }
-        if self.draw(8) == 0 {
-            self.put_changes();
-        }
         self.put_fault();
         self.put_left();
         self.rules.end();
+    }
+
+    /// Draws a script with 200 changes by turns, and quits of both kinds in actions that make jobs and make them again.
+    pub(crate) fn draw_changes(&mut self) {
+        self.rules.is_tagged = self.draw(3) > 0;
+        self.put_head();
+        for _ in 0..7 {
+            let acts = self.draw_quits();
+            let done = self.rules.actions.push(acts);
+            self.keep(done);
+            let done = self.actions.push(acts);
+            self.keep(done);
+        }
+        self.draw_said();
+        self.put_work();
+        for _ in 0..200 {
+            self.put_change();
+            self.put_line();
+        }
+        self.put_left();
+        self.rules.end();
+    }
+
+    /// An action with up to seven acts, and in one of eight calls with quits among them, in any order.
+    fn draw_quits(&mut self) -> [Act; ACTS] {
+        let quits = self.draw(8) == 0;
+        let mut acts = [Act::Nothing; ACTS];
+        for act in &mut acts {
+            *act = match self.draw(6) {
+                0 if quits => Act::Quit,
+                1 | 2 if quits => Act::QuitGracefully,
+                3 => Act::GetCreate(self.draw(4)),
+                4 if self.created > 0 => {
+                    Act::Ask(self.draw(self.created), Asked::One(Control::Delete))
+                }
+                _ => self.draw_going(),
+            };
+        }
+        acts
+    }
+
+    /// An act that is no quit.
+    fn draw_going(&mut self) -> Act {
+        match self.draw_act() {
+            Act::Quit | Act::QuitGracefully => Act::Nothing,
+            act => act,
+        }
     }
 
     /// Counts want of memory.
@@ -480,7 +154,7 @@ impl Draft {
 
     /// A job that was made so far, or the one that is made next.
     fn draw_job(&mut self) -> u32 {
-        let made = self.rules.world.counts.get(Sort::Made).min(3);
+        let made = self.rules.jobs.len().min(3) as u32;
         if made == 0 || self.draw(8) == 0 {
             made
         } else {
@@ -536,9 +210,13 @@ impl Draft {
 
     /// An act. Only a job that was created so far is asked for something.
     fn draw_act(&mut self) -> Act {
-        match self.draw(29) {
+        match self.draw(36) {
             0 => Act::Quit,
             28 => Act::QuitGracefully,
+            29 | 30 => Act::GetCreate(self.draw(4)),
+            31..=33 if self.created > 0 => {
+                Act::Ask(self.draw(self.created), Asked::One(Control::Delete))
+            }
             1 | 2 => Act::AskNone,
             24..=27 => Act::Change(self.draw_change()),
             3..=19 if self.created > 0 => Act::Ask(self.draw(self.created), self.draw_asked()),
@@ -736,16 +414,6 @@ impl Draft {
         self.rules.give(Turn::Change, self.moment);
     }
 
-    /// Two hundred changes, with other lines between them.
-    fn put_changes(&mut self) {
-        for _ in 0..200 {
-            self.put_change();
-            if self.draw(4) == 0 {
-                self.put_line();
-            }
-        }
-    }
-
     /// A line that is not read.
     fn put_unread(&mut self) {
         let line = match self.draw(3) {
@@ -785,6 +453,7 @@ impl Draft {
             Act::Quit => self.put(b" quit"),
             Act::QuitGracefully => self.put(b" quitgracefully terminate 5"),
             Act::Create => self.put(b" create exec ---- 1 a"),
+            Act::GetCreate(job) => self.put_number(b" getcreate ", job, b" exec ---- 1 a"),
             Act::Ask(job, asked) => self.put_number(b" ask ", job, asked.words()),
             Act::AskNone => self.put(b" ask 900 start"),
             Act::Change(words) => self.put(words),

@@ -1,6 +1,7 @@
 // Runs of scripts that are drawn by chance: each writes as many lines of each sort as plain counting says.
-use crate::random::{Draft, Rules};
+use crate::random::Draft;
 use crate::random_counts::{Counts, Sort, raises_twice};
+use crate::random_rules::Rules;
 use std::alloc::Global;
 use std::process::Abort;
 use wx_bytes::{MemSink, MemSource};
@@ -46,7 +47,8 @@ fn expect_run(rt: &impl Abort, alloc: Global, draft: &Draft, seed: u64) {
 }
 
 /// What must come in some of the runs.
-const SOUGHT: [Sort; 7] = [
+const SOUGHT: [Sort; 8] = [
+    Sort::Changed,
     Sort::Quitting,
     Sort::Grace,
     Sort::Signal,
@@ -63,18 +65,38 @@ fn add_counts(all: &mut Counts, counts: &Counts) {
     }
 }
 
+/// The script of this seed with 200 changes.
+fn drawn_changes(alloc: Global, seed: u64) -> Draft {
+    let mut draft = Draft::new(alloc, seed);
+    draft.draw_changes();
+    draft
+}
+
+#[test]
+fn random_scripts_with_200_changes_and_quits(rt: HostRuntime) {
+    let mut all = Counts::new();
+    let mut again: u32 = 0;
+    for seed in 0..100 {
+        let draft = drawn_changes(rt.alloc(), seed);
+        expect_run(&rt, rt.alloc(), &draft, seed);
+        add_counts(&mut all, &draft.rules.world.counts);
+        again = again.saturating_add(draft.rules.again);
+        drop(draft);
+    }
+    assert!(rt; all.get(Sort::Changed) > 0 && all.get(Sort::Quitting) > 0);
+    assert!(rt; again > 0);
+}
+
 #[test]
 fn random_scripts_have_the_lines_that_are_due(rt: HostRuntime) {
     let mut all = Counts::new();
-    let mut most: u32 = 0;
     for seed in 0..300 {
         let draft = drawn(rt.alloc(), seed);
         expect_run(&rt, rt.alloc(), &draft, seed);
         add_counts(&mut all, &draft.rules.world.counts);
-        most = most.max(draft.rules.world.counts.get(Sort::Changed));
         drop(draft);
     }
-    assert!(rt; most >= 200 && all.get(Sort::Quitting) > 0);
+    assert!(rt; all.get(Sort::Changed) > 0 && all.get(Sort::Quitting) > 0);
     assert!(rt; all.get(Sort::Grace) > 0 && all.get(Sort::JobError) > 0);
     assert!(rt; all.get(Sort::Signal) > all.get(Sort::SentSignal));
     assert!(rt; all.get(Sort::LaterPoll) > 0 && all.get(Sort::Poll) > all.get(Sort::LaterPoll));

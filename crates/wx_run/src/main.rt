@@ -2,9 +2,13 @@
 #![tactic(auto)]
 
 #[cfg(test)]
+mod again_tests;
+#[cfg(test)]
 mod function_tests;
 #[cfg(test)]
 mod grace_tests;
+#[cfg(test)]
+mod key_tests;
 #[cfg(test)]
 mod quit_tests;
 #[cfg(test)]

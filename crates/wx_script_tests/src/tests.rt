@@ -79,7 +79,11 @@ fn answer_counts(alloc: Global, bytes: &[u8]) -> Option<(usize, usize, usize, us
     ))
 }
 
-const JOBS: [(&[u8], (usize, usize, usize, usize, usize)); 9] = [
+const JOBS: [(&[u8], (usize, usize, usize, usize, usize)); 10] = [
+    (
+        b"action getcreate 0 exec ---- 1 a create exec ---- 1 b getcreate 4294967295 exec g-r- 2 a %20 quit\n",
+        (4, 0, 0, 0, 0),
+    ),
     (
         b"action create exec ---- 1 a ask 0 start quit\n",
         (3, 0, 0, 0, 0),
@@ -295,8 +299,14 @@ fn refuses_lines_about_functions(rt: HostRuntime) {
     each_is_bad(&rt, rt.alloc(), &NO_FUNCTIONS);
 }
 
-const NO_JOBS: [&[u8]; 24] = [
+const NO_JOBS: [&[u8]; 30] = [
     b"action create\n",
+    b"action getcreate\n",
+    b"action getcreate 0\n",
+    b"action getcreate exec ---- 1 a\n",
+    b"action getcreate 4294967296 exec ---- 1 a\n",
+    b"action getcreate 00 exec ---- 1 a\n",
+    b"action getcreate 0 exec ---- 1 a b\n",
     b"action create 0 exec ---- 1 a\n",
     b"action create exec ---- 0\n",
     b"action create exec ---- 1 a b\n",
@@ -387,7 +397,7 @@ fn counts_lines_to_the_first_bad_one(rt: HostRuntime) {
     }
 }
 
-const NO_LINES: [&[u8]; 44] = [
+const NO_LINES: [&[u8]; 49] = [
     b"set size 0\n",
     b"set size 65537\n",
     b"set size 4294967296\n",
@@ -402,6 +412,11 @@ const NO_LINES: [&[u8]; 44] = [
     b"turn 05 work\n",
     b"turn 18446744073709551616 work\n",
     b"turn 0 last\n",
+    b"turn 0 keys 11 1 2 3 4 5 6 7 8 9 10 11\n",
+    b"turn 0 keys 2 1\n",
+    b"turn 0 keys 1 256\n",
+    b"turn 0 signal\n",
+    b"turn 0 signal stop\n",
     b"turn 0\n",
     b" turn 0 work\n",
     b"turn 0 work \n",
