@@ -16,10 +16,13 @@ pub struct Place {
 
 impl Model for Place {
     ghost use Rattle.wx_tree.specs.Paths.{Path};
+    ghost use Rattle.wx_tree.specs.Places.{AreParts};
 
     ghost Value = { Path };
 
     ghost view = { λ p. p.parts.items };
+
+    ghost invariant = { λ p. AreParts p.parts.items };
 }
 
 impl Place {
@@ -43,9 +46,10 @@ impl Place {
         Ok(Place { parts })
     }
 
-    /// The path that names this place. It fails only for want of memory.
+    /// The path that names this place, and leads back to it. It fails only for want of memory.
     pub fn path(&self, alloc: Global) -> Result<TextPath, Memory>
-        ensures { IfOk result (λ path. path ≡ spelled self.now) }
+        ensures spelled { IfOk result (λ path. path ≡ spelled self.now) }
+        ensures back { IfOk result (λ path. place path ≡ self.now) }
     {
         let mut text = Text::new(alloc);
         put_parts(self.parts.as_slice(), &mut text)?;
