@@ -1,15 +1,16 @@
 // What the tree answers to each look.
-ghost use Rattle.std.specs.Prelude.{◌≡◌, false, true};
+ghost use Rattle.std.specs.Prelude.{◌≡◌, false, true, map, IfOk};
 ghost use Rattle.wx_scan.specs.Told.{IsCanonical, IsKind, IsListed, IsStamp, SpellsPath, Unlinked, is_fault};
-ghost use Rattle.wx_tree.specs.Paths.{Path};
-ghost use Rattle.wx_mem_tree.specs.Entries.{are_once, stamp_at, tree_of};
+ghost use Rattle.wx_tree.specs.Paths.{Path, same};
+ghost use Rattle.wx_tree.specs.Places.{spelled};
+ghost use Rattle.wx_mem_tree.specs.Entries.{are_once, entries_of, stamp_at, tree_of};
 
 use crate::entry::{MemEntry, entries_of};
 use crate::links::found;
 use std::alloc::Global;
 use wx_scan::{EntryKind, ScanError};
-use wx_text::List;
-use wx_tree::Node;
+use wx_text::{List, Memory, Text};
+use wx_tree::{Node, Place};
 use wx_words::TextPath;
 
 /// The code of the system for what is no directory (ENOTDIR).
@@ -56,7 +57,49 @@ pub fn canonical_at(
     Ok(entry.path.path(alloc)?)
 }
 
-/// The entries of a directory.
+/// The last part of a path, below this one.
+fn moved(alloc: Global, to: &Place, path: &Place) -> Result<TextPath, Memory> {
+    let mut text = Text::new(alloc);
+    to.put_last(to.depth(), &mut text)?;
+    if path.depth() > 0 {
+        path.put_last(1, &mut text)?;
+    }
+    Ok(TextPath::new(text))
+}
+
+/// The entries of a directory, each below the path by which it was asked for.
+fn listed_behind(
+    alloc: Global,
+    asked: &Place,
+    directory: &Place,
+    entries: &[MemEntry],
+) -> Result<List<TextPath>, Memory> {
+    let mut paths = List::new(alloc);
+    for entry in entries {
+        if directory.has_entry(&entry.path) {
+            paths.push(moved(alloc, asked, &entry.path)?)?;
+        }
+    }
+    Ok(paths)
+}
+
+/// The entries of a directory, which the path may lead to by links.
+fn listed(
+    alloc: Global,
+    asked: &Place,
+    directory: &Place,
+    entries: &[MemEntry],
+) -> Result<List<TextPath>, Memory>
+    ensures { same asked.now directory.now ≡ true → IfOk result (λ paths. paths ≡ map spelled (entries_of directory.now entries.now)) }
+{
+    if asked.is_same(directory) {
+        entries_of(alloc, directory, entries)
+    } else {
+        listed_behind(alloc, asked, directory, entries)
+    }
+}
+
+/// The entries of a directory. Behind a link they are named below the path that was asked for.
 pub fn listed_at(
     alloc: Global,
     path: &TextPath,
@@ -65,9 +108,10 @@ pub fn listed_at(
     requires { are_once entries.now ≡ true }
     ensures { (p : Path) → SpellsPath (tree_of entries.now) p path.now → is_fault result ≡ false → Unlinked (IsListed result) (tree_of entries.now) p }
 {
+    let asked = Place::new(alloc, path)?;
     let entry = found(alloc, path, true, entries)?;
     match entry.node {
-        Node::Dir => Ok(entries_of(alloc, &entry.path, entries)?),
+        Node::Dir => Ok(listed(alloc, &asked, &entry.path, entries)?),
         Node::File(_) => Err(ScanError::Io(NO_DIRECTORY)),
         Node::Link(_) => Err(ScanError::Io(NO_DIRECTORY)),
     }

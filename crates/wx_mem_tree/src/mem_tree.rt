@@ -22,7 +22,8 @@ pub struct FailingLook {
 }
 
 /// A tree of files in memory, and its scanner. It tells its tree. Where links are followed, or stand in the way, they lead
-/// where their target says, taken from their directory, `..` in it being the directory before it.
+/// where their target says, taken from their directory, `..` in it being the directory before it. What is listed behind a link is
+/// named below the path that was asked for.
 #[derive(Drop, Debug)]
 pub struct MemTree {
     alloc: Global,

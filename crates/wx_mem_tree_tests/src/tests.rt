@@ -134,7 +134,8 @@ stamp /w/a = 0
 stamp /w/none = none
 scan / =  /w /v
 scan /w/a =  /w/a/f
-scan /w/l =  /w/a/f
+scan /w/l =  /w/l/f
+scan /w/up =  /w/up/x
 scan /w/f = io 20
 scan /w/none = none
 scan /v =  /v/x
@@ -144,7 +145,7 @@ scan /v =  /v/x
 fn answers_of_each_call(rt: HostRuntime) {
     let mut tree = tree(rt.alloc()).expect(&rt, "a tree");
     each_holds(&rt, rt.alloc(), &mut tree, LOOKS);
-    assert!(rt; tree.looks() == 28);
+    assert!(rt; tree.looks() == 29);
     drop(tree);
 }
 

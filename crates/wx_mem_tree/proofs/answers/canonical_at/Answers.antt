@@ -8,4 +8,4 @@ pub returns : goal.returns
 returns c = λ p s h l.
     let t = tree_of c.args.entries.now in
     let f = c.in_ok-entry.ensures.ok p s (no_link_on t p c.args.path.now true s l) in
-    (is_there_found p c.args.entries.now c.in_ok-entry.entry.now f, spelled_found p c.args.entries.now c.in_ok-entry.entry.now _ f c.in_ok-path.ensures)
+    (is_there_found p c.args.entries.now c.in_ok-entry.entry.now f, spelled_found p c.args.entries.now c.in_ok-entry.entry.now _ f c.in_ok-path.ensures.spelled)

@@ -7,7 +7,7 @@ pub returns-in_ok-path-in-Dir : goal.returns-in_ok-path-in-Dir
 returns-in_ok-path-in-Dir c = λ n p s h.
     let t = tree_of c.args.entries.now in
     let f = c.in_ok-entry.ensures.ok p s (no_link_on t p c.args.path.now c.args.follow s (not_followed c.args.follow (is_link_at t p) n)) in
-    kind_directory p c.args.entries.now c.in_ok-entry.entry.now _ f c.in-Dir.is c.in_ok-path-in-Dir.ensures
+    kind_directory p c.args.entries.now c.in_ok-entry.entry.now _ f c.in-Dir.is c.in_ok-path-in-Dir.ensures.spelled
 
 pub returns-in-File : goal.returns-in-File
 returns-in-File c = λ n p s h.
