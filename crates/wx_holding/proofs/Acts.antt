@@ -1,5 +1,5 @@
 -- What each part of a step makes, by the answers that it got.
-use Rattle.std.proofs.Common.{◌≡◌, ℕ, Bool, true, false, List, [], ◌∷◌, refl, ap, sym, ◌∙◌, subst}
+use Rattle.std.proofs.Common.{◌≡◌, ℕ, Bool, true, false, [], refl, ap, sym, ◌∙◌, subst}
 use Rattle.std.specs.Prelude.{Option, None, ◌&&◌}
 use Rattle.wx_watch.specs.declared.notify_fault.NotifyFault.{NotifyFault}
 use Rattle.wx_tree.specs.Paths.{Path}
@@ -42,6 +42,13 @@ guards_nowhere r g s a t is e (safe, h) = subst (λ x. GuardsAt r x s t) (sym is
 
 pub guards_faulty : (r : Root) (g : GuardFound) (p : Path) (c : ℕ) (s a t : RecursorState) → g ≡ Faulty p c → a ≡ show (PathScan p (Io c)) s → t ≡ keep_retry r r.path a → GuardsAt r g s t
 guards_faulty r g p c s a t is e h = subst (λ x. GuardsAt r x s t) (sym is) (no_evidence, h ∙ ap (keep_retry r r.path) e)
+
+-- what was found isn't nowhere
+pub not_at : (g : GuardFound) (p : Path) (i : Identity) (X : Type 0) → g ≡ At p i → g ≡ Nowhere → X
+not_at g p i X e f = (let z : At p i ≡ Nowhere = sym e ∙ f in cc)
+
+pub not_faulty : (g : GuardFound) (p : Path) (c : ℕ) (X : Type 0) → g ≡ Faulty p c → g ≡ Nowhere → X
+not_faulty g p c X e f = (let z : Faulty p c ≡ Nowhere = sym e ∙ f in cc)
 
 -- what isn't looked at doesn't count
 search_free : (r : Root) (g h : GuardFound) (e : Evidence) (s : RecursorState) → guarded_at r g (record e { guard_found = h }) s ≡ guarded_at r g e s

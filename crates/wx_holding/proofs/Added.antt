@@ -1,12 +1,12 @@
 -- The four cases of an addition, and unwatching one after the other.
-use Rattle.std.proofs.Common.{arith, ◌≤◌, ◌<◌, ◌-◌, length, get_or, take, drop, ◌≡◌, ℕ, true, false, List, [], ◌∷◌, ◌++◌, refl, ap, subst}
-use Rattle.std.specs.Prelude.{Option, Some, None}
+use Rattle.std.proofs.Common.{arith, ◌≤◌, ◌<◌, ◌-◌, length, get_or, take, drop, ◌≡◌, ℕ, true, false, List, [], ◌∷◌, ◌++◌, refl, subst}
+use Rattle.std.specs.Prelude.{Option, None}
 use Rattle.std.proofs.Math.Seq.{take-length}
 use Rattle.wx_watch.specs.declared.notify_fault.NotifyFault.{NotifyFault}
 use Rattle.wx_tree.specs.Paths.{Path}
 use Rattle.wx_recursor.specs.States.{RecursorState}
 use Rattle.wx_recursor.specs.Identities.{has_identity, refusal}
-use Rattle.wx_recursor.specs.Owning.{added, added_result, answered, answered_result, is_held_back, is_known_otherwise, unwatched}
+use Rattle.wx_recursor.specs.Owning.{answered, answered_result, is_held_back, is_known_otherwise, unwatched}
 use Rattle.wx_recursor.specs.Steps.{unwatch_each}
 use Rattle.wx_recursor.specs.declared.answers.AddResult.{AddResult}
 use Rattle.wx_recursor.specs.declared.answers.AddResult.TheVariants.{LeftOut, Stands}

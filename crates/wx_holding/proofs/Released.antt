@@ -25,10 +25,14 @@ each_known (g ∷ gs) (u ∷ us) ks s = ap (λ x. unwatch_each gs us x) (unwatch
 abbrev trims : RecursorState → RecursorState
 trims s = record s { registrations = serving_registrations s.known s.guards s.registrations; waiting = serving_registrations s.known s.guards s.waiting }
 
-pub released_from : (s a b d t : RecursorState) (gs : List Known) (us : List (Option NotifyFault)) → a ≡ with_known (still_known s.owners s.known) s → gs ≡ idle_registrations a.known a.guards a.registrations → b ≡ unwatch_each gs us a → d ≡ trims b → t ≡ asked_for_lost d → t ≡ released us s
-released_from s a b d t gs us e f g h k =
+-- what is given up was idle before
+pub idle_from : (s a : RecursorState) (gs hs : List Known) → a ≡ with_known (still_known s.owners s.known) s → gs ≡ idle_registrations a.known a.guards a.registrations → hs ≡ gs → hs ≡ idle_registrations (still_known s.owners s.known) s.guards s.registrations
+idle_from s a gs hs e f is = is ∙ (f ∙ ap (λ x. idle_registrations x.known x.guards x.registrations) e)
+
+pub released_from : (s a b d t : RecursorState) (gs hs : List Known) (us : List (Option NotifyFault)) → a ≡ with_known (still_known s.owners s.known) s → gs ≡ idle_registrations a.known a.guards a.registrations → hs ≡ gs → b ≡ unwatch_each hs us a → d ≡ trims b → t ≡ asked_for_lost d → t ≡ released us s
+released_from s a b d t gs hs us e f is g h k =
     let ks : List Known = still_known s.owners s.known in
-    let is : List Known = idle_registrations ks s.guards s.registrations in
-    let f' : gs ≡ is = f ∙ ap (λ x. idle_registrations x.known x.guards x.registrations) e in
-    let g' : b ≡ with_known ks (unwatch_each is us s) = g ∙ ap (λ x. unwatch_each x us a) f' ∙ ap (λ x. unwatch_each is us x) e ∙ each_known is us ks s in
+    let idle : List Known = idle_registrations ks s.guards s.registrations in
+    let f' : hs ≡ idle = idle_from s a gs hs e f is in
+    let g' : b ≡ with_known ks (unwatch_each idle us s) = g ∙ ap (λ x. unwatch_each x us a) f' ∙ ap (λ x. unwatch_each idle us x) e ∙ each_known idle us ks s in
     k ∙ ap asked_for_lost (h ∙ ap trims g')

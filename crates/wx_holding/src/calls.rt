@@ -1,5 +1,5 @@
 // The calls between steps.
-ghost use Rattle.std.specs.Prelude.{◌≡◌, ◌++◌, IfOk, OnOk};
+ghost use Rattle.std.specs.Prelude.{◌≡◌, ◌++◌, IfOk, OnErr, OnOk};
 ghost use Rattle.wx_recursor.specs.Calls.{has_work, kept_guard_watches, needs_retry, queued_guards, queued_retries, queued_roots, reconciled, rescanned};
 ghost use Rattle.wx_holding.specs.Holding.{state_of};
 
@@ -22,34 +22,35 @@ fn copy_roots(alloc: Global, roots: &[Root]) -> Result<Vec<Root>, Memory>
     Ok(copied)
 }
 
-/// What is queued when an epoch begins: guards, retries, and roots.
+/// What is queued when an epoch of these roots begins: guards, retries, and roots.
 fn first_queue(
     alloc: Global,
     roots: &[Root],
     guards: &[GuardWatch],
     retries: &[Retry],
 ) -> Result<VecDeque<Work>, Memory>
-    ensures { IfOk result (λ q. q.items ≡ queued_guards guards.now ++ (queued_retries roots.now retries.now ++ queued_roots roots.now)) }
+    ensures { IfOk result (λ q. q.items ≡ queued_guards (kept_guard_watches roots.now guards.now) ++ (queued_retries roots.now retries.now ++ queued_roots roots.now)) }
 {
     let mut queue = VecDeque::new(alloc);
-    queue_guards(alloc, guards, &mut queue)?;
+    queue_guards(alloc, roots, guards, &mut queue)?;
     queue_retries(alloc, roots, retries, &mut queue)?;
     queue_roots(alloc, roots, &mut queue)?;
     Ok(queue)
 }
 
 impl Held {
-    /// Sets the roots and the filter, and begins an epoch. It fails only for want of memory.
+    /// Sets the roots and the filter, and begins an epoch. It fails only for want of memory, and changes nothing then.
     pub fn reconcile(&mut self, alloc: Global, roots: Vec<Root>, filter: u32) -> Result<(), Memory>
-        ensures { OnOk result (state_of self.new ≡ reconciled roots.items filter (state_of self.old)) }
+        ensures state { OnOk result (state_of self.new ≡ reconciled roots.items filter (state_of self.old)) }
+        ensures unchanged { OnErr result (state_of self.new ≡ state_of self.old) }
     {
-        keep_guards(roots.as_slice(), &mut self.guards);
         self.queue = first_queue(
             alloc,
             roots.as_slice(),
             self.guards.as_slice(),
             self.retries.as_slice(),
         )?;
+        keep_guards(roots.as_slice(), &mut self.guards);
         set_unseen(&mut self.owners);
         self.roots = roots;
         self.filter = filter;
@@ -63,9 +64,11 @@ impl Held {
         Ok(())
     }
 
-    /// A reconcile with the roots and the filter that stand, which asks for a rebuild. It fails only for want of memory.
+    /// A reconcile with the roots and the filter that stand, which asks for a rebuild. It fails only for want of memory, and
+    /// changes nothing then.
     pub fn rescan(&mut self, alloc: Global) -> Result<(), Memory>
-        ensures { OnOk result (state_of self.new ≡ rescanned (state_of self.old)) }
+        ensures state { OnOk result (state_of self.new ≡ rescanned (state_of self.old)) }
+        ensures unchanged { OnErr result (state_of self.new ≡ state_of self.old) }
     {
         let roots = copy_roots(alloc, self.roots.as_slice())?;
         self.reconcile(alloc, roots, self.filter)?;

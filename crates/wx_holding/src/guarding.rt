@@ -1,12 +1,13 @@
 // How the guard of a root is set.
 ghost use Rattle.std.specs.Prelude.{◌≡◌, ◌∷◌, [], OnOk};
-ghost use Rattle.wx_scan.specs.Looked.{OnlyLooks};
-ghost use Rattle.wx_recursor.specs.declared.answers.GuardFound.TheVariants.{At};
+ghost use Rattle.wx_scan.specs.Looked.{OnlyLooks, Rose};
+ghost use Rattle.wx_recursor.specs.declared.answers.GuardFound.TheVariants.{At, Nowhere};
 ghost use Rattle.wx_recursor.specs.declared.errors.ShownError.TheVariants.{PathScan};
 ghost use Rattle.wx_recursor.specs.declared.work.Item.TheVariants.{Guard};
 ghost use Rattle.wx_recursor.specs.declared.work.Work.TheVariants.{Plain};
 ghost use Rattle.wx_recursor.specs.Guarding.{guard_set, looked_again, unguarded};
 ghost use Rattle.wx_recursor.specs.Holding.{enqueue, keep_retry, show};
+ghost use Rattle.wx_holding.specs.Backed.{KeepsWatches};
 ghost use Rattle.wx_holding.specs.Effects.{Guards, GuardsAt, LooksAgain};
 ghost use Rattle.wx_holding.specs.Holding.{state_of};
 
@@ -88,6 +89,7 @@ impl Held {
         scan: &mut S,
     ) -> Result<(), Memory>
         ensures looked { OnlyLooks (S.looked scan.old) (S.looked scan.new) }
+        ensures raised { OnOk result (Rose (S.looked scan.old).looks (S.looked scan.new).looks) }
         ensures rest { S.rest scan.new ≡ S.rest scan.old }
         ensures place { S.place scan.new ≡ S.place scan.old }
         ensures state { OnOk result (LooksAgain root.now (state_of self.old) (state_of self.new)) }
@@ -134,6 +136,7 @@ impl Held {
         ensures rest { S.rest scan.new ≡ S.rest scan.old }
         ensures place { S.place scan.new ≡ S.place scan.old }
         ensures state { OnOk result (GuardsAt root.now (At path identity) (state_of self.old) (state_of self.new)) }
+        ensures watches { OnOk result (KeepsWatches (state_of self.old).registrations (state_of self.new).registrations (B.backing back.old) (B.backing back.new)) }
     {
         match self.add(alloc, &path, &identity, back, scan)? {
             AddResult::Stands => self.put_and_look(alloc, root, path, identity, scan),
@@ -153,9 +156,11 @@ impl Held {
         scan: &mut S,
     ) -> Result<(), Memory>
         ensures looked { OnlyLooks (S.looked scan.old) (S.looked scan.new) }
+        ensures raised { OnOk result (found ≡ Nowhere → Rose (S.looked scan.old).looks (S.looked scan.new).looks) }
         ensures rest { S.rest scan.new ≡ S.rest scan.old }
         ensures place { S.place scan.new ≡ S.place scan.old }
         ensures state { OnOk result (GuardsAt root.now found (state_of self.old) (state_of self.new)) }
+        ensures watches { OnOk result (KeepsWatches (state_of self.old).registrations (state_of self.new).registrations (B.backing back.old) (B.backing back.new)) }
     {
         match found {
             GuardFound::Nowhere => {
@@ -181,9 +186,11 @@ impl Held {
         scan: &mut S,
     ) -> Result<(), Memory>
         ensures looked { OnlyLooks (S.looked scan.old) (S.looked scan.new) }
+        ensures raised { OnOk result (Rose (S.looked scan.old).looks (S.looked scan.new).looks) }
         ensures rest { S.rest scan.new ≡ S.rest scan.old }
         ensures place { S.place scan.new ≡ S.place scan.old }
         ensures state { OnOk result (Guards root.now (state_of self.old) (state_of self.new)) }
+        ensures watches { OnOk result (KeepsWatches (state_of self.old).registrations (state_of self.new).registrations (B.backing back.old) (B.backing back.new)) }
     {
         let found = find_guard(alloc, &root.path, self.follow, scan)?;
         self.guard_at(alloc, root, found, back, scan)

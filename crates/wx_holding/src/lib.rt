@@ -12,3 +12,4 @@ mod visiting;
 
 pub use held::Held;
 pub use looking::{find_guard, is_safe, list, look, look_at_root, look_here};
+pub use owning::is_memory;

@@ -1,5 +1,6 @@
 // One look at a path.
-ghost use Rattle.std.specs.Prelude.{◌≡◌, ◌≤◌, OnOk, length};
+ghost use Rattle.std.specs.Prelude.{◌≡◌, ◌≤◌, IfOk, OnOk, OnSome, length};
+ghost use Rattle.wx_recursor.specs.declared.answers.GuardFound.TheVariants.{Nowhere};
 ghost use Rattle.wx_scan.specs.Looked.{OnlyLooks, Rose};
 
 use std::alloc::Global;
@@ -17,7 +18,7 @@ pub fn look<S: Scanner>(
     scan: &mut S,
 ) -> Result<Look, Memory>
     ensures looked { OnlyLooks (S.looked scan.old) (S.looked scan.new) }
-    ensures rose { OnOk result (Rose (S.looked scan.old).looks (S.looked scan.new).looks) }
+    ensures raised { OnOk result (Rose (S.looked scan.old).looks (S.looked scan.new).looks) }
     ensures rest { S.rest scan.new ≡ S.rest scan.old }
     ensures place { S.place scan.new ≡ S.place scan.old }
 {
@@ -38,6 +39,8 @@ pub fn look<S: Scanner>(
 /// memory.
 fn find_last<S: Scanner>(alloc: Global, path: &Place, scan: &mut S) -> Result<GuardFound, Memory>
     ensures looked { OnlyLooks (S.looked scan.old) (S.looked scan.new) }
+    ensures raised { OnOk result (1 ≤ length path.now → Rose (S.looked scan.old).looks (S.looked scan.new).looks) }
+    ensures top { IfOk result (λ found. length path.now ≡ 0 → found ≡ Nowhere) }
     ensures rest { S.rest scan.new ≡ S.rest scan.old }
     ensures place { S.place scan.new ≡ S.place scan.old }
 {
@@ -59,6 +62,8 @@ fn find_last<S: Scanner>(alloc: Global, path: &Place, scan: &mut S) -> Result<Gu
 /// Searches the guard of a path, links followed: the nearest directory above. It fails only for want of memory.
 fn find_nearest<S: Scanner>(alloc: Global, path: &Place, scan: &mut S) -> Result<GuardFound, Memory>
     ensures looked { OnlyLooks (S.looked scan.old) (S.looked scan.new) }
+    ensures raised { OnOk result (1 ≤ length path.now → Rose (S.looked scan.old).looks (S.looked scan.new).looks) }
+    ensures top { IfOk result (λ found. length path.now ≡ 0 → found ≡ Nowhere) }
     ensures rest { S.rest scan.new ≡ S.rest scan.old }
     ensures place { S.place scan.new ≡ S.place scan.old }
 {
@@ -86,6 +91,8 @@ pub fn find_guard<S: Scanner>(
     scan: &mut S,
 ) -> Result<GuardFound, Memory>
     ensures looked { OnlyLooks (S.looked scan.old) (S.looked scan.new) }
+    ensures raised { OnOk result (1 ≤ length path.now → Rose (S.looked scan.old).looks (S.looked scan.new).looks) }
+    ensures top { IfOk result (λ found. length path.now ≡ 0 → found ≡ Nowhere) }
     ensures rest { S.rest scan.new ≡ S.rest scan.old }
     ensures place { S.place scan.new ≡ S.place scan.old }
 {
@@ -103,6 +110,7 @@ fn find_break<S: Scanner>(
     scan: &mut S,
 ) -> Result<Option<Found>, Memory>
     ensures looked { OnlyLooks (S.looked scan.old) (S.looked scan.new) }
+    ensures raised { IfOk result (λ found. OnSome found (Rose (S.looked scan.old).looks (S.looked scan.new).looks)) }
     ensures rest { S.rest scan.new ≡ S.rest scan.old }
     ensures place { S.place scan.new ≡ S.place scan.old }
 {
@@ -128,6 +136,7 @@ pub fn is_safe<S: Scanner>(
     scan: &mut S,
 ) -> Result<bool, Memory>
     ensures looked { OnlyLooks (S.looked scan.old) (S.looked scan.new) }
+    ensures raised { OnOk result (Rose (S.looked scan.old).looks (S.looked scan.new).looks) }
     ensures rest { S.rest scan.new ≡ S.rest scan.old }
     ensures place { S.place scan.new ≡ S.place scan.old }
 {
@@ -150,6 +159,7 @@ pub fn look_here<S: Scanner>(
     scan: &mut S,
 ) -> Result<Found, Memory>
     ensures looked { OnlyLooks (S.looked scan.old) (S.looked scan.new) }
+    ensures raised { OnOk result (Rose (S.looked scan.old).looks (S.looked scan.new).looks) }
     ensures rest { S.rest scan.new ≡ S.rest scan.old }
     ensures place { S.place scan.new ≡ S.place scan.old }
 {
@@ -171,6 +181,7 @@ pub fn look_at_root<S: Scanner>(
     scan: &mut S,
 ) -> Result<Found, Memory>
     ensures looked { OnlyLooks (S.looked scan.old) (S.looked scan.new) }
+    ensures raised { OnOk result (Rose (S.looked scan.old).looks (S.looked scan.new).looks) }
     ensures rest { S.rest scan.new ≡ S.rest scan.old }
     ensures place { S.place scan.new ≡ S.place scan.old }
 {
@@ -194,6 +205,7 @@ fn places(alloc: Global, paths: &[TextPath]) -> Result<List<Place>, Memory> {
 /// Lists a directory. It fails only for want of memory.
 pub fn list<S: Scanner>(alloc: Global, path: &Place, scan: &mut S) -> Result<Found, Memory>
     ensures looked { OnlyLooks (S.looked scan.old) (S.looked scan.new) }
+    ensures raised { OnOk result (Rose (S.looked scan.old).looks (S.looked scan.new).looks) }
     ensures rest { S.rest scan.new ≡ S.rest scan.old }
     ensures place { S.place scan.new ≡ S.place scan.old }
 {

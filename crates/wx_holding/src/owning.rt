@@ -1,9 +1,12 @@
 // How a path comes to be watched and owned.
-ghost use Rattle.std.specs.Prelude.{◌≡◌, [], Some, IfOk, OnOk, cond};
+ghost use Rattle.std.specs.Prelude.{◌≡◌, ◌∷◌, [], Some, IfOk, OnOk, cond};
+ghost use Rattle.wx_scan.specs.Backings.{is_memory};
 ghost use Rattle.wx_scan.specs.Looked.{OnlyLooks};
+ghost use Rattle.wx_tree.specs.Places.{spelled};
 ghost use Rattle.wx_recursor.specs.Holding.{enqueue, gone, scan_once, take_over};
 ghost use Rattle.wx_recursor.specs.Identities.{has_identity, is_not_watched, refusal};
 ghost use Rattle.wx_recursor.specs.Owning.{failed_watch, is_held_back, is_known_otherwise, refused, refused_result, stop, unwatched};
+ghost use Rattle.wx_holding.specs.Backed.{IsConfirmed, KeepsWatches, LetsGo};
 ghost use Rattle.wx_holding.specs.Effects.{Adds, Confirms, Owns, Unwatches};
 ghost use Rattle.wx_holding.specs.Holding.{state_of};
 
@@ -22,7 +25,7 @@ use wx_watch::{NotifyFault, NotifyFaultKind};
 
 impl Held {
     /// A resource fault is shown once in an epoch, and stops additions.
-    fn stop(&mut self, fault: NotifyFault) -> Result<(), Memory>
+    pub fn stop(&mut self, fault: NotifyFault) -> Result<(), Memory>
         ensures { OnOk result (state_of self.new ≡ stop fault (state_of self.old)) }
     {
         if self.stopped {
@@ -38,7 +41,12 @@ impl Held {
     }
 
     /// Any other fault: the first of a path asks for a rebuild, the second skips the path.
-    fn fail_watch(&mut self, alloc: Global, path: &Place, fault: NotifyFault) -> Result<(), Memory>
+    pub fn fail_watch(
+        &mut self,
+        alloc: Global,
+        path: &Place,
+        fault: NotifyFault,
+    ) -> Result<(), Memory>
         ensures { OnOk result (state_of self.new ≡ failed_watch path.now fault (state_of self.old)) }
     {
         self.shown
@@ -110,6 +118,7 @@ impl Held {
         ensures rest { S.rest scan.new ≡ S.rest scan.old }
         ensures place { S.place scan.new ≡ S.place scan.old }
         ensures state { OnOk result (Unwatches path.now (state_of self.old) (state_of self.new)) }
+        ensures watches { OnOk result (LetsGo (spelled path.now ∷ []) (B.backing back.old) (B.backing back.new)) }
     {
         let spelled = path.path(alloc)?;
         match back.unwatch(scan, &spelled) {
@@ -137,6 +146,7 @@ impl Held {
         ensures rest { S.rest scan.new ≡ S.rest scan.old }
         ensures place { S.place scan.new ≡ S.place scan.old }
         ensures state { IfOk result (λ end. Confirms path.now identity.now (state_of self.old) (state_of self.new) end) }
+        ensures watches { OnOk result (IsConfirmed path.now (state_of self.old).registrations (state_of self.new).registrations (B.backing back.old) (B.backing back.new)) }
     {
         let second = look(alloc, path, self.follow, scan)?;
         if is_still(path, identity, &second) {
@@ -188,6 +198,7 @@ impl Held {
         ensures rest { S.rest scan.new ≡ S.rest scan.old }
         ensures place { S.place scan.new ≡ S.place scan.old }
         ensures state { IfOk result (λ end. Adds path.now identity.now (state_of self.old) (state_of self.new) end) }
+        ensures watches { OnOk result (KeepsWatches (state_of self.old).registrations (state_of self.new).registrations (B.backing back.old) (B.backing back.new)) }
     {
         if self.is_known_otherwise(path, identity) {
             self.excluded.push(path.copy(alloc)?)?;
@@ -264,6 +275,7 @@ impl Held {
         ensures rest { S.rest scan.new ≡ S.rest scan.old }
         ensures place { S.place scan.new ≡ S.place scan.old }
         ensures state { OnOk result (Owns root.now path.now identity.now scans item (state_of self.old) (state_of self.new)) }
+        ensures watches { OnOk result (KeepsWatches (state_of self.old).registrations (state_of self.new).registrations (B.backing back.old) (B.backing back.new)) }
     {
         match self.add(alloc, path, identity, back, scan)? {
             AddResult::Stands => self.take_over(alloc, root, path, identity, scans),
@@ -278,7 +290,9 @@ impl Held {
 }
 
 /// Whether the fault is want of memory.
-fn is_memory(fault: &NotifyFault) -> bool {
+pub fn is_memory(fault: &NotifyFault) -> bool
+    ensures { result ≡ is_memory fault.now.kind }
+{
     match fault.kind {
         NotifyFaultKind::Memory => true,
         NotifyFaultKind::Generic(_)

@@ -2,7 +2,9 @@
 ghost use Rattle.std.specs.Prelude.{◌≡◌, IfOk, OnOk};
 ghost use Rattle.wx_scan.specs.Looked.{OnlyLooks};
 ghost use Rattle.wx_recursor.specs.Holding.{still_known};
+ghost use Rattle.wx_recursor.specs.Sound.{AreSound, things};
 ghost use Rattle.wx_recursor.specs.Steps.{asked_for_lost, idle_registrations, serving_registrations};
+ghost use Rattle.wx_holding.specs.Backed.{KeepsWatches, LetsGo, paths_spelled};
 ghost use Rattle.wx_holding.specs.Effects.{Releases, UnwatchesEach};
 ghost use Rattle.wx_holding.specs.Holding.{state_of};
 
@@ -80,6 +82,7 @@ impl Held {
         ensures rest { S.rest scan.new ≡ S.rest scan.old }
         ensures place { S.place scan.new ≡ S.place scan.old }
         ensures state { OnOk result (UnwatchesEach idle.now (state_of self.old) (state_of self.new)) }
+        ensures watches { OnOk result (LetsGo (paths_spelled idle.now) (B.backing back.old) (B.backing back.new)) }
     {
         let mut rest = idle;
         while let [first, after @ ..] = rest {
@@ -100,6 +103,7 @@ impl Held {
         ensures rest { S.rest scan.new ≡ S.rest scan.old }
         ensures place { S.place scan.new ≡ S.place scan.old }
         ensures state { OnOk result (Releases (state_of self.old) (state_of self.new)) }
+        ensures watches { OnOk result (AreSound (things (state_of self.old)) → KeepsWatches (state_of self.old).registrations (state_of self.new).registrations (B.backing back.old) (B.backing back.new)) }
     {
         self.forget_unowned();
         let idle = self.idle(alloc)?;

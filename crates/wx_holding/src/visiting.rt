@@ -9,6 +9,7 @@ ghost use Rattle.wx_recursor.specs.Guarding.{unguarded};
 ghost use Rattle.wx_recursor.specs.Holding.{gone, keep_retry, lose, lose_below, show};
 ghost use Rattle.wx_recursor.specs.Identities.{is_of_directory};
 ghost use Rattle.wx_recursor.specs.Steps.{refound, scanned, swept};
+ghost use Rattle.wx_holding.specs.Backed.{KeepsWatches};
 ghost use Rattle.wx_holding.specs.Effects.{Owns, Tries, Visits};
 ghost use Rattle.wx_holding.specs.Holding.{state_of};
 
@@ -109,6 +110,7 @@ impl Held {
         ensures rest { S.rest scan.new ≡ S.rest scan.old }
         ensures place { S.place scan.new ≡ S.place scan.old }
         ensures state { OnOk result (Owns root.now root.now.path identity.now (root.now.recursive && is_of_directory identity.now) (Plain (Visit root.now)) (unguarded root.now (refound root.now (state_of self.old))) (state_of self.new)) }
+        ensures watches { OnOk result (KeepsWatches (state_of self.old).registrations (state_of self.new).registrations (B.backing back.old) (B.backing back.new)) }
     {
         let item = visit_item(alloc, root)?;
         let scans = is_scanned(root, identity);
@@ -129,6 +131,7 @@ impl Held {
         ensures rest { S.rest scan.new ≡ S.rest scan.old }
         ensures place { S.place scan.new ≡ S.place scan.old }
         ensures state { OnOk result (Visits root.now found (state_of self.old) (state_of self.new)) }
+        ensures watches { OnOk result (KeepsWatches (state_of self.old).registrations (state_of self.new).registrations (B.backing back.old) (B.backing back.new)) }
     {
         match found {
             Found::Missing => {
@@ -215,6 +218,7 @@ impl Held {
         ensures rest { S.rest scan.new ≡ S.rest scan.old }
         ensures place { S.place scan.new ≡ S.place scan.old }
         ensures state { OnOk result (Owns root.now path.now identity.now true (Plain (Candidate root.now path.now)) (state_of self.old) (state_of self.new)) }
+        ensures watches { OnOk result (KeepsWatches (state_of self.old).registrations (state_of self.new).registrations (B.backing back.old) (B.backing back.new)) }
     {
         let item = candidate_item(alloc, root, path)?;
         self.own(alloc, root, path, identity, true, item, back, scan)
@@ -234,6 +238,7 @@ impl Held {
         ensures rest { S.rest scan.new ≡ S.rest scan.old }
         ensures place { S.place scan.new ≡ S.place scan.old }
         ensures state { OnOk result (Tries root.now path.now found (state_of self.old) (state_of self.new)) }
+        ensures watches { OnOk result (KeepsWatches (state_of self.old).registrations (state_of self.new).registrations (B.backing back.old) (B.backing back.new)) }
     {
         match found {
             Found::Missing => self.miss_candidate(alloc, root, path),

@@ -39,14 +39,14 @@ cond_things : (b : Bool) (x y s : RecursorState) → things x ≡ things s → t
 cond_things true x y s e f = e
 cond_things false x y s e f = f
 
-things_refused : (p : Path) (f : NotifyFault) (s : RecursorState) → things (refused p f s) ≡ things s
+pub things_refused : (p : Path) (f : NotifyFault) (s : RecursorState) → things (refused p f s) ≡ things s
 things_refused p f s = cond_things (is_path_gone f) _ _ s refl (cond_things (is_resource_fault f) _ _ s (cond_things s.stopped _ _ s refl refl) (cond_things (has_path p s.failed) _ _ s refl refl))
 
-things_unwatched : (p : Path) (u : Option NotifyFault) (s : RecursorState) → things (unwatched p u s) ≡ things s
+pub things_unwatched : (p : Path) (u : Option NotifyFault) (s : RecursorState) → things (unwatched p u s) ≡ things s
 things_unwatched p None s = refl
 things_unwatched p (Some f) s = refl
 
-things_retry : (r : Root) (p : Path) (s : RecursorState) → things (keep_retry r p s) ≡ things s
+pub things_retry : (r : Root) (p : Path) (s : RecursorState) → things (keep_retry r p s) ≡ things s
 things_retry r p s = cond_things (has_retry r p s.retries) _ _ s refl refl
 
 things_retries : (p : Path) (rs : List Root) (s : RecursorState) → things (retry_all p rs s) ≡ things s
@@ -174,7 +174,7 @@ item_sound (Visit r) e s k = visited_sound r e.found e s k
 item_sound (Scan r p) e s k = scanned_sound r p e.found s k
 item_sound (Candidate r p) e s k = tried_sound r p e.found e s k
 
-first_sound : (q : List Work) (e : Evidence) (s : RecursorState) → AreSound (things s) → AreSound (things (stepped_at q e s))
+pub first_sound : (q : List Work) (e : Evidence) (s : RecursorState) → AreSound (things s) → AreSound (things (stepped_at q e s))
 first_sound [] e s k = sound_fewer_owns (λ o. o.seen) (things s) k
 first_sound (Plain i ∷ q) e s k = item_sound i e (record s { queue = q }) k
 first_sound (Probe p os ∷ q) e s k = probed_sound p os e.found (record s { queue = q }) k

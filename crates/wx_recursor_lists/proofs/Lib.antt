@@ -1,1 +1,2 @@
+mod MetAgain
 mod OwnAt

@@ -4,6 +4,7 @@ ghost use Rattle.wx_tree.specs.Paths.{holds_below};
 ghost use Rattle.wx_tree.specs.Roots.{same_root};
 ghost use Rattle.wx_recursor.specs.Holding.{has_met};
 ghost use Rattle.wx_recursor.specs.Owners.{disown, has_owner, has_path, has_root, is_owner, own, sweep, unseen};
+ghost use Rattle.wx_recursor_lists.specs.Met.{has_met_one, has_seen};
 
 use crate::identities::is_identity_of;
 use std::alloc::Global;
@@ -111,16 +112,40 @@ pub fn set_unseen(owners: &mut Vec<Owner>)
     }
 }
 
-/// Whether the root has seen this identity in this epoch, under whatever path.
-pub fn has_met(root: &Root, identity: &Identity, known: &[Known], owners: &[Owner]) -> bool
-    ensures { result ≡ has_met root.now identity.now known.now owners.now }
+/// Whether the root has seen this path in this epoch.
+fn has_seen(root: &Root, path: &Place, owners: &[Owner]) -> bool
+    ensures { result ≡ has_seen root.now path.now owners.now }
 {
     let mut rest = owners;
     while let [first, after @ ..] = rest {
-        if root.is_same(&first.root) && first.seen && is_identity_of(&first.path, identity, known) {
+        if root.is_same(&first.root) && first.seen && first.path.is_same(path) {
             return true;
         }
         rest = after;
     }
     false
+}
+
+/// The same as `has_met`. Few paths have the same identity, so it goes along what is known once.
+fn has_met_one(root: &Root, identity: &Identity, known: &[Known], owners: &[Owner]) -> bool
+    ensures { result ≡ has_met_one root.now identity.now known.now owners.now known.now }
+{
+    let mut rest = known;
+    while let [first, after @ ..] = rest {
+        if first.identity.is_same(identity)
+            && has_seen(root, &first.path, owners)
+            && is_identity_of(&first.path, identity, known)
+        {
+            return true;
+        }
+        rest = after;
+    }
+    false
+}
+
+/// Whether the root has seen this identity in this epoch, under whatever path.
+pub fn has_met(root: &Root, identity: &Identity, known: &[Known], owners: &[Owner]) -> bool
+    ensures { result ≡ has_met root.now identity.now known.now owners.now }
+{
+    has_met_one(root, identity, known, owners)
 }

@@ -53,17 +53,20 @@ pub fn queue_entries(
     Ok(())
 }
 
-/// Queues these guards. It fails only for want of memory.
+/// Queues the guards of these roots. It fails only for want of memory.
 pub fn queue_guards(
     alloc: Global,
+    roots: &[Root],
     guards: &[GuardWatch],
     queue: &mut VecDeque<Work>,
 ) -> Result<(), Memory>
-    ensures { OnOk result (queue.new.items ≡ queue.old.items ++ queued_guards guards.now) }
+    ensures { OnOk result (queue.new.items ≡ queue.old.items ++ queued_guards (kept_guard_watches roots.now guards.now)) }
 {
     let mut rest = guards;
     while let [guard, after @ ..] = rest {
-        queue.push_back(Work::Plain(Item::Guard(guard.root.copy(alloc)?)))?;
+        if has_root(&guard.root, roots) {
+            queue.push_back(Work::Plain(Item::Guard(guard.root.copy(alloc)?)))?;
+        }
         rest = after;
     }
     Ok(())

@@ -1,5 +1,6 @@
-use Rattle.std.proofs.Common.{◌≡◌, ◌≤◌, length}
-use Rattle.wx_scan.specs.Looked.{OnlyLooks}
+use Rattle.std.proofs.Common.{◌≡◌, ◌≤◌, ◌<◌, length}
+use Rattle.wx_scan.specs.Looked.{OnlyLooks, Rose}
+use Rattle.wx_recursor.specs.declared.answers.GuardFound.TheVariants.{Nowhere}
 use Rattle.wx_holding.proofs.looking.find_last.Given as goal
 
 abbrev pub invariant-loop-level : goal.invariant-loop-level
@@ -9,6 +10,8 @@ invariant-loop-level g l =
       rest : g.S.Looks.rest l.scan ≡ g.S.Looks.rest l.fn.scan;
       place : g.S.Looks.place l.scan ≡ g.S.Looks.place l.fn.scan;
       within : l.level ≤ length l.fn.path;
+      raised : l.level < length l.fn.path → Rose (g.S.Looks.looked l.fn.scan).looks (g.S.Looks.looked l.scan).looks;
+      top : length l.fn.path ≡ 0 → l.found ≡ Nowhere;
     }
 
 abbrev pub decreases-loop-level : goal.decreases-loop-level

@@ -1,5 +1,5 @@
 use Rattle.std.proofs.Common.{◌≡◌, ◌≤◌, ◌-◌, length}
-use Rattle.wx_scan.specs.Looked.{OnlyLooks}
+use Rattle.wx_scan.specs.Looked.{OnlyLooks, Rose}
 use Rattle.wx_holding.proofs.looking.find_nearest.Given as goal
 
 abbrev pub invariant-loop-level : goal.invariant-loop-level
@@ -9,6 +9,7 @@ invariant-loop-level g l =
       rest : g.S.Looks.rest l.scan ≡ g.S.Looks.rest l.fn.scan;
       place : g.S.Looks.place l.scan ≡ g.S.Looks.place l.fn.scan;
       within : l.level ≤ length l.fn.path;
+      raised : 1 ≤ l.level → Rose (g.S.Looks.looked l.fn.scan).looks (g.S.Looks.looked l.scan).looks;
     }
 
 abbrev pub decreases-loop-level : goal.decreases-loop-level

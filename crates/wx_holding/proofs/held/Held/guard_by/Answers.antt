@@ -3,6 +3,9 @@ use Rattle.wx_recursor.specs.declared.answers.AddResult.TheVariants.{LeftOut, St
 use Rattle.wx_holding.specs.Holding.{state_of}
 use Rattle.wx_holding.proofs.Results.{ok_map}
 use Rattle.wx_holding.proofs.Acts.{guards_by}
+use Rattle.std.proofs.Common.{ap, ◌∙◌}
+use Rattle.wx_holding.proofs.Watching.{keeps_more, keeps_same}
+use Rattle.wx_holding.proofs.LettingGo.{retry_registrations}
 use Rattle.wx_holding.proofs.held.Held.guard_by.Goals as goal
 
 pub returns-in-Stands-clause-state : goal.returns-in-Stands-clause-state
@@ -24,3 +27,15 @@ pub returns-in-LeftOut-clause-state : goal.returns-in-LeftOut-clause-state
 returns-in-LeftOut-clause-state g c =
     let a = c.in_ok-add.ensures.state in
     guards_by c.args.root.now c.args.path c.args.identity (state_of c.args.self.now) (state_of c.add.new.self) (state_of c.add.new.self) a.0 a.1 _ LeftOut false a.2 a.3 c.in-LeftOut.is refl
+
+pub returns-in-Stands-clause-watches : goal.returns-in-Stands-clause-watches
+returns-in-Stands-clause-watches g c = ok_map c.put_and_look.result _ _ (λ h. keeps_more _ _ _ _ _ _ c.in_ok-add.ensures.watches (keeps_same _ _ _ (ap (λ x. x.registrations) h.1))) c.put_and_look.ensures.state
+
+pub returns-in-Vanished-clause-watches : goal.returns-in-Vanished-clause-watches
+returns-in-Vanished-clause-watches g c = ok_map c.keep_retry.result _ _ (λ h. keeps_more _ _ _ _ _ _ c.in_ok-add.ensures.watches (keeps_same _ _ _ (ap (λ x. x.registrations) h ∙ retry_registrations c.args.root.now c.args.root.now.path (state_of c.add.new.self)))) c.keep_retry.ensures
+
+pub returns-in-TryAgain-clause-watches : goal.returns-in-TryAgain-clause-watches
+returns-in-TryAgain-clause-watches g c = ok_map c.queue_guard.result _ _ (λ h. keeps_more _ _ _ _ _ _ c.in_ok-add.ensures.watches (keeps_same _ _ _ (ap (λ x. x.registrations) h))) c.queue_guard.ensures
+
+pub returns-in-LeftOut-clause-watches : goal.returns-in-LeftOut-clause-watches
+returns-in-LeftOut-clause-watches g c = c.in_ok-add.ensures.watches

@@ -2,6 +2,12 @@ use Rattle.std.proofs.Common.{refl}
 use Rattle.wx_holding.specs.Holding.{state_of}
 use Rattle.wx_holding.proofs.Results.{ok_map}
 use Rattle.wx_holding.proofs.Acts.{tries_any, tries_here}
+use Rattle.std.proofs.Common.{ap, ◌∙◌}
+use Rattle.wx_holding.proofs.Watching.{keeps_same}
+use Rattle.wx_holding.proofs.LettingGo.{retry_registrations}
+use Rattle.wx_recursor.specs.Holding.{show}
+use Rattle.wx_recursor.specs.declared.errors.ScanFault.TheVariants.{Io}
+use Rattle.wx_recursor.specs.declared.errors.ShownError.TheVariants.{Filter, PathScan}
 use Rattle.wx_holding.proofs.held.Held.try_candidate.Goals as goal
 
 pub returns-in-Missing-clause-state : goal.returns-in-Missing-clause-state
@@ -24,3 +30,21 @@ returns-in-Here-clause-state g c = ok_map c.own_candidate.result _ _ (λ h. trie
 
 pub returns-clause-state : goal.returns-clause-state
 returns-clause-state g c = tries_any c.args.root.now c.args.path.now c.args.found _ (state_of c.args.self.now) _ c.in-Entries.is refl
+
+pub returns-in-Missing-clause-watches : goal.returns-in-Missing-clause-watches
+returns-in-Missing-clause-watches g c = ok_map c.miss_candidate.result _ _ (λ h. keeps_same _ _ _ (ap (λ x. x.registrations) h)) c.miss_candidate.ensures
+
+pub returns-in-Barred-clause-watches : goal.returns-in-Barred-clause-watches
+returns-in-Barred-clause-watches g c = keeps_same _ _ _ (ap (λ x. x.registrations) c.lose.ensures)
+
+pub returns-in-Rejected-clause-watches : goal.returns-in-Rejected-clause-watches
+returns-in-Rejected-clause-watches g c = keeps_same _ _ _ (ap (λ x. x.registrations) c.lose-in-Rejected.ensures)
+
+pub returns-in-Fault-clause-watches : goal.returns-in-Fault-clause-watches
+returns-in-Fault-clause-watches g c = ok_map c.show_fault.result _ _ (λ h. keeps_same _ _ _ (ap (λ x. x.registrations) h ∙ retry_registrations c.args.root.now c.args.path.now (show (PathScan c.in-Fault.at (Io c.in-Fault.code)) (state_of c.args.self.now)))) c.show_fault.ensures
+
+pub returns-in-Refused-clause-watches : goal.returns-in-Refused-clause-watches
+returns-in-Refused-clause-watches g c = ok_map c.show_filter.result _ _ (λ h. keeps_same _ _ _ (ap (λ x. x.registrations) h ∙ retry_registrations c.args.root.now c.args.path.now (show (Filter c.in-Refused.error) (state_of c.args.self.now)))) c.show_filter.ensures
+
+pub returns-clause-watches : goal.returns-clause-watches
+returns-clause-watches g c = keeps_same _ _ _ refl

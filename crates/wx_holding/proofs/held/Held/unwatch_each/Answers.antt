@@ -2,11 +2,12 @@ use Rattle.std.proofs.Common.{arith, refl, ◌∙◌, [], ◌∷◌}
 use Rattle.std.proofs.lemmas.Grind.{common_steps}
 use Rattle.wx_holding.specs.Holding.{state_of}
 use Rattle.wx_holding.proofs.Added.{unwatched_end, unwatched_more}
+use Rattle.wx_holding.proofs.LettingGo.{more_gone, none_gone}
 use Rattle.wx_holding.proofs.Looks.{more_looks, no_looks}
 use Rattle.wx_holding.proofs.held.Held.unwatch_each.Goals as goal
 
 pub loop-rest-init : goal.loop-rest-init
-loop-rest-init g c = record { looked = no_looks _; others = refl; place = refl; rest = λ vs. (vs, refl) }
+loop-rest-init g c = record { looked = no_looks _; others = refl; place = refl; rest = λ vs. (vs, refl); watches = λ d h. h }
 
 pub loop-rest-preserved : goal.loop-rest-preserved
 loop-rest-preserved g c = record {
@@ -17,9 +18,13 @@ loop-rest-preserved g c = record {
       let u = c.in_ok-unwatch.ensures.state in
       let h = c.loop-rest.invariant.rest (u.0 ∷ vs) in
       (h.0, unwatched_more c.loop-rest.rest.now c.first-item.result _ u.0 vs (state_of c.loop-rest.self) (state_of c.unwatch.new.self) _ c.in-len1-up.len_at_least (grind (arith, common_steps)) (grind (arith, common_steps)) u.1 h.1);
+  watches = λ d h. c.loop-rest.invariant.watches d (more_gone c.loop-rest.rest.now c.first-item.result _ _ _ d c.in-len1-up.len_at_least (grind (arith, common_steps)) (grind (arith, common_steps)) c.in_ok-unwatch.ensures.watches h);
 }
 
 pub returns-clause-state : goal.returns-clause-state
 returns-clause-state g c =
     let h = c.loop-rest.invariant.rest [] in
     (h.0, unwatched_end c.loop-rest.rest.now (state_of c.loop-rest.self) _ c.in_default.len_below h.1)
+
+pub returns-clause-watches : goal.returns-clause-watches
+returns-clause-watches g c = c.loop-rest.invariant.watches _ (none_gone c.loop-rest.rest.now _ c.in_default.len_below)

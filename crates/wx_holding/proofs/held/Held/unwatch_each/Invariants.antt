@@ -3,6 +3,8 @@ use Rattle.std.specs.Prelude.{List, Option}
 use Rattle.wx_watch.specs.declared.notify_fault.NotifyFault.{NotifyFault}
 use Rattle.wx_scan.specs.Looked.{OnlyLooks}
 use Rattle.wx_recursor.specs.Steps.{unwatch_each}
+use Rattle.wx_scan.specs.Backings.{Backing}
+use Rattle.wx_holding.specs.Backed.{LetsGo, paths_spelled}
 use Rattle.wx_holding.specs.Holding.{state_of}
 use Rattle.wx_holding.proofs.held.Held.unwatch_each.Given as goal
 
@@ -13,6 +15,7 @@ invariant-loop-rest g l =
       others : g.S.Looks.rest l.scan ≡ g.S.Looks.rest l.fn.scan;
       place : g.S.Looks.place l.scan ≡ g.S.Looks.place l.fn.scan;
       rest : (vs : List (Option NotifyFault)) → (us : List (Option NotifyFault)) × (unwatch_each l.rest vs (state_of l.self) ≡ unwatch_each l.fn.idle us (state_of l.fn.self));
+      watches : (d : Backing) → LetsGo (paths_spelled l.rest) (g.B.Backend.backing l.back) d → LetsGo (paths_spelled l.fn.idle) (g.B.Backend.backing l.fn.back) d;
     }
 
 abbrev pub decreases-loop-rest : goal.decreases-loop-rest

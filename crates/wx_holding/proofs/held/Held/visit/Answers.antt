@@ -2,6 +2,12 @@ use Rattle.std.proofs.Common.{refl}
 use Rattle.wx_holding.specs.Holding.{state_of}
 use Rattle.wx_holding.proofs.Results.{ok_map}
 use Rattle.wx_holding.proofs.Acts.{visits_barred, visits_fault, visits_here, visits_missing, visits_none}
+use Rattle.std.proofs.Common.{ap, ◌∙◌}
+use Rattle.wx_holding.proofs.Watching.{keeps_more, keeps_same}
+use Rattle.wx_holding.proofs.LettingGo.{retry_registrations}
+use Rattle.wx_recursor.specs.Holding.{show}
+use Rattle.wx_recursor.specs.declared.errors.ScanFault.TheVariants.{Io}
+use Rattle.wx_recursor.specs.declared.errors.ShownError.TheVariants.{PathScan}
 use Rattle.wx_holding.proofs.held.Held.visit.Goals as goal
 
 pub returns-in-Missing-clause-state : goal.returns-in-Missing-clause-state
@@ -24,3 +30,21 @@ returns-in-Refused-clause-state g c = visits_none c.args.root.now c.args.found _
 
 pub returns-clause-state : goal.returns-clause-state
 returns-clause-state g c = visits_none c.args.root.now c.args.found _ (state_of c.args.self.now) c.in-Entries.is (λ e. refl)
+
+pub returns-in-Missing-clause-watches : goal.returns-in-Missing-clause-watches
+returns-in-Missing-clause-watches g c = ok_map c.guard.result _ _ (λ h. keeps_more _ _ _ _ _ _ (keeps_same _ _ _ (ap (λ x. x.registrations) c.in_ok-miss_root-in-Missing.ensures)) h) c.guard.ensures.watches
+
+pub returns-in-Barred-clause-watches : goal.returns-in-Barred-clause-watches
+returns-in-Barred-clause-watches g c = ok_map c.guard-in-Barred.result _ _ (λ h. keeps_more _ _ _ _ _ _ (keeps_same _ _ _ (ap (λ x. x.registrations) c.lose.ensures)) h) c.guard-in-Barred.ensures.watches
+
+pub returns-in-Fault-clause-watches : goal.returns-in-Fault-clause-watches
+returns-in-Fault-clause-watches g c = ok_map c.guard-in-Fault.result _ _ (λ h. keeps_more _ _ _ _ _ _ (keeps_same _ _ _ (ap (λ x. x.registrations) c.in_ok-show_fault-in-Fault.ensures ∙ retry_registrations c.args.root.now c.args.root.now.path (show (PathScan c.in-Fault.at (Io c.in-Fault.code)) (state_of c.args.self.now)))) h) c.guard-in-Fault.ensures.watches
+
+pub returns-in-Rejected-clause-watches : goal.returns-in-Rejected-clause-watches
+returns-in-Rejected-clause-watches g c = keeps_same _ _ _ refl
+
+pub returns-in-Refused-clause-watches : goal.returns-in-Refused-clause-watches
+returns-in-Refused-clause-watches g c = keeps_same _ _ _ refl
+
+pub returns-clause-watches : goal.returns-clause-watches
+returns-clause-watches g c = keeps_same _ _ _ refl
