@@ -1,0 +1,5 @@
+pub mod Asking
+pub mod Causes
+pub mod Current
+pub mod Rests
+pub mod Stepped

@@ -1,0 +1,232 @@
+// A recursor with its outside, for the tests.
+ghost use Rattle.std.specs.Prelude.{◌≡◌, true, IfOk, IfSome};
+ghost use Rattle.wx_holding.specs.Holding.{state_of};
+ghost use Rattle.wx_step.specs.Rests.{IsAtRest};
+
+use std::alloc::Global;
+use std::process::Abort;
+use wx_fs_trial::{Changing, FailingBackend, FailingCall, Refusing};
+use wx_holding::Held;
+use wx_mem_tree::{MemTree, Node};
+use wx_recursor::{ScanFault, ShownError};
+use wx_step::{asks_below, step};
+use wx_text::{Copies, Memory, Text};
+use wx_tree::{Place, Root};
+use wx_watch::NotifyFaultKind;
+use wx_words::{Escaped, TextPath};
+
+pub fn path(alloc: Global, bytes: &str) -> Result<TextPath, Memory> {
+    Ok(TextPath::new(Text::from_slice(alloc, bytes.as_bytes())?))
+}
+
+pub fn place(alloc: Global, bytes: &str) -> Result<Place, Memory> {
+    Place::new(alloc, &path(alloc, bytes)?)
+}
+
+/// Ends the test where the answer isn't yes, and says at which case.
+pub fn expect_yes(rt: &impl Abort, answer: Result<bool, Memory>, case: &str) {
+    assert!(rt; answer == Ok(true), "at {case}");
+}
+
+/// A recursor with its outside, and what its steps showed so far.
+#[derive(Drop)]
+pub struct Trial {
+    pub alloc: Global,
+    pub held: Held,
+    pub back: FailingBackend,
+    pub scan: Changing,
+    pub dirs: Refusing,
+    pub shown: String,
+    pub rebuilds: u64,
+}
+
+/// What stands where: `d` a directory, `f` a file, `l` a link with its target behind the path.
+fn tree(alloc: Global, nodes: &str) -> Result<MemTree, Memory> {
+    let mut tree = MemTree::new(alloc)?;
+    for node in nodes.lines() {
+        let Some((kind, at)) = node.split_once(" ") else {
+            continue;
+        };
+        match at.split_once(" ") {
+            Some((at, target)) => tree.node(path(alloc, at)?, Node::Link(path(alloc, target)?))?,
+            None => {
+                let node = if kind == "d" {
+                    Node::Dir
+                } else {
+                    Node::File(1)
+                };
+                tree.node(path(alloc, at)?, node)?;
+            }
+        }
+    }
+    Ok(tree)
+}
+
+/// A word and the path behind it.
+fn word_at(alloc: Global, word: &str, at: &Place) -> Result<String, Memory> {
+    let spelled = at.path(alloc)?;
+    let bytes = Escaped(spelled.text());
+    Ok(format!(in alloc; "{word} {bytes}")?)
+}
+
+/// An error as its word, with the path where there is one.
+fn shown_error(alloc: Global, error: &ShownError) -> Result<String, Memory> {
+    match error {
+        ShownError::PathAdd(at, _) => word_at(alloc, "add", at),
+        ShownError::PathScan(at, ScanFault::NotFound) => word_at(alloc, "absent", at),
+        ShownError::PathScan(at, ScanFault::Io(_)) => word_at(alloc, "fault", at),
+        ShownError::PathScan(at, ScanFault::Changed(_, _)) => word_at(alloc, "changed", at),
+        ShownError::PathRemove(at, _) => word_at(alloc, "remove", at),
+        ShownError::TooManyWatches(_) => Ok(format!(in alloc; "watches")?),
+        ShownError::TooManyHandles(_) => Ok(format!(in alloc; "handles")?),
+        ShownError::Filter(_) => Ok(format!(in alloc; "filter")?),
+    }
+}
+
+/// Behind the lines, one for each of the errors.
+fn note_errors(alloc: Global, errors: &[ShownError], lines: &mut String) -> Result<(), Memory> {
+    for error in errors {
+        let line = shown_error(alloc, error)?;
+        lines.push_str(line.as_str())?;
+        lines.push_str("\n")?;
+    }
+    Ok(())
+}
+
+impl Trial {
+    pub fn new(alloc: Global, follow: bool, nodes: &str) -> Result<Trial, Memory> {
+        Ok(Trial {
+            alloc,
+            held: Held::new(alloc, follow),
+            back: FailingBackend::new(alloc),
+            scan: Changing::new(tree(alloc, nodes)?, MemTree::new(alloc)?, u64::MAX),
+            dirs: Refusing::new(alloc),
+            shown: String::new(alloc),
+            rebuilds: 0,
+        })
+    }
+
+    /// From this look on, counted from 0, this stands there.
+    pub fn change_from(&mut self, look: u64, nodes: &str) -> Result<(), Memory> {
+        self.scan.later = tree(self.alloc, nodes)?;
+        self.scan.from = look;
+        Ok(())
+    }
+
+    /// Sets the roots: `r` a recursive one, `n` one without what is below.
+    pub fn reconcile(&mut self, roots: &str) -> Result<(), Memory> {
+        let mut given = Vec::new(self.alloc);
+        let mut under = Vec::new(self.alloc);
+        for root in roots.lines() {
+            let Some((kind, at)) = root.split_once(" ") else {
+                continue;
+            };
+            let at = place(self.alloc, at)?;
+            if kind == "r" {
+                under.push(at.copy(self.alloc)?)?;
+            }
+            given.push(Root {
+                path: at,
+                recursive: kind == "r",
+            })?;
+        }
+        self.dirs.under = under;
+        self.held.reconcile(self.alloc, given, 0)
+    }
+
+    /// Does one step, and keeps what it showed, a line an error. It says whether nothing is left that could be let go. None where it
+    /// would ask beside the recursive roots.
+    fn step(&mut self, at_rest: bool) -> Result<Option<bool>, Memory>
+        requires { at_rest ≡ true → IsAtRest (state_of self.old.held) }
+        ensures { IfOk result (λ end. IfSome end (λ rests. rests ≡ true → IsAtRest (state_of self.new.held))) }
+    {
+        if !asks_below(self.dirs.under.as_slice(), &self.held) {
+            return Ok(None);
+        }
+        let shown = step(
+            self.alloc,
+            at_rest,
+            &mut self.held,
+            &mut self.back,
+            &mut self.scan,
+            &mut self.dirs,
+        )?;
+        note_errors(self.alloc, shown.errors.as_slice(), &mut self.shown)?;
+        if shown.asks_rebuild {
+            self.rebuilds = self.rebuilds.saturating_add(1);
+        }
+        Ok(Some(shown.at_rest))
+    }
+
+    /// Steps until there is no work.
+    pub fn settle(&mut self) -> Result<bool, Memory> {
+        let mut at_rest = false;
+        for _ in 0..1000u64 {
+            if !self.held.has_work() {
+                return Ok(true);
+            }
+            match self.step(at_rest)? {
+                Some(rests) => at_rest = rests,
+                None => return Ok(false),
+            }
+        }
+        Ok(false)
+    }
+
+    /// What is registered, in order, a line a path.
+    pub fn registered(&self) -> Result<String, Memory> {
+        let mut out = String::new(self.alloc);
+        for path in self.back.registered.as_slice() {
+            let bytes = Escaped(path.text());
+            out.push_str(format!(in self.alloc; "{bytes}\n")?.as_str())?;
+        }
+        Ok(out)
+    }
+
+    /// What is owned, in order, a line a path.
+    pub fn owned(&self) -> Result<String, Memory> {
+        let mut out = String::new(self.alloc);
+        for owner in self.held.owners.as_slice() {
+            let spelled = owner.path.path(self.alloc)?;
+            let bytes = Escaped(spelled.text());
+            out.push_str(format!(in self.alloc; "{bytes}\n")?.as_str())?;
+        }
+        Ok(out)
+    }
+
+    /// What guards roots, in order, a line a path.
+    pub fn guards(&self) -> Result<String, Memory> {
+        let mut out = String::new(self.alloc);
+        for guard in self.held.guards.as_slice() {
+            let spelled = guard.path.path(self.alloc)?;
+            let bytes = Escaped(spelled.text());
+            out.push_str(format!(in self.alloc; "{bytes}\n")?.as_str())?;
+        }
+        Ok(out)
+    }
+
+    /// What was to be watched no more, in order, a line a path.
+    pub fn unwatched(&self) -> Result<String, Memory> {
+        let mut out = String::new(self.alloc);
+        for path in self.back.unwatched.as_slice() {
+            let bytes = Escaped(path.text());
+            out.push_str(format!(in self.alloc; "{bytes}\n")?.as_str())?;
+        }
+        Ok(out)
+    }
+
+    /// What was asked about, in order, a line a path.
+    pub fn asked(&self) -> Result<String, Memory> {
+        let mut out = String::new(self.alloc);
+        for path in self.dirs.asked.as_slice() {
+            let bytes = Escaped(path.text());
+            out.push_str(format!(in self.alloc; "{bytes}\n")?.as_str())?;
+        }
+        Ok(out)
+    }
+
+    pub fn fail_call(&mut self, call: u64, kind: NotifyFaultKind) -> Result<(), Memory> {
+        self.back.failing.push(FailingCall { call, kind })?;
+        Ok(())
+    }
+}
