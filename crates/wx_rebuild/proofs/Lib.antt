@@ -1,0 +1,4 @@
+mod Prepared
+pub mod Replayed
+pub mod AskedLemmas
+pub mod Caused
