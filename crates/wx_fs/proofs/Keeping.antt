@@ -1,0 +1,173 @@
+-- What each call of a recursor keeps.
+use Rattle.std.proofs.Common.{◌≡◌, ℕ, Bool, true, false, List, [], ◌∷◌, inl, inr, Result, Ok, Err, refl, sym, subst}
+use Rattle.std.specs.Prelude.{◌&&◌, OnErr, OnOk}
+use Rattle.std.specs.Coded.{Coded-set, coded_bool}
+use Rattle.std.proofs.Math.Logic.{∥∥₁_elim, ∥∥₁_map}
+use Rattle.std.proofs.lemmas.Bool.{and_from, and_parts, false≢true, or_cases}
+use Rattle.wx_error.specs.declared.runtime.RuntimeError.{RuntimeError}
+use Rattle.wx_watch.specs.declared.watched.Watcher.{Watcher}
+use Rattle.wx_tree.specs.Lists.{In}
+use Rattle.wx_tree.specs.Paths.{Path, holds, same}
+use Rattle.wx_tree.proofs.PathLemmas.{or_left, or_right, same-refl, same-true}
+use Rattle.wx_tree.specs.declared.root.Root.{Root}
+use Rattle.wx_recursor.specs.Calls.{fresh, reconciled, rescanned}
+use Rattle.wx_recursor.specs.Owners.{has_path}
+use Rattle.wx_recursor.specs.Rebuilds.{installed, prepared, replay_deferred, replayed}
+use Rattle.wx_recursor.specs.Sound.{IsItemOf}
+use Rattle.wx_recursor.specs.States.{RecursorState}
+use Rattle.wx_recursor.specs.Steps.{stepped, told}
+use Rattle.wx_recursor.specs.declared.work.Item.{Item}
+use Rattle.wx_recursor.specs.declared.work.Item.TheVariants.{Candidate, Guard, Scan, Visit}
+use Rattle.wx_recursor.specs.declared.work.Work.{Work}
+use Rattle.wx_recursor.specs.declared.work.Work.TheVariants.{Plain, Probe}
+use Rattle.wx_recursor.proofs.Coverage.{prepared_covers, reconcile_covers, replayed_covers, step_covers}
+use Rattle.wx_recursor.proofs.SoundRebuild.{prepared_sound, replayed_sound}
+use Rattle.wx_recursor.proofs.SoundSteps.{fresh_sound, reconcile_sound, step_sound}
+use Rattle.wx_step.specs.Asking.{AreAllowed, FirstAsksBelow}
+use Rattle.wx_step.specs.Current.{AreAbout, Current, IsWorkAbout, current}
+use Rattle.wx_step.specs.Rests.{IsAtRest}
+use Rattle.wx_step.proofs.Rests.{rests_known}
+use Rattle.wx_step.proofs.Abouts.{asks_where_allowed, prepared_about, reconcile_about, replayed_about, step_about}
+use Rattle.wx_fs.specs.Standing.{IsKept}
+use Rattle.wx_fs.specs.Told.{TellsReplay, TellsStep}
+
+item_moves : (given roots : List Root) (i : Item) → ((r : Root) → In r given → In r roots) → IsItemOf given i → IsItemOf roots i
+item_moves given roots (Guard r) f m = f r m
+item_moves given roots (Visit r) f m = f r m
+item_moves given roots (Scan r p) f m = f r m
+item_moves given roots (Candidate r p) f m = f r m
+
+work_moves : (given roots : List Root) (w : Work) → ((r : Root) → In r given → In r roots) → IsWorkAbout given w → IsWorkAbout roots w
+work_moves given roots (Plain i) f m = item_moves given roots i f m
+work_moves given roots (Probe p owners) f m = m
+
+-- what is about these roots is about those that stand
+about_own : (given : List Root) (x : Current) → AreAbout given x → AreAbout x.roots x
+about_own given x a = record {
+  roots = λ r m. m;
+  stand = λ r m. m;
+  guards = λ g m. a.stand g.root (a.guards g m);
+  queue = λ w m. work_moves given x.roots w a.stand (a.queue w m);
+}
+
+-- ---- what a recursor that isn't spent keeps
+
+-- a spent one need keep nothing
+pub spent_keeps : (s : RecursorState) (spent : Bool) → spent ≡ true → ∥ (spent ≡ false → IsKept s) ∥₁
+spent_keeps s spent e = ∣ (λ f. absurd (cc)) ∣₁
+
+-- a call that keeps it
+pub unspent_keeps : (s t : RecursorState) (was now : Bool) → was ≡ false → ∥ (was ≡ false → IsKept s) ∥₁ → (IsKept s → IsKept t) → ∥ (now ≡ false → IsKept t) ∥₁
+unspent_keeps s t was now e keeps f = ∥∥₁_map keeps (λ k _. f (k e))
+
+-- a call that changes nothing where it fails
+pub either_keeps : {A E : Type 0} (r : Result A E) (s t u : RecursorState) → OnOk r (t ≡ u) → OnErr r (t ≡ s) → (t ≡ u → IsKept s → IsKept t) → IsKept s → IsKept t
+either_keeps (Ok a) s t u ok err f k = f ok k
+either_keeps (Err e) s t u ok err f k = subst IsKept (sym err) k
+
+-- ---- that nothing is left which could be let go
+
+pub restless : (s : RecursorState) (spent : Bool) → ∥ (spent ≡ false → false ≡ true → IsAtRest s) ∥₁
+restless s spent = ∣ (λ _ e. absurd (false≢true e)) ∣₁
+
+pub rests_told : (s : RecursorState) (spent rests : Bool) → (rests ≡ true → IsAtRest s) → ∥ (spent ≡ false → rests ≡ true → IsAtRest s) ∥₁
+rests_told s spent rests h = ∣ (λ _. h) ∣₁
+
+pub rests_still : (s : RecursorState) (spent rests : Bool) → spent ≡ false → ∥ (spent ≡ false → rests ≡ true → IsAtRest s) ∥₁ → rests ≡ true → IsAtRest s
+rests_still s spent rests e told h = rests_known s (∥∥₁_map told (λ f. f e h))
+
+-- ---- what each call keeps
+
+pub fresh_kept : (s : RecursorState) → s ≡ fresh → IsKept s
+fresh_kept s e = subst IsKept (sym e) (record {
+  sound = fresh_sound;
+  covered = record { owners = λ o m. absurd m; queue = λ w m. absurd m; retries = λ x m. absurd m };
+  about = record { roots = λ r m. m; stand = λ r m. m; guards = λ g m. absurd m; queue = λ w m. absurd m };
+  told = refl;
+})
+
+pub reconciled_kept : (rs : List Root) (n : ℕ) (s t : RecursorState) → t ≡ reconciled rs n s → IsKept s → IsKept t
+reconciled_kept rs n s t e k = subst IsKept (sym e) (record {
+  sound = reconcile_sound rs n s k.sound;
+  covered = reconcile_covers rs n s k.covered;
+  about = reconcile_about rs n s;
+  told = k.told;
+})
+
+pub rescanned_kept : (s t : RecursorState) → t ≡ rescanned s → IsKept s → IsKept t
+rescanned_kept s t e k = subst IsKept (sym e) (record {
+  sound = reconcile_sound s.roots s.filter s k.sound;
+  covered = reconcile_covers s.roots s.filter s k.covered;
+  about = reconcile_about s.roots s.filter s;
+  told = k.told;
+})
+
+pub step_kept : (kind : Watcher) (s t : RecursorState) (errors : List RuntimeError) (rebuild : Bool) → TellsStep kind s t errors rebuild → IsKept s → IsKept t
+step_kept kind s t errors rebuild h k = subst IsKept (sym h.hands.state) (record {
+  sound = step_sound h.evidence s k.sound;
+  covered = step_covers h.evidence s k.covered;
+  about = about_own s.roots (current (stepped h.evidence s)) (step_about s.roots h.evidence s k.about);
+  told = refl;
+})
+
+pub prepared_kept : (s t : RecursorState) → t ≡ prepared s → IsKept s → IsKept t
+prepared_kept s t e k = subst IsKept (sym e) (record {
+  sound = prepared_sound s k.sound;
+  covered = prepared_covers s k.covered;
+  about = prepared_about s.roots s k.about;
+  told = k.told;
+})
+
+pub installed_kept : (s t : RecursorState) → t ≡ installed s → IsKept s → IsKept t
+installed_kept s t e k = subst IsKept (sym e) (record { sound = k.sound; covered = k.covered; about = k.about; told = k.told })
+
+pub deferred_kept : (s t : RecursorState) → t ≡ replay_deferred s → IsKept s → IsKept t
+deferred_kept s t e k = subst IsKept (sym e) (record { sound = k.sound; covered = k.covered; about = k.about; told = k.told })
+
+pub replay_kept : (kind : Watcher) (s t : RecursorState) (errors : List RuntimeError) (rebuild : Bool) → TellsReplay kind s t errors rebuild → IsKept s → IsKept t
+replay_kept kind s t errors rebuild h k = subst IsKept (sym h.hands.state) (record {
+  sound = replayed_sound h.answers s k.sound;
+  covered = replayed_covers h.answers s k.covered;
+  about = about_own s.roots (current (replayed h.answers s)) (replayed_about s.roots h.answers s k.about);
+  told = refl;
+})
+
+-- ---- below which paths a step asks, as a test
+
+abbrev asks_there : List Path → List Work → Bool
+asks_there under [] = true
+asks_there under (Plain (Guard r) ∷ q) = true
+asks_there under (Plain (Visit r) ∷ q) = true
+asks_there under (Plain (Scan r p) ∷ q) = true
+asks_there under (Plain (Candidate r p) ∷ q) = holds r.path p && has_path r.path under
+asks_there under (Probe p owners ∷ q) = true
+
+path_there : (p : Path) (qs : List Path) → In p qs → has_path p qs ≡ true
+path_there p [] m = absurd m
+path_there p (q ∷ qs) (inl e) = or_left (same q p) (has_path p qs) (subst (λ x. same q x ≡ true) e (same-refl q))
+path_there p (q ∷ qs) (inr m) = or_right (same q p) (has_path p qs) (path_there p qs m)
+
+path_in : (p : Path) (qs : List Path) → has_path p qs ≡ true → In p qs
+path_in p [] h = absurd (false≢true h)
+path_in p (q ∷ qs) h = elim (or_cases (same q p) (has_path p qs) h) [ inl e ↦ inl (same-true q p e) | inr m ↦ inr (path_in p qs m) ]
+
+asks_to : (under : List Path) (q : List Work) → FirstAsksBelow under q → asks_there under q ≡ true
+asks_to under [] a = refl
+asks_to under (Plain (Guard r) ∷ q) a = refl
+asks_to under (Plain (Visit r) ∷ q) a = refl
+asks_to under (Plain (Scan r p) ∷ q) a = refl
+asks_to under (Plain (Candidate r p) ∷ q) a = and_from (holds r.path p) (has_path r.path under) a.0 (path_there r.path under a.1)
+asks_to under (Probe p owners ∷ q) a = refl
+
+asks_from : (under : List Path) (q : List Work) → asks_there under q ≡ true → FirstAsksBelow under q
+asks_from under [] h = tt
+asks_from under (Plain (Guard r) ∷ q) h = tt
+asks_from under (Plain (Visit r) ∷ q) h = tt
+asks_from under (Plain (Scan r p) ∷ q) h = tt
+asks_from under (Plain (Candidate r p) ∷ q) h = (let x = and_parts (holds r.path p) (has_path r.path under) h in (x.0, path_in r.path under x.1))
+asks_from under (Probe p owners ∷ q) h = tt
+
+-- where each recursive root is allowed, a step asks only there
+pub kept_asks : (under : List Path) (s : RecursorState) (spent : Bool) → spent ≡ false → ∥ (spent ≡ false → IsKept s) ∥₁ → AreAllowed under s.roots → FirstAsksBelow under s.queue
+kept_asks under s spent e keeps allowed =
+    asks_from under s.queue (∥∥₁_elim keeps (Coded-set coded_bool _ _) (λ k. asks_to under s.queue (asks_where_allowed under s.roots s (k e).covered (k e).about allowed)))

@@ -1,0 +1,7 @@
+//! Tests of `wx_fs`, whose proofs are done without it: a crate with tests is proved once more with them.
+#![tactic(auto)]
+
+#[cfg(test)]
+mod tests;
+#[cfg(test)]
+mod trial;
