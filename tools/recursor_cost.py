@@ -1,0 +1,45 @@
+#!/usr/bin/env python3
+"""Prints what it takes a recursor to settle on trees of about N, 2 N and 4 N directories: watches, looks at files, steps, seconds.
+
+Call it at the top of the repository: `tools/recursor_cost.py [N]`. N is 2500 where it isn't given. It proves nothing: it runs
+tools/recursor_cost_program.txt over the crates as they stand, by `rt try`, in a copy. Each access is checked there, so the seconds
+are many times those of a proved program: what they tell is how they grow. The tree is computed, so they are those of the
+recursor alone.
+"""
+import math
+import pathlib
+import shutil
+import subprocess
+import sys
+import tempfile
+
+ROW = "recursor_cost: wx_text wx_words wx_events wx_watch wx_error wx_paths wx_notify wx_tree wx_scan wx_dir_check wx_recursor wx_recursor_lists wx_holding wx_step wx_rebuild wx_fs\n"
+TOP = pathlib.Path(__file__).resolve().parent.parent
+
+
+def copied(to):
+    """A copy of the crates, with the program among them."""
+    shutil.copytree(TOP / "crates", to / "crates", ignore=shutil.ignore_patterns("out", "must-fail"))
+    (to / "crates.txt").write_text((TOP / "crates.txt").read_text() + ROW)
+    source = to / "crates/recursor_cost/src"
+    source.mkdir(parents=True)
+    shutil.copy(TOP / "tools/recursor_cost_program.txt", source / "main.rt")
+    return source.parent
+
+
+def main():
+    directories = int(sys.argv[1]) if len(sys.argv) > 1 else 2500
+    print(f"{'watches':>9} {'looks':>9} {'steps':>9} {'seconds':>9}")
+    with tempfile.TemporaryDirectory() as folder:
+        crate = copied(pathlib.Path(folder))
+        for times in (1, 2, 4):
+            wide = math.isqrt(times * directories)
+            run = subprocess.run(["rt", "try", "--seconds", "600", "--", str(wide)], cwd=crate, capture_output=True, text=True)
+            words = run.stdout.split("\n")[0].split()
+            if run.returncode != 0 or len(words) != 4:
+                sys.exit(run.stdout + run.stderr)
+            watches, looks, steps, millis = map(int, words)
+            print(f"{watches:9} {looks:9} {steps:9} {millis / 1000:9.2f}", flush=True)
+
+
+main()
