@@ -101,6 +101,13 @@ impl Place {
         }
     }
 
+    /// Its parts, the last one first.
+    pub fn parts(&self) -> &[Text]
+        ensures { result.now ≡ self.now }
+    {
+        self.parts.as_slice()
+    }
+
     /// How many parts it has.
     pub fn depth(&self) -> usize
         ensures { result ≡ length self.now }

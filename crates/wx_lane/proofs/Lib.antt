@@ -1,0 +1,7 @@
+mod HearLemmas
+mod MeetLemmas
+mod MessageLemmas
+mod NextLemmas
+mod PublicLemmas
+mod WaitLemmas
+mod WalkLemmas

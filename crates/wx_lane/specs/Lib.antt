@@ -1,0 +1,4 @@
+pub mod Messages
+pub mod Public
+pub mod Lanes
+pub mod Meetings

@@ -1,0 +1,6 @@
+mod Sights
+mod Tellings
+mod Coverings
+mod Looks
+mod Shown
+mod Fits

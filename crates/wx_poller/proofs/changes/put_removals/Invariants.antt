@@ -1,0 +1,9 @@
+use Rattle.std.proofs.Common.{◌≡◌, ◌++◌}
+use Rattle.std.specs.Prelude.{filter, map, not}
+use Rattle.wx_poller.specs.Changes.{removal, is_kept, told}
+use Rattle.wx_poller.proofs.changes.put_removals.Given as goal
+
+abbrev pub invariant-loop-path : goal.invariant-loop-path
+invariant-loop-path l =
+    l.events ++ map (told removal) (filter (λ s. not (is_kept l.fn.new.entries s)) l.path-iterator)
+    ≡ l.fn.events ++ map (told removal) (filter (λ s. not (is_kept l.fn.new.entries s)) l.fn.old.entries)

@@ -1,0 +1,5 @@
+pub mod Listings
+pub mod Changes
+pub mod Covering
+pub mod Fitting
+pub mod Polled

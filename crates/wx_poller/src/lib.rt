@@ -1,0 +1,14 @@
+//! A backend that polls: it looks at what is watched, and tells what changed since it last looked.
+#![tactic(auto)]
+
+mod changes;
+mod covering;
+mod listed;
+mod listing;
+mod looking;
+mod past;
+mod poller;
+mod seen;
+
+pub use poller::Poller;
+pub use seen::Seen;
