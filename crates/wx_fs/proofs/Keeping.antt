@@ -28,6 +28,7 @@ use Rattle.wx_step.specs.Current.{AreAbout, Current, IsWorkAbout, current}
 use Rattle.wx_step.specs.Rests.{IsAtRest}
 use Rattle.wx_step.proofs.Rests.{rests_known}
 use Rattle.wx_step.proofs.Abouts.{asks_where_allowed, prepared_about, reconcile_about, replayed_about, step_about}
+use Rattle.wx_scan.specs.Told.{AreNames}
 use Rattle.wx_fs.specs.Standing.{IsKept}
 use Rattle.wx_fs.specs.Told.{TellsReplay, TellsStep}
 
@@ -65,6 +66,14 @@ pub either_keeps : {A E : Type 0} (r : Result A E) (s t u : RecursorState) → O
 either_keeps (Ok a) s t u ok err f k = f ok k
 either_keeps (Err e) s t u ok err f k = subst IsKept (sym err) k
 
+names_known : (p : Path) → ∥ AreNames p ∥₁ → AreNames p
+names_known [] h = tt
+names_known (x ∷ p) h = (∥∥₁_elim h (Coded-set coded_bool _ _) (λ a. a.0), names_known p (∥∥₁_map h (λ a. a.1)))
+
+-- its roots have names for parts
+pub names_kept : (s : RecursorState) (spent : Bool) → spent ≡ false → ∥ (spent ≡ false → IsKept s) ∥₁ → (r : Root) → In r s.roots → AreNames r.path
+names_kept s spent e keeps r m = names_known r.path (∥∥₁_map keeps (λ k. (k e).named r m))
+
 -- ---- that nothing is left which could be let go
 
 pub restless : (s : RecursorState) (spent : Bool) → ∥ (spent ≡ false → false ≡ true → IsAtRest s) ∥₁
@@ -83,14 +92,16 @@ fresh_kept s e = subst IsKept (sym e) (record {
   sound = fresh_sound;
   covered = record { owners = λ o m. absurd m; queue = λ w m. absurd m; retries = λ x m. absurd m };
   about = record { roots = λ r m. m; stand = λ r m. m; guards = λ g m. absurd m; queue = λ w m. absurd m };
+  named = λ r m. absurd m;
   told = refl;
 })
 
-pub reconciled_kept : (rs : List Root) (n : ℕ) (s t : RecursorState) → t ≡ reconciled rs n s → IsKept s → IsKept t
-reconciled_kept rs n s t e k = subst IsKept (sym e) (record {
+pub reconciled_kept : (rs : List Root) (n : ℕ) (s t : RecursorState) → ((r : Root) → In r rs → AreNames r.path) → t ≡ reconciled rs n s → IsKept s → IsKept t
+reconciled_kept rs n s t named e k = subst IsKept (sym e) (record {
   sound = reconcile_sound rs n s k.sound;
   covered = reconcile_covers rs n s k.covered;
   about = reconcile_about rs n s;
+  named = named;
   told = k.told;
 })
 
@@ -99,38 +110,46 @@ rescanned_kept s t e k = subst IsKept (sym e) (record {
   sound = reconcile_sound s.roots s.filter s k.sound;
   covered = reconcile_covers s.roots s.filter s k.covered;
   about = reconcile_about s.roots s.filter s;
+  named = k.named;
   told = k.told;
 })
 
 pub step_kept : (kind : Watcher) (s t : RecursorState) (errors : List RuntimeError) (rebuild : Bool) → TellsStep kind s t errors rebuild → IsKept s → IsKept t
-step_kept kind s t errors rebuild h k = subst IsKept (sym h.hands.state) (record {
-  sound = step_sound h.evidence s k.sound;
-  covered = step_covers h.evidence s k.covered;
-  about = about_own s.roots (current (stepped h.evidence s)) (step_about s.roots h.evidence s k.about);
-  told = refl;
-})
+step_kept kind s t errors rebuild h k =
+    let about : AreAbout s.roots (current (stepped h.evidence s)) = step_about s.roots h.evidence s k.about in
+    subst IsKept (sym h.hands.state) (record {
+      sound = step_sound h.evidence s k.sound;
+      covered = step_covers h.evidence s k.covered;
+      about = about_own s.roots (current (stepped h.evidence s)) about;
+      named = λ r m. k.named r (about.roots r m);
+      told = refl;
+    })
 
 pub prepared_kept : (s t : RecursorState) → t ≡ prepared s → IsKept s → IsKept t
 prepared_kept s t e k = subst IsKept (sym e) (record {
   sound = prepared_sound s k.sound;
   covered = prepared_covers s k.covered;
   about = prepared_about s.roots s k.about;
+  named = k.named;
   told = k.told;
 })
 
 pub installed_kept : (s t : RecursorState) → t ≡ installed s → IsKept s → IsKept t
-installed_kept s t e k = subst IsKept (sym e) (record { sound = k.sound; covered = k.covered; about = k.about; told = k.told })
+installed_kept s t e k = subst IsKept (sym e) (record { sound = k.sound; covered = k.covered; about = k.about; named = k.named; told = k.told })
 
 pub deferred_kept : (s t : RecursorState) → t ≡ replay_deferred s → IsKept s → IsKept t
-deferred_kept s t e k = subst IsKept (sym e) (record { sound = k.sound; covered = k.covered; about = k.about; told = k.told })
+deferred_kept s t e k = subst IsKept (sym e) (record { sound = k.sound; covered = k.covered; about = k.about; named = k.named; told = k.told })
 
 pub replay_kept : (kind : Watcher) (s t : RecursorState) (errors : List RuntimeError) (rebuild : Bool) → TellsReplay kind s t errors rebuild → IsKept s → IsKept t
-replay_kept kind s t errors rebuild h k = subst IsKept (sym h.hands.state) (record {
-  sound = replayed_sound h.answers s k.sound;
-  covered = replayed_covers h.answers s k.covered;
-  about = about_own s.roots (current (replayed h.answers s)) (replayed_about s.roots h.answers s k.about);
-  told = refl;
-})
+replay_kept kind s t errors rebuild h k =
+    let about : AreAbout s.roots (current (replayed h.answers s)) = replayed_about s.roots h.answers s k.about in
+    subst IsKept (sym h.hands.state) (record {
+      sound = replayed_sound h.answers s k.sound;
+      covered = replayed_covers h.answers s k.covered;
+      about = about_own s.roots (current (replayed h.answers s)) about;
+      named = λ r m. k.named r (about.roots r m);
+      told = refl;
+    })
 
 -- ---- below which paths a step asks, as a test
 

@@ -1,2 +1,5 @@
+mod Epochs
 mod Keeping
+mod Readable
+mod RootNames
 mod Telling

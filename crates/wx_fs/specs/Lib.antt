@@ -1,3 +1,4 @@
 pub mod Kept
 pub mod Told
 pub mod Standing
+pub mod Settling

@@ -1,4 +1,8 @@
 // A recursor over a backend.
+ghost use Rattle.wx_fs.specs.Settling.{BackendStands, Begins, Settles, StepsOn};
+ghost use Rattle.wx_holding.specs.Calm.{IsNamed, IsStill};
+ghost use Rattle.wx_settle.specs.Runs.{RecursorReached};
+ghost use Rattle.wx_tree.specs.Trees.{Tree};
 ghost use Rattle.std.specs.Prelude.{◌≡◌, ◌-◌, ◌^◌, ◌&&◌, Bool, min, true, false, [], Some, None, is_some, not, IfNone, IfOk, IfSome, OnErr, OnOk};
 ghost use Rattle.wx_fs.specs.Kept.{kept_roots};
 ghost use Rattle.wx_fs.specs.Standing.{IsKept};
@@ -44,6 +48,8 @@ pub struct Recursor<B: Backend + Drop> {
     pub held: Held,
     pub back: Option<B>,
     pub kind: Watcher,
+    /// Whether links are followed.
+    pub follow: bool,
     /// The folder from which paths are taken.
     pub cwd: TextPath,
     pub spent: bool,
@@ -67,14 +73,17 @@ impl<B: Backend + Drop> Recursor<B> {
         requires absolute { is_absolute cwd ≡ true }
         ensures state { IfOk result (λ r. state_of r.held ≡ fresh) }
         ensures backend { IfOk result (λ r. r.back ≡ Some back) }
-        ensures given { IfOk result (λ r. (r.kind ≡ kind) × (r.held.follow ≡ follow) × (r.cwd ≡ cwd)) }
+        ensures given { IfOk result (λ r. (r.kind ≡ kind) × (r.follow ≡ follow) × (r.cwd ≡ cwd)) }
         ensures unspent { IfOk result (λ r. r.spent ≡ false) }
+        ensures reached { IfOk result (λ r. (t : Tree) → RecursorReached t [] (state_of r.held)) }
+        ensures stands { (t : Tree) → (B.backing back).exact ≡ true → B.fits back t → IfOk result (λ r. BackendStands B.backing B.fits t (state_of r.held).registrations r.back) }
     {
         Ok(Recursor {
             alloc,
-            held: Held::new(alloc, follow),
+            held: Held::new(alloc),
             back: Some(back),
             kind,
+            follow,
             cwd,
             spent: false,
             at_rest: false,
@@ -87,7 +96,8 @@ impl<B: Backend + Drop> Recursor<B> {
         ensures state { OnOk result (state_of self.new.held ≡ reconciled (kept_roots self.old.cwd roots.now) filter (state_of self.old.held)) }
         ensures unchanged { OnErr result (state_of self.new.held ≡ state_of self.old.held) }
         ensures spent { OnOk result (self.old.spent ≡ false) }
-        ensures others { (self.new.back ≡ self.old.back) × (self.new.kind ≡ self.old.kind) × (self.new.cwd ≡ self.old.cwd) × (self.new.spent ≡ self.old.spent) }
+        ensures others { (self.new.back ≡ self.old.back) × (self.new.kind ≡ self.old.kind) × (self.new.follow ≡ self.old.follow) × (self.new.cwd ≡ self.old.cwd) × (self.new.spent ≡ self.old.spent) }
+        ensures begins { OnOk result (Begins (kept_roots self.old.cwd roots.now) (state_of self.old.held) (state_of self.new.held)) }
     {
         if self.spent {
             return Err(Memory);
@@ -103,7 +113,7 @@ impl<B: Backend + Drop> Recursor<B> {
         ensures state { OnOk result (state_of self.new.held ≡ rescanned (state_of self.old.held)) }
         ensures unchanged { OnErr result (state_of self.new.held ≡ state_of self.old.held) }
         ensures spent { OnOk result (self.old.spent ≡ false) }
-        ensures others { (self.new.back ≡ self.old.back) × (self.new.kind ≡ self.old.kind) × (self.new.cwd ≡ self.old.cwd) × (self.new.spent ≡ self.old.spent) }
+        ensures others { (self.new.back ≡ self.old.back) × (self.new.kind ≡ self.old.kind) × (self.new.follow ≡ self.old.follow) × (self.new.cwd ≡ self.old.cwd) × (self.new.spent ≡ self.old.spent) }
     {
         if self.spent {
             return Err(Memory);
@@ -132,14 +142,24 @@ impl<B: Backend + Drop> Recursor<B> {
         ensures spent { OnOk result ((self.old.spent ≡ false) × (self.new.spent ≡ false)) }
         ensures fails { OnErr result (self.new.spent ≡ true) }
         ensures idle { self.old.spent ≡ true → (self.new ≡ self.old) × (scan.new ≡ scan.old) × (dirs.new ≡ dirs.old) }
-        ensures others { (is_some self.new.back ≡ true) × (self.new.kind ≡ self.old.kind) × (self.new.cwd ≡ self.old.cwd) }
+        ensures others { (is_some self.new.back ≡ true) × (self.new.kind ≡ self.old.kind) × (self.new.follow ≡ self.old.follow) × (self.new.cwd ≡ self.old.cwd) }
+        ensures settles { (t : Tree) → self.old.follow ≡ false → IsStill t (S.looked scan.old) (S.looked scan.new) → IsNamed t → BackendStands B.backing B.fits t (state_of self.old.held).registrations self.old.back
+            → IfOk result (λ r. StepsOn t self.old.kind (λ ok. D.agrees ok dirs.new) (BackendStands B.backing B.fits t (state_of self.new.held).registrations self.new.back) (state_of self.old.held) (state_of self.new.held) r.errors r.rebuild_backend) }
     {
         if self.spent {
             return Err(Memory);
         }
         self.spent = true;
         let shown = match &mut self.back {
-            Some(back) => step(self.alloc, self.at_rest, &mut self.held, back, scan, dirs)?,
+            Some(back) => step(
+                self.alloc,
+                self.at_rest,
+                self.follow,
+                &mut self.held,
+                back,
+                scan,
+                dirs,
+            )?,
             None => return Err(Memory),
         };
         let errors = handed_errors(self.alloc, self.kind, shown.errors)?;
@@ -158,7 +178,7 @@ impl<B: Backend + Drop> Recursor<B> {
         ensures spent { OnOk result ((self.old.spent ≡ false) × (self.new.spent ≡ false)) }
         ensures fails { OnErr result ((self.new.spent ≡ true) × (self.new.back ≡ self.old.back)) }
         ensures idle { self.old.spent ≡ true → self.new ≡ self.old }
-        ensures others { (self.new.kind ≡ self.old.kind) × (self.new.cwd ≡ self.old.cwd) }
+        ensures others { (self.new.kind ≡ self.old.kind) × (self.new.follow ≡ self.old.follow) × (self.new.cwd ≡ self.old.cwd) }
     {
         if self.spent {
             return Err(Memory);
@@ -179,7 +199,7 @@ impl<B: Backend + Drop> Recursor<B> {
         ensures backend { OnOk result (self.new.back ≡ Some back) }
         ensures spent { OnOk result ((self.old.spent ≡ false) × (self.new.spent ≡ false)) }
         ensures fails { OnErr result ((self.old.spent ≡ true) × (self.new ≡ self.old)) }
-        ensures others { (self.new.kind ≡ self.old.kind) × (self.new.cwd ≡ self.old.cwd) }
+        ensures others { (self.new.kind ≡ self.old.kind) × (self.new.follow ≡ self.old.follow) × (self.new.cwd ≡ self.old.cwd) }
     {
         if self.spent {
             return Err(Memory);
@@ -204,7 +224,7 @@ impl<B: Backend + Drop> Recursor<B> {
         ensures spent { OnOk result ((self.old.spent ≡ false) × (self.new.spent ≡ false)) }
         ensures fails { OnErr result (self.new.spent ≡ true) }
         ensures idle { self.old.spent ≡ true → (self.new ≡ self.old) × (scan.new ≡ scan.old) }
-        ensures others { (is_some self.new.back ≡ true) × (self.new.kind ≡ self.old.kind) × (self.new.cwd ≡ self.old.cwd) }
+        ensures others { (is_some self.new.back ≡ true) × (self.new.kind ≡ self.old.kind) × (self.new.follow ≡ self.old.follow) × (self.new.cwd ≡ self.old.cwd) }
     {
         if self.spent {
             return Err(Memory);
@@ -236,7 +256,7 @@ impl<B: Backend + Drop> Recursor<B> {
     /// What waits for replay waits for a later reconcile.
     pub fn defer_replay(&mut self)
         ensures state { state_of self.new.held ≡ replay_deferred (state_of self.old.held) }
-        ensures others { (self.new.back ≡ self.old.back) × (self.new.kind ≡ self.old.kind) × (self.new.cwd ≡ self.old.cwd) × (self.new.spent ≡ self.old.spent) }
+        ensures others { (self.new.back ≡ self.old.back) × (self.new.kind ≡ self.old.kind) × (self.new.follow ≡ self.old.follow) × (self.new.cwd ≡ self.old.cwd) × (self.new.spent ≡ self.old.spent) }
     {
         defer(&mut self.held);
         self.at_rest = false;
@@ -244,7 +264,8 @@ impl<B: Backend + Drop> Recursor<B> {
 
     /// Whether something is queued, or a sweep is owed. Once it is spent there is no work.
     pub fn has_work(&self) -> bool
-        ensures { result ≡ (not self.now.spent && has_work (state_of self.now.held).queue (state_of self.now.held).sweep_due) }
+        ensures works { result ≡ (not self.now.spent && has_work (state_of self.now.held).queue (state_of self.now.held).sweep_due) }
+        ensures settled { self.now.spent ≡ false → result ≡ false → Settles (state_of self.now.held) }
     {
         !self.spent && self.held.has_work()
     }

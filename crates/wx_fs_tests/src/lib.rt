@@ -2,6 +2,12 @@
 #![tactic(auto)]
 
 #[cfg(test)]
+mod random_tests;
+#[cfg(test)]
+mod random_trees;
+#[cfg(test)]
+mod slow_walk;
+#[cfg(test)]
 mod tests;
 #[cfg(test)]
 mod trial;

@@ -25,15 +25,15 @@ pub fn expect_yes(rt: &impl Abort, answer: Result<bool, Memory>, case: &str) {
     assert!(rt; answer == Ok(true), "at {case}");
 }
 
-/// A tree: `d` a directory, `f` a file.
+/// A tree: `d` a directory, `f` a file, `l` a link to `/`.
 fn tree(alloc: Global, nodes: &str) -> Result<MemTree, Memory> {
     let mut tree = MemTree::new(alloc)?;
     for line in nodes.lines() {
         if let Some((kind, at)) = line.split_once(" ") {
-            let node = if kind == "d" {
-                Node::Dir
-            } else {
-                Node::File(1)
+            let node = match kind {
+                "d" => Node::Dir,
+                "l" => Node::Link(path(alloc, "/")?),
+                _ => Node::File(1),
             };
             tree.node(path(alloc, at)?, node)?;
         }

@@ -26,12 +26,12 @@ use Rattle.wx_scan.specs.Backings.{Backing, Changes, is_memory, is_registered, i
 use Rattle.wx_holding.specs.Backed.{AreWatched, IsConfirmed, KeepsWatches, LetsGo, paths_spelled}
 use Rattle.wx_holding.proofs.Watching.{in_register, keeps_watch, register_from, rose_later, rose_sooner}
 
-there_registered : (q : List ℕ) (qs : List (List ℕ)) → In q qs → is_registered q qs ≡ true
+pub there_registered : (q : List ℕ) (qs : List (List ℕ)) → In q qs → is_registered q qs ≡ true
 there_registered q [] m = absurd m
 there_registered q (x ∷ qs) (inl e) = or_left (same_part x q) (is_registered q qs) (subst (λ y. same_part x y ≡ true) e (same_part-refl x))
 there_registered q (x ∷ qs) (inr m) = or_right (same_part x q) (is_registered q qs) (there_registered q qs m)
 
-not_true : (b : Bool) → not b ≡ true → b ≡ false
+pub not_true : (b : Bool) → not b ≡ true → b ≡ false
 not_true true h = cc
 not_true false h = refl
 
@@ -42,7 +42,7 @@ differs p q never =
       | inr e ↦ rw e refl
     ]
 
-one_given : (p q : List ℕ) → In q (p ∷ []) → p ≡ q
+pub one_given : (p q : List ℕ) → In q (p ∷ []) → p ≡ q
 one_given p q (inl e) = e
 one_given p q (inr never) = absurd never
 
@@ -157,7 +157,7 @@ deep_there k x (y ∷ ys) m =
       ])
     ]
 
-deep_from : (k x : Known) (xs : List Known) → In x (put_deep k xs) → In x (k ∷ xs)
+pub deep_from : (k x : Known) (xs : List Known) → In x (put_deep k xs) → In x (k ∷ xs)
 deep_from k x [] m = m
 deep_from k x (y ∷ ys) m =
     elim (cases_Bool (ltb (length y.path) (length k.path))) [
@@ -188,7 +188,7 @@ spelled_there k [] m = absurd m
 spelled_there k (l ∷ ks) (inl e) = inl (ap (λ x. spelled x.path) e)
 spelled_there k (l ∷ ks) (inr m) = inr (spelled_there k ks m)
 
-spelled_from : (q : List ℕ) (ks : List Known) → In q (paths_spelled ks) → (k : Known) × In k ks × (spelled k.path ≡ q)
+pub spelled_from : (q : List ℕ) (ks : List Known) → In q (paths_spelled ks) → (k : Known) × In k ks × (spelled k.path ≡ q)
 spelled_from q [] m = absurd m
 spelled_from q (l ∷ ks) (inl e) = (l, inl refl, e)
 spelled_from q (l ∷ ks) (inr m) = (let x = spelled_from q ks m in (x.0, inr x.1, x.2))
@@ -203,7 +203,7 @@ each_registrations (g ∷ gs) (u ∷ us) s =
     let x = each_registrations gs us (unwatched g.path (refusal u) s) in
     (x.0 ∙ unwatched_registrations g.path (refusal u) s, x.1 ∙ unwatched_guards g.path (refusal u) s)
 
-released_registrations : (us : List (Option NotifyFault)) (s : RecursorState) → (released us s).registrations ≡ serving_registrations (still_known s.owners s.known) s.guards s.registrations
+pub released_registrations : (us : List (Option NotifyFault)) (s : RecursorState) → (released us s).registrations ≡ serving_registrations (still_known s.owners s.known) s.guards s.registrations
 released_registrations us s =
     let ks : List Known = still_known s.owners s.known in
     let x = each_registrations (idle_registrations ks s.guards s.registrations) us s in

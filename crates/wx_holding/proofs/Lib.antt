@@ -2,6 +2,9 @@ pub mod Results
 pub mod Watching
 pub mod LettingGo
 pub mod Looks
+pub mod StillLooks
 mod Added
 mod Released
 mod Acts
+mod StandingBy
+mod CalmActs

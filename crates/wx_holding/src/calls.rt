@@ -7,7 +7,7 @@ use crate::held::Held;
 use std::alloc::Global;
 use std::collections::VecDeque;
 use wx_recursor::{GuardWatch, Retry, Work};
-use wx_recursor_lists::{keep_guards, queue_guards, queue_retries, queue_roots, set_unseen};
+use wx_recursor_lists::{keep_guards, queue_guards, queue_retries, queue_roots};
 use wx_text::{Copies, Memory};
 use wx_tree::Root;
 
@@ -51,7 +51,7 @@ impl Held {
             self.retries.as_slice(),
         )?;
         keep_guards(roots.as_slice(), &mut self.guards);
-        set_unseen(&mut self.owners);
+        self.owners.set_unseen();
         self.roots = roots;
         self.filter = filter;
         self.sweep_due = true;

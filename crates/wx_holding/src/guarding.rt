@@ -1,5 +1,9 @@
 // How the guard of a root is set.
-ghost use Rattle.std.specs.Prelude.{◌≡◌, ◌∷◌, [], OnOk};
+ghost use Rattle.wx_holding.specs.Calm.{GuardsCalmly, IsCalm, IsStill, StandsBy};
+ghost use Rattle.wx_scan.specs.Told.{AreNames};
+ghost use Rattle.wx_tree.specs.Trees.{Tree, guard_of, is_safe};
+ghost use Rattle.wx_recursor.specs.Seen.{guard_found_at};
+ghost use Rattle.std.specs.Prelude.{◌≡◌, ◌∷◌, [], false, OnOk};
 ghost use Rattle.wx_scan.specs.Looked.{OnlyLooks, Rose};
 ghost use Rattle.wx_recursor.specs.declared.answers.GuardFound.TheVariants.{At, Nowhere};
 ghost use Rattle.wx_recursor.specs.declared.errors.ShownError.TheVariants.{PathScan};
@@ -86,6 +90,7 @@ impl Held {
         &mut self,
         alloc: Global,
         root: &Root,
+        follow: bool,
         scan: &mut S,
     ) -> Result<(), Memory>
         ensures looked { OnlyLooks (S.looked scan.old) (S.looked scan.new) }
@@ -93,8 +98,9 @@ impl Held {
         ensures rest { S.rest scan.new ≡ S.rest scan.old }
         ensures place { S.place scan.new ≡ S.place scan.old }
         ensures state { OnOk result (LooksAgain root.now (state_of self.old) (state_of self.new)) }
+        ensures told { (t : Tree) → follow ≡ false → IsStill t (S.looked scan.old) (S.looked scan.new) → AreNames root.now.path → OnOk result (state_of self.new ≡ looked_again root.now (is_safe t root.now.path) (state_of self.old)) }
     {
-        let safe = is_safe(alloc, &root.path, self.follow, scan)?;
+        let safe = is_safe(alloc, &root.path, follow, scan)?;
         self.queue_again(alloc, root, safe)
     }
 
@@ -112,15 +118,17 @@ impl Held {
         root: &Root,
         path: Place,
         identity: Identity,
+        follow: bool,
         scan: &mut S,
     ) -> Result<(), Memory>
         ensures looked { OnlyLooks (S.looked scan.old) (S.looked scan.new) }
         ensures rest { S.rest scan.new ≡ S.rest scan.old }
         ensures place { S.place scan.new ≡ S.place scan.old }
         ensures state { OnOk result (LooksAgain root.now (guard_set root.now path identity (state_of self.old)) (state_of self.new)) }
+        ensures calm { (t : Tree) → follow ≡ false → IsStill t (S.looked scan.old) (S.looked scan.new) → AreNames root.now.path → OnOk result (state_of self.new ≡ looked_again root.now (is_safe t root.now.path) (guard_set root.now path identity (state_of self.old))) }
     {
         self.put_guard(alloc, root, path, identity)?;
-        self.look_again(alloc, root, scan)
+        self.look_again(alloc, root, follow, scan)
     }
 
     fn guard_by<B: Backend, S: Scanner>(
@@ -129,6 +137,7 @@ impl Held {
         root: &Root,
         path: Place,
         identity: Identity,
+        follow: bool,
         back: &mut B,
         scan: &mut S,
     ) -> Result<(), Memory>
@@ -137,9 +146,10 @@ impl Held {
         ensures place { S.place scan.new ≡ S.place scan.old }
         ensures state { OnOk result (GuardsAt root.now (At path identity) (state_of self.old) (state_of self.new)) }
         ensures watches { OnOk result (KeepsWatches (state_of self.old).registrations (state_of self.new).registrations (B.backing back.old) (B.backing back.new)) }
+        ensures calm { (t : Tree) → IsCalm t follow (S.looked scan.old) (S.looked scan.new) (state_of self.old).registrations (B.backing back.old) (B.fits back.old t) → AreNames root.now.path → At path identity ≡ guard_found_at (guard_of t root.now.path) → OnOk result (GuardsCalmly t root.now (state_of self.old) (state_of self.new) × StandsBy t (state_of self.new).registrations (B.backing back.new) (B.fits back.new t)) }
     {
-        match self.add(alloc, &path, &identity, back, scan)? {
-            AddResult::Stands => self.put_and_look(alloc, root, path, identity, scan),
+        match self.add(alloc, &path, &identity, follow, back, scan)? {
+            AddResult::Stands => self.put_and_look(alloc, root, path, identity, follow, scan),
             AddResult::Vanished => self.keep_retry(alloc, root, &root.path),
             AddResult::TryAgain => self.queue_guard(alloc, root),
             AddResult::LeftOut => Ok(()),
@@ -152,6 +162,7 @@ impl Held {
         alloc: Global,
         root: &Root,
         found: GuardFound,
+        follow: bool,
         back: &mut B,
         scan: &mut S,
     ) -> Result<(), Memory>
@@ -161,14 +172,15 @@ impl Held {
         ensures place { S.place scan.new ≡ S.place scan.old }
         ensures state { OnOk result (GuardsAt root.now found (state_of self.old) (state_of self.new)) }
         ensures watches { OnOk result (KeepsWatches (state_of self.old).registrations (state_of self.new).registrations (B.backing back.old) (B.backing back.new)) }
+        ensures calm { (t : Tree) → IsCalm t follow (S.looked scan.old) (S.looked scan.new) (state_of self.old).registrations (B.backing back.old) (B.fits back.old t) → AreNames root.now.path → found ≡ guard_found_at (guard_of t root.now.path) → OnOk result (GuardsCalmly t root.now (state_of self.old) (state_of self.new) × StandsBy t (state_of self.new).registrations (B.backing back.new) (B.fits back.new t)) }
     {
         match found {
             GuardFound::Nowhere => {
                 self.unguard(root);
-                self.look_again(alloc, root, scan)
+                self.look_again(alloc, root, follow, scan)
             }
             GuardFound::At(path, identity) => {
-                self.guard_by(alloc, root, path, identity, back, scan)
+                self.guard_by(alloc, root, path, identity, follow, back, scan)
             }
             GuardFound::Faulty(path, code) => {
                 self.show_scan(path, ScanFault::Io(code))?;
@@ -182,6 +194,7 @@ impl Held {
         &mut self,
         alloc: Global,
         root: &Root,
+        follow: bool,
         back: &mut B,
         scan: &mut S,
     ) -> Result<(), Memory>
@@ -191,8 +204,9 @@ impl Held {
         ensures place { S.place scan.new ≡ S.place scan.old }
         ensures state { OnOk result (Guards root.now (state_of self.old) (state_of self.new)) }
         ensures watches { OnOk result (KeepsWatches (state_of self.old).registrations (state_of self.new).registrations (B.backing back.old) (B.backing back.new)) }
+        ensures calm { (t : Tree) → IsCalm t follow (S.looked scan.old) (S.looked scan.new) (state_of self.old).registrations (B.backing back.old) (B.fits back.old t) → AreNames root.now.path → OnOk result (GuardsCalmly t root.now (state_of self.old) (state_of self.new) × StandsBy t (state_of self.new).registrations (B.backing back.new) (B.fits back.new t)) }
     {
-        let found = find_guard(alloc, &root.path, self.follow, scan)?;
-        self.guard_at(alloc, root, found, back, scan)
+        let found = find_guard(alloc, &root.path, follow, scan)?;
+        self.guard_at(alloc, root, found, follow, back, scan)
     }
 }

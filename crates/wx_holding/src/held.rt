@@ -5,23 +5,22 @@ ghost use Rattle.wx_holding.specs.Holding.{state_of};
 
 use std::alloc::Global;
 use std::collections::VecDeque;
-use wx_recursor::{BackendPlace, GuardWatch, Known, Owner, Retry, ShownError, Work};
+use wx_index::{KnownList, OwnerList};
+use wx_recursor::{BackendPlace, GuardWatch, Retry, ShownError, Work};
 use wx_tree::{Place, Root};
 
 /// What a recursor holds beside its backend.
 #[derive(Drop, Debug)]
 pub struct Held {
-    /// Whether links are followed.
-    pub follow: bool,
     pub roots: Vec<Root>,
     pub filter: u32,
     pub queue: VecDeque<Work>,
     pub sweep_due: bool,
-    pub owners: Vec<Owner>,
-    pub known: Vec<Known>,
+    pub owners: OwnerList,
+    pub known: KnownList,
     pub guards: Vec<GuardWatch>,
-    pub registrations: Vec<Known>,
-    pub waiting: Vec<Known>,
+    pub registrations: KnownList,
+    pub waiting: KnownList,
     pub retries: Vec<Retry>,
     pub failed: Vec<Place>,
     pub skipped: Vec<Place>,
@@ -37,21 +36,19 @@ pub struct Held {
 
 impl Held {
     /// What a new recursor holds. It takes no memory.
-    pub fn new(alloc: Global, follow: bool) -> Held
+    pub fn new(alloc: Global) -> Held
         ensures state { state_of result ≡ fresh }
-        ensures follow { result.follow ≡ follow }
     {
         Held {
-            follow,
             roots: Vec::new(alloc),
             filter: 0,
             queue: VecDeque::new(alloc),
             sweep_due: false,
-            owners: Vec::new(alloc),
-            known: Vec::new(alloc),
+            owners: OwnerList::new(alloc),
+            known: KnownList::new(alloc),
             guards: Vec::new(alloc),
-            registrations: Vec::new(alloc),
-            waiting: Vec::new(alloc),
+            registrations: KnownList::new(alloc),
+            waiting: KnownList::new(alloc),
             retries: Vec::new(alloc),
             failed: Vec::new(alloc),
             skipped: Vec::new(alloc),

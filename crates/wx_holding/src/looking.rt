@@ -1,5 +1,10 @@
 // One look at a path.
-ghost use Rattle.std.specs.Prelude.{◌≡◌, ◌≤◌, IfOk, OnOk, OnSome, length};
+ghost use Rattle.wx_holding.specs.Calm.{FindsEntries, IsNamed, IsReadable, IsStill, break_found, here_found};
+ghost use Rattle.wx_recursor.specs.Seen.{guard_found_at, look_at_node, root_found};
+ghost use Rattle.wx_scan.specs.Told.{AreNames};
+ghost use Rattle.wx_tree.specs.Trees.{Tree, guard_of, is_directory, is_safe, node_at};
+ghost use Rattle.std.specs.Prelude.{◌≡◌, ◌≤◌, false, true, IfOk, OnOk, OnSome, length, map};
+ghost use Rattle.wx_tree.specs.Places.{place};
 ghost use Rattle.wx_recursor.specs.declared.answers.GuardFound.TheVariants.{Nowhere};
 ghost use Rattle.wx_scan.specs.Looked.{OnlyLooks, Rose};
 
@@ -21,6 +26,7 @@ pub fn look<S: Scanner>(
     ensures raised { OnOk result (Rose (S.looked scan.old).looks (S.looked scan.new).looks) }
     ensures rest { S.rest scan.new ≡ S.rest scan.old }
     ensures place { S.place scan.new ≡ S.place scan.old }
+    ensures told { (t : Tree) → follow ≡ false → IsStill t (S.looked scan.old) (S.looked scan.new) → IsReadable t path.now → IfOk result (λ look. look ≡ look_at_node path.now (node_at t path.now)) }
 {
     let spelled = path.path(alloc)?;
     match scan.classify(&spelled, follow) {
@@ -43,6 +49,7 @@ fn find_last<S: Scanner>(alloc: Global, path: &Place, scan: &mut S) -> Result<Gu
     ensures top { IfOk result (λ found. length path.now ≡ 0 → found ≡ Nowhere) }
     ensures rest { S.rest scan.new ≡ S.rest scan.old }
     ensures place { S.place scan.new ≡ S.place scan.old }
+    ensures told { (t : Tree) → IsStill t (S.looked scan.old) (S.looked scan.new) → AreNames path.now → IfOk result (λ found. found ≡ guard_found_at (guard_of t path.now)) }
 {
     let mut found = GuardFound::Nowhere;
     let mut level = path.depth();
@@ -95,6 +102,7 @@ pub fn find_guard<S: Scanner>(
     ensures top { IfOk result (λ found. length path.now ≡ 0 → found ≡ Nowhere) }
     ensures rest { S.rest scan.new ≡ S.rest scan.old }
     ensures place { S.place scan.new ≡ S.place scan.old }
+    ensures told { (t : Tree) → follow ≡ false → IsStill t (S.looked scan.old) (S.looked scan.new) → AreNames path.now → IfOk result (λ found. found ≡ guard_found_at (guard_of t path.now)) }
 {
     if follow {
         find_nearest(alloc, path, scan)
@@ -113,6 +121,7 @@ fn find_break<S: Scanner>(
     ensures raised { IfOk result (λ found. OnSome found (Rose (S.looked scan.old).looks (S.looked scan.new).looks)) }
     ensures rest { S.rest scan.new ≡ S.rest scan.old }
     ensures place { S.place scan.new ≡ S.place scan.old }
+    ensures told { (t : Tree) → IsStill t (S.looked scan.old) (S.looked scan.new) → AreNames path.now → IfOk result (λ found. found ≡ break_found t path.now) }
 {
     let mut level = path.depth();
     while level > 0 {
@@ -139,6 +148,7 @@ pub fn is_safe<S: Scanner>(
     ensures raised { OnOk result (Rose (S.looked scan.old).looks (S.looked scan.new).looks) }
     ensures rest { S.rest scan.new ≡ S.rest scan.old }
     ensures place { S.place scan.new ≡ S.place scan.old }
+    ensures told { (t : Tree) → follow ≡ false → IsStill t (S.looked scan.old) (S.looked scan.new) → AreNames path.now → IfOk result (λ safe. safe ≡ is_safe t path.now) }
 {
     match look_at_root(alloc, path, follow, scan)? {
         Found::Here(_) => Ok(true),
@@ -162,6 +172,7 @@ pub fn look_here<S: Scanner>(
     ensures raised { OnOk result (Rose (S.looked scan.old).looks (S.looked scan.new).looks) }
     ensures rest { S.rest scan.new ≡ S.rest scan.old }
     ensures place { S.place scan.new ≡ S.place scan.old }
+    ensures told { (t : Tree) → follow ≡ false → IsStill t (S.looked scan.old) (S.looked scan.new) → IsReadable t path.now → IfOk result (λ found. found ≡ here_found path.now (node_at t path.now)) }
 {
     match look(alloc, path, follow, scan)? {
         Look::Directory(canonical) => Ok(Found::Here(Identity::Canonical(canonical))),
@@ -184,6 +195,7 @@ pub fn look_at_root<S: Scanner>(
     ensures raised { OnOk result (Rose (S.looked scan.old).looks (S.looked scan.new).looks) }
     ensures rest { S.rest scan.new ≡ S.rest scan.old }
     ensures place { S.place scan.new ≡ S.place scan.old }
+    ensures told { (t : Tree) → follow ≡ false → IsStill t (S.looked scan.old) (S.looked scan.new) → AreNames path.now → IfOk result (λ found. found ≡ root_found t path.now) }
 {
     if !follow {
         if let Some(found) = find_break(alloc, path, scan)? {
@@ -194,7 +206,9 @@ pub fn look_at_root<S: Scanner>(
 }
 
 /// The places of these paths. It fails only for want of memory.
-fn places(alloc: Global, paths: &[TextPath]) -> Result<List<Place>, Memory> {
+fn places(alloc: Global, paths: &[TextPath]) -> Result<List<Place>, Memory>
+    ensures { IfOk result (λ places. places ≡ map place paths.now) }
+{
     let mut places = List::new(alloc);
     for path in paths {
         places.push(Place::new(alloc, path)?)?;
@@ -208,6 +222,7 @@ pub fn list<S: Scanner>(alloc: Global, path: &Place, scan: &mut S) -> Result<Fou
     ensures raised { OnOk result (Rose (S.looked scan.old).looks (S.looked scan.new).looks) }
     ensures rest { S.rest scan.new ≡ S.rest scan.old }
     ensures place { S.place scan.new ≡ S.place scan.old }
+    ensures told { (t : Tree) → IsStill t (S.looked scan.old) (S.looked scan.new) → IsNamed t → IsReadable t path.now → is_directory t path.now ≡ true → IfOk result (λ found. FindsEntries t path.now found) }
 {
     let spelled = path.path(alloc)?;
     match scan.scan(&spelled) {

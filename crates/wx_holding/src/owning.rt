@@ -1,5 +1,12 @@
 // How a path comes to be watched and owned.
-ghost use Rattle.std.specs.Prelude.{◌≡◌, ◌∷◌, [], Some, IfOk, OnOk, cond};
+ghost use Rattle.wx_holding.specs.Calm.{AddsCalmly, IsCalm, IsFit, IsStill, StandsBy};
+ghost use Rattle.wx_holding.specs.Standing.{GoCalmly, IsAtTree};
+ghost use Rattle.wx_recursor.specs.Owning.{owned, registered};
+ghost use Rattle.wx_recursor.specs.Seen.{identity_at, watched_at};
+ghost use Rattle.wx_recursor.specs.declared.answers.AddResult.TheVariants.{Stands};
+ghost use Rattle.wx_tree.specs.Lists.{In};
+ghost use Rattle.wx_tree.specs.Trees.{Tree};
+ghost use Rattle.std.specs.Prelude.{◌≡◌, ◌∷◌, [], false, Some, IfOk, OnOk, cond};
 ghost use Rattle.wx_scan.specs.Backings.{is_memory};
 ghost use Rattle.wx_scan.specs.Looked.{OnlyLooks};
 ghost use Rattle.wx_tree.specs.Places.{spelled};
@@ -15,8 +22,8 @@ use crate::looking::look;
 use std::alloc::Global;
 use wx_recursor::{AddResult, Identity, Item, Known, ShownError, Work};
 use wx_recursor_lists::{
-    changed, disown, has_identity, has_met, has_path, is_of_handles, is_of_watches, is_other,
-    is_other_guard, is_path_gone, is_still, know, own, queue_guards_at, without,
+    changed, has_path, is_of_handles, is_of_watches, is_other_guard, is_path_gone, is_still,
+    queue_guards_at,
 };
 use wx_scan::{Backend, Scanner};
 use wx_text::{Copies, Memory};
@@ -119,6 +126,7 @@ impl Held {
         ensures place { S.place scan.new ≡ S.place scan.old }
         ensures state { OnOk result (Unwatches path.now (state_of self.old) (state_of self.new)) }
         ensures watches { OnOk result (LetsGo (spelled path.now ∷ []) (B.backing back.old) (B.backing back.new)) }
+        ensures calm { (t : Tree) → IsStill t (S.looked scan.old) (S.looked scan.new) → IsAtTree t (B.backing back.old) (B.fits back.old t) → In (spelled path.now) (B.backing back.old).registrations → OnOk result (GoCalmly t (spelled path.now ∷ []) (state_of self.old) (state_of self.new) (B.backing back.old) (B.backing back.new) (B.fits back.new t)) }
     {
         let spelled = path.path(alloc)?;
         match back.unwatch(scan, &spelled) {
@@ -139,6 +147,7 @@ impl Held {
         alloc: Global,
         path: &Place,
         identity: &Identity,
+        follow: bool,
         back: &mut B,
         scan: &mut S,
     ) -> Result<AddResult, Memory>
@@ -147,10 +156,11 @@ impl Held {
         ensures place { S.place scan.new ≡ S.place scan.old }
         ensures state { IfOk result (λ end. Confirms path.now identity.now (state_of self.old) (state_of self.new) end) }
         ensures watches { OnOk result (IsConfirmed path.now (state_of self.old).registrations (state_of self.new).registrations (B.backing back.old) (B.backing back.new)) }
+        ensures calm { (t : Tree) → follow ≡ false → IsStill t (S.looked scan.old) (S.looked scan.new) → IsFit t path.now → identity.now ≡ identity_at t path.now → IfOk result (λ end. (state_of self.new ≡ registered path.now identity.now (state_of self.old)) × (end ≡ Stands) × (back.new ≡ back.old)) }
     {
-        let second = look(alloc, path, self.follow, scan)?;
+        let second = look(alloc, path, follow, scan)?;
         if is_still(path, identity, &second) {
-            without(identity, &mut self.waiting);
+            self.waiting.without(identity);
             self.registrations.push(Known {
                 path: path.copy(alloc)?,
                 identity: identity.copy(alloc)?,
@@ -167,16 +177,16 @@ impl Held {
     fn is_known_otherwise(&self, path: &Place, identity: &Identity) -> bool
         ensures { result ≡ is_known_otherwise path.now identity.now (state_of self.now) }
     {
-        is_other(path, identity, self.known.as_slice())
+        self.known.is_other(path, identity)
             || is_other_guard(path, identity, self.guards.as_slice())
-            || is_other(path, identity, self.registrations.as_slice())
-            || is_other(path, identity, self.waiting.as_slice())
+            || self.registrations.is_other(path, identity)
+            || self.waiting.is_other(path, identity)
     }
 
     fn is_registered(&self, identity: &Identity) -> bool
         ensures { result ≡ has_identity identity.now (state_of self.now).registrations }
     {
-        has_identity(identity, self.registrations.as_slice())
+        self.registrations.has_identity(identity)
     }
 
     fn is_held_back(&self, path: &Place) -> bool
@@ -191,6 +201,7 @@ impl Held {
         alloc: Global,
         path: &Place,
         identity: &Identity,
+        follow: bool,
         back: &mut B,
         scan: &mut S,
     ) -> Result<AddResult, Memory>
@@ -199,6 +210,7 @@ impl Held {
         ensures place { S.place scan.new ≡ S.place scan.old }
         ensures state { IfOk result (λ end. Adds path.now identity.now (state_of self.old) (state_of self.new) end) }
         ensures watches { OnOk result (KeepsWatches (state_of self.old).registrations (state_of self.new).registrations (B.backing back.old) (B.backing back.new)) }
+        ensures calm { (t : Tree) → IsCalm t follow (S.looked scan.old) (S.looked scan.new) (state_of self.old).registrations (B.backing back.old) (B.fits back.old t) → IsFit t path.now → identity.now ≡ identity_at t path.now → IfOk result (λ end. AddsCalmly t path.now identity.now (state_of self.old) (state_of self.new) end × StandsBy t (state_of self.new).registrations (B.backing back.new) (B.fits back.new t)) }
     {
         if self.is_known_otherwise(path, identity) {
             self.excluded.push(path.copy(alloc)?)?;
@@ -213,7 +225,7 @@ impl Held {
         }
         let spelled = path.path(alloc)?;
         match back.watch(scan, &spelled) {
-            Ok(()) => self.confirm(alloc, path, identity, back, scan),
+            Ok(()) => self.confirm(alloc, path, identity, follow, back, scan),
             Err(fault) => {
                 if is_memory(&fault) {
                     Err(Memory)
@@ -236,25 +248,18 @@ impl Held {
         ensures { OnOk result (state_of self.new
             ≡ enqueue (cond scans (scan_once root.now path.now identity.now (state_of self.old)) []) (take_over root.now path.now identity.now (state_of self.old))) }
     {
-        if scans
-            && !has_met(
-                root,
-                identity,
-                self.known.as_slice(),
-                self.owners.as_slice(),
-            )
-        {
+        if scans && !self.known.has_met(root, identity, &self.owners) {
             self.queue.push_back(Work::Plain(Item::Scan(root.copy(alloc)?, path.copy(alloc)?)))?;
         }
-        own(alloc, root, path, &mut self.owners)?;
-        know(alloc, path, identity, &mut self.known)
+        self.owners.own(alloc, root, path)?;
+        self.known.know(alloc, path, identity)
     }
 
     /// The path is gone: the root's ownership goes from there down, and the guards of roots there are queued.
     pub fn lose_gone(&mut self, alloc: Global, root: &Root, path: &Place) -> Result<(), Memory>
         ensures { OnOk result (state_of self.new ≡ gone root.now path.now (state_of self.old)) }
     {
-        disown(root, path, &mut self.owners);
+        self.owners.disown(root, path);
         queue_guards_at(alloc, path, self.roots.as_slice(), &mut self.queue)
     }
 
@@ -268,6 +273,7 @@ impl Held {
         identity: &Identity,
         scans: bool,
         item: Work,
+        follow: bool,
         back: &mut B,
         scan: &mut S,
     ) -> Result<(), Memory>
@@ -276,8 +282,9 @@ impl Held {
         ensures place { S.place scan.new ≡ S.place scan.old }
         ensures state { OnOk result (Owns root.now path.now identity.now scans item (state_of self.old) (state_of self.new)) }
         ensures watches { OnOk result (KeepsWatches (state_of self.old).registrations (state_of self.new).registrations (B.backing back.old) (B.backing back.new)) }
+        ensures calm { (t : Tree) → IsCalm t follow (S.looked scan.old) (S.looked scan.new) (state_of self.old).registrations (B.backing back.old) (B.fits back.old t) → IsFit t path.now → identity.now ≡ identity_at t path.now → OnOk result ((state_of self.new ≡ owned root.now path.now identity.now scans item (watched_at t path.now) None (state_of self.old)) × StandsBy t (state_of self.new).registrations (B.backing back.new) (B.fits back.new t)) }
     {
-        match self.add(alloc, path, identity, back, scan)? {
+        match self.add(alloc, path, identity, follow, back, scan)? {
             AddResult::Stands => self.take_over(alloc, root, path, identity, scans),
             AddResult::Vanished => self.lose_gone(alloc, root, path),
             AddResult::TryAgain => {

@@ -1,4 +1,7 @@
 // How what serves nothing is let go.
+ghost use Rattle.wx_holding.specs.Calm.{IsStill, ReleasesCalmly, StandsBy};
+ghost use Rattle.wx_holding.specs.Standing.{AreToGo, GoCalmly, IsAtTree};
+ghost use Rattle.wx_tree.specs.Trees.{Tree};
 ghost use Rattle.std.specs.Prelude.{◌≡◌, IfOk, OnOk};
 ghost use Rattle.wx_scan.specs.Looked.{OnlyLooks};
 ghost use Rattle.wx_recursor.specs.Holding.{still_known};
@@ -10,8 +13,9 @@ ghost use Rattle.wx_holding.specs.Holding.{state_of};
 
 use crate::held::Held;
 use std::alloc::Global;
+use wx_index::{idle_registrations, lost_paths};
 use wx_recursor::Known;
-use wx_recursor_lists::{has_new, idle_registrations, keep_known, keep_serving, lost_paths};
+use wx_recursor_lists::has_new;
 use wx_scan::{Backend, Scanner};
 use wx_text::Memory;
 
@@ -20,7 +24,7 @@ impl Held {
     fn forget_unowned(&mut self)
         ensures { state_of self.new ≡ record (state_of self.old) { known = still_known (state_of self.old).owners (state_of self.old).known } }
     {
-        keep_known(self.owners.as_slice(), &mut self.known);
+        self.known.keep_owned(&self.owners);
     }
 
     fn idle(&self, alloc: Global) -> Result<Vec<Known>, Memory>
@@ -28,7 +32,7 @@ impl Held {
     {
         idle_registrations(
             alloc,
-            self.known.as_slice(),
+            &self.known,
             self.guards.as_slice(),
             self.registrations.as_slice(),
         )
@@ -41,16 +45,10 @@ impl Held {
           waiting = serving_registrations (state_of self.old).known (state_of self.old).guards (state_of self.old).waiting;
         } }
     {
-        keep_serving(
-            self.known.as_slice(),
-            self.guards.as_slice(),
-            &mut self.registrations,
-        );
-        keep_serving(
-            self.known.as_slice(),
-            self.guards.as_slice(),
-            &mut self.waiting,
-        );
+        self.registrations
+            .keep_serving(&self.known, self.guards.as_slice());
+        self.waiting
+            .keep_serving(&self.known, self.guards.as_slice());
     }
 
     /// A representative that is lost, and wasn't before, asks for a rebuild.
@@ -59,7 +57,7 @@ impl Held {
     {
         let lost = lost_paths(
             alloc,
-            self.known.as_slice(),
+            &self.known,
             self.guards.as_slice(),
             self.registrations.as_slice(),
         )?;
@@ -83,6 +81,7 @@ impl Held {
         ensures place { S.place scan.new ≡ S.place scan.old }
         ensures state { OnOk result (UnwatchesEach idle.now (state_of self.old) (state_of self.new)) }
         ensures watches { OnOk result (LetsGo (paths_spelled idle.now) (B.backing back.old) (B.backing back.new)) }
+        ensures calm { (t : Tree) → IsStill t (S.looked scan.old) (S.looked scan.new) → IsAtTree t (B.backing back.old) (B.fits back.old t) → AreToGo (paths_spelled idle.now) (B.backing back.old).registrations → OnOk result (GoCalmly t (paths_spelled idle.now) (state_of self.old) (state_of self.new) (B.backing back.old) (B.backing back.new) (B.fits back.new t)) }
     {
         let mut rest = idle;
         while let [first, after @ ..] = rest {
@@ -104,6 +103,7 @@ impl Held {
         ensures place { S.place scan.new ≡ S.place scan.old }
         ensures state { OnOk result (Releases (state_of self.old) (state_of self.new)) }
         ensures watches { OnOk result (AreSound (things (state_of self.old)) → KeepsWatches (state_of self.old).registrations (state_of self.new).registrations (B.backing back.old) (B.backing back.new)) }
+        ensures calm { (t : Tree) → IsStill t (S.looked scan.old) (S.looked scan.new) → StandsBy t (state_of self.old).registrations (B.backing back.old) (B.fits back.old t) → AreSound (things (state_of self.old)) → OnOk result (ReleasesCalmly (state_of self.old) (state_of self.new) × StandsBy t (state_of self.new).registrations (B.backing back.new) (B.fits back.new t)) }
     {
         self.forget_unowned();
         let idle = self.idle(alloc)?;

@@ -1,5 +1,10 @@
 // What is done about a root, a listing and a candidate.
-ghost use Rattle.std.specs.Prelude.{◌≡◌, ◌&&◌, ◌∷◌, [], true, IfOk, OnOk};
+ghost use Rattle.wx_holding.specs.Calm.{IsCalm, IsFit, IsReadable, StandsBy, TriesCalmly, VisitsCalmly};
+ghost use Rattle.wx_recursor.specs.Seen.{identity_at, root_found, try_found, watched_at};
+ghost use Rattle.wx_scan.specs.Told.{AreNames};
+ghost use Rattle.wx_tree.specs.Paths.{Path};
+ghost use Rattle.wx_tree.specs.Trees.{Tree};
+ghost use Rattle.std.specs.Prelude.{◌≡◌, ◌&&◌, ◌∷◌, [], Bool, None, true, IfOk, OnOk};
 ghost use Rattle.wx_scan.specs.Looked.{OnlyLooks};
 ghost use Rattle.wx_recursor.specs.declared.errors.ScanFault.TheVariants.{Io, NotFound};
 ghost use Rattle.wx_recursor.specs.declared.errors.ShownError.TheVariants.{Filter, PathScan};
@@ -8,6 +13,7 @@ ghost use Rattle.wx_recursor.specs.declared.work.Work.TheVariants.{Plain};
 ghost use Rattle.wx_recursor.specs.Guarding.{unguarded};
 ghost use Rattle.wx_recursor.specs.Holding.{gone, keep_retry, lose, lose_below, show};
 ghost use Rattle.wx_recursor.specs.Identities.{is_of_directory};
+ghost use Rattle.wx_recursor.specs.Owning.{owned};
 ghost use Rattle.wx_recursor.specs.Steps.{refound, scanned, swept};
 ghost use Rattle.wx_holding.specs.Backed.{KeepsWatches};
 ghost use Rattle.wx_holding.specs.Effects.{Owns, Tries, Visits};
@@ -17,7 +23,7 @@ use crate::held::Held;
 use std::alloc::Global;
 use wx_error::RuntimeError;
 use wx_recursor::{Found, Identity, Item, ScanFault, ShownError, Work};
-use wx_recursor_lists::{disown, disown_below, has_guard_watch, lift_above, queue_entries, sweep};
+use wx_recursor_lists::{has_guard_watch, lift_above, queue_entries};
 use wx_scan::{Backend, Scanner};
 use wx_text::{Copies, Memory};
 use wx_tree::{Place, Root};
@@ -46,21 +52,21 @@ impl Held {
     pub fn lose(&mut self, root: &Root, path: &Place)
         ensures { state_of self.new ≡ lose root.now path.now (state_of self.old) }
     {
-        disown(root, path, &mut self.owners);
+        self.owners.disown(root, path);
     }
 
     /// What the root owns below the path goes.
     fn lose_below(&mut self, root: &Root, path: &Place)
         ensures { state_of self.new ≡ lose_below root.now path.now (state_of self.old) }
     {
-        disown_below(root, path, &mut self.owners);
+        self.owners.disown_below(root, path);
     }
 
     /// The owners that weren't seen in this epoch go.
     pub fn sweep(&mut self)
         ensures { state_of self.new ≡ swept (state_of self.old) }
     {
-        sweep(&mut self.owners);
+        self.owners.sweep();
         self.sweep_due = false;
     }
 
@@ -103,6 +109,7 @@ impl Held {
         alloc: Global,
         root: &Root,
         identity: &Identity,
+        follow: bool,
         back: &mut B,
         scan: &mut S,
     ) -> Result<(), Memory>
@@ -111,11 +118,14 @@ impl Held {
         ensures place { S.place scan.new ≡ S.place scan.old }
         ensures state { OnOk result (Owns root.now root.now.path identity.now (root.now.recursive && is_of_directory identity.now) (Plain (Visit root.now)) (unguarded root.now (refound root.now (state_of self.old))) (state_of self.new)) }
         ensures watches { OnOk result (KeepsWatches (state_of self.old).registrations (state_of self.new).registrations (B.backing back.old) (B.backing back.new)) }
+        ensures calm { (t : Tree) → IsCalm t follow (S.looked scan.old) (S.looked scan.new) (state_of self.old).registrations (B.backing back.old) (B.fits back.old t) → IsFit t root.now.path → identity.now ≡ identity_at t root.now.path → OnOk result ((state_of self.new ≡ owned root.now root.now.path identity.now (root.now.recursive && is_of_directory identity.now) (Plain (Visit root.now)) (watched_at t root.now.path) None (unguarded root.now (refound root.now (state_of self.old)))) × StandsBy t (state_of self.new).registrations (B.backing back.new) (B.fits back.new t)) }
     {
         let item = visit_item(alloc, root)?;
         let scans = is_scanned(root, identity);
         self.find_again(root);
-        self.own(alloc, root, &root.path, identity, scans, item, back, scan)
+        self.own(
+            alloc, root, &root.path, identity, scans, item, follow, back, scan,
+        )
     }
 
     /// Does what a look at a root asks for.
@@ -124,6 +134,7 @@ impl Held {
         alloc: Global,
         root: &Root,
         found: Found,
+        follow: bool,
         back: &mut B,
         scan: &mut S,
     ) -> Result<(), Memory>
@@ -132,21 +143,22 @@ impl Held {
         ensures place { S.place scan.new ≡ S.place scan.old }
         ensures state { OnOk result (Visits root.now found (state_of self.old) (state_of self.new)) }
         ensures watches { OnOk result (KeepsWatches (state_of self.old).registrations (state_of self.new).registrations (B.backing back.old) (B.backing back.new)) }
+        ensures calm { (t : Tree) → IsCalm t follow (S.looked scan.old) (S.looked scan.new) (state_of self.old).registrations (B.backing back.old) (B.fits back.old t) → AreNames root.now.path → found ≡ root_found t root.now.path → OnOk result (VisitsCalmly t root.now found (state_of self.old) (state_of self.new) × StandsBy t (state_of self.new).registrations (B.backing back.new) (B.fits back.new t)) }
     {
         match found {
             Found::Missing => {
                 self.miss_root(alloc, root)?;
-                self.guard(alloc, root, back, scan)
+                self.guard(alloc, root, follow, back, scan)
             }
             Found::Barred => {
                 self.lose(root, &root.path);
-                self.guard(alloc, root, back, scan)
+                self.guard(alloc, root, follow, back, scan)
             }
             Found::Fault(at, code) => {
                 self.show_fault(alloc, root, &root.path, at, code)?;
-                self.guard(alloc, root, back, scan)
+                self.guard(alloc, root, follow, back, scan)
             }
-            Found::Here(identity) => self.own_root(alloc, root, &identity, back, scan),
+            Found::Here(identity) => self.own_root(alloc, root, &identity, follow, back, scan),
             Found::Rejected => Ok(()),
             Found::Refused(_) => Ok(()),
             Found::Entries(_) => Ok(()),
@@ -211,6 +223,7 @@ impl Held {
         root: &Root,
         path: &Place,
         identity: &Identity,
+        follow: bool,
         back: &mut B,
         scan: &mut S,
     ) -> Result<(), Memory>
@@ -219,9 +232,10 @@ impl Held {
         ensures place { S.place scan.new ≡ S.place scan.old }
         ensures state { OnOk result (Owns root.now path.now identity.now true (Plain (Candidate root.now path.now)) (state_of self.old) (state_of self.new)) }
         ensures watches { OnOk result (KeepsWatches (state_of self.old).registrations (state_of self.new).registrations (B.backing back.old) (B.backing back.new)) }
+        ensures calm { (t : Tree) → IsCalm t follow (S.looked scan.old) (S.looked scan.new) (state_of self.old).registrations (B.backing back.old) (B.fits back.old t) → IsFit t path.now → identity.now ≡ identity_at t path.now → OnOk result ((state_of self.new ≡ owned root.now path.now identity.now true (Plain (Candidate root.now path.now)) (watched_at t path.now) None (state_of self.old)) × StandsBy t (state_of self.new).registrations (B.backing back.new) (B.fits back.new t)) }
     {
         let item = candidate_item(alloc, root, path)?;
-        self.own(alloc, root, path, identity, true, item, back, scan)
+        self.own(alloc, root, path, identity, true, item, follow, back, scan)
     }
 
     /// Does what a look at a candidate asks for.
@@ -231,6 +245,7 @@ impl Held {
         root: &Root,
         path: &Place,
         found: Found,
+        follow: bool,
         back: &mut B,
         scan: &mut S,
     ) -> Result<(), Memory>
@@ -239,6 +254,7 @@ impl Held {
         ensures place { S.place scan.new ≡ S.place scan.old }
         ensures state { OnOk result (Tries root.now path.now found (state_of self.old) (state_of self.new)) }
         ensures watches { OnOk result (KeepsWatches (state_of self.old).registrations (state_of self.new).registrations (B.backing back.old) (B.backing back.new)) }
+        ensures calm { (t : Tree) (ok : Path → Bool) → IsCalm t follow (S.looked scan.old) (S.looked scan.new) (state_of self.old).registrations (B.backing back.old) (B.fits back.old t) → IsReadable t path.now → found ≡ try_found t ok root.now path.now → OnOk result (TriesCalmly t ok root.now path.now found (state_of self.old) (state_of self.new) × StandsBy t (state_of self.new).registrations (B.backing back.new) (B.fits back.new t)) }
     {
         match found {
             Found::Missing => self.miss_candidate(alloc, root, path),
@@ -252,7 +268,9 @@ impl Held {
             }
             Found::Fault(at, code) => self.show_fault(alloc, root, path, at, code),
             Found::Refused(error) => self.show_filter(alloc, root, path, error),
-            Found::Here(identity) => self.own_candidate(alloc, root, path, &identity, back, scan),
+            Found::Here(identity) => self.own_candidate(
+                alloc, root, path, &identity, follow, back, scan,
+            ),
             Found::Entries(_) => Ok(()),
         }
     }

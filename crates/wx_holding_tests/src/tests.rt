@@ -143,7 +143,7 @@ fn has_queue(alloc: Global, held: &mut Held, items: &str) -> Result<bool, Memory
 
 /// Whether a reconcile queues retries of its roots and then the roots, and leaves a sweep to be done.
 fn reconciles(alloc: Global) -> Result<bool, Memory> {
-    let mut held = Held::new(alloc, false);
+    let mut held = Held::new(alloc);
     let idle = !held.has_work() && !held.needs_retry();
     held.retries.push(Retry {
         root: root(alloc, "/w")?,
@@ -168,7 +168,7 @@ fn a_reconcile(rt: HostRuntime) {
 
 /// Whether a rescan queues the roots that stand, and asks for a rebuild.
 fn rescans(alloc: Global) -> Result<bool, Memory> {
-    let mut held = Held::new(alloc, false);
+    let mut held = Held::new(alloc);
     let mut roots = Vec::new(alloc);
     roots.push(root(alloc, "/w")?)?;
     held.reconcile(alloc, roots, 3)?;
@@ -184,7 +184,7 @@ fn a_rescan(rt: HostRuntime) {
 
 /// Whether each entry of a listing becomes a candidate, and a directory that is gone is shown.
 fn lists(alloc: Global) -> Result<bool, Memory> {
-    let mut held = Held::new(alloc, false);
+    let mut held = Held::new(alloc);
     let mut scan = tree(alloc)?;
     let owner = root(alloc, "/w")?;
     let found = list(alloc, &owner.path, &mut scan)?;

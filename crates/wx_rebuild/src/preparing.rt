@@ -11,8 +11,9 @@ use crate::upholding::uphold;
 use std::alloc::Global;
 use std::mem;
 use wx_holding::Held;
+use wx_index::KnownList;
 use wx_recursor::{BackendPlace, GuardWatch, Known};
-use wx_recursor_lists::{has_path, keep_known};
+use wx_recursor_lists::has_path;
 use wx_text::Memory;
 use wx_tree::Place;
 
@@ -29,6 +30,14 @@ fn leave_out(excluded: &[Place], skipped: &[Place], tombstones: &[Place], known:
     known.retain(|k| !is_left_out(&k.path, excluded, skipped, tombstones));
 }
 
+/// What is known, which is taken out.
+fn take_known(alloc: Global, held: &mut Held) -> Vec<Known>
+    ensures known { result.items ≡ (state_of held.old).known }
+    ensures state { state_of held.new ≡ record (state_of held.old) { known = [] } }
+{
+    mem::replace(&mut held.known, KnownList::new(alloc)).into_vec()
+}
+
 fn leave_guards_out(
     excluded: &[Place],
     skipped: &[Place],
@@ -43,15 +52,16 @@ fn leave_guards_out(
 /// What was registered, and behind it what waited. Neither is left.
 fn take_all(
     alloc: Global,
-    registrations: &mut Vec<Known>,
-    waiting: &mut Vec<Known>,
+    registrations: &mut KnownList,
+    waiting: &mut KnownList,
 ) -> Result<Vec<Known>, Memory>
-    ensures all { IfOk result (λ all. all.items ≡ registrations.old.items ++ waiting.old.items) }
-    ensures registrations { registrations.new.items ≡ [] }
-    ensures waiting { OnOk result (waiting.new.items ≡ []) }
+    ensures all { IfOk result (λ all. all.items ≡ registrations.old ++ waiting.old) }
+    ensures registrations { registrations.new ≡ [] }
+    ensures waiting { waiting.new ≡ [] }
 {
-    let mut all = mem::replace(registrations, Vec::new(alloc));
-    all.append(waiting)?;
+    let mut all = mem::replace(registrations, KnownList::new(alloc)).into_vec();
+    let mut more = mem::replace(waiting, KnownList::new(alloc)).into_vec();
+    all.append(&mut more)?;
     Ok(all)
 }
 
@@ -75,16 +85,18 @@ fn replays(
 }
 
 /// What is left out goes, be it owned or a guard. So does what has no owner.
-fn forget_left_out(held: &mut Held)
+fn forget_left_out(alloc: Global, held: &mut Held)
     ensures { state_of held.new ≡ record (state_of held.old) { known = known_to_replay (state_of held.old); guards = guards_to_replay (state_of held.old) } }
 {
-    keep_known(held.owners.as_slice(), &mut held.known);
+    held.known.keep_owned(&held.owners);
+    let mut known = take_known(alloc, held);
     leave_out(
         held.excluded.as_slice(),
         held.skipped.as_slice(),
         held.tombstones.as_slice(),
-        &mut held.known,
+        &mut known,
     );
+    held.known = KnownList::from_vec(alloc, known);
     leave_guards_out(
         held.excluded.as_slice(),
         held.skipped.as_slice(),
@@ -98,12 +110,13 @@ fn set_waiting(alloc: Global, held: &mut Held) -> Result<(), Memory>
     ensures { OnOk result (state_of held.new ≡ record (state_of held.old) { registrations = []; waiting = replays (state_of held.old) (state_of held.old).known (state_of held.old).guards }) }
 {
     let all = take_all(alloc, &mut held.registrations, &mut held.waiting)?;
-    held.waiting = replays(
+    let waiting = replays(
         alloc,
         all.as_slice(),
         held.known.as_slice(),
         held.guards.as_slice(),
     )?;
+    held.waiting = KnownList::from_vec(alloc, waiting);
     Ok(())
 }
 
@@ -121,7 +134,7 @@ fn drop_backend(held: &mut Held)
 pub fn prepare(alloc: Global, held: &mut Held) -> Result<(), Memory>
     ensures { OnOk result (state_of held.new ≡ prepared (state_of held.old)) }
 {
-    forget_left_out(held);
+    forget_left_out(alloc, held);
     set_waiting(alloc, held)?;
     drop_backend(held);
     uphold(held);
@@ -146,7 +159,8 @@ pub fn defer(held: &mut Held)
 pub fn replay_count(held: &Held) -> u64
     ensures { result ≡ min (replay_count (state_of held.now)) (2 ^ 64 - 1) }
 {
+    let registrations = held.registrations.len() as u64;
     let waiting = held.waiting.len() as u64;
     let guards = held.guards.len() as u64;
-    (held.registrations.len() as u64 + waiting).saturating_add(guards)
+    registrations.saturating_add(waiting).saturating_add(guards)
 }

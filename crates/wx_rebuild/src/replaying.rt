@@ -10,7 +10,7 @@ ghost use Rattle.wx_recursor.specs.Rebuilds.{is_replay_over, keep_waiting, path_
 ghost use Rattle.wx_recursor.specs.declared.answers.Watched.TheVariants.{Failed};
 ghost use Rattle.wx_recursor.specs.declared.errors.ShownError.TheVariants.{PathAdd};
 ghost use Rattle.wx_scan.specs.Looked.{OnlyLooks};
-ghost use Rattle.wx_tree.specs.Paths.{holds, same};
+ghost use Rattle.wx_tree.specs.Paths.{same};
 
 use crate::standing::{put_first, put_guards, put_known};
 use crate::upholding::uphold;
@@ -18,19 +18,13 @@ use std::alloc::Global;
 use std::collections::VecDeque;
 use std::mem;
 use wx_holding::{Held, is_memory};
-use wx_recursor::{GuardWatch, Item, Known, Owner, ShownError, Work};
-use wx_recursor_lists::{has_path, is_of_handles, is_of_watches, is_path_gone, keep_known};
+use wx_index::KnownList;
+use wx_recursor::{GuardWatch, Item, Known, ShownError, Work};
+use wx_recursor_lists::{has_path, is_of_handles, is_of_watches, is_path_gone};
 use wx_scan::{Backend, Scanner};
 use wx_text::{Copies, Memory};
 use wx_tree::{Place, Root};
 use wx_watch::NotifyFault;
-
-/// What is owned at or below the path goes.
-fn disown_all(path: &Place, owners: &mut Vec<Owner>)
-    ensures { owners.new.items ≡ filter (λ o. not (holds path.now o.path)) owners.old.items }
-{
-    owners.retain(|o| !path.holds(&o.path));
-}
 
 /// The guards at the path go.
 fn release_guards(path: &Place, guards: &mut Vec<GuardWatch>)
@@ -62,7 +56,7 @@ fn queue_guards_below(
 fn lose_path(alloc: Global, path: &Place, held: &mut Held) -> Result<(), Memory>
     ensures { OnOk result (state_of held.new ≡ path_gone path.now (state_of held.old)) }
 {
-    disown_all(path, &mut held.owners);
+    held.owners.disown_all(path);
     release_guards(path, &mut held.guards);
     queue_guards_below(alloc, path, held.roots.as_slice(), &mut held.queue)
 }
@@ -71,16 +65,19 @@ fn lose_path(alloc: Global, path: &Place, held: &mut Held) -> Result<(), Memory>
 fn wait_by_alias(alloc: Global, registration: &Known, held: &mut Held) -> Result<(), Memory>
     ensures { OnOk result (state_of held.new ≡ waits_by_alias registration.now (state_of held.old)) }
 {
-    keep_known(held.owners.as_slice(), &mut held.known);
+    held.known.keep_owned(&held.owners);
     let mut standing = Vec::new(alloc);
     put_known(alloc, held.known.as_slice(), &mut standing)?;
     put_guards(alloc, held.guards.as_slice(), &mut standing)?;
+    let mut waiting = take_waiting(alloc, held);
     put_first(
         alloc,
         &registration.identity,
         standing.as_slice(),
-        &mut held.waiting,
-    )
+        &mut waiting,
+    )?;
+    held.waiting = KnownList::from_vec(alloc, waiting);
+    Ok(())
 }
 
 /// The registration waits. It fails only for want of memory.
@@ -168,8 +165,8 @@ fn keep_waiting(alloc: Global, rest: &[Known], held: &mut Held) -> Result<(), Me
 {
     let mut waiting = Vec::new(alloc);
     put_known(alloc, rest, &mut waiting)?;
-    waiting.append(&mut held.waiting)?;
-    held.waiting = waiting;
+    waiting.append(&mut take_waiting(alloc, held))?;
+    held.waiting = KnownList::from_vec(alloc, waiting);
     Ok(())
 }
 
@@ -212,7 +209,7 @@ fn take_waiting(alloc: Global, held: &mut Held) -> Vec<Known>
     ensures waiting { result.items ≡ (state_of held.old).waiting }
     ensures state { state_of held.new ≡ record (state_of held.old) { waiting = [] } }
 {
-    mem::replace(&mut held.waiting, Vec::new(alloc))
+    mem::replace(&mut held.waiting, KnownList::new(alloc)).into_vec()
 }
 
 /// The replay: what waits is watched again, one after the other, until a rebuild is asked for or nothing more may be watched.

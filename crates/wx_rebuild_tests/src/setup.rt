@@ -81,7 +81,7 @@ fn put_line(alloc: Global, word: &str, rest: &str, held: &mut Held) -> Result<()
 
 /// What is held, by lines of a word and paths.
 pub fn held(alloc: Global, lines: &str) -> Result<Held, Memory> {
-    let mut held = Held::new(alloc, false);
+    let mut held = Held::new(alloc);
     for line in lines.lines() {
         if let Some((word, rest)) = line.split_once(" ") {
             put_line(alloc, word, rest, &mut held)?;

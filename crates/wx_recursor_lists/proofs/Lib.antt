@@ -1,2 +1,1 @@
-mod MetAgain
-mod OwnAt
+pub mod MetAgain

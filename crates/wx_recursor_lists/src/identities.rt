@@ -1,6 +1,6 @@
 // Paths under their identities.
-ghost use Rattle.std.specs.Prelude.{◌≡◌, IfOk, OnOk, map};
-ghost use Rattle.wx_recursor.specs.Identities.{guard_known, has_identity, has_known, identity_of, is_identity, is_of_handles, is_of_watches, is_other, is_path_gone, know, without};
+ghost use Rattle.std.specs.Prelude.{◌≡◌, IfOk, map};
+ghost use Rattle.wx_recursor.specs.Identities.{guard_known, has_identity, has_known, identity_of, is_identity, is_of_handles, is_of_watches, is_other, is_path_gone, without};
 ghost use Rattle.wx_recursor.specs.Owning.{changed, is_still};
 
 use std::alloc::Global;
@@ -105,24 +105,6 @@ pub fn is_identity_of(path: &Place, identity: &Identity, known: &[Known]) -> boo
         rest = after;
     }
     false
-}
-
-/// The path is known under this identity from now on. It fails only for want of memory.
-pub fn know(
-    alloc: Global,
-    path: &Place,
-    identity: &Identity,
-    known: &mut Vec<Known>,
-) -> Result<(), Memory>
-    ensures { OnOk result (known.new.items ≡ know path.now identity.now known.old.items) }
-{
-    if !has_known(path, identity, known.as_slice()) {
-        known.push(Known {
-            path: path.copy(alloc)?,
-            identity: identity.copy(alloc)?,
-        })?;
-    }
-    Ok(())
 }
 
 /// All but those of this identity stay.

@@ -7,16 +7,14 @@ mod queued;
 mod registrations;
 
 pub use identities::{
-    changed, has_identity, has_known, is_of_handles, is_of_watches, is_other, is_other_guard,
-    is_path_gone, is_still, know, without,
+    changed, has_guard_identity, has_identity, has_known, has_known_guard, is_identity_of,
+    is_of_handles, is_of_watches, is_other, is_other_guard, is_path_gone, is_still, without,
 };
 pub use owners::{
-    disown, disown_below, has_met, has_owner, has_path, has_root, own, set_unseen, sweep,
+    disown, disown_below, has_met, has_owner, has_path, has_root, has_seen, set_unseen, sweep,
 };
 pub use queued::{
     has_guard_watch, has_retry, keep_guards, lift_above, lift_tombstone, queue_entries,
     queue_guards, queue_guards_at, queue_retries, queue_roots, release_guard,
 };
-pub use registrations::{
-    has_new, idle_registrations, keep_known, keep_serving, lost_paths, serves,
-};
+pub use registrations::{has_new, put_deep};

@@ -1,43 +1,14 @@
 // Who owns what.
-ghost use Rattle.std.specs.Prelude.{◌≡◌, ◌&&◌, OnOk, filter, not};
+ghost use Rattle.std.specs.Prelude.{◌≡◌, ◌&&◌, filter, not};
 ghost use Rattle.wx_tree.specs.Paths.{holds_below};
 ghost use Rattle.wx_tree.specs.Roots.{same_root};
 ghost use Rattle.wx_recursor.specs.Holding.{has_met};
-ghost use Rattle.wx_recursor.specs.Owners.{disown, has_owner, has_path, has_root, is_owner, own, sweep, unseen};
+ghost use Rattle.wx_recursor.specs.Owners.{disown, has_owner, has_path, has_root, sweep, unseen};
 ghost use Rattle.wx_recursor_lists.specs.Met.{has_met_one, has_seen};
 
 use crate::identities::is_identity_of;
-use std::alloc::Global;
 use wx_recursor::{Identity, Known, Owner};
-use wx_text::{Copies, Memory};
 use wx_tree::{Place, Root};
-
-/// Whether this is what the root owns at the path.
-fn is_owner(root: &Root, path: &Place, owner: &Owner) -> bool
-    ensures { result ≡ is_owner root.now path.now owner.now }
-{
-    root.is_same(&owner.root) && path.is_same(&owner.path)
-}
-
-/// The root owns the path, and has seen it. It fails only for want of memory.
-pub fn own(alloc: Global, root: &Root, path: &Place, owners: &mut Vec<Owner>) -> Result<(), Memory>
-    ensures { OnOk result (owners.new.items ≡ own root.now path.now owners.old.items) }
-{
-    let added = Owner {
-        root: root.copy(alloc)?,
-        path: path.copy(alloc)?,
-        seen: true,
-    };
-    let n = owners.len();
-    for i in 0..n {
-        if is_owner(root, path, &owners[i]) {
-            owners[i] = added;
-            return Ok(());
-        }
-    }
-    owners.push(added)?;
-    Ok(())
-}
 
 /// Whether some root owns the path.
 pub fn has_owner(path: &Place, owners: &[Owner]) -> bool
@@ -113,7 +84,7 @@ pub fn set_unseen(owners: &mut Vec<Owner>)
 }
 
 /// Whether the root has seen this path in this epoch.
-fn has_seen(root: &Root, path: &Place, owners: &[Owner]) -> bool
+pub fn has_seen(root: &Root, path: &Place, owners: &[Owner]) -> bool
     ensures { result ≡ has_seen root.now path.now owners.now }
 {
     let mut rest = owners;

@@ -15,7 +15,7 @@ use Rattle.wx_walk.proofs.WatchedLemmas.{reached_roots}
 use Rattle.wx_settle.specs.Plain.{plain}
 use Rattle.wx_settle.specs.Runs.{RecursorReached, RecursorShows, RecursorSteps}
 use Rattle.wx_settle.proofs.Reach.{Stands, call_stands, full_reached, full_steps}
-use Rattle.wx_settle.proofs.Shows.{IsAbsentRoot, Tells, reached_quiet, steps_show}
+use Rattle.wx_settle.proofs.Shows.{ShowsAbsentRoot, Tells, reached_quiet, steps_show}
 
 steps_more : (t : Tree) (ok : Path → Bool) (n : ℕ) (s u : RecursorState) (e : Evidence) → RecursorSteps t ok n s u → has_work u.queue u.sweep_due ≡ true → SeesFirst t ok u.queue e → NoneRefused e.releases → RecursorSteps t ok (suc n) s (told (stepped e u))
 steps_more t ok zero s u e same work sees releases =
@@ -26,7 +26,7 @@ steps_more t ok (suc n) s u e (d, w, l, f, rest) work sees releases = (d, w, l, 
 pub full_more : (t : Tree) (c : Call) (cs : List Call) (u : RecursorState) (e : Evidence) → RecursorReached t (c ∷ cs) u → has_work u.queue u.sweep_due ≡ true → SeesFirst t c.ok u.queue e → NoneRefused e.releases → RecursorReached t (one_more c ∷ cs) (told (stepped e u))
 full_more t c cs u e (n, s, before, steps) work sees releases = (n, s, before, steps_more t c.ok c.steps (reconciled c.roots n s) u e steps work sees releases)
 
-full_stands : (t : Tree) (c : Call) (cs : List Call) (u : RecursorState) → RecursorReached t (c ∷ cs) u → Stands t c.ok u
+pub full_stands : (t : Tree) (c : Call) (cs : List Call) (u : RecursorState) → RecursorReached t (c ∷ cs) u → Stands t c.ok u
 full_stands t c cs u (n, s, before, steps) =
     let a = full_reached t cs s before in
     let b = full_steps t c.ok c.steps (reconciled c.roots n s) u (call_stands t c.ok c.roots n cs s a.0 a.1) steps in
@@ -38,7 +38,7 @@ or-false false = refl
 
 -- what it shows, and that it asks for no rebuild
 pub step_calm : (t : Tree) (c : Call) (cs : List Call) (u : RecursorState) (e : Evidence) → RecursorReached t (c ∷ cs) u → has_work u.queue u.sweep_due ≡ true → SeesFirst t c.ok u.queue e → NoneRefused e.releases
-    → ((stepped e u).asks_rebuild ≡ false) × ((x : ShownError) → In x (stepped e u).shown → IsAbsentRoot t c.roots x)
+    → ((stepped e u).asks_rebuild ≡ false) × ((x : ShownError) → In x (stepped e u).shown → ShowsAbsentRoot t c.roots x)
 step_calm t c cs u e r work sees releases =
     let a = full_reached t (c ∷ cs) u r in
     let k = full_stands t c cs u r in

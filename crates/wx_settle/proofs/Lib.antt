@@ -1,5 +1,6 @@
 pub mod Calls
 pub mod Calm
+pub mod EpochLemmas
 pub mod Pieces
 pub mod Reach
 pub mod Right

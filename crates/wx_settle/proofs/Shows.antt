@@ -39,8 +39,8 @@ pub record Absent (t : Tree) (r : Root) : Type 0 where
   pub unsafe : is_safe t r.path ≡ false
   pub gap : is_gap t r.path ≡ true
 
-abbrev pub IsAbsentRoot : Tree → List Root → ShownError → Type 0
-IsAbsentRoot t rs x = (r : Root) × In r rs × Absent t r × (x ≡ PathScan r.path NotFound)
+abbrev pub ShowsAbsentRoot : Tree → List Root → ShownError → Type 0
+ShowsAbsentRoot t rs x = (r : Root) × In r rs × Absent t r × (x ≡ PathScan r.path NotFound)
 
 -- what is queued stays queued until its turn
 did_keeps : (i j : Item) (f : Saw) (s : State) → In j s.queue → In j (did i f s).queue
@@ -71,7 +71,7 @@ did_keeps (Candidate r p) j (Listed cs) s h = h
 
 -- what a look at a root shows
 
-visit_only : (t : Tree) (rs : List Root) (r : Root) (f : Found) (x : ShownError) → In r rs → f ≡ root_found t r.path → In x (visit_shows r f) → IsAbsentRoot t rs x
+visit_only : (t : Tree) (rs : List Root) (r : Root) (f : Found) (x : ShownError) → In r rs → f ≡ root_found t r.path → In x (visit_shows r f) → ShowsAbsentRoot t rs x
 visit_only t rs r f x root e h =
     elim (cases_Bool (is_safe t r.path)) [
       | inl a ↦ absurd (rw (e, a) at h)
@@ -87,7 +87,7 @@ visit_only t rs r f x root e h =
 visit_each : (t : Tree) (r : Root) (f : Found) → f ≡ root_found t r.path → Absent t r → In (PathScan r.path NotFound) (visit_shows r f)
 visit_each t r f e a = rw (e, a.unsafe, a.gap) (inl refl)
 
-first_only : (t : Tree) (ok : Path → Bool) (rs : List Root) (q : List Work) (e : Evidence) (x : ShownError) → ((i : Item) → In i (plain_queue q) → Fits t ok rs i) → SeesFirst t ok q e → In x (first_shows q e) → IsAbsentRoot t rs x
+first_only : (t : Tree) (ok : Path → Bool) (rs : List Root) (q : List Work) (e : Evidence) (x : ShownError) → ((i : Item) → In i (plain_queue q) → Fits t ok rs i) → SeesFirst t ok q e → In x (first_shows q e) → ShowsAbsentRoot t rs x
 first_only t ok rs [] e x fits s h = absurd h
 first_only t ok rs (Plain (Guard r) ∷ q) e x fits s h = absurd h
 first_only t ok rs (Plain (Visit r) ∷ q) e x fits s h = visit_only t rs r e.found x (fits (Visit r) (inl refl)) s.found h
@@ -117,7 +117,7 @@ first_each t ok r (Probe p os ∷ q) e f s p' sees a h = cc
 -- what the steps show
 pub record Tells (t : Tree) (rs : List Root) (s u : RecursorState) (es : List ShownError) (asks_rebuild : Bool) : Type 0 where
   pub calm : asks_rebuild ≡ false
-  pub only : (x : ShownError) → In x es → IsAbsentRoot t rs x
+  pub only : (x : ShownError) → In x es → ShowsAbsentRoot t rs x
   pub each : (r : Root) → Absent t r → In (Visit r) (plain_queue s.queue) → In (PathScan r.path NotFound) es ⊎ In (Visit r) (plain_queue u.queue)
 
 pub steps_show : (t : Tree) (ok : Path → Bool) (n : ℕ) (rs : List Root) (s u : RecursorState) (es : List ShownError) (asks_rebuild : Bool) → s.roots ≡ rs → s.shown ≡ [] → Stands t ok s → RecursorShows t ok n s u es asks_rebuild → Tells t rs s u es asks_rebuild
@@ -140,7 +140,7 @@ steps_show t ok (suc n) rs s u es asks_rebuild same quiet k (e, ds, later, work,
     record {
       calm = asked ∙ rw (calm_now, r.calm) refl;
       only = λ x h. elim (In-cases x (first_shows s.queue e) ds (subst (λ y. In x y) now h)) [
-        | inl a ↦ subst (λ y. IsAbsentRoot t y x) same (first_only t ok s.roots s.queue e x fits sees a)
+        | inl a ↦ subst (λ y. ShowsAbsentRoot t y x) same (first_only t ok s.roots s.queue e x fits sees a)
         | inr b ↦ r.only x b
       ];
       each = λ root absent h. elim (first_each t ok root s.queue e (first_saw s.queue e) (plain s) k.simple.plain sees absent h) [
@@ -169,7 +169,7 @@ idle_queue (w ∷ q) sweep_due e = cc
 
 -- in an epoch without faults only absent roots are shown, each of them is, and no rebuild is asked for
 pub call_shows : (t : Tree) (c : Call) (cs : List Call) (n : ℕ) (s u : RecursorState) (es : List ShownError) (asks_rebuild : Bool) → RecursorReached t cs s → RecursorShows t c.ok c.steps (reconciled c.roots n s) u es asks_rebuild
-    → (asks_rebuild ≡ false) × ((x : ShownError) → In x es → IsAbsentRoot t c.roots x) × (has_work u.queue u.sweep_due ≡ false → (r : Root) → In r c.roots → Absent t r → In (PathScan r.path NotFound) es)
+    → (asks_rebuild ≡ false) × ((x : ShownError) → In x es → ShowsAbsentRoot t c.roots x) × (has_work u.queue u.sweep_due ≡ false → (r : Root) → In r c.roots → Absent t r → In (PathScan r.path NotFound) es)
 call_shows t c cs n s u es asks_rebuild before steps =
     let a = full_reached t cs s before in
     let m : Makes (identity_at t) (reconciled c.roots n s) (walk_reconciled c.roots (plain s)) s.shown = reconcile_makes (identity_at t) c.roots n s a.0 in

@@ -1,5 +1,5 @@
 // What a recursor settles to, on a tree that stays still, with an exact backend and links not followed.
-ghost use Rattle.std.specs.Prelude.{◌≡◌, ◌≤◌, ◌⊎◌, ◌↔◌, ℕ, Bool, true, false, List, [], ◌∷◌, length, map};
+ghost use Rattle.std.specs.Prelude.{◌≡◌, ◌≤◌, ◌⊎◌, ◌↔◌, ℕ, Bool, true, false, List, [], ◌∷◌, ◌++◌, length, map};
 ghost use Rattle.wx_tree.specs.declared.root.Root.{Root};
 ghost use Rattle.wx_tree.specs.Lists.{AllOnce, In};
 ghost use Rattle.wx_tree.specs.Paths.{Path};
@@ -19,7 +19,7 @@ ghost use Rattle.wx_walk.specs.Machine.{kept_guards};
 ghost use Rattle.wx_walk.specs.Reached.{Call, one_more};
 ghost use Rattle.wx_walk.specs.Wanted.{GuardsOnce, Wanted, last_roots};
 ghost use Rattle.wx_settle.specs.Plain.{plain_guard};
-ghost use Rattle.wx_settle.specs.Runs.{RecursorReached, RecursorShows, RecursorSteps};
+ghost use Rattle.wx_settle.specs.Runs.{HasSettled, IsEpoch, RecursorReached, RecursorShows, RecursorSteps};
 
 /// After any calls of reconcile with steps between them, few further steps settle a recursor. Then what it owns is the walk, its
 /// guards are the guards, and it watches just these, each once. The errors that it shows are those of absent roots, and each of
@@ -69,4 +69,20 @@ pub fn watched()
         → RecursorReached tree (call ∷ calls) before → has_work before.queue before.sweep_due ≡ true → SeesFirst tree call.ok before.queue e → NoneRefused e.releases
         → RecursorReached tree (one_more call ∷ calls) (told (stepped e before)) × ((stepped e before).asks_rebuild ≡ false)
         × ((x : ShownError) → In x (stepped e before).shown → (r : Root) × In r call.roots × (is_safe tree r.path ≡ false) × (is_gap tree r.path ≡ true) × (x ≡ PathScan r.path NotFound)) }
+{}
+
+/// An epoch begins with a call of reconcile, goes on by steps in which nothing fails, of which there are few, and has settled where
+/// no work is left. None of its steps asks for a rebuild.
+pub fn epochs()
+    ensures begins { (tree : Tree) (roots : List Root) (ok : Path → Bool) (calls : List Call) (filter : ℕ) (before : RecursorState)
+        → RecursorReached tree calls before → IsEpoch tree (record { roots = roots; ok = ok; steps = 0 }) calls (reconciled roots filter before) [] }
+    ensures reached { (tree : Tree) (call : Call) (calls : List Call) (after : RecursorState) (errors : List ShownError)
+        → IsEpoch tree call calls after errors → RecursorReached tree (call ∷ calls) after }
+    ensures more { (tree : Tree) (call : Call) (calls : List Call) (now : RecursorState) (errors : List ShownError) (e : Evidence) (epoch : IsEpoch tree call calls now errors)
+        → has_work now.queue now.sweep_due ≡ true → SeesFirst tree call.ok now.queue e → NoneRefused e.releases
+        → ((next : IsEpoch tree (one_more call) calls (told (stepped e now)) (errors ++ (stepped e now).shown)) × (next.before ≡ epoch.before)) × ((stepped e now).asks_rebuild ≡ false) }
+    ensures few { (tree : Tree) (call : Call) (calls : List Call) (after : RecursorState) (errors : List ShownError) (epoch : IsEpoch tree call calls after errors) (owned : ℕ)
+        → call.steps ≤ settle (length (kept_guards call.roots (map plain_guard epoch.before.guards))) (length call.roots) (length tree) owned }
+    ensures settled { (tree : Tree) (call : Call) (calls : List Call) (after : RecursorState) (errors : List ShownError)
+        → IsEpoch tree call calls after errors → has_work after.queue after.sweep_due ≡ false → HasSettled tree call after errors }
 {}

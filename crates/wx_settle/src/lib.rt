@@ -4,4 +4,4 @@
 
 mod laws;
 
-pub use laws::{settles, watched};
+pub use laws::{epochs, settles, watched};

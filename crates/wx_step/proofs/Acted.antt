@@ -26,7 +26,7 @@ use Rattle.wx_step.specs.Asking.{FirstAsksBelow, ItemAsksBelow, WorkAsksBelow}
 use Rattle.wx_step.specs.Stepped.{Acts, ActsItem, Firsts, Hands, Steps}
 
 -- no call was made
-no_evidence : Evidence
+pub no_evidence : Evidence
 no_evidence = record { found = Missing; guard_found = Nowhere; watched = Kept Absent; undone = None; root_is_safe = false; releases = [] }
 
 -- what isn't looked at doesn't count
@@ -83,7 +83,7 @@ item_released (Visit r) us e s = visited_released r e.found us e s
 item_released (Scan r p) us e s = refl
 item_released (Candidate r p) us e s = tried_released r p e.found us e s
 
-first_released : (q : List Work) (us : List (Option NotifyFault)) (e : Evidence) (s : RecursorState) → stepped_at q (record e { releases = us }) s ≡ stepped_at q e s
+pub first_released : (q : List Work) (us : List (Option NotifyFault)) (e : Evidence) (s : RecursorState) → stepped_at q (record e { releases = us }) s ≡ stepped_at q e s
 first_released [] us e s = refl
 first_released (Plain i ∷ q) us e s = item_released i us e (record s { queue = q })
 first_released (Probe p owners ∷ q) us e s = refl

@@ -1,18 +1,24 @@
 -- Which paths lie strictly below the root of a candidate, and what is asked about.
-use Rattle.std.proofs.Common.{◌≡◌, ℕ, zero, suc, ◌+◌, ◌<◌, true, List, [], ◌∷◌, length, drop, get_or, arith, ap, sym, ◌∙◌, inl, inr, subst}
-use Rattle.std.proofs.lemmas.Bool.{or_cases}
+use Rattle.std.proofs.Common.{◌≡◌, ℕ, zero, suc, ◌+◌, ◌<◌, ◌≤◌, Bool, true, false, List, [], ◌∷◌, length, drop, get_or, arith, refl, ap, sym, ◌∙◌, inl, inr, subst}
+use Rattle.std.specs.Prelude.{◌&&◌}
+use Rattle.std.proofs.lemmas.Bool.{cases_Bool, or_cases}
 use Rattle.wx_tree.specs.Lists.{In}
 use Rattle.wx_tree.specs.Paths.{Path, holds, holds_below, same}
 use Rattle.wx_tree.specs.Places.{place}
 use Rattle.wx_tree.specs.declared.root.Root.{Root}
-use Rattle.wx_tree.proofs.PathLemmas.{or_left, or_right, same-true}
+use Rattle.wx_tree.proofs.PathLemmas.{holds-length, or_left, or_right, same-true}
 use Rattle.wx_dir_check.specs.Checks.{is_below_any}
 use Rattle.wx_recursor.specs.Owners.{has_path}
+use Rattle.wx_recursor.specs.Seen.{passes}
+use Rattle.wx_recursor.specs.declared.answers.Found.TheVariants.{Here, Rejected}
+use Rattle.wx_recursor.specs.declared.known.Identity.{Identity}
 use Rattle.wx_recursor.specs.declared.work.Item.{Item}
 use Rattle.wx_recursor.specs.declared.work.Item.TheVariants.{Candidate}
 use Rattle.wx_recursor.specs.declared.work.Work.{Work}
 use Rattle.wx_recursor.specs.declared.work.Work.TheVariants.{Plain}
 use Rattle.wx_step.specs.Asking.{FirstAsksBelow, WorkAsksBelow}
+use Rattle.wx_step.specs.Calmly.{judged_found}
+use Rattle.wx_step.proofs.Sought.{and_left_false, and_right_false}
 
 deeper_below : (r p : Path) (n : ℕ) → holds r p ≡ true → n + length r < length p → holds_below r (drop n p) ≡ true
 deeper_below r [] n h k = absurd (omega arith)
@@ -49,3 +55,53 @@ pub candidate_first : (under : List Path) (q : List Work) (w : Work) (i : Item) 
 candidate_first under q w i r p h e is as_candidate f g =
     let a : WorkAsksBelow under (Plain (Candidate r p)) = (f, has_path-In r.path under g) in
     front_asks under q w h e (subst (WorkAsksBelow under) (sym (is ∙ ap Plain as_candidate)) a)
+
+-- what the answers say
+
+-- the root itself passes
+pub passes_root : (ok : Path → Bool) (r : Root) (p : Path) (n : ℕ) → holds r.path p ≡ true → n + length r.path ≡ length p → passes ok r (drop n p) ≡ true
+passes_root ok r [] zero h e = refl
+passes_root ok r [] (suc n) h e = absurd (omega arith)
+passes_root ok r (x ∷ p) zero h e =
+    elim (or_cases (same r.path (x ∷ p)) (holds r.path p) h) [
+      | inl a ↦ rw a refl
+      | inr b ↦ let le : length r.path ≤ length p = holds-length r.path p b in absurd (omega arith)
+    ]
+passes_root ok r (x ∷ p) (suc n) h e =
+    elim (or_cases (same r.path (x ∷ p)) (holds r.path p) h) [
+      | inl a ↦ let k : length r.path ≡ length (x ∷ p) = ap length (same-true r.path (x ∷ p) a) in absurd (omega arith)
+      | inr b ↦ passes_root ok r p n b (omega arith)
+    ]
+
+-- a path below it passes where it is accepted, and the one above it passes
+passes_one : (ok : Path → Bool) (r : Root) (p : Path) (n : ℕ) → n + length r.path < length p → passes ok r (drop n p) ≡ (ok (drop n p) && passes ok r (drop (suc n) p))
+passes_one ok r [] n h = absurd (omega arith)
+passes_one ok r (x ∷ p) zero h =
+    elim (cases_Bool (same r.path (x ∷ p))) [
+      | inl a ↦ let k : length r.path ≡ length (x ∷ p) = ap length (same-true r.path (x ∷ p) a) in absurd (omega arith)
+      | inr b ↦ rw b refl
+    ]
+passes_one ok r (x ∷ p) (suc n) h = passes_one ok r p n (omega arith)
+
+-- what is below one that doesn't pass doesn't
+none_passes : (ok : Path → Bool) (r : Root) (p : Path) (n : ℕ) → n + length r.path < length p → passes ok r (drop n p) ≡ false → passes ok r p ≡ false
+none_passes ok r p zero h f = f
+none_passes ok r [] (suc n) h f = absurd (omega arith)
+none_passes ok r (x ∷ p) (suc n) h f = passes_one ok r (x ∷ p) zero (omega arith) ∙ and_right_false (ok (x ∷ p)) (passes ok r p) (none_passes ok r p n (omega arith) f)
+
+pub accepted : (ok : Path → Bool) (r : Root) (p q : Path) (bytes : List ℕ) (n level : ℕ) → q ≡ drop n p → place bytes ≡ q → n + length r.path < length p → level ≡ suc n → true ≡ ok (place bytes) → passes ok r (drop level p) ≡ true → passes ok r (drop n p) ≡ true
+accepted ok r p q bytes n level e f h is y k =
+    let a : ok (drop n p) ≡ true = sym (y ∙ ap ok (f ∙ e)) in
+    let b : passes ok r (drop (suc n) p) ≡ true = subst (λ l. passes ok r (drop l p) ≡ true) is k in
+    passes_one ok r p n h ∙ rw (a, b) refl
+
+pub rejected : (ok : Path → Bool) (r : Root) (p q : Path) (i : Identity) (bytes : List ℕ) (n : ℕ) → q ≡ drop n p → place bytes ≡ q → n + length r.path < length p → false ≡ ok (place bytes) → Rejected ≡ judged_found ok r p i
+rejected ok r p q i bytes n e f h y =
+    let a : ok (drop n p) ≡ false = sym (y ∙ ap ok (f ∙ e)) in
+    let b : passes ok r p ≡ false = none_passes ok r p n h (passes_one ok r p n h ∙ and_left_false (ok (drop n p)) (passes ok r (drop (suc n) p)) a) in
+    rw b refl
+
+pub passed : (ok : Path → Bool) (r : Root) (p : Path) (i : Identity) (n : ℕ) → n ≡ 0 → passes ok r (drop n p) ≡ true → Here i ≡ judged_found ok r p i
+passed ok r p i n is h =
+    let b : passes ok r p ≡ true = subst (λ m. passes ok r (drop m p) ≡ true) is h in
+    rw b refl

@@ -1,6 +1,7 @@
 mod Judged
 mod Sought
 mod Acted
+mod Calmed
 pub mod Abouts
 pub mod Caused
 mod Raised

@@ -3,3 +3,4 @@ pub mod Causes
 pub mod Current
 pub mod Rests
 pub mod Stepped
+pub mod Calmly

@@ -1,5 +1,9 @@
 // What a look at a candidate finds, and what judges it.
-ghost use Rattle.std.specs.Prelude.{◌≡◌, Bool, true, OnOk};
+ghost use Rattle.wx_holding.specs.Calm.{IsReadable, IsStill};
+ghost use Rattle.wx_recursor.specs.Seen.{try_found};
+ghost use Rattle.wx_step.specs.Calmly.{judged_found};
+ghost use Rattle.wx_tree.specs.Trees.{Tree};
+ghost use Rattle.std.specs.Prelude.{◌≡◌, Bool, false, true, IfOk, OnOk};
 ghost use Rattle.wx_holding.specs.Holding.{state_of};
 ghost use Rattle.wx_scan.specs.Looked.{OnlyLooks, Rose};
 ghost use Rattle.wx_step.specs.Asking.{FirstAsksBelow};
@@ -30,6 +34,7 @@ pub fn check_dirs<D: DirCheck>(
     ensures place { D.place dirs.new ≡ D.place dirs.old }
     ensures kept { (b : D.Base) → D.kept b dirs.old → D.kept b dirs.new }
     ensures agrees { (ok : Path → Bool) → D.agrees ok dirs.new → D.agrees ok dirs.old }
+    ensures judged { (ok : Path → Bool) → D.agrees ok dirs.new → IfOk result (λ found. found ≡ judged_found ok root.now path.now identity) }
 {
     let mut level = path.depth().saturating_sub(root.path.depth());
     while level > 0 {
@@ -65,6 +70,7 @@ pub fn look_at_candidate<S: Scanner, D: DirCheck>(
     ensures dirs_place { D.place dirs.new ≡ D.place dirs.old }
     ensures kept { (b : D.Base) → D.kept b dirs.old → D.kept b dirs.new }
     ensures agrees { (ok : Path → Bool) → D.agrees ok dirs.new → D.agrees ok dirs.old }
+    ensures told { (t : Tree) (ok : Path → Bool) → follow ≡ false → IsStill t (S.looked scan.old) (S.looked scan.new) → IsReadable t path.now → D.agrees ok dirs.new → IfOk result (λ found. found ≡ try_found t ok root.now path.now) }
 {
     match look(alloc, path, follow, scan)? {
         Look::Directory(canonical) => {

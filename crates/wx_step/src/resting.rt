@@ -1,4 +1,7 @@
 // Where nothing can be let go.
+ghost use Rattle.wx_holding.specs.Calm.{IsStill, ReleasesCalmly, StandsBy};
+ghost use Rattle.wx_recursor.specs.Sound.{AreSound, things};
+ghost use Rattle.wx_tree.specs.Trees.{Tree};
 ghost use Rattle.std.specs.Prelude.{◌≡◌, true, [], IfOk, OnOk};
 ghost use Rattle.wx_holding.specs.Effects.{Releases};
 ghost use Rattle.wx_holding.specs.Holding.{state_of};
@@ -48,6 +51,7 @@ pub fn let_go<B: Backend, S: Scanner>(
     ensures place { S.place scan.new ≡ S.place scan.old }
     ensures state { OnOk result (Releases (state_of held.old) (state_of held.new)) }
     ensures rests { IfOk result (λ rests. rests ≡ true → IsAtRest (state_of held.new)) }
+    ensures calm { (t : Tree) → IsStill t (S.looked scan.old) (S.looked scan.new) → StandsBy t (state_of held.old).registrations (B.backing back.old) (B.fits back.old t) → AreSound (things (state_of held.old)) → OnOk result (ReleasesCalmly (state_of held.old) (state_of held.new) × StandsBy t (state_of held.new).registrations (B.backing back.new) (B.fits back.new t)) }
 {
     if at_rest {
         return Ok(true);

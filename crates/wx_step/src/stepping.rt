@@ -1,7 +1,12 @@
 // One step: the first of the queue, or the sweep, and then letting go.
+ghost use Rattle.wx_holding.specs.Calm.{IsCalm, IsNamed, StandsBy};
+ghost use Rattle.wx_recursor.specs.Sound.{AreSound, things};
+ghost use Rattle.wx_step.specs.Calmly.{ActsCalmly, FirstsCalmly, HandsCalmly, IsFirstReadable, IsReadableItem, StepsCalmly};
+ghost use Rattle.wx_tree.specs.Trees.{Tree};
 ghost use Rattle.std.specs.Prelude.{◌≡◌, ◌⊎◌, Bool, true, [], IfOk, OnOk};
 ghost use Rattle.wx_holding.specs.Holding.{state_of};
 ghost use Rattle.wx_recursor.specs.Steps.{told};
+ghost use Rattle.wx_recursor.specs.declared.work.Work.TheVariants.{Plain};
 ghost use Rattle.wx_scan.specs.Looked.{OnlyLooks, Rose};
 ghost use Rattle.wx_step.specs.Asking.{FirstAsksBelow, ItemAsksBelow, WorkAsksBelow};
 ghost use Rattle.wx_step.specs.Rests.{IsAtRest};
@@ -31,6 +36,7 @@ pub struct Shown {
 fn act_item<B: Backend, S: Scanner, D: DirCheck>(
     alloc: Global,
     item: Item,
+    follow: bool,
     held: &mut Held,
     back: &mut B,
     scan: &mut S,
@@ -46,20 +52,21 @@ fn act_item<B: Backend, S: Scanner, D: DirCheck>(
     ensures kept { (b : D.Base) → D.kept b dirs.old → D.kept b dirs.new }
     ensures agrees { (ok : Path → Bool) → D.agrees ok dirs.new → D.agrees ok dirs.old }
     ensures state { OnOk result (ActsItem item (state_of held.old) (state_of held.new)) }
+    ensures calm { (t : Tree) (ok : Path → Bool) → IsCalm t follow (S.looked scan.old) (S.looked scan.new) (state_of held.old).registrations (B.backing back.old) (B.fits back.old t) → IsNamed t → D.agrees ok dirs.new → IsReadableItem t item → OnOk result (ActsCalmly t ok item (state_of held.old) (state_of held.new) × StandsBy t (state_of held.new).registrations (B.backing back.new) (B.fits back.new t)) }
 {
     match item {
-        Item::Guard(root) => held.guard(alloc, &root, back, scan),
+        Item::Guard(root) => held.guard(alloc, &root, follow, back, scan),
         Item::Visit(root) => {
-            let found = look_at_root(alloc, &root.path, held.follow, scan)?;
-            held.visit(alloc, &root, found, back, scan)
+            let found = look_at_root(alloc, &root.path, follow, scan)?;
+            held.visit(alloc, &root, found, follow, back, scan)
         }
         Item::Scan(root, path) => {
             let found = list(alloc, &path, scan)?;
             held.take_listing(alloc, &root, &path, found)
         }
         Item::Candidate(root, path) => {
-            let found = look_at_candidate(alloc, &root, &path, held.follow, scan, dirs)?;
-            held.try_candidate(alloc, &root, &path, found, back, scan)
+            let found = look_at_candidate(alloc, &root, &path, follow, scan, dirs)?;
+            held.try_candidate(alloc, &root, &path, found, follow, back, scan)
         }
     }
 }
@@ -68,6 +75,7 @@ fn act_item<B: Backend, S: Scanner, D: DirCheck>(
 fn act<B: Backend, S: Scanner, D: DirCheck>(
     alloc: Global,
     work: Work,
+    follow: bool,
     held: &mut Held,
     back: &mut B,
     scan: &mut S,
@@ -83,11 +91,12 @@ fn act<B: Backend, S: Scanner, D: DirCheck>(
     ensures kept { (b : D.Base) → D.kept b dirs.old → D.kept b dirs.new }
     ensures agrees { (ok : Path → Bool) → D.agrees ok dirs.new → D.agrees ok dirs.old }
     ensures state { OnOk result (Acts work (state_of held.old) (state_of held.new)) }
+    ensures calm { (t : Tree) (ok : Path → Bool) (i : Item) → work ≡ Plain i → IsCalm t follow (S.looked scan.old) (S.looked scan.new) (state_of held.old).registrations (B.backing back.old) (B.fits back.old t) → IsNamed t → D.agrees ok dirs.new → IsReadableItem t i → OnOk result (ActsCalmly t ok i (state_of held.old) (state_of held.new) × StandsBy t (state_of held.new).registrations (B.backing back.new) (B.fits back.new t)) }
 {
     match work {
-        Work::Plain(item) => act_item(alloc, item, held, back, scan, dirs),
+        Work::Plain(item) => act_item(alloc, item, follow, held, back, scan, dirs),
         Work::Probe(path, owned) => {
-            let found = look_here(alloc, &path, held.follow, scan)?;
+            let found = look_here(alloc, &path, follow, scan)?;
             probe(alloc, &path, owned.as_slice(), found, held)
         }
     }
@@ -96,6 +105,7 @@ fn act<B: Backend, S: Scanner, D: DirCheck>(
 /// Does the first of the queue, or the sweep where nothing is queued. It fails only for want of memory.
 fn first<B: Backend, S: Scanner, D: DirCheck>(
     alloc: Global,
+    follow: bool,
     held: &mut Held,
     back: &mut B,
     scan: &mut S,
@@ -111,13 +121,14 @@ fn first<B: Backend, S: Scanner, D: DirCheck>(
     ensures kept { (b : D.Base) → D.kept b dirs.old → D.kept b dirs.new }
     ensures agrees { (ok : Path → Bool) → D.agrees ok dirs.new → D.agrees ok dirs.old }
     ensures state { OnOk result (Firsts (state_of held.old) (state_of held.new)) }
+    ensures calm { (t : Tree) (ok : Path → Bool) → IsCalm t follow (S.looked scan.old) (S.looked scan.new) (state_of held.old).registrations (B.backing back.old) (B.fits back.old t) → IsNamed t → D.agrees ok dirs.new → IsFirstReadable t (state_of held.old).queue → OnOk result (FirstsCalmly t ok (state_of held.old) (state_of held.new) × StandsBy t (state_of held.new).registrations (B.backing back.new) (B.fits back.new t)) }
 {
     match held.queue.pop_front() {
         None => {
             held.sweep();
             Ok(())
         }
-        Some(work) => act(alloc, work, held, back, scan, dirs),
+        Some(work) => act(alloc, work, follow, held, back, scan, dirs),
     }
 }
 
@@ -126,6 +137,7 @@ fn first<B: Backend, S: Scanner, D: DirCheck>(
 fn run<B: Backend, S: Scanner, D: DirCheck>(
     alloc: Global,
     at_rest: bool,
+    follow: bool,
     held: &mut Held,
     back: &mut B,
     scan: &mut S,
@@ -143,10 +155,11 @@ fn run<B: Backend, S: Scanner, D: DirCheck>(
     ensures agrees { (ok : Path → Bool) → D.agrees ok dirs.new → D.agrees ok dirs.old }
     ensures state { OnOk result (Steps (state_of held.old) (state_of held.new)) }
     ensures rests { IfOk result (λ rests. rests ≡ true → IsAtRest (state_of held.new)) }
+    ensures calm { (t : Tree) (ok : Path → Bool) → IsCalm t follow (S.looked scan.old) (S.looked scan.new) (state_of held.old).registrations (B.backing back.old) (B.fits back.old t) → IsNamed t → D.agrees ok dirs.new → IsFirstReadable t (state_of held.old).queue → AreSound (things (state_of held.old)) → OnOk result (StepsCalmly t ok (state_of held.old) (state_of held.new) × StandsBy t (state_of held.new).registrations (B.backing back.new) (B.fits back.new t)) }
 {
     let owners = held.owners.len();
     let leaves = at_rest && leaves_guards(held);
-    first(alloc, held, back, scan, dirs)?;
+    first(alloc, follow, held, back, scan, dirs)?;
     let stays = leaves && held.owners.len() >= owners;
     let_go(alloc, stays, held, back, scan)
 }
@@ -174,6 +187,7 @@ fn hand_out(alloc: Global, at_rest: bool, held: &mut Held) -> Shown
 pub fn step<B: Backend, S: Scanner, D: DirCheck>(
     alloc: Global,
     at_rest: bool,
+    follow: bool,
     held: &mut Held,
     back: &mut B,
     scan: &mut S,
@@ -191,7 +205,8 @@ pub fn step<B: Backend, S: Scanner, D: DirCheck>(
     ensures agrees { (ok : Path → Bool) → D.agrees ok dirs.new → D.agrees ok dirs.old }
     ensures state { IfOk result (λ r. Hands (state_of held.old) (state_of held.new) r.errors.items r.asks_rebuild) }
     ensures rests { IfOk result (λ r. r.at_rest ≡ true → IsAtRest (state_of held.new)) }
+    ensures calm { (t : Tree) (ok : Path → Bool) → IsCalm t follow (S.looked scan.old) (S.looked scan.new) (state_of held.old).registrations (B.backing back.old) (B.fits back.old t) → IsNamed t → D.agrees ok dirs.new → IsFirstReadable t (state_of held.old).queue → AreSound (things (state_of held.old)) → IfOk result (λ r. HandsCalmly t ok (state_of held.old) (state_of held.new) r.errors.items r.asks_rebuild × StandsBy t (state_of held.new).registrations (B.backing back.new) (B.fits back.new t)) }
 {
-    let rests = run(alloc, at_rest, held, back, scan, dirs)?;
+    let rests = run(alloc, at_rest, follow, held, back, scan, dirs)?;
     Ok(hand_out(alloc, rests, held))
 }

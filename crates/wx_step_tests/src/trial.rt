@@ -32,6 +32,7 @@ pub fn expect_yes(rt: &impl Abort, answer: Result<bool, Memory>, case: &str) {
 #[derive(Drop)]
 pub struct Trial {
     pub alloc: Global,
+    pub follow: bool,
     pub held: Held,
     pub back: FailingBackend,
     pub scan: Changing,
@@ -97,7 +98,8 @@ impl Trial {
     pub fn new(alloc: Global, follow: bool, nodes: &str) -> Result<Trial, Memory> {
         Ok(Trial {
             alloc,
-            held: Held::new(alloc, follow),
+            follow,
+            held: Held::new(alloc),
             back: FailingBackend::new(alloc),
             scan: Changing::new(tree(alloc, nodes)?, MemTree::new(alloc)?, u64::MAX),
             dirs: Refusing::new(alloc),
@@ -146,6 +148,7 @@ impl Trial {
         let shown = step(
             self.alloc,
             at_rest,
+            self.follow,
             &mut self.held,
             &mut self.back,
             &mut self.scan,

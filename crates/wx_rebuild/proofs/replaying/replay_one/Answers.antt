@@ -10,12 +10,12 @@ use Rattle.wx_rebuild.proofs.Replayed.{refused_registrations, replays_kept}
 use Rattle.wx_rebuild.proofs.replaying.replay_one.Goals as goal
 
 pub returns-in-Ok-clause-state : goal.returns-in-Ok-clause-state
-returns-in-Ok-clause-state g c = replays_kept c.args.registration.now c.in_ok-copy-in-Ok.field-0 _ (state_of c.args.held.now) c.in_ok-push-in-Ok.ensures.items c.in_ok-copy-in-Ok.ensures
+returns-in-Ok-clause-state g c = replays_kept c.args.registration.now c.in_ok-copy-in-Ok.field-0 _ (state_of c.args.held.now) c.in_ok-push-in-Ok.ensures c.in_ok-copy-in-Ok.ensures
 
 pub returns-in-Ok-clause-watches : goal.returns-in-Ok-clause-watches
 returns-in-Ok-clause-watches g c =
     keeps_watch c.args.registration.now _ is_watch_fault _ _ _ _ c.in_ok-spelled.ensures.spelled c.in_ok-spelled.ensures.back c.in-Ok.ensures.changes
-    (c.in_ok-push-in-Ok.ensures.items ∙ ap (λ x. (state_of c.args.held.now).registrations ++ x ∷ []) c.in_ok-copy-in-Ok.ensures)
+    (c.in_ok-push-in-Ok.ensures ∙ ap (λ x. (state_of c.args.held.now).registrations ++ x ∷ []) c.in_ok-copy-in-Ok.ensures)
 
 pub returns-clause-state : goal.returns-clause-state
 returns-clause-state g c = ok_map c.refuse.result _ _ (λ h. (Failed c.in-Err.fault, h)) c.refuse.ensures

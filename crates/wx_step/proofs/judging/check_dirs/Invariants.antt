@@ -1,5 +1,6 @@
-use Rattle.std.proofs.Common.{◌≡◌, ◌≤◌, ◌+◌, Bool, length}
+use Rattle.std.proofs.Common.{◌≡◌, ◌≤◌, ◌+◌, Bool, true, drop, length}
 use Rattle.wx_tree.specs.Paths.{Path}
+use Rattle.wx_recursor.specs.Seen.{passes}
 use Rattle.wx_step.proofs.judging.check_dirs.Given as goal
 
 abbrev pub invariant-loop-level : goal.invariant-loop-level
@@ -9,6 +10,8 @@ invariant-loop-level g l =
       place : g.D.DirCheck.place l.dirs ≡ g.D.DirCheck.place l.fn.dirs;
       kept : (b : g.D.DirCheck.Base) → g.D.DirCheck.kept b l.fn.dirs → g.D.DirCheck.kept b l.dirs;
       agrees : (ok : Path → Bool) → g.D.DirCheck.agrees ok l.dirs → g.D.DirCheck.agrees ok l.fn.dirs;
+      judged : (ok : Path → Bool) → g.D.DirCheck.agrees ok l.dirs → passes ok l.fn.root (drop l.level l.fn.path) ≡ true;
+      identity : l.identity ≡ l.fn.identity;
       within : 1 ≤ l.level → l.level + length l.fn.root.path ≤ length l.fn.path;
     }
 

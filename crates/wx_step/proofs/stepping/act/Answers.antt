@@ -1,8 +1,10 @@
-use Rattle.std.proofs.Common.{ap, ◌∙◌}
+use Rattle.std.proofs.Common.{ap, sym, ◌∙◌, subst}
 use Rattle.wx_recursor.specs.Steps.{probed}
 use Rattle.wx_holding.specs.Holding.{state_of}
 use Rattle.wx_holding.proofs.Results.{ok_map}
+use Rattle.wx_step.specs.Calmly.{ActsCalmly, IsReadableItem}
 use Rattle.wx_step.proofs.Acted.{acts_plain, acts_probe, item_asks}
+use Rattle.wx_step.proofs.Calmed.{no_probe, same_item}
 use Rattle.wx_step.proofs.Raised.{looked}
 use Rattle.wx_step.proofs.stepping.act.Goals as goal
 
@@ -20,3 +22,12 @@ returns-in_ok-found-in-Probe-clause-state g c =
 
 pub returns-in_ok-found-in-Probe-clause-raised : goal.returns-in_ok-found-in-Probe-clause-raised
 returns-in_ok-found-in-Probe-clause-raised g c = looked c.probe.result _ _ c.in_ok-found-in-Probe.ensures.raised
+
+pub returns-in-Plain-clause-calm : goal.returns-in-Plain-clause-calm
+returns-in-Plain-clause-calm g c = λ t ok i is calm named agreed readable.
+    let same = same_item c.args.work c.in-Plain.item i c.in-Plain.is is in
+    ok_map c.act_item.result _ _ (λ h. (subst (λ x. ActsCalmly t ok x (state_of c.args.held.now) (state_of c.act_item.new.held)) same h.0, h.1))
+    (c.act_item.ensures.calm t ok calm named agreed (subst (IsReadableItem t) (sym same) readable))
+
+pub returns-in_ok-found-in-Probe-clause-calm : goal.returns-in_ok-found-in-Probe-clause-calm
+returns-in_ok-found-in-Probe-clause-calm g c = λ t ok i is calm named agreed readable. no_probe c.args.work i c.in-Probe.path c.in-Probe.owned c.in-Probe.is is _

@@ -8,6 +8,7 @@ use Rattle.wx_holding.proofs.LettingGo.{retry_registrations}
 use Rattle.wx_recursor.specs.Holding.{show}
 use Rattle.wx_recursor.specs.declared.errors.ScanFault.TheVariants.{Io}
 use Rattle.wx_recursor.specs.declared.errors.ShownError.TheVariants.{Filter, PathScan}
+use Rattle.wx_holding.proofs.CalmActs.{candidate_identity, fit_candidate, stands_same, tries_calm}
 use Rattle.wx_holding.proofs.held.Held.try_candidate.Goals as goal
 
 pub returns-in-Missing-clause-state : goal.returns-in-Missing-clause-state
@@ -48,3 +49,33 @@ returns-in-Refused-clause-watches g c = ok_map c.show_filter.result _ _ (λ h. k
 
 pub returns-clause-watches : goal.returns-clause-watches
 returns-clause-watches g c = keeps_same _ _ _ refl
+
+pub returns-in-Missing-clause-calm : goal.returns-in-Missing-clause-calm
+returns-in-Missing-clause-calm g c = λ t ok calm read found.
+    ok_map c.miss_candidate.result _ _ (λ h. (tries_calm t ok c.args.root.now c.args.path.now c.args.found _ (state_of c.args.self.now) _ c.in-Missing.is h, stands_same t _ _ _ _ (ap (λ x. x.registrations) h) calm.stands)) c.miss_candidate.ensures
+
+pub returns-in-Barred-clause-calm : goal.returns-in-Barred-clause-calm
+returns-in-Barred-clause-calm g c = λ t ok calm read found.
+    (tries_calm t ok c.args.root.now c.args.path.now c.args.found _ (state_of c.args.self.now) _ c.in-Barred.is c.lose.ensures, stands_same t _ _ _ _ (ap (λ x. x.registrations) c.lose.ensures) calm.stands)
+
+pub returns-in-Rejected-clause-calm : goal.returns-in-Rejected-clause-calm
+returns-in-Rejected-clause-calm g c = λ t ok calm read found.
+    (tries_calm t ok c.args.root.now c.args.path.now c.args.found _ (state_of c.args.self.now) _ c.in-Rejected.is c.lose-in-Rejected.ensures, stands_same t _ _ _ _ (ap (λ x. x.registrations) c.lose-in-Rejected.ensures) calm.stands)
+
+pub returns-in-Fault-clause-calm : goal.returns-in-Fault-clause-calm
+returns-in-Fault-clause-calm g c = λ t ok calm read found.
+    ok_map c.show_fault.result _ _ (λ h. (tries_calm t ok c.args.root.now c.args.path.now c.args.found _ (state_of c.args.self.now) _ c.in-Fault.is h, stands_same t _ _ _ _ (ap (λ x. x.registrations) h ∙ retry_registrations c.args.root.now c.args.path.now (show (PathScan c.in-Fault.at (Io c.in-Fault.code)) (state_of c.args.self.now))) calm.stands)) c.show_fault.ensures
+
+pub returns-in-Refused-clause-calm : goal.returns-in-Refused-clause-calm
+returns-in-Refused-clause-calm g c = λ t ok calm read found.
+    ok_map c.show_filter.result _ _ (λ h. (tries_calm t ok c.args.root.now c.args.path.now c.args.found _ (state_of c.args.self.now) _ c.in-Refused.is h, stands_same t _ _ _ _ (ap (λ x. x.registrations) h ∙ retry_registrations c.args.root.now c.args.path.now (show (Filter c.in-Refused.error) (state_of c.args.self.now))) calm.stands)) c.show_filter.ensures
+
+pub returns-in-Here-clause-calm : goal.returns-in-Here-clause-calm
+returns-in-Here-clause-calm g c = λ t ok calm read found.
+    ok_map c.own_candidate.result _ _
+    (λ h. (tries_calm t ok c.args.root.now c.args.path.now c.args.found _ (state_of c.args.self.now) _ c.in-Here.is h.0, h.1))
+    (c.own_candidate.ensures.calm t calm (fit_candidate t ok c.args.root.now c.args.path.now c.args.found c.in-Here.identity read c.in-Here.is found) (candidate_identity t ok c.args.root.now c.args.path.now c.args.found c.in-Here.identity c.in-Here.is found))
+
+pub returns-clause-calm : goal.returns-clause-calm
+returns-clause-calm g c = λ t ok calm read found.
+    (tries_calm t ok c.args.root.now c.args.path.now c.args.found _ (state_of c.args.self.now) _ c.in-Entries.is refl, calm.stands)

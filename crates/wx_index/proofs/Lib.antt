@@ -1,0 +1,5 @@
+mod AskedLemmas
+mod ChainLemmas
+mod KnownLemmas
+mod OwnerLemmas
+mod SearchLemmas
