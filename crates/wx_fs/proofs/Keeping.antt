@@ -1,5 +1,5 @@
 -- What each call of a recursor keeps.
-use Rattle.std.proofs.Common.{◌≡◌, ℕ, Bool, true, false, List, [], ◌∷◌, inl, inr, Result, Ok, Err, refl, sym, subst}
+use Rattle.std.proofs.Common.{◌≡◌, ◌∙◌, ◌++◌, ℕ, Bool, true, false, List, [], ◌∷◌, inl, inr, Result, Ok, Err, refl, sym, subst}
 use Rattle.std.specs.Prelude.{◌&&◌, OnErr, OnOk}
 use Rattle.std.specs.Coded.{Coded-set, coded_bool}
 use Rattle.std.proofs.Math.Logic.{∥∥₁_elim, ∥∥₁_map}
@@ -10,24 +10,24 @@ use Rattle.wx_tree.specs.Lists.{In}
 use Rattle.wx_tree.specs.Paths.{Path, holds, same}
 use Rattle.wx_tree.proofs.PathLemmas.{or_left, or_right, same-refl, same-true}
 use Rattle.wx_tree.specs.declared.root.Root.{Root}
-use Rattle.wx_recursor.specs.Calls.{fresh, reconciled, rescanned}
+use Rattle.wx_recursor.specs.Calls.{aliases, created, created_one, for_each, fresh, reconciled, removed, removed_one, renamed, rescanned, unsure, unsure_one}
 use Rattle.wx_recursor.specs.Owners.{has_path}
-use Rattle.wx_recursor.specs.Rebuilds.{installed, prepared, replay_deferred, replayed}
-use Rattle.wx_recursor.specs.Sound.{IsItemOf}
+use Rattle.wx_recursor.specs.Rebuilds.{installed, lent, prepared, replay_deferred, replayed}
+use Rattle.wx_recursor.specs.Sound.{AreCovered, AreSound, IsItemOf, parts, things}
 use Rattle.wx_recursor.specs.States.{RecursorState}
 use Rattle.wx_recursor.specs.Steps.{stepped, told}
 use Rattle.wx_recursor.specs.declared.work.Item.{Item}
 use Rattle.wx_recursor.specs.declared.work.Item.TheVariants.{Candidate, Guard, Scan, Visit}
 use Rattle.wx_recursor.specs.declared.work.Work.{Work}
 use Rattle.wx_recursor.specs.declared.work.Work.TheVariants.{Plain, Probe}
-use Rattle.wx_recursor.proofs.Coverage.{prepared_covers, reconcile_covers, replayed_covers, step_covers}
+use Rattle.wx_recursor.proofs.Coverage.{created_covers, prepared_covers, reconcile_covers, removed_covers, renamed_covers, replayed_covers, step_covers, unsure_covers}
 use Rattle.wx_recursor.proofs.SoundRebuild.{prepared_sound, replayed_sound}
-use Rattle.wx_recursor.proofs.SoundSteps.{fresh_sound, reconcile_sound, step_sound}
+use Rattle.wx_recursor.proofs.SoundSteps.{created_sound, fresh_sound, reconcile_sound, removed_sound, renamed_sound, step_sound, unsure_sound}
 use Rattle.wx_step.specs.Asking.{AreAllowed, FirstAsksBelow}
 use Rattle.wx_step.specs.Current.{AreAbout, Current, IsWorkAbout, current}
 use Rattle.wx_step.specs.Rests.{IsAtRest}
 use Rattle.wx_step.proofs.Rests.{rests_known}
-use Rattle.wx_step.proofs.Abouts.{asks_where_allowed, prepared_about, reconcile_about, replayed_about, step_about}
+use Rattle.wx_step.proofs.Abouts.{asks_where_allowed, created_about, prepared_about, reconcile_about, removed_about, renamed_about, replayed_about, step_about, unsure_about}
 use Rattle.wx_scan.specs.Told.{AreNames}
 use Rattle.wx_fs.specs.Standing.{IsKept}
 use Rattle.wx_fs.specs.Told.{TellsReplay, TellsStep}
@@ -84,6 +84,19 @@ rests_told s spent rests h = ∣ (λ _. h) ∣₁
 
 pub rests_still : (s : RecursorState) (spent rests : Bool) → spent ≡ false → ∥ (spent ≡ false → rests ≡ true → IsAtRest s) ∥₁ → rests ≡ true → IsAtRest s
 rests_still s spent rests e told h = rests_known s (∥∥₁_map told (λ f. f e h))
+
+-- where the backend is doesn't count
+still_at_rest : (s : RecursorState) → IsAtRest s → IsAtRest (lent s)
+still_at_rest s h = record { known = h.known; registrations = h.registrations; waiting = h.waiting; lost = h.lost }
+
+pub rests_lent : (s t : RecursorState) (spent rests : Bool) → t ≡ lent s → ∥ (spent ≡ false → rests ≡ true → IsAtRest s) ∥₁ → ∥ (spent ≡ false → rests ≡ true → IsAtRest t) ∥₁
+rests_lent s t spent rests e told = ∥∥₁_map told (λ f unspent still. subst IsAtRest (sym e) (still_at_rest s (f unspent still)))
+
+still_installed : (s : RecursorState) → IsAtRest s → IsAtRest (installed s)
+still_installed s h = record { known = h.known; registrations = h.registrations; waiting = h.waiting; lost = h.lost }
+
+pub rests_installed : (s t : RecursorState) (spent rests : Bool) → t ≡ installed s → ∥ (spent ≡ false → rests ≡ true → IsAtRest s) ∥₁ → ∥ (spent ≡ false → rests ≡ true → IsAtRest t) ∥₁
+rests_installed s t spent rests e told = ∥∥₁_map told (λ f unspent still. subst IsAtRest (sym e) (still_installed s (f unspent still)))
 
 -- ---- what each call keeps
 
@@ -150,6 +163,46 @@ replay_kept kind s t errors rebuild h k =
       named = λ r m. k.named r (about.roots r m);
       told = refl;
     })
+
+pub lent_kept : (s t : RecursorState) → t ≡ lent s → IsKept s → IsKept t
+lent_kept s t e k = subst IsKept (sym e) (record { sound = k.sound; covered = k.covered; about = k.about; named = k.named; told = k.told })
+
+-- ---- what is kept where the tree changed
+
+-- what is said at each of some paths shows nothing
+each_shows_none : (f : Path → RecursorState → RecursorState) (ps : List Path) (s : RecursorState) → ((p : Path) (x : RecursorState) → (f p x).shown ≡ x.shown) → (for_each f ps s).shown ≡ s.shown
+each_shows_none f [] s none = refl
+each_shows_none f (p ∷ ps) s none = each_shows_none f ps (f p s) none ∙ none p s
+
+-- from its parts
+changed_kept : (s u t : RecursorState) → AreSound (things u) → AreCovered (parts u) → AreAbout s.roots (current u) → u.shown ≡ s.shown → t ≡ u → IsKept s → IsKept t
+changed_kept s u t sound covered about none e k = subst IsKept (sym e) (record {
+  sound = sound;
+  covered = covered;
+  about = about_own s.roots (current u) about;
+  named = λ r m. k.named r (about.roots r m);
+  told = none ∙ k.told;
+})
+
+pub created_kept : (p : Path) (s t : RecursorState) → t ≡ created p s → IsKept s → IsKept t
+created_kept p s t e k =
+    changed_kept s (created p s) t (created_sound p s k.sound) (created_covers p s k.covered) (created_about s.roots p s k.about)
+    (each_shows_none created_one (aliases p s) s (λ q x. refl)) e k
+
+pub removed_kept : (p : Path) (s t : RecursorState) → t ≡ removed p s → IsKept s → IsKept t
+removed_kept p s t e k =
+    changed_kept s (removed p s) t (removed_sound p s k.sound) (removed_covers p s k.covered) (removed_about s.roots p s k.about)
+    (each_shows_none removed_one (aliases p s) s (λ q x. refl)) e k
+
+pub renamed_kept : (p q : Path) (s t : RecursorState) → t ≡ renamed p q s → IsKept s → IsKept t
+renamed_kept p q s t e k =
+    changed_kept s (renamed p q s) t (renamed_sound p q s k.sound) (renamed_covers p q s k.covered) (renamed_about s.roots p q s k.about)
+    (each_shows_none created_one (aliases q s) (for_each removed_one (aliases p s ++ aliases q s) s) (λ a x. refl) ∙ each_shows_none removed_one (aliases p s ++ aliases q s) s (λ a x. refl)) e k
+
+pub unsure_kept : (p : Path) (s t : RecursorState) → t ≡ unsure p s → IsKept s → IsKept t
+unsure_kept p s t e k =
+    changed_kept s (unsure p s) t (unsure_sound p s k.sound) (unsure_covers p s k.covered) (unsure_about s.roots p s k.about)
+    (each_shows_none unsure_one (aliases p s) s (λ q x. refl)) e k
 
 -- ---- below which paths a step asks, as a test
 

@@ -15,7 +15,8 @@ use Rattle.wx_tree.specs.declared.root.Root.{Root}
 use Rattle.wx_tree.proofs.ListLemmas.{In-cases, In-filter}
 use Rattle.wx_scan.specs.Told.{AreNames, is_name}
 use Rattle.wx_recursor.specs.Owners.{has_root}
-use Rattle.wx_fs.specs.Kept.{absolute, keep_root, keep_roots, kept_root, kept_roots}
+use Rattle.wx_lane.specs.Public.{absolute}
+use Rattle.wx_fs.specs.Kept.{keep_root, keep_roots, kept_root, kept_roots}
 
 -- ---- the parts of a path
 

@@ -1,18 +1,13 @@
 -- Which roots a reconcile keeps.
-use Rattle.std.specs.Prelude.{ℕ, List, [], ◌∷◌, ◌++◌, codes, if◌then◌else◌}
+use Rattle.std.specs.Prelude.{ℕ, List, [], ◌∷◌, ◌++◌, if◌then◌else◌}
 use Rattle.wx_watch.specs.declared.watched.WatchedPath.{WatchedPath}
-use Rattle.wx_paths.specs.Paths.{is_absolute, normalize}
-use Rattle.wx_tree.specs.Places.{place}
 use Rattle.wx_tree.specs.declared.root.Root.{Root}
+use Rattle.wx_lane.specs.Public.{named}
 use Rattle.wx_recursor.specs.Owners.{has_root}
-
--- a path as it is seen from this folder
-abbrev pub absolute : List ℕ → List ℕ → List ℕ
-absolute folder path = if is_absolute path then path else folder ++ codes "/" ++ path
 
 -- what is to be watched for this path: it is made absolute by the folder, and normalised
 abbrev pub kept_root : List ℕ → WatchedPath → Root
-kept_root folder w = record { path = place (normalize (absolute folder w.path)); recursive = w.recursive }
+kept_root folder w = record { path = named folder w.path; recursive = w.recursive }
 
 abbrev pub keep_root : Root → List Root → List Root
 keep_root r rs = if has_root r rs then rs else rs ++ r ∷ []

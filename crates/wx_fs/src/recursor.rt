@@ -8,6 +8,7 @@ ghost use Rattle.wx_fs.specs.Kept.{kept_roots};
 ghost use Rattle.wx_fs.specs.Standing.{IsKept};
 ghost use Rattle.wx_fs.specs.Told.{TellsReplay, TellsStep};
 ghost use Rattle.wx_holding.specs.Holding.{state_of};
+ghost use Rattle.wx_lane.specs.Public.{event_is_public};
 ghost use Rattle.wx_paths.specs.Paths.{is_absolute};
 ghost use Rattle.wx_recursor.specs.Calls.{fresh, has_work, needs_retry, reconciled, rescanned};
 ghost use Rattle.wx_recursor.specs.Rebuilds.{installed, prepared, replay_count, replay_deferred};
@@ -25,8 +26,9 @@ use std::mem;
 use wx_dir_check::DirCheck;
 use wx_error::RuntimeError;
 use wx_holding::Held;
+use wx_lane::event_is_public;
 use wx_rebuild::{defer, install, prepare, replay, replay_count};
-use wx_scan::{Backend, Scanner};
+use wx_scan::{Backend, Notify, Scanner};
 use wx_step::step;
 use wx_text::{List, Memory};
 use wx_watch::{WatchedPath, Watcher};
@@ -44,7 +46,7 @@ pub struct StepResult {
 /// calls nothing, and it has no work.
 #[derive(Drop)]
 pub struct Recursor<B: Backend + Drop> {
-    alloc: Global,
+    pub(crate) alloc: Global,
     pub held: Held,
     pub back: Option<B>,
     pub kind: Watcher,
@@ -275,6 +277,14 @@ impl<B: Backend + Drop> Recursor<B> {
         ensures { result ≡ needs_retry (state_of self.now.held) }
     {
         self.held.needs_retry()
+    }
+
+    /// Whether this notification is public for the folder and the roots that stand: it names no path, or one that, seen from the
+    /// folder and normalised, is a root, lies below a recursive root, or is a direct entry of another root. It takes no memory.
+    pub fn event_is_public(&self, n: &Notify) -> bool
+        ensures { result ≡ event_is_public self.now.cwd (state_of self.now.held).roots n.now }
+    {
+        event_is_public(n, &self.cwd, self.held.roots.as_slice())
     }
 
     /// The backend, where one is installed.

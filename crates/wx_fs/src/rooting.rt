@@ -1,6 +1,7 @@
-// Which roots a reconcile keeps.
+// Where paths lead from the folder, and which roots a reconcile keeps.
 ghost use Rattle.std.specs.Prelude.{◌≡◌, IfOk, OnOk};
-ghost use Rattle.wx_fs.specs.Kept.{absolute, keep_root, kept_root, kept_roots};
+ghost use Rattle.wx_fs.specs.Kept.{keep_root, kept_root, kept_roots};
+ghost use Rattle.wx_lane.specs.Public.{absolute, named};
 
 use std::alloc::Global;
 use wx_paths::normalize;
@@ -23,14 +24,21 @@ fn absolute(alloc: Global, folder: &TextPath, path: &TextPath) -> Result<TextPat
     Ok(TextPath::new(text))
 }
 
+/// Where the path leads from this folder. It fails only for want of memory.
+pub fn named(alloc: Global, folder: &TextPath, path: &TextPath) -> Result<Place, Memory>
+    ensures { IfOk result (λ place. place ≡ named folder.now path.now) }
+{
+    let made = absolute(alloc, folder, path)?;
+    let normal = normalize(alloc, &made)?;
+    Place::new(alloc, &normal)
+}
+
 /// What is to be watched for this path. It fails only for want of memory.
 fn kept_root(alloc: Global, folder: &TextPath, watched: &WatchedPath) -> Result<Root, Memory>
     ensures { IfOk result (λ root. root ≡ kept_root folder.now watched.now) }
 {
-    let made = absolute(alloc, folder, &watched.path)?;
-    let normal = normalize(alloc, &made)?;
     Ok(Root {
-        path: Place::new(alloc, &normal)?,
+        path: named(alloc, folder, &watched.path)?,
         recursive: watched.recursive,
     })
 }

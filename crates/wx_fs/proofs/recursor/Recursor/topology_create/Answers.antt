@@ -1,0 +1,10 @@
+use Rattle.wx_holding.specs.Holding.{state_of}
+use Rattle.wx_recursor.specs.Calls.{created}
+use Rattle.wx_fs.proofs.Keeping.{either_keeps, created_kept, restless, unspent_keeps}
+use Rattle.wx_fs.proofs.recursor.Recursor.topology_create.Goals as goal
+
+pub invariant_of-self : goal.invariant_of-self
+invariant_of-self g c =
+    let s = state_of c.args.self.now.held in
+    let t = state_of c.create.new.held in
+    record { keeps = unspent_keeps s t c.args.self.now.spent c.args.self.now.spent c.if-self.false c.args.self.now.keeps (either_keeps c.create.result s t (created c.in_ok-place.place s) c.create.ensures.state c.create.ensures.unchanged (created_kept c.in_ok-place.place s t)); rests = restless t c.args.self.now.spent }
