@@ -2,12 +2,20 @@
 #![tactic(auto)]
 
 #[cfg(test)]
+mod lending_tests;
+#[cfg(test)]
+mod public_tests;
+#[cfg(test)]
 mod random_tests;
 #[cfg(test)]
 mod random_trees;
 #[cfg(test)]
+mod runs;
+#[cfg(test)]
 mod slow_walk;
 #[cfg(test)]
 mod tests;
+#[cfg(test)]
+mod topology_tests;
 #[cfg(test)]
 mod trial;

@@ -29,7 +29,7 @@ struct Kept {
 }
 
 impl Kept {
-    fn of(trial: &Trial) -> Result<Kept, Memory> {
+    fn of(trial: &Trial<FailingBackend>) -> Result<Kept, Memory> {
         Ok(Kept {
             owned: trial.owned()?,
             guards: trial.guards()?,
@@ -122,7 +122,7 @@ fn enough(guards: usize, roots: usize, nodes: usize, owners: usize) -> usize {
 }
 
 /// Steps at most so often. It says how many were done, and none where a rebuild was asked for or a step couldn't be done.
-fn steps(trial: &mut Trial, most: usize) -> Result<Option<usize>, Memory> {
+fn steps(trial: &mut Trial<FailingBackend>, most: usize) -> Result<Option<usize>, Memory> {
     let mut done: usize = 0;
     for _ in 0..most {
         if !trial.recursor.has_work() {
@@ -142,7 +142,7 @@ fn steps(trial: &mut Trial, most: usize) -> Result<Option<usize>, Memory> {
 
 /// One epoch with these roots: some steps of it, or all until it has settled.
 fn epoch(
-    trial: &mut Trial,
+    trial: &mut Trial<FailingBackend>,
     draws: &mut Draws,
     refused: &str,
     settles: bool,

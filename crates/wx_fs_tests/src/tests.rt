@@ -6,7 +6,7 @@ use wx_text::{Memory, Text};
 use wx_watch::NotifyFaultKind;
 
 /// A refused directory isn't owned, a root below it is, and an absent root is guarded and shown.
-fn watches_roots_holds(trial: &mut Trial, alloc: Global) -> Result<bool, Memory> {
+fn watches_roots_holds(trial: &mut Trial<FailingBackend>, alloc: Global) -> Result<bool, Memory> {
     trial.dirs.refused.push(path(alloc, "/w/d")?)?;
     trial.reconcile("r /w\nn /w/d/e\nn /w/no\n")?;
     let settled = trial.settle()?;
@@ -33,7 +33,7 @@ fn roots_of_all_sorts(rt: HostRuntime) {
 }
 
 /// A recursive root owns all directories below it. Where only an inner root is left, the rest is unwatched, the deepest first.
-fn narrows_holds(trial: &mut Trial) -> Result<bool, Memory> {
+fn narrows_holds(trial: &mut Trial<FailingBackend>) -> Result<bool, Memory> {
     trial.reconcile("r /w\n")?;
     let settled = trial.settle()?;
     let all = trial.owned()?;
@@ -68,21 +68,21 @@ fn generic(alloc: Global) -> Result<NotifyFaultKind, Memory> {
 }
 
 /// A watch fails, which asks for a rebuild.
-fn fails_first(trial: &mut Trial) -> Result<bool, Memory> {
+fn fails_first(trial: &mut Trial<FailingBackend>) -> Result<bool, Memory> {
     trial.reconcile("r /w\n")?;
     let settled = trial.settle()?;
     Ok(!settled && trial.rebuilds == 1)
 }
 
 /// It fails over the next backend too.
-fn fails_again(trial: &mut Trial, back: FailingBackend) -> Result<bool, Memory> {
+fn fails_again(trial: &mut Trial<FailingBackend>, back: FailingBackend) -> Result<bool, Memory> {
     let rebuilt = trial.rebuild(back)?;
     let settled = trial.settle()?;
     Ok(rebuilt && settled && trial.rebuilds == 1)
 }
 
 /// The path is skipped, and was shown twice.
-fn skips(trial: &Trial) -> Result<bool, Memory> {
+fn skips(trial: &Trial<FailingBackend>) -> Result<bool, Memory> {
     let is_owned = trial.owned()?.as_str() == "/w ";
     let is_watched = trial.watched()?.as_str() == "/w ";
     let is_shown = trial.shown.as_str()
@@ -91,7 +91,10 @@ fn skips(trial: &Trial) -> Result<bool, Memory> {
 }
 
 /// A watch that fails twice is shown twice. After the first time a rebuild is asked for, after the second the path is skipped.
-fn fails_twice_holds(trial: &mut Trial, back: FailingBackend) -> Result<bool, Memory> {
+fn fails_twice_holds(
+    trial: &mut Trial<FailingBackend>,
+    back: FailingBackend,
+) -> Result<bool, Memory> {
     let first = fails_first(trial)?;
     let second = fails_again(trial, back)?;
     let skips = skips(trial)?;
@@ -112,7 +115,7 @@ fn a_watch_that_fails_twice(rt: HostRuntime) {
 }
 
 /// Roots are taken from the folder, normalised, and kept once.
-fn keeps_roots_holds(trial: &mut Trial) -> Result<bool, Memory> {
+fn keeps_roots_holds(trial: &mut Trial<FailingBackend>) -> Result<bool, Memory> {
     trial.reconcile("r x/../d\nr /w/d\nn d\nr ./d\n")?;
     let kept = trial.recursor.held().roots.len();
     let settled = trial.settle()?;
@@ -132,7 +135,7 @@ fn roots_that_are_kept(rt: HostRuntime) {
 }
 
 /// A root, and a guard of another, are watched.
-fn watches_both(trial: &mut Trial) -> Result<bool, Memory> {
+fn watches_both(trial: &mut Trial<FailingBackend>) -> Result<bool, Memory> {
     trial.reconcile("r /w\nr /g/x\n")?;
     let settled = trial.settle()?;
     let is_watched = trial.watched()?.as_str() == "/w / /w/a ";
@@ -140,14 +143,14 @@ fn watches_both(trial: &mut Trial) -> Result<bool, Memory> {
 }
 
 /// What was asked for by a rescan is told by a step.
-fn asks_by_rescan(trial: &mut Trial) -> Result<bool, Memory> {
+fn asks_by_rescan(trial: &mut Trial<FailingBackend>) -> Result<bool, Memory> {
     trial.recursor.rescan()?;
     let settled = trial.settle()?;
     Ok(!settled && trial.rebuilds == 1)
 }
 
 /// All is watched again: first what is owned, then the guard.
-fn watches_again(trial: &mut Trial, back: FailingBackend) -> Result<bool, Memory> {
+fn watches_again(trial: &mut Trial<FailingBackend>, back: FailingBackend) -> Result<bool, Memory> {
     let rebuilt = trial.rebuild(back)?;
     let settled = trial.settle()?;
     let is_watched = trial.watched()?.as_str() == "/w /w/a / ";
@@ -156,7 +159,7 @@ fn watches_again(trial: &mut Trial, back: FailingBackend) -> Result<bool, Memory
 }
 
 /// After a rebuild all that was watched is watched again, and nothing else.
-fn rebuilds_holds(trial: &mut Trial, back: FailingBackend) -> Result<bool, Memory> {
+fn rebuilds_holds(trial: &mut Trial<FailingBackend>, back: FailingBackend) -> Result<bool, Memory> {
     let first = watches_both(trial)?;
     let second = asks_by_rescan(trial)?;
     let third = watches_again(trial, back)?;
@@ -175,7 +178,7 @@ fn a_backend_that_is_rebuilt(rt: HostRuntime) {
 }
 
 /// Whether each later call answers that it found no memory, and looks at nothing.
-fn is_spent(trial: &mut Trial) -> bool {
+fn is_spent(trial: &mut Trial<FailingBackend>) -> bool {
     let looks = trial.tree.looks();
     let idle = !trial.recursor.has_work();
     let steps = trial.step().is_err();
@@ -193,7 +196,7 @@ fn is_spent(trial: &mut Trial) -> bool {
 }
 
 /// A step in which a watch finds no memory has spent the recursor. What was watched before stays so.
-fn spends_holds(trial: &mut Trial) -> Result<bool, Memory> {
+fn spends_holds(trial: &mut Trial<FailingBackend>) -> Result<bool, Memory> {
     trial.reconcile("r /w\n")?;
     let fails = trial.settle() == Err(Memory);
     let watched = trial.watched()?;
@@ -213,7 +216,10 @@ fn a_step_without_memory(rt: HostRuntime) {
 }
 
 /// So has a replay.
-fn spends_by_replay_holds(trial: &mut Trial, alloc: Global) -> Result<bool, Memory> {
+fn spends_by_replay_holds(
+    trial: &mut Trial<FailingBackend>,
+    alloc: Global,
+) -> Result<bool, Memory> {
     trial.reconcile("r /w\n")?;
     let settled = trial.settle()?;
     let fails = trial.rebuild(failing(alloc, 1, NotifyFaultKind::Memory)?) == Err(Memory);
@@ -233,7 +239,7 @@ fn a_replay_without_memory(rt: HostRuntime) {
 }
 
 /// A replay that is deferred needs a retry until the next reconcile.
-fn defers_holds(trial: &mut Trial) -> Result<bool, Memory> {
+fn defers_holds(trial: &mut Trial<FailingBackend>) -> Result<bool, Memory> {
     trial.reconcile("r /w\n")?;
     let settled = trial.settle()?;
     let before = trial.recursor.needs_retry();

@@ -6,9 +6,10 @@ ghost use Rattle.wx_step.specs.Asking.{AreAllowed};
 
 use std::alloc::Global;
 use std::process::Abort;
-use wx_fs::{Recursor, StepResult};
+use wx_fs::{Backend, Recursor, StepResult};
 use wx_fs_trial::{FailingBackend, FailingCall, Refusing};
 use wx_mem_tree::{MemTree, Node};
+use wx_poller::Poller;
 use wx_recursor::BackendPlace;
 use wx_recursor_lists::has_path;
 use wx_text::{List, Memory, Text};
@@ -90,31 +91,22 @@ fn is_absolute(path: &TextPath) -> bool
 
 /// A recursor, its outside, what its steps showed so far, and how often they asked for a rebuild.
 #[derive(Drop)]
-pub struct Trial {
+pub struct Trial<B: Backend + Drop> {
     pub alloc: Global,
-    pub recursor: Recursor<FailingBackend>,
+    pub recursor: Recursor<B>,
     pub tree: MemTree,
     pub dirs: Refusing,
     pub shown: String,
     pub rebuilds: u64,
 }
 
-impl Trial {
-    pub fn new(
-        alloc: Global,
-        nodes: &str,
-        cwd: &str,
-        back: FailingBackend,
-    ) -> Result<Trial, Memory> {
-        let folder = path(alloc, cwd)?;
-        if !is_absolute(&folder) || !back.registered.is_empty() {
-            return Err(Memory);
-        }
-        let recursor = Recursor::new(alloc, back, Watcher::Native, false, folder)?;
+impl<B: Backend + Drop> Trial<B> {
+    fn over(alloc: Global, nodes: &str, recursor: Recursor<B>) -> Result<Trial<B>, Memory> {
+        let tree = tree(alloc, nodes)?;
         Ok(Trial {
             alloc,
             recursor,
-            tree: tree(alloc, nodes)?,
+            tree,
             dirs: Refusing::new(alloc),
             shown: String::new(alloc),
             rebuilds: 0,
@@ -146,6 +138,20 @@ impl Trial {
         Ok(None)
     }
 
+    /// Restores this backend, where one was lent.
+    pub fn restore(&mut self, back: B) -> bool {
+        if self.recursor.back.is_some() {
+            return false;
+        }
+        match self.recursor.held.backend {
+            BackendPlace::Lent => {
+                self.recursor.restore(back);
+                true
+            }
+            _ => false,
+        }
+    }
+
     /// Watches again what waits. None where no backend is installed.
     pub fn replay(&mut self) -> Result<Option<StepResult>, Memory> {
         if self.recursor.back.is_none() {
@@ -165,33 +171,6 @@ impl Trial {
             self.rebuilds = self.rebuilds.saturating_add(1);
         }
         Ok(())
-    }
-
-    /// Installs this backend, which watches nothing yet, where the old one was dropped.
-    fn install(&mut self, back: FailingBackend) -> Result<bool, Memory> {
-        if !back.registered.is_empty() {
-            return Ok(false);
-        }
-        match self.recursor.held.backend {
-            BackendPlace::Dropped => {
-                self.recursor.install_backend(back)?;
-                Ok(true)
-            }
-            _ => Ok(false),
-        }
-    }
-
-    /// Drops the backend, installs this one, and watches again what waits. No where one of these can't be done.
-    pub fn rebuild(&mut self, back: FailingBackend) -> Result<bool, Memory> {
-        self.recursor.prepare_backend_rebuild()?;
-        if !self.install(back)? {
-            return Ok(false);
-        }
-        let Some(told) = self.replay()? else {
-            return Ok(false);
-        };
-        self.note(&told)?;
-        Ok(true)
     }
 
     /// Steps until there is no work, or a rebuild is asked for.
@@ -228,6 +207,49 @@ impl Trial {
         }
         Ok(out)
     }
+}
+
+impl Trial<FailingBackend> {
+    pub fn new(
+        alloc: Global,
+        nodes: &str,
+        cwd: &str,
+        back: FailingBackend,
+    ) -> Result<Trial<FailingBackend>, Memory> {
+        let folder = path(alloc, cwd)?;
+        if !is_absolute(&folder) || !back.registered.is_empty() {
+            return Err(Memory);
+        }
+        let recursor = Recursor::new(alloc, back, Watcher::Native, false, folder)?;
+        Trial::over(alloc, nodes, recursor)
+    }
+
+    /// Installs this backend, which watches nothing yet, where the old one was dropped.
+    fn install(&mut self, back: FailingBackend) -> Result<bool, Memory> {
+        if !back.registered.is_empty() {
+            return Ok(false);
+        }
+        match self.recursor.held.backend {
+            BackendPlace::Dropped => {
+                self.recursor.install_backend(back)?;
+                Ok(true)
+            }
+            _ => Ok(false),
+        }
+    }
+
+    /// Drops the backend, installs this one, and watches again what waits. No where one of these can't be done.
+    pub fn rebuild(&mut self, back: FailingBackend) -> Result<bool, Memory> {
+        self.recursor.prepare_backend_rebuild()?;
+        if !self.install(back)? {
+            return Ok(false);
+        }
+        let Some(told) = self.replay()? else {
+            return Ok(false);
+        };
+        self.note(&told)?;
+        Ok(true)
+    }
 
     /// What is watched, in order.
     pub fn watched(&self) -> Result<String, Memory> {
@@ -245,6 +267,19 @@ impl Trial {
             put_paths(self.alloc, back.unwatched.as_slice(), &mut out)?;
         }
         Ok(out)
+    }
+}
+
+impl Trial<Poller> {
+    /// Over a poller.
+    pub fn polled(alloc: Global, nodes: &str, cwd: &str) -> Result<Trial<Poller>, Memory> {
+        let folder = path(alloc, cwd)?;
+        if !is_absolute(&folder) {
+            return Err(Memory);
+        }
+        let back = Poller::new(alloc, false)?;
+        let recursor = Recursor::new(alloc, back, Watcher::Native, false, folder)?;
+        Trial::over(alloc, nodes, recursor)
     }
 }
 
