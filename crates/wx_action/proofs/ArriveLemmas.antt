@@ -75,16 +75,21 @@ pub settles_open : {X E : Type 0} (s : Start) (x : Point) (p p' : List Entry) (r
 settles_open s x p p' (Ok u) going due done err = record { done = served_open s p' (done Open due ∙ settle_calm p Open going); err = tt }
 settles_open s x p p' (Err e) going due done err = record { done = tt; err = err }
 
+pub said_rest : {X E : Type 0} (s : Start) (p p' : List Entry) (word : Word) (result : Result X E) → OnOk result (p' ≡ Said word ∷ p) → OnOk result (OwesRest s (Says word) p p')
+said_rest s p p' word (Ok u) said = said_then s p p' word said
+said_rest s p p' word (Err e) said = tt
+
+pub says_due : (s : Start) (p : List Entry) (word : Word) (more : Agenda) → agenda s p ≡ Comes (Says word) more → Due s p (Said word)
+says_due s p word more due = rw due (tt, refl)
+
 -- a word is said
-pub said_done : (s : Start) (w : Worker) (p p' : List Entry) (word : Word) (more : Agenda) → Stands s w p → agenda s p ≡ Comes (Says word) more → p' ≡ Said word ∷ p → StepsOver s w p p'
-said_done s w p p' word more stands due grown =
-    let d : Due s p (Said word) = rw due (tt, refl) in
-    rw grown (record {
-      stands = stands_behind s w (Said word) p refl tt stands;
-      follows = λ world hooks p₀ world₀ hooks₀ l. Then (Said word) p world hooks l d;
-      quiet = λ p₀ a. More _ p a refl;
-      turns = turns_over _ _ refl;
-    })
+pub said_done : (s : Start) (w : Worker) (p p' : List Entry) (word : Word) → Stands s w p → Due s p (Said word) → p' ≡ Said word ∷ p → StepsOver s w p p'
+said_done s w p p' word stands due grown = rw grown (record {
+  stands = stands_behind s w (Said word) p refl tt stands;
+  follows = λ world hooks p₀ world₀ hooks₀ l. Then (Said word) p world hooks l due;
+  quiet = λ p₀ a. More _ p a refl;
+  turns = turns_over _ _ refl;
+})
 
 pub offer_done : (s : Start) (w : Worker) (p p' : List Entry) (event : Event) (priority : Priority) (more : Agenda) (new : Channel Named) (result : Offered) → Stands s w p → agenda s p ≡ Comes (Offers event priority) more
     → IsOffered w.queue (record { name = w.named; event = event }, priority) new result → new.size ≡ w.queue.size → new.closed ≡ w.queue.closed → p' ≡ Offer w.named None result event priority ∷ p

@@ -1,5 +1,6 @@
 pub mod ArriveLemmas
 pub mod BreakLemmas
+pub mod CallLemmas
 pub mod HandLemmas
 pub mod JobLemmas
 pub mod KeyLemmas

@@ -26,9 +26,9 @@ use Rattle.wx_journal.specs.declared.entry.Word.TheVariants.{Idle, Quitting}
 use Rattle.wx_hooks.specs.Batch.{Waiting}
 use Rattle.wx_machine.specs.Start.{Start}
 use Rattle.wx_machine.specs.Settings.{settings}
-use Rattle.wx_machine.specs.Journal.{listed, is_urgent_in, is_urgent_named, is_unseen, is_unseen_in, passes_unseen, lets_pass, is_exit, is_close, closed, ending, wished, one_if, and_one, begun, without, bag, window, first, is_over, is_over_of}
+use Rattle.wx_machine.specs.Journal.{listed, is_urgent_in, is_urgent_named, is_unseen, is_unseen_in, passes_unseen, lets_pass, is_exit, closed, one_if, and_one, begun, without, bag, window, first, is_over, is_over_of}
 use Rattle.wx_machine.specs.Quits.{graceful}
-use Rattle.wx_machine.specs.Due.{Takes as TakesNext, Filters, Shows as ShowsNext, Hands, Agenda, Open, Comes, rest, says, work, work_going, after_pass, after_take, after_drop, after_show, after_filter, is_quitting, settle, agenda, Due}
+use Rattle.wx_machine.specs.Due.{Takes as TakesNext, Filters, Shows as ShowsNext, Hands, Agenda, Open, Comes, rest, says, work, work_going, after_pass, after_take, after_drop, after_filter, is_quitting, settle, agenda, Due}
 use Rattle.wx_hooks.specs.Handled.{lookup}
 use Rattle.wx_machine.specs.Kept.{More, Keeps, Called}
 use Rattle.wx_machine.specs.Seen.{Hooked}
@@ -39,9 +39,9 @@ use Rattle.wx_action.specs.Stands.{Stands, OwesAt, OwesHand, AddsTake, HasTaken,
 use Rattle.wx_machine.proofs.BagLaws.{IsTaken, is_taken}
 use Rattle.wx_machine.proofs.RunLaws.{listed_below, window_some, joined_if, some-append, below_taken}
 use Rattle.wx_machine.proofs.AllJobs.{turns_over}
-use Rattle.wx_action.proofs.ArriveLemmas.{StepsOver, steps_add, said_done, said_then}
+use Rattle.wx_action.proofs.ArriveLemmas.{StepsOver, steps_add, says_due, said_done, said_then}
 use Rattle.wx_action.proofs.Serving.{hooks_none, hand_adds, hand_room}
-use Rattle.wx_machine.proofs.SettleLaws.{settle_calm, settle_over}
+use Rattle.wx_machine.proofs.SettleLaws.{settle_calm}
 use Rattle.wx_action.proofs.StandsLemmas.{events-append, tasks_silent}
 
 -- a queue that is empty, where the bag isn't
@@ -294,54 +294,6 @@ filter_dropped s w w' p p' at n name answer found owes below number passes is_dr
       judged = record { n = n; answer = answer; shown = grown; judged = judges_dropped s p p' name answer found is_dropped (ap (λ q. window q) grown ∙ same) (ap (agenda s) grown ∙ after) };
     }
 
--- ---- an error was shown
-
--- what was due, what the worker is, and what is owed
-pub record ShowDone (s : Start) (w : Worker) (p : List Entry) (n : ℕ) (error : RuntimeError) (wish : Wish) (p' : List Entry) : Type 0 where
-  pub due : Due s p (Show n error wish)
-  pub stands : Stands s w p'
-  pub after : (more : Agenda) → agenda s p ≡ Comes (ShowsNext error) more → agenda s p' ≡ settle p (after_show (ending error wish) more)
-  pub newest : wished p' ≡ ending error wish
-
-pub show_done : (s : Start) (w : Worker) (p p' : List Entry) (n : ℕ) (error : RuntimeError) (wish : Wish) (more : Agenda) (queue : Channel Named) → Stands s w p → agenda s p ≡ Comes (ShowsNext error) more → n ≡ w.config.error_handler
-    → queue.items ≡ w.queue.items → queue.size ≡ w.queue.size → queue.closed ≡ (is_close wish || w.queue.closed) → p' ≡ Show n error wish ∷ p
-    → ShowDone s (record w { queue = queue }) p n error wish p'
-show_done s w p p' n error wish more queue stands due number items size shut grown =
-    let d : Due s p (Show n error wish) = rw (due, number, stands.config_kept) (wish, refl) in
-    let after : (k : Agenda) → agenda s p ≡ Comes (ShowsNext error) k → agenda s (Show n error wish ∷ p) ≡ settle p (after_show (ending error wish) k) = λ k owed.
-    ap (λ (j : Agenda). settle (Show n error wish ∷ p) (after_show (ending error wish) (rest (Show n error wish) j))) owed ∙ settle_over (Show n error wish ∷ p) p (after_show (ending error wish) k) refl in
-    record {
-      due = d;
-      stands = rw grown (record {
-        own = (tt, stands.own);
-        config_kept = stands.config_kept;
-        queue_kept = rw items stands.queue_kept;
-        size_kept = size ∙ stands.size_kept;
-        closed_kept = shut ∙ ap (λ (b : Bool). is_close wish || b) stands.closed_kept;
-        named_kept = stands.named_kept;
-        names_kept = stands.names_kept;
-        events_kept = stands.events_kept;
-        first_kept = stands.first_kept;
-        jobs_kept = stands.jobs_kept;
-        tasks_kept = tasks_silent (Show n error wish) p w.jobs refl stands.tasks_kept;
-        idle_kept = stands.idle_kept;
-        graceful_kept = stands.graceful_kept;
-        ended_kept = stands.ended_kept;
-      });
-      after = λ k owed. ap (agenda s) grown ∙ after k owed;
-      newest = ap (λ q. wished q) grown;
-    }
-
--- the call that showed it
-pub show_grows : {K Fixed : Type 0} (seen : K → Hooked Fixed) (rule : Fixed → List Entry → Entry → Type 0) (holds : K → List Entry → Type 0) (s : Start) (w : Worker) (p p' : List Entry) (x x' : K) (n : ℕ) (error lent pushed : RuntimeError) (wish asked : Wish) (more : Agenda) (queue : Channel Named) → Stands s w p → agenda s p ≡ Comes (ShowsNext error) more → n ≡ w.config.error_handler
-    → lent ≡ error → pushed ≡ lent → asked ≡ wish → queue.items ≡ w.queue.items → queue.size ≡ w.queue.size → queue.closed ≡ (is_close asked || w.queue.closed) → p' ≡ Show n pushed asked ∷ p → (seen x').told ≡ tell (Show n lent wish) (seen x).told → Keeps seen rule holds x p (Show n lent wish) x'
-    → GrowsHand seen rule holds s p x (record w { queue = queue }) p' x'
-show_grows seen rule holds s w p p' x x' n error lent pushed wish asked more queue stands due number same_error same_pushed same_wish items size shut grown told keeps =
-    let grew : p' ≡ Show n lent wish ∷ p = grown ∙ ap (λ (e : RuntimeError). Show n e asked ∷ p) same_pushed ∙ ap (λ (m : Wish). Show n lent m ∷ p) same_wish in
-    let owed : agenda s p ≡ Comes (ShowsNext lent) more = due ∙ ap (λ (e : RuntimeError). Comes (ShowsNext e) more) (sym same_error) in
-    let done = show_done s w p p' n lent wish more queue stands owed number items size (shut ∙ ap (λ (m : Wish). is_close m || w.queue.closed) same_wish) grew in
-    called_grows seen rule holds s p p' x x' (record w { queue = queue }) (Show n lent wish) refl (show_follows s p p' n lent wish (seen x).told (seen x').told done.due grew told) grew keeps done.stands
-
 -- one that passes doesn't ask for the end
 pub no_exit : (answer : Result Bool RuntimeError) → lets_pass answer ≡ true → is_exit answer ≡ false
 no_exit (Ok passes) is = refl
@@ -362,7 +314,7 @@ idle_done s w p p' at owes going is_open over empty grown =
     let takes : closed p ≡ false = sym stands.closed_kept ∙ is_open in
     let none : (length (bag p) == 0) ≡ true = rw (← same-length w.queue.items (bag p) stands.queue_kept) empty in
     let owed : agenda s p ≡ says Idle = owes.due ∙ rw (takes, later, none) refl in
-    record { steps = said_done s w p p' Idle Open stands owed grown; collects = (inl (record { going = going; early = rw owes.now later; none = empty_is (bag p) none; said = grown }), said_then s p p' Idle grown Open owed ∙ settle_calm p Open owes.going) }
+    record { steps = said_done s w p p' Idle stands (says_due s p Idle Open owed) grown; collects = (inl (record { going = going; early = rw owes.now later; none = empty_is (bag p) none; said = grown }), said_then s p p' Idle grown Open owed ∙ settle_calm p Open owes.going) }
 
 -- the queue was closed
 pub stop_done : (s : Start) (w : Worker) (p : List Entry) (at : ℕ) → Stands s w p → agenda s p ≡ work_going s p at → graceful p ≡ false → w.queue.closed ≡ true → Collects s p collected.Stop p
@@ -389,7 +341,7 @@ quitting_done : (s : Start) (w : Worker) (p p' : List Entry) (at : ℕ) → Owes
 quitting_done s w p p' at owes asked grown =
     let quits : graceful p ≡ true = sym owes.stands.graceful_kept ∙ asked in
     let owed : agenda s p ≡ says Quitting = owes.due ∙ rw quits refl in
-    record { steps = said_done s w p p' Quitting Open owes.stands owed grown; collects = (inr (record { asked = quits; said = grown }), said_then s p p' Quitting grown Open owed ∙ settle_calm p Open owes.going) }
+    record { steps = said_done s w p p' Quitting owes.stands (says_due s p Quitting Open owed) grown; collects = (inr (record { asked = quits; said = grown }), said_then s p p' Quitting grown Open owed ∙ settle_calm p Open owes.going) }
 
 -- so the turn says it, or there was no memory for that
 pub quitting_grows : {K Fixed E : Type 0} (seen : K → Hooked Fixed) (rule : Fixed → List Entry → Entry → Type 0) (holds : K → List Entry → Type 0) (s : Start) (w : Worker) (p p' : List Entry) (x : K) (at : ℕ) (result : Result Found E) → OwesAt s w at p (work s p at) → w.graceful ≡ true

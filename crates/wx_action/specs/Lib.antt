@@ -1,3 +1,4 @@
+pub mod Calls
 pub mod Perform
 pub mod Serves
 pub mod Stands

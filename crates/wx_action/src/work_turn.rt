@@ -1,12 +1,12 @@
 // A Work turn: an event is taken, and the window is handed where it is due.
-ghost use Rattle.std.specs.Prelude.{◌≡◌, ◌∷◌, [], ◌++◌, ◌+◌, ◌<◌, ◌≤◌, ◌==◌, ◌||◌, ◌&&◌, not, nat_le, Some, true, false, if◌then◌else◌, length, List, Option, is_some, IfOk, IfErr, OnOk, OnErr};
+ghost use Rattle.std.specs.Prelude.{◌≡◌, ◌∷◌, [], ◌++◌, ◌+◌, ◌<◌, ◌≤◌, ◌==◌, ◌||◌, ◌&&◌, not, nat_le, Some, false, if◌then◌else◌, length, List, Option, IfOk, IfErr, OnOk, OnErr};
 ghost use Rattle.wx_journal.specs.declared.entry.Entry.{Entry};
 ghost use Rattle.wx_journal.specs.declared.entry.Entry.TheVariants.{Filter};
 ghost use Rattle.wx_events.specs.Priority.{is_urgent};
 ghost use Rattle.wx_job.specs.Calls.{AreRoomy};
 ghost use Rattle.wx_action.specs.Serves.{GrowsHand, GrowsWithin, Continues, OwesRest};
 ghost use Rattle.wx_machine.specs.Start.{Start};
-ghost use Rattle.wx_machine.specs.Journal.{listed, is_unseen, lets_pass, is_exit, is_close, ending, bag, is_over, is_over_of};
+ghost use Rattle.wx_machine.specs.Journal.{listed, is_unseen, lets_pass, is_exit, bag, is_over, is_over_of};
 ghost use Rattle.wx_machine.specs.Due.{Takes, Filters, Shows, Agenda, Open, Comes, agenda, work, work_going};
 ghost use Rattle.std.specs.List.{list_any};
 ghost use Rattle.wx_hooks.specs.HeldJobs.{is_here};
@@ -20,15 +20,15 @@ ghost use Rattle.wx_action.specs.Perform.{OwesActs};
 ghost use Rattle.wx_action.specs.Stands.{Stands, Owes, OwesAt, OwesHand, AtWork, MayShow, Finds, Collects, IsDropped, IsJudged, LeavesRoom, Works, without_hand, end_room};
 
 use crate::acts_done::{ask_quit, perform};
+use crate::calls::{close_where, is_exit};
 use crate::worker_state::Worker;
-use prio_channel::PrioQueue;
 use std::alloc::Global;
 use std::mem;
 use wx_error::{CriticalError, RuntimeError};
 use wx_events::Priority;
-use wx_hooks::{ActionHandler, Batch, ErrorHook, Hooks, QuitManner, Todo};
+use wx_hooks::{ActionHandler, Batch, Hooks, QuitManner, Todo};
 use wx_job::Host;
-use wx_journal::{Act, Entry, Journal, Named, Wish, Word};
+use wx_journal::{Act, Entry, Journal, Named, Word};
 use wx_machine::is_unseen;
 use wx_text::{Copies, Memory};
 
@@ -155,13 +155,6 @@ fn lets_pass(answer: &Result<bool, RuntimeError>) -> bool
     }
 }
 
-/// Whether a filter asked for the end.
-fn is_exit(answer: &Result<bool, RuntimeError>) -> bool
-    ensures { result ≡ is_exit answer.now }
-{
-    matches!(answer, Err(RuntimeError::Exit))
-}
-
 /// What becomes of an event that a filter didn't let pass: an error but an exit is to be shown. A copy of it is taken.
 fn dropped(alloc: Global, answer: &Result<bool, RuntimeError>) -> Found
     ensures { IsDropped answer.now result }
@@ -169,39 +162,6 @@ fn dropped(alloc: Global, answer: &Result<bool, RuntimeError>) -> Found
     match answer {
         Ok(_) | Err(RuntimeError::Exit) => Found::Done(Collected::Dropped),
         Err(error) => Found::Failed(error.copy(alloc)),
-    }
-}
-
-/// Whether an error handler wished the end without an error.
-fn is_close(wish: &Wish) -> bool
-    ensures { result ≡ is_close wish.now }
-{
-    matches!(wish, Wish::Critical(CriticalError::Exit))
-}
-
-/// The error that a wish ends the run with. It fails only for want of memory.
-fn ending(alloc: Global, error: &RuntimeError, wish: &Wish) -> Result<Option<CriticalError>, Memory>
-    ensures ending { IfOk result (λ ends. ends ≡ ending error.now wish.now) }
-    ensures wants { OnErr result (is_some (ending error.now wish.now) ≡ true) }
-{
-    match wish {
-        Wish::Nothing | Wish::Critical(CriticalError::Exit) => Ok(None),
-        Wish::Elevate => Ok(Some(CriticalError::Elevated {
-            err: error.copy(alloc)?,
-            help: None,
-        })),
-        Wish::Critical(wished) => Ok(Some(wished.copy(alloc)?)),
-    }
-}
-
-/// Closes the queue, where the run is to end.
-fn close_where(ends: bool, queue: &mut PrioQueue<Named>)
-    ensures items { queue.new.items ≡ queue.old.items }
-    ensures size { queue.new.size ≡ queue.old.size }
-    ensures closed { queue.new.closed ≡ (ends || queue.old.closed) }
-{
-    if ends {
-        queue.close();
     }
 }
 
@@ -388,18 +348,7 @@ impl Worker {
         ensures done { OnOk result (OwesRest start (Shows error) journal.old.past journal.new.past) }
         ensures breaks { IfErr result (λ error. BreaksHere start journal.new.past error) }
     {
-        let n = self.config.error_handler;
-        let mut hook = ErrorHook::new(alloc, error)?;
-        hooks.error(n, &mut hook);
-        let (error, wish) = hook.into_parts();
-        let ends = ending(alloc, &error, &wish);
-        let closes = is_close(&wish);
-        journal.push(Entry::Show { n, error, wish });
-        close_where(closes, &mut self.queue);
-        match ends? {
-            Some(error) => Err(error),
-            None => Ok(()),
-        }
+        self.call_show(alloc, error, hooks, journal)
     }
 }
 

@@ -222,9 +222,7 @@ impl Worker {
         ensures done { OnOk result (OwesRest start (Says word) journal.old.past journal.new.past) }
         ensures err { OnErr result (journal.new.past ≡ journal.old.past) }
     {
-        self.reserve(1, journal)?;
-        journal.push(Entry::Word(word));
-        Ok(())
+        self.say_due(word, journal)
     }
 
     /// Says of a turn that what it is about isn't there. It fails only for want of memory, and adds no entry then.

@@ -9,7 +9,7 @@ use Rattle.wx_command.specs.Spawnables.{spawnable_of}
 use Rattle.wx_control.specs.declared.id.Id.{Id}
 use Rattle.wx_machine.specs.History.{RunsOnly}
 use Rattle.wx_journal.specs.declared.entry.Entry.{Entry}
-use Rattle.wx_journal.specs.declared.entry.Entry.TheVariants.{Filter, Hook}
+use Rattle.wx_journal.specs.declared.entry.Entry.TheVariants.{Filter, Hook, Dir}
 use Rattle.wx_journal.specs.Told.{is_hooks}
 use Rattle.wx_machine.specs.Journal.{Verdict}
 use Rattle.wx_boxed.specs.Boxed.{Held, LeavesUsual, IsUsual, AreJudged}
@@ -19,6 +19,7 @@ pub leaves_usual : (held : Held) (p : List Entry) (job : Id) (n : ℕ) (left : R
 leaves_usual held p job n left what runs usual = λ created so. rw (runs created so) usual
 
 -- an entry that is no call on hooks is none of a filter
-pub judged_over : {A : Type 0} (judges : A → Event → Priority → Verdict → Type 0) (filters : List A) (p : List Entry) (e : Entry) → is_hooks e ≡ false → AreJudged judges filters p → AreJudged judges filters (e ∷ p)
-judged_over judges filters p (Filter n name answer) other are = absurd cc
-judged_over judges filters p (_) other are = (tt, are)
+pub judged_over : {A : Type 0} (judges : A → Event → Priority → Verdict → Type 0) (excludes : A → List ℕ → Verdict → Type 0) (filters : List A) (p : List Entry) (e : Entry) → is_hooks e ≡ false → AreJudged judges excludes filters p → AreJudged judges excludes filters (e ∷ p)
+judged_over judges excludes filters p (Filter n name answer) other are = absurd cc
+judged_over judges excludes filters p (Dir n path answer) other are = absurd cc
+judged_over judges excludes filters p (_) other are = (tt, are)

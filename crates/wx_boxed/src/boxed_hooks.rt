@@ -5,7 +5,7 @@ ghost use Rattle.wx_error.specs.declared.runtime.RuntimeError.TheVariants.{Memor
 ghost use Rattle.wx_journal.specs.declared.wish.Wish.TheVariants.{Nothing};
 ghost use Rattle.wx_hooks.specs.ErrorHooks.{IsNewHook};
 ghost use Rattle.wx_hooks.specs.Handled.{IsNewHandler};
-ghost use Rattle.wx_boxed.specs.Boxed.{Held, IsUsual, LeavesUsual, MayAnswer, AreJudged};
+ghost use Rattle.wx_boxed.specs.Boxed.{Held, IsUsual, LeavesUsual, MayAnswer, MayExclude, AreJudged};
 ghost use Rattle.wx_boxed.specs.BoxedLaws.{leaves_usual, judged_over};
 
 use crate::interfaces::{OnAction, OnError, OnFault, OnJob, OnSpawn};
@@ -20,12 +20,13 @@ use wx_hooks::{ActionHandler, ErrorHook, Hooks};
 use wx_job::{JobHooks, JobTaskContext};
 use wx_journal::{Entry, HostFault};
 use wx_text::{Copies, List, Memory};
+use wx_words::TextPath;
 
 /// Hooks that hold what their caller made: filters, action handlers, error handlers, job functions, spawn hooks and error
-/// handlers of jobs. The number n names the n-th of its list, from 0. Under a number that they don't hold an event passes,
-/// nothing is asked for or wished, a function is ready, and what is spawned stays as it was. They tell their entries. Where
-/// there is no memory to tell an error of a filter, they answer the error `Memory`. Where there is none to tell what a spawn
-/// hook leaves, they answer that, and what is spawned stays as it was.
+/// handlers of jobs. The number n names the n-th of its list, from 0. Under a number that they don't hold an event passes, a
+/// directory is to be watched, nothing is asked for or wished, a function is ready, and what is spawned stays as it was. They
+/// tell their entries. Where there is no memory to tell an error of a filter, they answer the error `Memory`. Where there is
+/// none to tell what a spawn hook leaves, they answer that, and what is spawned stays as it was.
 #[derive(Drop)]
 pub struct BoxedHooks {
     alloc: Global,
@@ -79,7 +80,7 @@ impl JobHooks for BoxedHooks {
 
     ghost spawn_rule = { λ held p given e. LeavesUsual held given e };
 
-    ghost stands = { λ s p. AreJudged (λ filter event priority answer. (Filterer-box filter).judges filter.value event priority answer) s.filters.items p };
+    ghost stands = { λ s p. AreJudged (λ filter event priority answer. (Filterer-box filter).judges filter.value event priority answer) (λ filter path answer. (Filterer-box filter).excludes filter.value path answer) s.filters.items p };
 
     fn reserve(&mut self, n: u64) -> Result<(), Memory> {
         self.told.reserve(n)
@@ -130,7 +131,7 @@ impl JobHooks for BoxedHooks {
 
     ghost spawn_rule_is_rule = { λ held p job n left command runs usual. leaves_usual held p job n left command runs usual };
 
-    ghost stands_other = { λ s p e _ other stands. judged_over _ s.filters.items p e other stands };
+    ghost stands_other = { λ s p e _ other stands. judged_over _ _ s.filters.items p e other stands };
 }
 
 impl Hooks for BoxedHooks {
@@ -145,6 +146,16 @@ impl Hooks for BoxedHooks {
         self.told.push(Entry::Filter {
             n,
             name,
+            answer: told,
+        });
+        answer
+    }
+
+    fn check_dir(&mut self, n: u32, path: TextPath) -> Result<bool, RuntimeError> {
+        let (answer, told) = judge_dir(self.alloc, self.filters.as_slice(), n, &path);
+        self.told.push(Entry::Dir {
+            n,
+            path,
             answer: told,
         });
         answer
@@ -256,6 +267,24 @@ fn judge(
         Some(filter) => twice(alloc, filter.check_event(event, priority)),
         None => (Ok(true), Ok(true)),
     }
+}
+
+/// What the filter of this number answers about a directory, to be given and to be told. Where there is none it is to be
+/// watched.
+fn judge_dir(
+    alloc: Global,
+    filters: &[Box<dyn Filterer + Drop>],
+    n: u32,
+    path: &TextPath,
+) -> (Result<bool, RuntimeError>, Result<bool, RuntimeError>)
+    ensures told { result.1 ≡ result.0 }
+    ensures usual { length filters.now ≤ n → result.0 ≡ Well true }
+    ensures judges { IfSome (slice_get filters.now n) (λ filter. MayExclude (λ filter path answer. (Filterer-box filter).excludes filter.value path answer) filter path.now result.0) }
+{
+    let Some(filter) = filters.get(n as usize) else {
+        return (Ok(true), Ok(true));
+    };
+    twice(alloc, filter.check_dir(path))
 }
 
 /// An answer twice, or the error `Memory` where there was no memory for that.

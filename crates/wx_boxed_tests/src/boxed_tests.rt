@@ -1,5 +1,6 @@
 // Hooks that hold boxes, as a user makes them, and runs with them: their texts are worked out by hand.
-ghost use Rattle.std.specs.Prelude.{◌≡◌, false, Ok as Well};
+ghost use Rattle.std.specs.Prelude.{◌≡◌, ◌⊎◌, false, true, Ok as Well, Err as Wrong, codes};
+ghost use Rattle.wx_error.specs.declared.runtime.RuntimeError.TheVariants.{ProcessDeadOnArrival};
 ghost use Rattle.wx_script.specs.Follows.{IsScript};
 
 use std::alloc::Global;
@@ -12,14 +13,14 @@ use wx_control::{Flag, Id, Job};
 use wx_engine::Watchexec;
 use wx_error::RuntimeError;
 use wx_events::{Event, Priority, Signal};
-use wx_hooks::{ActionHandler, ErrorHook};
-use wx_job::JobTaskContext;
+use wx_hooks::{ActionHandler, ErrorHook, Hooks};
+use wx_job::{JobHooks, JobTaskContext};
 use wx_journal::HostFault;
 use wx_machine::CommandState;
 use wx_script::Script;
 use wx_text::{Copies, List, Memory, Text};
 use wx_trial::{created, root, run_text, script_of};
-use wx_words::cut;
+use wx_words::{TextPath, cut};
 
 /// Rejects each event.
 #[derive(Drop)]
@@ -42,6 +43,30 @@ impl Filterer for Fails {
 
     fn check_event(&self, _event: &Event, _priority: Priority) -> Result<bool, RuntimeError> {
         Err(RuntimeError::ProcessDeadOnArrival)
+    }
+}
+
+/// Lets each event pass, excludes one directory, and fails at another.
+#[derive(Drop)]
+struct Excludes;
+
+impl Filterer for Excludes {
+    ghost excludes = { λ _ path answer. ((path ≡ codes "/w/out") × (answer ≡ Well false)) ⊎ ((path ≡ codes "/w/gone") × (answer ≡ Wrong ProcessDeadOnArrival)) };
+
+    ghost judges = { λ _ _ _ answer. answer ≡ Well true };
+
+    fn check_dir(&self, path: &TextPath) -> Result<bool, RuntimeError> {
+        if path.text().as_slice() == b"/w/out".as_slice() {
+            return Ok(false);
+        }
+        if path.text().as_slice() == b"/w/gone".as_slice() {
+            return Err(RuntimeError::ProcessDeadOnArrival);
+        }
+        Ok(true)
+    }
+
+    fn check_event(&self, _event: &Event, _priority: Priority) -> Result<bool, RuntimeError> {
+        Ok(true)
     }
 }
 
@@ -296,6 +321,71 @@ fn ends_so(
     )?;
     want.append(end)?;
     runs_so(alloc, numbers, SHOWN, hooks, want.as_slice())
+}
+
+/// What a filter answered, as a word.
+fn word_of(answer: Result<bool, RuntimeError>) -> &'static str {
+    let word = match &answer {
+        Ok(true) => "pass",
+        Ok(false) => "reject",
+        Err(RuntimeError::ProcessDeadOnArrival) => "gone",
+        Err(_) => "fail",
+    };
+    drop(answer);
+    word
+}
+
+/// What the filter of this number answers about this directory, as a word.
+fn dir_word(
+    alloc: Global,
+    hooks: &mut BoxedHooks,
+    n: u32,
+    path: &[u8],
+) -> Result<&'static str, Memory> {
+    let path = TextPath::new(Text::from_slice(alloc, path)?);
+    hooks.reserve(1)?;
+    Ok(word_of(hooks.check_dir(n, path)))
+}
+
+/// The number of a filter, a directory, and what is answered. Two filters are held, of which the first judges events alone.
+const DIRS: [(u32, &[u8], &str); 8] = [
+    (0, b"/w/out", "pass"),
+    (1, b"/w/out", "reject"),
+    (1, b"/w/gone", "gone"),
+    (1, b"/w/out", "reject"),
+    (1, b"/w/out/a", "pass"),
+    (1, b"/", "pass"),
+    (2, b"/w/out", "pass"),
+    (4_294_967_295, b"/w/gone", "pass"),
+];
+
+/// Holds the answers of the filters to those of the table.
+fn expect_dirs(rt: &impl Abort, alloc: Global, hooks: &mut BoxedHooks) -> Result<(), Fail> {
+    for (n, path, want) in &DIRS {
+        let word = dir_word(alloc, hooks, *n, path)?;
+        assert!(rt; word == *want, "filter {n} at {path:?}");
+    }
+    Ok(())
+}
+
+#[test]
+fn directories_are_judged_by_the_filter_of_a_number(rt: HostRuntime) -> Result<(), Fail> {
+    let alloc = rt.alloc();
+    let mut filters: List<Box<dyn Filterer + Drop>> = List::new(alloc);
+    add(&rt, &mut filters, boxed(&rt, alloc, Rejects));
+    add(&rt, &mut filters, boxed(&rt, alloc, Excludes));
+    let mut hooks = BoxedHooks::new(
+        alloc,
+        filters,
+        List::new(alloc),
+        List::new(alloc),
+        List::new(alloc),
+        List::new(alloc),
+        List::new(alloc),
+    );
+    let held = expect_dirs(&rt, alloc, &mut hooks);
+    drop(hooks);
+    held
 }
 
 /// A function that raises a flag where it is called for the first job and no child of this ran yet. Once begun, its second poll

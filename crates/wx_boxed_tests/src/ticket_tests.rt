@@ -16,10 +16,12 @@ use wx_follow::ScriptWorld;
 use wx_hooks::{ActionHandler, TurnFault, Turned, World};
 use wx_job::{Host, Outside};
 use wx_journal::{HostFault, SpawnTag, TurnKind};
+use wx_scan::{EntryKind, Looks, ScanError, Scanner};
 use wx_script::Script;
 use wx_text::{Copies, List, Memory, Text};
 use wx_trial::{created, root, script_of, text_in};
-use wx_words::cut;
+use wx_watch::{NotifyFault, Watcher};
+use wx_words::{TextPath, cut};
 
 /// Awaits a ticket, and then raises a flag.
 #[derive(Drop)]
@@ -107,6 +109,34 @@ impl<W: World> Outside for Polls<W> {
     ghost seen = { λ s. W.seen s.inner };
 }
 
+impl<W: World> Looks for Polls<W> {
+    ghost looked = { λ s. W.looked s.inner };
+
+    ghost Rest = { W.Rest };
+
+    ghost rest = { λ s. W.rest s.inner };
+
+    ghost place = { λ s. W.place s.inner };
+}
+
+impl<W: World> Scanner for Polls<W> {
+    fn classify(&mut self, path: &TextPath, follow: bool) -> Result<EntryKind, ScanError> {
+        self.inner.classify(path, follow)
+    }
+
+    fn canonicalize(&mut self, path: &TextPath) -> Result<TextPath, ScanError> {
+        self.inner.canonicalize(path)
+    }
+
+    fn scan(&mut self, path: &TextPath) -> Result<List<TextPath>, ScanError> {
+        self.inner.scan(path)
+    }
+
+    fn stamp(&mut self, path: &TextPath) -> Result<u64, ScanError> {
+        self.inner.stamp(path)
+    }
+}
+
 impl<W: World> Host for Polls<W> {
     fn reserve(&mut self, n: u64) -> Result<(), Memory> {
         self.inner.reserve(n)
@@ -148,6 +178,19 @@ impl<W: World> Host for Polls<W> {
 }
 
 impl<W: World> World for Polls<W> {
+    type Back = W::Back;
+
+    ghost only_looks = { λ x y e. W.only_looks x.inner y.inner e };
+
+    fn make_backend(
+        &mut self,
+        back: u64,
+        kind: Watcher,
+        follow: bool,
+    ) -> Result<W::Back, NotifyFault> {
+        self.inner.make_backend(back, kind, follow)
+    }
+
     fn turn(&mut self) -> Result<Turned, TurnFault> {
         self.pool.run_until_stalled(16);
         // a note that found no memory is missed at the end

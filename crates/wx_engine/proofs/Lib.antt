@@ -2,5 +2,6 @@ mod BeginLemmas
 mod OfferLaws
 mod RunLemmas
 mod TurnLemmas
+mod WatchLemmas
 mod WishLaws
 pub mod MainLaws

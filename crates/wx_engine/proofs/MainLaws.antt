@@ -1,5 +1,5 @@
 -- What a run that led from the empty journal to this one told.
-use Rattle.std.proofs.Common.{◌≡◌, ℕ, inl, inr, Option, None, Some, List, [], ◌∷◌, Ok, Err, refl, ap, sym, ◌∙◌}
+use Rattle.std.proofs.Common.{◌≡◌, inl, inr, Option, None, Some, List, [], ◌∷◌, Ok, Err, refl, ap, sym, ◌∙◌}
 use Rattle.std.specs.Prelude.{IfErr}
 use Rattle.wx_journal.specs.declared.entry.Entry.{Entry}
 use Rattle.wx_journal.specs.declared.entry.Entry.TheVariants.{Show, Dropped, Gone}
@@ -7,8 +7,11 @@ use Rattle.wx_journal.specs.Told.{Rose, tell_if, tells, anywhere, is_world, is_h
 use Rattle.wx_machine.specs.TicketLaws.{Throughout, WaitForFunctions, GracesNeedChildren, IsPlaced}
 use Rattle.wx_machine.proofs.Graces.{graces_need_children}
 use Rattle.wx_machine.specs.Start.{Start}
+use Rattle.wx_machine.specs.Progress.{Progress}
+use Rattle.wx_machine.specs.FileLaws.{AreWatchedByRule, UnmadeEnds}
+use Rattle.wx_machine.proofs.FileLaws.{run_is_watched, run_ends_unmade}
 use Rattle.wx_error.specs.declared.error.CriticalError.{CriticalError}
-use Rattle.wx_error.specs.declared.error.CriticalError.TheVariants.{IoError, Memory}
+use Rattle.wx_error.specs.declared.error.CriticalError.TheVariants.{IoError, FsWatcherInit, Memory}
 use Rattle.wx_machine.specs.Answer.{Dying, Alive, Dies, IsBroken, AtAnyPlace, Wishes, MemoryCuts, Answers}
 use Rattle.wx_journal.specs.Lines.{Answer}
 use Rattle.wx_machine.specs.RunLaws.{IsBatched, AreBatches, NoneUnseenIsShown, NoneIsShownClosed, AreMadeByRule, AreServed, AreRevised}
@@ -19,8 +22,9 @@ use Rattle.wx_machine.proofs.FunctionLaws.{run_waits, dying_waits}
 use Rattle.wx_machine.proofs.PlanLaws.{of_end}
 use Rattle.wx_machine.proofs.Lawful.{IsOfEnd}
 use Rattle.wx_machine.proofs.EndLaws.{dying_keeps}
-use Rattle.wx_engine.specs.Run.{Ran, HasCause}
+use Rattle.wx_engine.specs.Run.{EndsByWish, Ran, HasCause}
 use Rattle.wx_engine.specs.Completes.{IsOkOrMemory, NoneEnds}
+use Rattle.wx_engine.proofs.RunLemmas.{IsInit, wished_other}
 
 -- the world was told its entries, and no other
 pub leads_world : (s : Start) (world hooks : Option (List Entry)) (p' : List Entry) (world' hooks' : Option (List Entry)) → Leads s [] world hooks p' world' hooks' → world' ≡ tells is_world p' world
@@ -80,20 +84,25 @@ none_before q _ (Dies (Dropped c) p l d) none = none_before q p l none
 none_before q _ (Dies (Gone job) p l d) none = none_before q p l none
 none_before q _ (Dies e p l d) none = absurd (of_end p e d)
 
-none_wished : (error : CriticalError) (p : List Entry) → NoneEnds p → Wishes error p → ⊥
-none_wished error [] none is = cc
+none_wished : (error : CriticalError) (p : List Entry) → NoneEnds p → EndsByWish error p → ⊥
+none_wished error [] none is = is
 none_wished error (Show n shown wish ∷ p) none is = let both : None ≡ Some error = sym none.0 ∙ is in cc
-none_wished error (_ ∷ p) none is = cc
+none_wished error (_ ∷ p) none is = is
 
-unbroken : (error : CriticalError) (s : Start) (p : List Entry) → NoneEnds p → IsBroken (Wishes error) s p → ⊥
+unbroken : (error : CriticalError) (s : Start) (p : List Entry) → NoneEnds p → IsBroken (EndsByWish error) s p → ⊥
 unbroken error s p none broken = none_wished error broken.before (none_before broken.before p broken.dying none) broken.cut
 
-pub completed : (s : Start) (p : List Entry) (answer : Answer) (old new : ℕ) → Answers s p answer → IfErr answer (λ error. HasCause s p error old new) → (Rose old new → ⊥) → NoneEnds p → IsOkOrMemory answer
-completed s p (Ok u) old new a cause calm none = tt
-completed s p (Err Memory) old new a cause calm none = tt
-completed s p (Err (IoError about err)) old new a (inl rose) calm none = calm rose
-completed s p (Err (IoError about err)) old new a (inr broken) calm none = unbroken (IoError about err) s p none broken
-completed s p (Err error) old new a cause calm none = unbroken error s p none a
+unbroken_other : (error : CriticalError) (s : Start) (p : List Entry) → (IsInit error → ⊥) → NoneEnds p → IsBroken (Wishes error) s p → ⊥
+unbroken_other error s p other none broken = none_wished error broken.before (none_before broken.before p broken.dying none) (wished_other broken.before error other broken.cut)
+
+pub completed : (s : Start) (p : List Entry) (answer : Answer) (old new : Progress) → Answers s p answer → IfErr answer (λ error. HasCause s p error old new) → (Rose old.turn_faults new.turn_faults → ⊥) → (Rose old.maker_faults new.maker_faults → ⊥) → NoneEnds p → IsOkOrMemory answer
+completed s p (Ok u) old new a cause calm made none = tt
+completed s p (Err Memory) old new a cause calm made none = tt
+completed s p (Err (IoError about err)) old new a (inl rose) calm made none = calm rose
+completed s p (Err (IoError about err)) old new a (inr broken) calm made none = unbroken (IoError about err) s p none broken
+completed s p (Err (FsWatcherInit watcher err)) old new a (inl rose) calm made none = made rose
+completed s p (Err (FsWatcherInit watcher err)) old new a (inr broken) calm made none = unbroken (FsWatcherInit watcher err) s p none broken
+completed s p (Err error) old new a cause calm made none = unbroken_other error s p (λ i. i) none a
 
 -- each job was made under a new id, or again
 pub ran_makes_by_rule : (s : Start) (p : List Entry) → Ran s p → AreMadeByRule p
@@ -109,6 +118,16 @@ ran_is_served s p (inr broken) = (dying_keeps s broken.before p broken.dying).se
 pub ran_is_revised : (s : Start) (p : List Entry) → Ran s p → AreRevised s p
 ran_is_revised s p (inl complete) = run_is_revised s p complete.run
 ran_is_revised s p (inr broken) = (dying_keeps s broken.before p broken.dying).revised (run_is_revised s broken.before broken.run)
+
+-- each entry about what is watched was brought by its rule
+pub ran_is_watched : (s : Start) (p : List Entry) → Ran s p → AreWatchedByRule s p
+ran_is_watched s p (inl complete) = run_is_watched s p complete.run
+ran_is_watched s p (inr broken) = (dying_keeps s broken.before p broken.dying).watched (run_is_watched s broken.before broken.run)
+
+-- behind a backend that couldn't be made nothing but the end comes
+pub ran_ends_unmade : (s : Start) (p : List Entry) → Ran s p → UnmadeEnds p
+ran_ends_unmade s p (inl complete) = run_ends_unmade s p complete.run
+ran_ends_unmade s p (inr broken) = (dying_keeps s broken.before p broken.dying).ends_unmade (run_ends_unmade s broken.before broken.run)
 
 -- the tickets of the jobs are placed
 pub ran_is_placed : (s : Start) (p : List Entry) → Ran s p → IsPlaced p

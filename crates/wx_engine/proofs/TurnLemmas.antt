@@ -4,6 +4,7 @@ use Rattle.std.specs.Prelude.{not}
 use Rattle.wx_journal.specs.declared.entry.Entry.{Entry}
 use Rattle.wx_journal.specs.declared.entry.Entry.TheVariants.{Turn as Turned, TurnFault}
 use Rattle.wx_journal.specs.declared.entry.Turn.{Turn}
+use Rattle.wx_journal.specs.Written.{Written}
 use Rattle.wx_journal.specs.Names.{moment}
 use Rattle.wx_journal.specs.Told.{tell, tell_if, tells, is_world, is_hooks, is_turn, anywhere}
 use Rattle.wx_machine.specs.Case.{is_fault}
@@ -11,6 +12,8 @@ use Rattle.wx_action.specs.declared.worker_state.Worker.{Worker}
 use Rattle.wx_machine.specs.Start.{Start}
 use Rattle.wx_machine.specs.Journal.{turn_count, early_count, turn_fault}
 use Rattle.wx_machine.specs.Due.{agenda, Open, Due}
+use Rattle.wx_machine.specs.Progress.{Progress}
+use Rattle.wx_machine.specs.Steady.{IsSteady}
 use Rattle.wx_machine.specs.RunLaws.{MomentsRise}
 use Rattle.wx_machine.specs.Faults.{CountsOn}
 use Rattle.wx_machine.proofs.FaultLaws.{counts_entry}
@@ -18,10 +21,11 @@ use Rattle.wx_machine.specs.Kept.{Quiet, Same, More}
 use Rattle.wx_machine.specs.Leads.{Leads, Follows, Then}
 use Rattle.wx_action.specs.Stands.{Stands}
 use Rattle.wx_machine.specs.Turns.{SameTurns}
-use Rattle.wx_machine.specs.Seen.{Seen}
-use Rattle.wx_action.specs.Serves.{Serves}
+use Rattle.wx_machine.specs.Seen.{Seen, Hooked}
+use Rattle.wx_action.specs.Serves.{Continues}
+use Rattle.wx_file_turns.specs.Serves.{Attends}
 use Rattle.wx_machine.proofs.AllJobs.{same_turns}
-use Rattle.wx_engine.specs.Run.{ServesTurns}
+use Rattle.wx_engine.specs.Run.{StaysInPlace, ServesTurn, ServesTurns}
 use Rattle.wx_machine.specs.Told.{is_last, TellsNoEnd}
 use Rattle.wx_action.proofs.TurnLaws.{with_turn, at_any_turn, next_turn}
 use Rattle.wx_action.proofs.StandsLemmas.{stands_behind}
@@ -97,10 +101,45 @@ turn_stands s w w' t p p' stands open_is grown none kept = rw kept (at_any_turn 
 pub fault_stands : (s : Start) (w : Worker) (code : ℕ) (p p' : List Entry) → Stands s w p → p' ≡ TurnFault code ∷ p → Stands s w p'
 fault_stands s w code p p' stands grown = rw grown (stands_behind s w (TurnFault code) p refl tt stands)
 
--- turns were served, and then one more
-pub turns_then : {Plan : Type 0} (s : Start) (p q r : List Entry) (a b c : Seen Plan) (hooks hooks' hooks'' : Option (List Entry)) → ServesTurns s p a hooks q b hooks' → Serves s q b hooks' r c hooks'' → ServesTurns s p a hooks r c hooks''
-turns_then s p q r a b c hooks hooks' hooks'' g h =
-    let same = h.turns q (same_turns q) in record {
+-- ---- what serving a turn leaves
+
+steady_in_place : {Plan : Type 0} (a b : Seen Plan) → IsSteady a b → StaysInPlace a b
+steady_in_place a b h = record {
+  plan_kept = h.plan_kept;
+  progress_kept = h.progress_kept ∙ ap (λ (k : Progress). record a.progress { maker_faults = k.maker_faults }) (sym h.progress_kept);
+  place_kept = h.place_kept;
+  looked_kept = h.looked_kept;
+}
+
+-- a turn of any other kind
+pub serves_other : {K Fixed Plan : Type 0} (seen : K → Hooked Fixed) (rule : Fixed → List Entry → Entry → Type 0) (holds : K → List Entry → Type 0) (s : Start) (w : Worker) (j : Written) (a : Seen Plan) (x : K) (w' : Worker) (j' : Written) (b : Seen Plan) (x' : K) → Continues seen rule holds s w j a x w' j' b x' → ServesTurn seen rule holds s w j a x w' j' b x'
+serves_other seen rule holds s w j a x w' j' b x' h = record {
+  stands = h.stands;
+  follows = h.serves.follows;
+  turns = h.serves.turns;
+  counts = h.serves.counts;
+  steady = steady_in_place a b h.serves.steady;
+  keeps = h.keeps;
+  room = h.room;
+}
+
+-- a turn about what is watched
+pub serves_files : {K Fixed Plan : Type 0} (seen : K → Hooked Fixed) (rule : Fixed → List Entry → Entry → Type 0) (holds : K → List Entry → Type 0) (s : Start) (w : Worker) (j : Written) (a : Seen Plan) (x : K) (w' : Worker) (j' : Written) (b : Seen Plan) (x' : K) → Attends seen rule holds s w j a x w' j' b x' → ServesTurn seen rule holds s w j a x w' j' b x'
+serves_files seen rule holds s w j a x w' j' b x' h = record {
+  stands = h.stands;
+  follows = h.serves.follows;
+  turns = h.serves.turns;
+  counts = h.serves.counts;
+  steady = record { plan_kept = h.serves.steady.plan_kept; progress_kept = h.serves.steady.progress_kept; place_kept = h.serves.steady.place_kept; looked_kept = h.serves.steady.looked_kept };
+  keeps = h.keeps;
+  room = h.room;
+}
+
+-- ---- turns were served, and then one more
+
+pub turns_then : {K Fixed Plan : Type 0} (seen : K → Hooked Fixed) (rule : Fixed → List Entry → Entry → Type 0) (holds : K → List Entry → Type 0) (s : Start) (p : List Entry) (a : Seen Plan) (hooks : Option (List Entry)) (w : Worker) (j : Written) (b : Seen Plan) (x : K) (w' : Worker) (j' : Written) (c : Seen Plan) (x' : K) → ServesTurns s p a hooks j.past b (seen x).told → ServesTurn seen rule holds s w j b x w' j' c x' → ServesTurns s p a hooks j'.past c (seen x').told
+turns_then seen rule holds s p a hooks w j b x w' j' c x' g h =
+    let same = h.turns j.past (same_turns j.past) in record {
       follows = λ p₀ world₀ hooks₀ l. h.follows p₀ world₀ hooks₀ (g.follows p₀ world₀ hooks₀ l);
       turns = λ before e. ap (λ k. k.turns) h.steady.progress_kept ∙ g.turns before e ∙ sym (same.told before);
       counts = λ p₀ n₀ k. h.counts p₀ n₀ (g.counts p₀ n₀ k);

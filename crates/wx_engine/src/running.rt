@@ -5,12 +5,16 @@ ghost use Rattle.wx_machine.specs.Kept.{KeepsOn, Promised};
 ghost use Rattle.wx_action.specs.Serves.{AddsAlone, Continues};
 ghost use Rattle.wx_machine.specs.Start.{Start, IsSize};
 ghost use Rattle.wx_machine.specs.Jobs.{jobs};
-ghost use Rattle.wx_machine.specs.Due.{agenda, begin_of, Open};
+ghost use Rattle.wx_machine.specs.Due.{agenda, begin_of, Open, IsRun};
+ghost use Rattle.wx_machine.specs.Files.{is_file_turn};
 ghost use Rattle.wx_machine.specs.Keyboard.{ended_by};
 ghost use Rattle.wx_machine.specs.Told.{is_last, TellsNoEnd};
 ghost use Rattle.wx_machine.specs.Answer.{NoneIsToGo, BreaksOff, Answers};
 ghost use Rattle.wx_action.specs.Stands.{Stands, AtTurn, HasEndRoom, Works, end_room};
-ghost use Rattle.wx_engine.specs.Run.{HasCause, HasTurnCause, Stops, Rests, IsBetween, ServesTurns, Lists, HasLaws};
+ghost use Rattle.wx_file_turns.specs.Serves.{PaysOn, ends_unmade};
+ghost use Rattle.wx_file_turns.specs.Standing.{FilesStand, owing};
+ghost use Rattle.wx_journal.specs.Told.{Counts};
+ghost use Rattle.wx_engine.specs.Run.{HasCause, HasTurnCause, Stops, Rests, IsBetween, ServesTurn, ServesTurns, Lists, HasLaws};
 
 use crate::watchexec::Watchexec;
 use std::alloc::Global;
@@ -21,6 +25,7 @@ use wx_action::{
 use wx_config::Config;
 use wx_control::Flag;
 use wx_error::CriticalError;
+use wx_file_turns::{Files, file_turn};
 use wx_hooks::{Hooks, World};
 use wx_job::{Host, JobHooks};
 use wx_journal::{Beginning, Entry, Journal, TurnKind, copy_bytes};
@@ -103,10 +108,10 @@ pub(crate) fn begin(
     Ok(worker)
 }
 
-/// What is due in a turn that was drawn and listed, of this moment and kind. `done` is the flag of an ask's last control,
-/// where one was made with the ask. The answer says whether the run goes on. It fails where the run breaks off: for want of
-/// memory, and where the error handler wished it.
-fn serve<W: World, H: Hooks>(
+/// What is due in a turn that was drawn and listed, of this moment and kind, but one about what is watched. `done` is the flag of
+/// an ask's last control, where one was made with the ask. The answer says whether the run goes on. It fails where the run breaks
+/// off: for want of memory, and where the error handler wished it.
+fn serve_other<W: World, H: Hooks>(
     alloc: Global,
     kind: TurnKind,
     done: Option<Flag>,
@@ -118,6 +123,7 @@ fn serve<W: World, H: Hooks>(
 ) -> Result<Worked, CriticalError>
     ghost start: { Start }
     requires turn { AtTurn start state.old at kind journal.old.past }
+    requires other { is_file_turn kind ≡ false }
     ensures continues { Continues H.seen H.rule H.stands start state.old journal.old (W.seen world.old) hooks.old state.new journal.new (W.seen world.new) hooks.new }
     ensures works { IfOk result (λ worked. Works start worked journal.new.past) }
     ensures last { IfOk result (λ worked. worked ≡ Worked.On → is_last kind ≡ false) }
@@ -153,8 +159,47 @@ fn serve<W: World, H: Hooks>(
             change_turn(state, change, journal)?;
             Ok(state.worked())
         }
+        TurnKind::File => unreachable!(),
         TurnKind::Last => Ok(Worked::End),
     }
+}
+
+/// Whether a turn is about what is watched.
+fn is_file_turn(kind: &TurnKind) -> bool
+    ensures { result ≡ is_file_turn kind.now }
+{
+    matches!(kind, TurnKind::File)
+}
+
+/// The same in a turn of any kind. One about what is watched also fails where a backend can't be made; then the world's count of
+/// the faults of its maker rose. What is kept of what is watched stands for the journal where it goes well.
+fn serve<W: World, H: Hooks>(
+    kind: TurnKind,
+    done: Option<Flag>,
+    at: u64,
+    files: &mut Files<W::Back>,
+    state: &mut Worker,
+    world: &mut W,
+    hooks: &mut H,
+    journal: &mut Journal,
+) -> Result<Worked, CriticalError>
+    ghost start: { Start }
+    requires turn { AtTurn start state.old at kind journal.old.past }
+    requires run { IsRun start journal.old.past }
+    requires files { FilesStand start files.old journal.old.past }
+    ensures serves { ServesTurn H.seen H.rule H.stands start state.old journal.old (W.seen world.old) hooks.old state.new journal.new (W.seen world.new) hooks.new }
+    ensures works { IfOk result (λ worked. Works start worked journal.new.past) }
+    ensures last { IfOk result (λ worked. worked ≡ Worked.On → is_last kind ≡ false) }
+    ensures breaks { IfErr result (λ error. BreaksOff start journal.new.past error) }
+    ensures files { OnOk result (FilesStand start files.new journal.new.past) }
+    ensures paid { PaysOn journal.old.past (W.seen world.old) (owing files.old) journal.new.past (W.seen world.new) (owing files.new) }
+    ensures maker { Counts (ends_unmade journal.new.past) (W.seen world.old).progress.maker_faults (W.seen world.new).progress.maker_faults }
+{
+    if is_file_turn(&kind) {
+        file_turn(files, state, world, hooks, journal)?;
+        return Ok(Worked::On);
+    }
+    serve_other(files.alloc, kind, done, at, state, world, hooks, journal)
 }
 
 /// Takes room for a turn in the journal and in the world, besides what the end of all jobs takes. It fails only for want
@@ -194,6 +239,7 @@ fn kind_again(alloc: Global, kind: &TurnKind, state: &mut Worker) -> Result<Turn
         TurnKind::Ended(child) => Ok(TurnKind::Ended(*child)),
         TurnKind::Ask(id, ask) => Ok(TurnKind::Ask(*id, ask.copy(alloc)?)),
         TurnKind::Change(change) => Ok(TurnKind::Change(change.copy(alloc)?)),
+        TurnKind::File => Ok(TurnKind::File),
         TurnKind::Last => Ok(TurnKind::Last),
     }
 }
@@ -203,19 +249,21 @@ fn kind_again(alloc: Global, kind: &TurnKind, state: &mut Worker) -> Result<Turn
 fn serve_turns<W: World, H: Hooks>(
     alloc: Global,
     about: Text,
+    files: &mut Files<W::Back>,
     state: &mut Worker,
     world: &mut W,
     hooks: &mut H,
     journal: &mut Journal,
 ) -> Result<(), CriticalError>
     ghost start: { Start }
-    requires between { IsBetween start state.old journal.old (W.seen world.old) }
+    requires between { IsBetween start state.old files.old journal.old (W.seen world.old) }
     requires about { about ≡ codes "turn" }
     ensures rests { Rests start state.new journal.new (W.seen world.new) }
     ensures stops { Stops start journal.new.past result }
     ensures serves { ServesTurns start journal.old.past (W.seen world.old) (H.seen hooks.old).told journal.new.past (W.seen world.new) (H.seen hooks.new).told }
     ensures keeps { KeepsOn H.seen H.rule H.stands hooks.old journal.old.past hooks.new journal.new.past }
-    ensures cause { IfErr result (λ error. HasTurnCause journal.new.past error (W.seen world.old).progress.turn_faults (W.seen world.new).progress.turn_faults) }
+    ensures cause { IfErr result (λ error. HasTurnCause journal.new.past error (W.seen world.old).progress (W.seen world.new).progress) }
+    ensures paid { PaysOn journal.old.past (W.seen world.old) (owing files.old) journal.new.past (W.seen world.new) 0 }
 {
     'turns: loop {
         make_room(state, world, journal)?;
@@ -232,7 +280,7 @@ fn serve_turns<W: World, H: Hooks>(
         let at = given.turn.at;
         let kind = kind_again(alloc, &given.turn.kind, state);
         journal.push(Entry::Turn(given.turn));
-        match serve(alloc, kind?, given.done, at, state, world, hooks, journal)? {
+        match serve(kind?, given.done, at, files, state, world, hooks, journal)? {
             Worked::On => {}
             Worked::End => return Ok(()),
         }
@@ -251,7 +299,7 @@ pub(crate) fn run<W: World, H: Hooks>(
     requires engine { engine ≡ start }
     requires empty { journal.old.past ≡ [] }
     ensures answers { Answers start journal.new.past result }
-    ensures cause { IfErr result (λ error. HasCause start journal.new.past error (W.seen world.old).progress.turn_faults (W.seen world.new).progress.turn_faults) }
+    ensures cause { IfErr result (λ error. HasCause start journal.new.past error (W.seen world.old).progress (W.seen world.new).progress) }
     ensures lists { Lists journal.new.past (W.seen world.old) (H.seen hooks.old).told (W.seen world.new) (H.seen hooks.new).told }
     ensures laws { HasLaws start journal.new.past }
     ensures promised { Promised H.seen H.rule H.stands hooks.old [] hooks.new journal.new.past }
@@ -259,8 +307,10 @@ pub(crate) fn run<W: World, H: Hooks>(
     ensures world_place { (W.seen world.new).place ≡ (W.seen world.old).place }
 {
     let about = Text::from_slice(alloc, b"turn")?;
+    let folder = engine.folder.copy(alloc)?;
     let mut state = begin(alloc, engine, journal)?;
-    let answer = serve_turns(alloc, about, &mut state, world, hooks, journal);
+    let mut files: Files<W::Back> = Files::new(alloc, folder);
+    let answer = serve_turns(alloc, about, &mut files, &mut state, world, hooks, journal);
     end_jobs(&mut state, world, journal);
     answer
 }

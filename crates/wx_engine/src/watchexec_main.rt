@@ -10,7 +10,8 @@ ghost use Rattle.wx_machine.specs.Journal.{turn_count, early_count};
 ghost use Rattle.wx_machine.specs.RunLaws.{IsBatched, AreBatches, NoneUrgentWaits, NoneUnseenIsShown, NoneIsShownClosed, MomentsRise, AreMadeByRule, AreServed, AreRevised};
 ghost use Rattle.wx_machine.specs.Answer.{Answers};
 ghost use Rattle.wx_machine.specs.Faults.{Counted};
-ghost use Rattle.wx_engine.specs.Run.{HasCause, Ran};
+ghost use Rattle.wx_machine.specs.FileLaws.{AreWatchedByRule, UnmadeEnds};
+ghost use Rattle.wx_engine.specs.Run.{HasCause, Ran, AreFewSteps};
 ghost use Rattle.wx_engine.specs.Completes.{IsOkOrMemory, NoneEnds, AreGranted};
 ghost use Rattle.wx_engine.specs.Offers.{AreOffered};
 
@@ -27,7 +28,8 @@ impl Watchexec {
     /// action, the filter or the error handler asks for the end, or the last turn came. Ok comes where the end was due.
     /// `IoError` about `turn` comes where the world had no turn to give, with the code of that fault. `Elevated`, and any
     /// other error but `Exit`, comes directly after the error handler wished it: an error that it was shown, elevated
-    /// without help, or a critical error as it was handed in. `Memory` also comes for want of memory. `Exit` never comes.
+    /// without help, or a critical error as it was handed in. `FsWatcherInit` also comes directly after a backend couldn't be
+    /// made, which then is said of that, and `Memory` also for want of memory. `Exit` never comes.
     /// Whatever the answer, each job that lives then ends, and the child that it runs is let go. The journal is a run, or
     /// one that was broken off, with this end behind it. It lists the turns that were given and the calls that were made,
     /// in order.
@@ -43,8 +45,8 @@ impl Watchexec {
         // The journal is a run that this answer may have, with its end done, and each error has its cause.
         ensures ran { Ran self journal.new.past }
         ensures answer { Answers self journal.new.past result }
-        ensures cause { IfErr result (λ error. HasCause self journal.new.past error (W.seen world.old).progress.turn_faults (W.seen world.new).progress.turn_faults) }
-        ensures completes { (Rose (W.seen world.old).progress.turn_faults (W.seen world.new).progress.turn_faults → ⊥) → NoneEnds journal.new.past → IsOkOrMemory result }
+        ensures cause { IfErr result (λ error. HasCause self journal.new.past error (W.seen world.old).progress (W.seen world.new).progress) }
+        ensures completes { (Rose (W.seen world.old).progress.turn_faults (W.seen world.new).progress.turn_faults → ⊥) → (Rose (W.seen world.old).progress.maker_faults (W.seen world.new).progress.maker_faults → ⊥) → NoneEnds journal.new.past → IsOkOrMemory result }
         ensures granted { AreGranted result journal.new.past }
 
         // It lists what was told: the turns, and the calls on world and hooks. At most one turn more came than were left, and
@@ -89,6 +91,13 @@ impl Watchexec {
         ensures ids { AreMadeByRule journal.new.past }
         ensures served { AreServed self journal.new.past }
         ensures revisions { AreRevised self journal.new.past }
+
+        // What is watched: the directories that are judged, the backends that are made, and the settings that are applied are those
+        // that the rules say. Behind a backend that couldn't be made nothing but the end comes. There are at most as many steps as
+        // looks in this call, and entries that bring work; or the count of looks stands at the end of its range.
+        ensures watched { AreWatchedByRule self journal.new.past }
+        ensures ends_unmade { UnmadeEnds journal.new.past }
+        ensures steps { AreFewSteps journal.new.past (W.seen world.old).looked.looks (W.seen world.new).looked.looks }
 
         // Where the hooks stood for the empty journal and are not short, each call passes their rule.
         ensures rule { (H.seen hooks.new).short ≡ false → H.stands hooks.old [] → Obeys (H.rule (H.seen hooks.old).plan) [] journal.new.past }

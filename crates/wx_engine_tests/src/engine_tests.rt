@@ -3,6 +3,8 @@
 // What is long, as a script, a world or an engine, is lent to a helper and dropped by generic code, which is quicker to
 // prove than to drop it where calls may fail.
 ghost use Rattle.std.specs.Prelude.{◌≡◌, ◌≤◌};
+ghost use Rattle.wx_journal.specs.declared.entry.Entry.TheVariants.{Dir};
+ghost use Rattle.wx_journal.specs.Told.{tell};
 ghost use Rattle.wx_script.specs.Follows.{IsScript};
 
 use std::alloc::Global;
@@ -20,7 +22,7 @@ use wx_journal::{SpawnTag, TurnKind};
 use wx_script::Script;
 use wx_text::{List, Memory, Text};
 use wx_trial::{engine_with, root, run_text, script_of};
-use wx_words::cut;
+use wx_words::{TextPath, cut};
 
 /// Two turns with a fault between them, and one call that quits.
 const TURNS: &[u8] =
@@ -42,7 +44,7 @@ fn hooks_of(alloc: Global, lines: &[u8]) -> Result<ScriptHooks, Fail> {
     Ok(hooks?)
 }
 
-/// The sort of a turn: 0 for an event, 1 for work, 2 for a last turn, 3 for one of a job, 4 for a change of the settings.
+/// The sort of a turn: 0 for an event, 1 for work, 2 for a last turn, 3 for one of a job, 4 for a change of the settings, 6 for files.
 fn sort(kind: &TurnKind) -> u32 {
     match kind {
         TurnKind::Arrive(_, _) => 0,
@@ -51,6 +53,7 @@ fn sort(kind: &TurnKind) -> u32 {
         TurnKind::Job(_) | TurnKind::Ended(_) | TurnKind::Ask(_, _) => 3,
         TurnKind::Change(_) => 4,
         TurnKind::Signal(_) | TurnKind::Keys(_) => 5,
+        TurnKind::File => 6,
     }
 }
 
@@ -124,6 +127,54 @@ fn the_filter_answers_in_order(rt: HostRuntime) -> Result<(), Fail> {
     let held = expect_answers(&rt, rt.alloc(), &mut hooks);
     drop(hooks);
     held
+}
+
+/// Shows a directory to the filter of this number. The hooks tell just that.
+fn check_and_tell<H: Hooks>(hooks: &mut H, n: u32, path: TextPath) -> Result<bool, RuntimeError>
+    requires { 1 ≤ (H.seen hooks.old).spare }
+    ensures { (H.seen hooks.new).told ≡ tell (Dir n path result) (H.seen hooks.old).told }
+{
+    hooks.check_dir(n, path)
+}
+
+/// What the filter answers about this directory, as a word.
+fn dir_word<H: Hooks>(alloc: Global, hooks: &mut H, path: &[u8]) -> Result<&'static str, Memory> {
+    let path = TextPath::new(Text::from_slice(alloc, path)?);
+    hooks.reserve(1)?;
+    Ok(word_of(check_and_tell(hooks, 0, path)))
+}
+
+/// What the filter answers about an event, as a word.
+fn event_word<H: Hooks>(alloc: Global, hooks: &mut H) -> Result<&'static str, Memory> {
+    let event = Event {
+        tags: List::new(alloc),
+    };
+    hooks.reserve(1)?;
+    Ok(word_of(hooks.check_event(0, 0, &event, Priority::Low)))
+}
+
+/// Holds what the filter answers to directories and events: the script has three answers about directories, and one about
+/// events.
+fn expect_dirs(rt: &impl Abort, alloc: Global, hooks: &mut ScriptHooks) -> Result<(), Fail> {
+    assert_eq!(rt; dir_word(alloc, hooks, b"/w/a")?, "reject");
+    assert_eq!(rt; dir_word(alloc, hooks, b"/w/a")?, "pass");
+    assert_eq!(rt; event_word(alloc, hooks)?, "fail");
+    assert_eq!(rt; dir_word(alloc, hooks, b"/w/b")?, "exit");
+    assert_eq!(rt; event_word(alloc, hooks)?, "pass");
+    assert_eq!(rt; dir_word(alloc, hooks, b"/w/a")?, "pass");
+    Ok(())
+}
+
+#[test]
+fn the_filter_answers_about_directories_in_order(rt: HostRuntime) -> Result<(), Fail> {
+    let lines = b"dir reject\nfilter fail nocommands\ndir pass\ndir fail exit\n";
+    let mut hooks = hooks_of(rt.alloc(), lines)?;
+    let held = expect_dirs(&rt, rt.alloc(), &mut hooks);
+    let short = hooks.short();
+    drop(hooks);
+    held?;
+    assert!(rt; !short);
+    Ok(())
 }
 
 /// Spawns child 0 for job 1, kills it and waits for it, and answers whether each call went well.

@@ -15,7 +15,7 @@ use wx_machine::CommandState;
 use wx_script::Script;
 use wx_text::{Copies, List, Memory, Text};
 use wx_trial::{command_of, created, engine_with, run_text, script_of};
-use wx_words::cut;
+use wx_words::{TextPath, cut};
 
 /// What hooks do in a call.
 #[derive(Clone, Copy)]
@@ -36,6 +36,8 @@ enum Does {
     Ends,
     /// The filter fails, and the error handler wishes this, one after the other.
     Wishes(&'static [Says]),
+    /// The filter has each directory watched but `/w/b`.
+    Judges,
 }
 
 /// What an error handler wishes.
@@ -116,6 +118,16 @@ impl Hooks for Own {
         }
     }
 
+    fn check_dir(&mut self, n: u32, path: TextPath) -> Result<bool, RuntimeError> {
+        match self.does {
+            Does::Judges => {
+                self.is_right = n == 0;
+                Ok(path.text().as_slice() != b"/w/b".as_slice())
+            }
+            _ => Ok(true),
+        }
+    }
+
     fn error(&mut self, _n: u32, hook: &mut ErrorHook) {
         self.is_right = wish_all(self.alloc, self.does, hook).unwrap_or(false);
     }
@@ -137,7 +149,7 @@ fn act(alloc: Global, does: Does, handler: &mut ActionHandler<'_>) -> Option<boo
         Does::SetsVariable | Does::WantsMemory => start_hooked(alloc, handler),
         Does::Deletes => delete(alloc, handler),
         Does::Ends => end_at_interrupt(alloc, handler),
-        Does::Wishes(_) => None,
+        Does::Wishes(_) | Does::Judges => None,
     }
 }
 
@@ -474,5 +486,19 @@ fn the_first_wish_stands(rt: HostRuntime) -> Result<(), Fail> {
             "of {want:?}"
         );
     }
+    Ok(())
+}
+
+/// Two directories are to be watched with all below them. The one has a directory that the filter refuses, with another in it.
+const FILES: &[u8] =
+    b"node dir /\nnode dir /w\nnode dir /w/b\nnode dir /w/b/c\nnode dir /v\nnode dir /v/a\nturn 0 change paths 2 r /w r /v\nturn 1 file\nturn 1 file\nturn 1 file\nturn 1 file\nturn 1 file\nturn 1 file\nturn 1 file\nturn 1 file\nturn 1 file\nturn 1 file\n";
+
+/// Two visits, two scans, a look at each entry, a scan of the one that is watched, and a sweep.
+const JUDGED: &[u8] =
+    b"turn 0 change paths 2 r /w r /v\nchanged 1\nturn 1 file\napplied 1\nmake 0 native on ok\nturn 1 file\nword stepped\nturn 1 file\nword stepped\nturn 1 file\nword stepped\nturn 1 file\nword stepped\nturn 1 file\ndir 0 /w/b reject\nword stepped\nturn 1 file\ndir 0 /v/a pass\nword stepped\nturn 1 file\nword stepped\nturn 1 file\nword stepped\nturn 1 file\nword quiet\nturn 1 last\nend ok lost 0\n";
+
+#[test]
+fn directories_are_judged_by_their_paths(rt: HostRuntime) -> Result<(), Fail> {
+    assert!(rt; runs_so(rt.alloc(), Does::Judges, FILES, JUDGED)?);
     Ok(())
 }

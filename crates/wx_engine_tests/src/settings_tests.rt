@@ -16,7 +16,7 @@ use wx_journal::HostFault;
 use wx_script::Script;
 use wx_text::{Memory, Text};
 use wx_trial::{root, run_text, script_of};
-use wx_words::cut;
+use wx_words::{TextPath, cut};
 
 /// Hooks whose action handler asks for three changes, and what each was answered in the last call.
 #[derive(Drop)]
@@ -71,6 +71,10 @@ impl Hooks for Changing {
         _event: &Event,
         _priority: Priority,
     ) -> Result<bool, RuntimeError> {
+        Ok(true)
+    }
+
+    fn check_dir(&mut self, _n: u32, _path: TextPath) -> Result<bool, RuntimeError> {
         Ok(true)
     }
 

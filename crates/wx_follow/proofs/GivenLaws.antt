@@ -1,5 +1,5 @@
 -- One turn more is given.
-use Rattle.std.proofs.Common.{◌≡◌, ℕ, zero, suc, ◌+◌, ◌<◌, ◌≤◌, min, Option, None, Some, Result, Ok, inl, inr, ◌⊎◌, List, [], ◌∷◌, length, drop, get_or, slice_get, refl, sym, ap, ◌∙◌, arith, ℤ}
+use Rattle.std.proofs.Common.{◌≡◌, ℕ, Bool, true, false, ◌||◌, zero, suc, ◌+◌, ◌<◌, ◌≤◌, min, Option, None, Some, Result, Ok, inl, inr, ◌⊎◌, List, [], ◌∷◌, length, drop, get_or, slice_get, refl, sym, ap, ◌∙◌, arith, ℤ}
 use Rattle.std.proofs.lemmas.Bool.{cases_lt}
 use Rattle.std.proofs.lemmas.List.{get_or_past}
 use Rattle.wx_events.specs.declared.process.ProcessEnd.{ProcessEnd}
@@ -9,14 +9,19 @@ use Rattle.wx_control.specs.declared.id.Id.{Id}
 use Rattle.wx_journal.specs.declared.child.HostFault.{HostFault}
 use Rattle.wx_journal.specs.declared.child.SpawnTag.{SpawnTag}
 use Rattle.wx_journal.specs.declared.entry.Entry.{Entry}
-use Rattle.wx_journal.specs.declared.entry.Entry.TheVariants.{Turn as Turned, Spawn, Signal, Kill, Wait}
+use Rattle.wx_journal.specs.declared.entry.Entry.TheVariants.{Turn as Turned, Spawn, Signal, Kill, Wait, Make}
 use Rattle.wx_journal.specs.declared.entry.TurnKind.TheVariants.{Last}
+use Rattle.wx_watch.specs.declared.notify_fault.NotifyFault.{NotifyFault}
+use Rattle.wx_watch.specs.declared.watched.Watcher.{Watcher}
+use Rattle.wx_mem_tree.specs.declared.entry.MemEntry.{MemEntry}
+use Rattle.wx_follow.specs.Edits.{FollowsEdits, edited}
+use Rattle.wx_script.specs.declared.script.TreeEdit.{TreeEdit}
 use Rattle.wx_script.specs.declared.script.ScriptTurn.{ScriptTurn}
 use Rattle.wx_script.specs.declared.script.ScriptTurn.TheVariants.{Turn, Fault}
 use Rattle.wx_script.specs.declared.answers.Answers.{Answers}
 use Rattle.wx_script.specs.declared.answers.Used.{Used}
 use Rattle.wx_script.specs.Answered.{answers_of, Answered, answered_by}
-use Rattle.wx_script.specs.HostCalls.{Spawns, Signals, Kills, Waits, reply, UsesAnswers}
+use Rattle.wx_script.specs.HostCalls.{Spawns, Signals, Kills, Waits, Makes, reply, UsesAnswers}
 use Rattle.wx_script.specs.Turns.{entry_of, entry_or_last, given, newest, turns_of, FollowsGiven}
 
 -- the next of the turns that are left, and those after it
@@ -79,27 +84,59 @@ answered_more pick usual lines used used' p e answer picked is next (answers, us
     (rw picked (λ i. (is ∙ ap (λ (k : ℕ). get_or lines k usual) uses ∙ next_line lines (length (answers_of (answered_by pick usual) p)) usual) i ∷ answers i), rw picked (omega (arith, next, uses)))
 
 -- an entry that is no call on the host uses none of its answers
-pub turn_over : (answers : Answers) (used : Used) (p : List Entry) (x : ScriptTurn) → UsesAnswers answers used p → UsesAnswers answers used (entry_of x ∷ p)
-turn_over answers used p (Turn t) all = all
-turn_over answers used p (Fault code) all = all
+pub turn_over : (short : Bool) (answers : Answers) (used : Used) (p : List Entry) (x : ScriptTurn) → UsesAnswers short answers used p → UsesAnswers short answers used (entry_of x ∷ p)
+turn_over short answers used p (Turn t) all = all
+turn_over short answers used p (Fault code) all = all
+
+-- what wasn't refused before isn't where nothing more is
+not_first : (short more : Bool) → (short || more) ≡ false → short ≡ false
+not_first true more so = so
+not_first false more so = refl
+
+pub not_second : (short more : Bool) → (short || more) ≡ false → more ≡ false
+not_second true more so = absurd cc
+not_second false more so = so
+
+pub perhaps_short : (short more : Bool) (answers : Answers) (used : Used) (p : List Entry) → UsesAnswers short answers used p → UsesAnswers (short || more) answers used p
+perhaps_short short more answers used p all so = all (not_first short more so)
+
+-- ---- changes of the tree
+
+-- the next changes are made
+pub edits_more : (short more : Bool) (edits : List (List TreeEdit)) (n changed : ℕ) (es es' : List MemEntry)
+    → changed ≡ min n (length edits) → (more ≡ false → es' ≡ edited (get_or edits changed []) es) → FollowsEdits short edits n es → FollowsEdits (short || more) edits (suc n) es'
+edits_more short more edits n changed es es' is made so_far so =
+    made (not_second short more so) ∙ ap (λ (xs : List TreeEdit). edited xs es) (ap (λ (k : ℕ). get_or edits k []) is ∙ next_line edits n []) ∙ ap (edited (get_or edits n [])) (so_far (not_first short more so))
+
+-- a turn of a script is asked for
+pub edits_turn : (short : Bool) (edits : List (List TreeEdit)) (told : List Entry) (x : ScriptTurn) (es : List MemEntry) → FollowsEdits short edits (suc (length (turns_of told))) es → FollowsEdits short edits (length (turns_of (entry_of x ∷ told))) es
+edits_turn short edits told x es so_far = rw (← turns_more x told) so_far
+
+pub lines_turn : (edits : List (List TreeEdit)) (told : List Entry) (x : ScriptTurn) (changed changed' : ℕ) → changed ≡ min (length (turns_of told)) (length edits) → changed' ≡ min (changed + 1) (length edits) → changed' ≡ min (length (turns_of (entry_of x ∷ told))) (length edits)
+lines_turn edits told x changed changed' is next = rw (← turns_more x told) (omega (arith, is, next))
 
 -- a call of a kind uses one of its answers, and none of another
-pub spawn_more : (answers : Answers) (used : Used) (n : ℕ) (p : List Entry) (child : ℕ) (job : Id) (tag : SpawnTag) (what : Spawnable) (answer : Result (Unit {0}) HostFault)
-    → answer ≡ get_or answers.spawns used.spawns (Ok tt) → n ≡ min (used.spawns + 1) (length answers.spawns) → UsesAnswers answers used p → UsesAnswers answers (record used { spawns = n }) (Spawn child job tag what answer ∷ p)
-spawn_more answers used n p child job tag what answer is next all Spawns = answered_more (λ e. reply e Spawns) (Ok tt) answers.spawns used.spawns n p (Spawn child job tag what answer) answer refl is next (all Spawns)
-spawn_more answers used n p child job tag what answer is next all k = all k
+pub spawn_more : (short : Bool) (answers : Answers) (used : Used) (n : ℕ) (p : List Entry) (child : ℕ) (job : Id) (tag : SpawnTag) (what : Spawnable) (answer : Result (Unit {0}) HostFault)
+    → answer ≡ get_or answers.spawns used.spawns (Ok tt) → n ≡ min (used.spawns + 1) (length answers.spawns) → UsesAnswers short answers used p → UsesAnswers short answers (record used { spawns = n }) (Spawn child job tag what answer ∷ p)
+spawn_more short answers used n p child job tag what answer is next all so Spawns = answered_more (λ e. reply e Spawns) (Ok tt) answers.spawns used.spawns n p (Spawn child job tag what answer) answer refl is next (all so Spawns)
+spawn_more short answers used n p child job tag what answer is next all so k = all so k
 
-pub signal_more : (answers : Answers) (used : Used) (n : ℕ) (p : List Entry) (child : ℕ) (number : ℤ) (answer : Result (Unit {0}) HostFault)
-    → answer ≡ get_or answers.signals used.signals (Ok tt) → n ≡ min (used.signals + 1) (length answers.signals) → UsesAnswers answers used p → UsesAnswers answers (record used { signals = n }) (Signal child number answer ∷ p)
-signal_more answers used n p child number answer is next all Signals = answered_more (λ e. reply e Signals) (Ok tt) answers.signals used.signals n p (Signal child number answer) answer refl is next (all Signals)
-signal_more answers used n p child number answer is next all k = all k
+pub signal_more : (short : Bool) (answers : Answers) (used : Used) (n : ℕ) (p : List Entry) (child : ℕ) (number : ℤ) (answer : Result (Unit {0}) HostFault)
+    → answer ≡ get_or answers.signals used.signals (Ok tt) → n ≡ min (used.signals + 1) (length answers.signals) → UsesAnswers short answers used p → UsesAnswers short answers (record used { signals = n }) (Signal child number answer ∷ p)
+signal_more short answers used n p child number answer is next all so Signals = answered_more (λ e. reply e Signals) (Ok tt) answers.signals used.signals n p (Signal child number answer) answer refl is next (all so Signals)
+signal_more short answers used n p child number answer is next all so k = all so k
 
-pub kill_more : (answers : Answers) (used : Used) (n : ℕ) (p : List Entry) (child : ℕ) (answer : Result (Unit {0}) HostFault)
-    → answer ≡ get_or answers.kills used.kills (Ok tt) → n ≡ min (used.kills + 1) (length answers.kills) → UsesAnswers answers used p → UsesAnswers answers (record used { kills = n }) (Kill child answer ∷ p)
-kill_more answers used n p child answer is next all Kills = answered_more (λ e. reply e Kills) (Ok tt) answers.kills used.kills n p (Kill child answer) answer refl is next (all Kills)
-kill_more answers used n p child answer is next all k = all k
+pub kill_more : (short : Bool) (answers : Answers) (used : Used) (n : ℕ) (p : List Entry) (child : ℕ) (answer : Result (Unit {0}) HostFault)
+    → answer ≡ get_or answers.kills used.kills (Ok tt) → n ≡ min (used.kills + 1) (length answers.kills) → UsesAnswers short answers used p → UsesAnswers short answers (record used { kills = n }) (Kill child answer ∷ p)
+kill_more short answers used n p child answer is next all so Kills = answered_more (λ e. reply e Kills) (Ok tt) answers.kills used.kills n p (Kill child answer) answer refl is next (all so Kills)
+kill_more short answers used n p child answer is next all so k = all so k
 
-pub wait_more : (answers : Answers) (used : Used) (n : ℕ) (p : List Entry) (child : ℕ) (answer : Result ProcessEnd HostFault)
-    → answer ≡ get_or answers.waits used.waits (Ok Success) → n ≡ min (used.waits + 1) (length answers.waits) → UsesAnswers answers used p → UsesAnswers answers (record used { waits = n }) (Wait child answer ∷ p)
-wait_more answers used n p child answer is next all Waits = answered_more (λ e. reply e Waits) (Ok Success) answers.waits used.waits n p (Wait child answer) answer refl is next (all Waits)
-wait_more answers used n p child answer is next all k = all k
+pub wait_more : (short : Bool) (answers : Answers) (used : Used) (n : ℕ) (p : List Entry) (child : ℕ) (answer : Result ProcessEnd HostFault)
+    → answer ≡ get_or answers.waits used.waits (Ok Success) → n ≡ min (used.waits + 1) (length answers.waits) → UsesAnswers short answers used p → UsesAnswers short answers (record used { waits = n }) (Wait child answer ∷ p)
+wait_more short answers used n p child answer is next all so Waits = answered_more (λ e. reply e Waits) (Ok Success) answers.waits used.waits n p (Wait child answer) answer refl is next (all so Waits)
+wait_more short answers used n p child answer is next all so k = all so k
+
+pub make_more : (short : Bool) (answers : Answers) (used : Used) (n : ℕ) (p : List Entry) (back : ℕ) (kind : Watcher) (follow : Bool) (answer : Result (Unit {0}) NotifyFault)
+    → (short ≡ false → answer ≡ get_or answers.makes used.makes (Ok tt)) → n ≡ min (used.makes + 1) (length answers.makes) → UsesAnswers short answers used p → UsesAnswers short answers (record used { makes = n }) (Make back kind follow answer ∷ p)
+make_more short answers used n p back kind follow answer is next all so Makes = answered_more (λ e. reply e Makes) (Ok tt) answers.makes used.makes n p (Make back kind follow answer) answer refl (is so) next (all so Makes)
+make_more short answers used n p back kind follow answer is next all so k = all so k

@@ -1,2 +1,3 @@
 mod ActedLaws
+mod BackedLaws
 mod GivenLaws

@@ -1,5 +1,5 @@
 // What is written down for the calls of one kind: its lines, of which so many were used.
-ghost use Rattle.std.specs.Prelude.{◌≡◌, ◌+◌, length, min, get_or};
+ghost use Rattle.std.specs.Prelude.{◌≡◌, ◌+◌, ◌||◌, length, min, get_or};
 
 use wx_text::List;
 
@@ -33,4 +33,11 @@ pub(crate) fn next<T: Copy>(lines: &List<T>, used: &mut usize, usual: T) -> T
     let answer = *line(lines, *used, &usual);
     *used = passed(lines, *used);
     answer
+}
+
+/// Whether one of the two is so.
+pub(crate) fn either(one: bool, other: bool) -> bool
+    ensures { result ≡ (one || other) }
+{
+    one || other
 }

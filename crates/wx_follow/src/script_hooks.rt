@@ -5,8 +5,8 @@ ghost use Rattle.wx_journal.specs.declared.entry.Act.TheVariants.{Ask as Asks, C
 ghost use Rattle.wx_journal.specs.declared.wish.Wish.TheVariants.{Nothing};
 ghost use Rattle.wx_journal.specs.Told.{anywhere, is_hooks};
 ghost use Rattle.wx_script.specs.Answered.{AreUsed};
-ghost use Rattle.wx_script.specs.Acted.{is_made, AreMade, performed, with_create, with_ask, with_get, with_act, hands, filters, errors, polls, LeavesWords, AreHooksUsed, Wished, IsWished};
-ghost use Rattle.wx_script.specs.FollowLaws.{leaves_wished, uses_over, hands_among, filters_among, errors_among, polls_among, hooks_over};
+ghost use Rattle.wx_script.specs.Acted.{is_made, AreMade, performed, with_create, with_ask, with_get, with_act, hands, filters, dirs, errors, polls, LeavesWords, AreHooksUsed, Wished, IsWished};
+ghost use Rattle.wx_script.specs.FollowLaws.{leaves_wished, uses_over, hands_among, filters_among, dirs_among, errors_among, polls_among, hooks_over};
 ghost use Rattle.wx_script.specs.Follows.{wished_of};
 ghost use Rattle.wx_script.specs.declared.script.ScriptAct.TheVariants.{One};
 
@@ -22,15 +22,17 @@ use wx_job::{JobHooks, JobTaskContext};
 use wx_journal::{Act, Entry, HostFault, Journal, Wish};
 use wx_script::{Script, ScriptAct, Wanted};
 use wx_text::{Copies, List, Memory, Text, copy_twice};
+use wx_words::TextPath;
 
-/// Hooks that ask in each call of the action handler for the next acts of a script, and for nothing after them, and answer
-/// each call of the filter by the next answer of the script, and let every event after them pass. Of each error they wish what
-/// the script does next, and nothing after that. Each poll of a begun function is answered as the script says next, and those
-/// after that find it ready. Each call of a spawn hook appends the next words of the script to those of what is spawned, and
-/// none after them. Functions and error handlers of jobs do nothing. Where memory is wanted for an act, or a change is refused
-/// since the revision can't be raised, they are short, quit, and leave out the acts behind it. Where it is wanted for an answer they are short, and answer the error `Memory`. Where it
-/// is wanted for a wish they are short, and wish nothing. Where it is wanted for what is spawned they are short, leave that as
-/// it was, and answer `Memory`. They tell their entries.
+/// Hooks that ask in each call of the action handler for the next acts of a script, and for nothing after them, and answer each
+/// call of the filter about an event by the next answer of the script, and let every event after them pass. So they do with
+/// directories, by the script's answers about these. Of each error they wish what the script does next, and nothing after that.
+/// Each poll of a begun function is answered as the script says next, and those after that find it ready. Each call of a spawn
+/// hook appends the next words of the script to those of what is spawned, and none after them. Functions and error handlers of
+/// jobs do nothing. Where memory is wanted for an act, or a change is refused since the revision can't be raised, they are
+/// short, quit, and leave out the acts behind it. Where it is wanted for an answer they are short, and answer the error
+/// `Memory`. Where it is wanted for a wish they are short, and wish nothing. Where it is wanted for what is spawned they are
+/// short, leave that as it was, and answer `Memory`. They tell their entries.
 #[derive(Drop, Debug)]
 pub struct ScriptHooks {
     alloc: Global,
@@ -38,6 +40,8 @@ pub struct ScriptHooks {
     used: usize,
     filters: List<Result<bool, RuntimeError>>,
     asked: usize,
+    dirs: List<Result<bool, RuntimeError>>,
+    judged: usize,
     errors: List<Wish>,
     shown: usize,
     polls: List<bool>,
@@ -51,13 +55,14 @@ pub struct ScriptHooks {
 impl ScriptHooks {
     /// Hooks that follow this script, before the first call. It fails only for want of memory.
     pub fn new(alloc: Global, script: &Script) -> Result<ScriptHooks, Memory>
-        ensures plan { IfOk result (λ hooks. record { actions = hooks.actions; filters = hooks.filters; errors = hooks.errors; polls = hooks.polls; hooks = hooks.hooks } ≡ wished_of script.now) }
-        ensures stands { IfOk result (λ hooks. AreUsed hands hooks.actions hooks.used [] × AreUsed filters hooks.filters hooks.asked [] × AreUsed errors hooks.errors hooks.shown [] × AreUsed polls hooks.polls hooks.polled [] × AreHooksUsed hooks.hooks hooks.hooked []) }
+        ensures plan { IfOk result (λ hooks. record { actions = hooks.actions; filters = hooks.filters; dirs = hooks.dirs; errors = hooks.errors; polls = hooks.polls; hooks = hooks.hooks } ≡ wished_of script.now) }
+        ensures stands { IfOk result (λ hooks. AreUsed hands hooks.actions hooks.used [] × AreUsed filters hooks.filters hooks.asked [] × AreUsed dirs hooks.dirs hooks.judged [] × AreUsed errors hooks.errors hooks.shown [] × AreUsed polls hooks.polls hooks.polled [] × AreHooksUsed hooks.hooks hooks.hooked []) }
         ensures told { IfOk result (λ hooks. hooks.told.past ≡ []) }
         ensures short { IfOk result (λ hooks. hooks.is_short ≡ false) }
     {
         let actions = script.actions.copy(alloc)?;
         let filters = script.filters.copy(alloc)?;
+        let dirs = script.dirs.copy(alloc)?;
         let errors = script.errors.copy(alloc)?;
         let polls = script.polls.copy(alloc)?;
         let hooks = script.hooks.copy(alloc)?;
@@ -68,6 +73,8 @@ impl ScriptHooks {
             used: 0,
             filters,
             asked: 0,
+            dirs,
+            judged: 0,
             errors,
             shown: 0,
             polls,
@@ -90,13 +97,13 @@ impl ScriptHooks {
 impl JobHooks for ScriptHooks {
     ghost Plan = { Wished };
 
-    ghost seen = { λ s. record { plan = record { actions = s.actions; filters = s.filters; errors = s.errors; polls = s.polls; hooks = s.hooks }; told = Some s.told.past; spare = s.told.spare; short = s.is_short; place = [] } };
+    ghost seen = { λ s. record { plan = record { actions = s.actions; filters = s.filters; dirs = s.dirs; errors = s.errors; polls = s.polls; hooks = s.hooks }; told = Some s.told.past; spare = s.told.spare; short = s.is_short; place = [] } };
 
     ghost rule = { λ plan p e. IsWished plan p e };
 
     ghost spawn_rule = { λ plan p given e. LeavesWords plan.hooks p given e };
 
-    ghost stands = { λ s p. AreUsed hands s.actions s.used p × AreUsed filters s.filters s.asked p × AreUsed errors s.errors s.shown p × AreUsed polls s.polls s.polled p × AreHooksUsed s.hooks s.hooked p };
+    ghost stands = { λ s p. AreUsed hands s.actions s.used p × AreUsed filters s.filters s.asked p × AreUsed dirs s.dirs s.judged p × AreUsed errors s.errors s.shown p × AreUsed polls s.polls s.polled p × AreHooksUsed s.hooks s.hooked p };
 
     fn reserve(&mut self, n: u64) -> Result<(), Memory> {
         self.told.reserve(n)
@@ -150,7 +157,7 @@ impl JobHooks for ScriptHooks {
 
     ghost spawn_rule_is_rule = { λ plan p job n left command runs words. leaves_wished plan p job n left command runs words };
 
-    ghost stands_other = { λ s p e _ other stands. (uses_over hands (anywhere is_hooks) hands_among s.actions s.used p e other stands.0, uses_over filters (anywhere is_hooks) filters_among s.filters s.asked p e other stands.1, uses_over errors (anywhere is_hooks) errors_among s.errors s.shown p e other stands.2, uses_over polls (anywhere is_hooks) polls_among s.polls s.polled p e other stands.3, hooks_over s.hooks s.hooked p e other stands.4) };
+    ghost stands_other = { λ s p e _ other stands. (uses_over hands (anywhere is_hooks) hands_among s.actions s.used p e other stands.0, uses_over filters (anywhere is_hooks) filters_among s.filters s.asked p e other stands.1, uses_over dirs (anywhere is_hooks) dirs_among s.dirs s.judged p e other stands.2, uses_over errors (anywhere is_hooks) errors_among s.errors s.shown p e other stands.3, uses_over polls (anywhere is_hooks) polls_among s.polls s.polled p e other stands.4, hooks_over s.hooks s.hooked p e other stands.5) };
 }
 
 impl Hooks for ScriptHooks {
@@ -175,6 +182,21 @@ impl Hooks for ScriptHooks {
         answer
     }
 
+    fn check_dir(&mut self, n: u32, path: TextPath) -> Result<bool, RuntimeError> {
+        let usual = Ok(true);
+        let due = line(&self.dirs, self.judged, &usual);
+        let (answer, told, short) = answer_and_told(self.alloc, due);
+        drop(usual);
+        self.is_short = self.is_short || short;
+        self.judged = passed(&self.dirs, self.judged);
+        self.told.push(Entry::Dir {
+            n,
+            path,
+            answer: told,
+        });
+        answer
+    }
+
     fn error(&mut self, n: u32, hook: &mut ErrorHook) {
         let usual = Wish::Nothing;
         let wish = line(&self.errors, self.shown, &usual);
@@ -189,10 +211,9 @@ impl Hooks for ScriptHooks {
     fn action(&mut self, n: u32, handler: &mut ActionHandler<'_>) {
         let none = List::new(self.alloc);
         let acts = line(&self.actions, self.used, &none).as_slice();
-        if perform(self.alloc, acts, handler).is_err() {
-            self.is_short = true;
-            handler.quit();
-        }
+        let short = perform_or_quit(self.alloc, acts, handler);
+        drop(none);
+        self.is_short = self.is_short || short;
         self.used = passed(&self.actions, self.used);
         let entry = handler.hand(n);
         self.told.push(entry);
@@ -263,6 +284,22 @@ fn answer_and_told(
     match copy_twice(alloc, answer) {
         Ok((given, told)) => (given, told, false),
         Err(_) => (Err(RuntimeError::Memory), Err(RuntimeError::Memory), true),
+    }
+}
+
+/// Asks for these acts, one by one, and answers whether there was no memory for one. Then it quits, and leaves out those behind
+/// it.
+fn perform_or_quit(alloc: Global, acts: &[ScriptAct], handler: &mut ActionHandler<'_>) -> bool
+    requires fresh { handler.old.acts ≡ [] }
+    ensures done { result ≡ false → handler.new ≡ record handler.old { acts = performed handler.old.past [] acts.now } }
+    ensures same { handler.new ≡ record handler.old { acts = handler.new.acts } }
+{
+    match perform(alloc, acts, handler) {
+        Ok(()) => false,
+        Err(_) => {
+            handler.quit();
+            true
+        }
     }
 }
 

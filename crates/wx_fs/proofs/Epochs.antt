@@ -15,8 +15,8 @@ use Rattle.wx_recursor.specs.Steps.{stepped, told}
 use Rattle.wx_recursor.specs.Written.{handed_error}
 use Rattle.wx_recursor.specs.declared.errors.ShownError.{ShownError}
 use Rattle.wx_recursor.proofs.SoundSteps.{fresh_sound, reconcile_sound, step_sound}
-use Rattle.wx_scan.specs.Told.{AreNames}
-use Rattle.wx_holding.specs.Calm.{IsNamed, StandsBy}
+use Rattle.wx_scan.specs.Told.{AreNames, IsNamed}
+use Rattle.wx_holding.specs.Calm.{StandsBy}
 use Rattle.wx_step.specs.Calmly.{HandsCalmly, IsFirstReadable}
 use Rattle.wx_walk.specs.Reached.{Call, one_more}
 use Rattle.wx_settle.specs.Runs.{IsEpoch, RecursorReached, RecursorSteps}

@@ -10,14 +10,14 @@ use Rattle.wx_tree.specs.declared.node.Node.{Node}
 use Rattle.wx_tree.specs.declared.node.Node.TheVariants.{Dir, File, Link}
 use Rattle.wx_tree.specs.declared.root.Root.{Root}
 use Rattle.wx_tree.proofs.Reaching.{entry-chain, reaches-chain}
-use Rattle.wx_scan.specs.Told.{AreNames, has_link_above, is_link_node}
+use Rattle.wx_scan.specs.Told.{AreNames, IsNamed, has_link_above, is_link_node}
 use Rattle.wx_recursor.specs.States.{RecursorState}
 use Rattle.wx_recursor.specs.declared.errors.ShownError.{ShownError}
 use Rattle.wx_recursor.specs.declared.work.Item.{Item}
 use Rattle.wx_recursor.specs.declared.work.Item.TheVariants.{Candidate, Guard, Scan, Visit}
 use Rattle.wx_recursor.specs.declared.work.Work.{Work}
 use Rattle.wx_recursor.specs.declared.work.Work.TheVariants.{Plain, Probe}
-use Rattle.wx_holding.specs.Calm.{IsNamed, IsReadable}
+use Rattle.wx_holding.specs.Calm.{IsReadable}
 use Rattle.wx_step.specs.Calmly.{IsFirstReadable, IsReadableItem}
 use Rattle.wx_walk.specs.Reached.{Call}
 use Rattle.wx_walk.proofs.Kept.{Fits}

@@ -9,6 +9,7 @@ mod rooting;
 mod topology;
 
 pub use recursor::{Recursor, StepResult};
+pub use rooting::kept_roots;
 pub use wx_dir_check::DirCheck;
 pub use wx_lane::{Lane, LaneItem, NotifyFault, Topology, event_is_public, topology_messages};
 pub use wx_scan::{Backend, EntryKind, Looks, Notify, NotifyPath, ScanError, Scanner};

@@ -1,6 +1,7 @@
 // A recursor over a backend.
 ghost use Rattle.wx_fs.specs.Settling.{BackendStands, Begins, Settles, StepsOn};
-ghost use Rattle.wx_holding.specs.Calm.{IsNamed, IsStill};
+ghost use Rattle.wx_scan.specs.Told.{IsNamed};
+ghost use Rattle.wx_holding.specs.Calm.{IsStill};
 ghost use Rattle.wx_settle.specs.Runs.{RecursorReached};
 ghost use Rattle.wx_tree.specs.Trees.{Tree};
 ghost use Rattle.std.specs.Prelude.{◌≡◌, ◌-◌, ◌^◌, ◌&&◌, Bool, min, true, false, [], Some, None, is_some, not, IfNone, IfOk, IfSome, OnErr, OnOk};

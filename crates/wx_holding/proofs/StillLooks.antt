@@ -10,7 +10,7 @@ use Rattle.wx_tree.specs.declared.node.Node.{Node}
 use Rattle.wx_tree.specs.declared.node.Node.TheVariants.{Dir, File, Link}
 use Rattle.wx_tree.proofs.PlaceLemmas.{place_spelled}
 use Rattle.wx_scan.specs.Looked.{Looked, OnlyLooks}
-use Rattle.wx_scan.specs.Told.{AreNames, IsListed, Unlinked, has_link_above, is_link_node}
+use Rattle.wx_scan.specs.Told.{AreNames, IsListed, IsNamed, Unlinked, has_link_above, is_link_node}
 use Rattle.wx_recursor.specs.Seen.{guard_found_at, identity_at, is_gap, look_at_node, root_found}
 use Rattle.wx_recursor.specs.declared.answers.Found.{Found}
 use Rattle.wx_recursor.specs.declared.answers.Found.TheVariants.{Barred, Entries, Here, Missing}
@@ -20,7 +20,7 @@ use Rattle.wx_recursor.specs.declared.answers.Look.{Look}
 use Rattle.wx_recursor.specs.declared.answers.Look.TheVariants.{Absent, Broken, Directory, Linked, Other}
 use Rattle.wx_recursor.specs.declared.known.Identity.{Identity}
 use Rattle.wx_recursor.specs.declared.known.Identity.TheVariants.{Canonical, Lexical}
-use Rattle.wx_holding.specs.Calm.{FindsEntries, IsNamed, IsReadable, IsStill, break_found, here_found}
+use Rattle.wx_holding.specs.Calm.{FindsEntries, IsReadable, IsStill, break_found, here_found}
 use Rattle.wx_holding.proofs.Results.{if_map}
 use Rattle.wx_holding.proofs.Watching.{rose_later, rose_sooner}
 

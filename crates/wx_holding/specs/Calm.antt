@@ -5,13 +5,13 @@ use Rattle.wx_watch.specs.declared.notify_fault.NotifyFault.{NotifyFault}
 use Rattle.wx_tree.specs.Lists.{In}
 use Rattle.wx_tree.specs.Paths.{Path}
 use Rattle.wx_tree.specs.Places.{spelled}
-use Rattle.wx_tree.specs.Trees.{IsListing, Tree, is_chain_above, is_fit_node, is_there, node_at}
+use Rattle.wx_tree.specs.Trees.{IsListing, Tree, is_chain_above, is_fit_node, node_at}
 use Rattle.wx_tree.specs.declared.node.Node.{Node}
 use Rattle.wx_tree.specs.declared.node.Node.TheVariants.{Dir, File, Link}
 use Rattle.wx_tree.specs.declared.root.Root.{Root}
 use Rattle.wx_scan.specs.Backings.{Backing}
 use Rattle.wx_scan.specs.Looked.{Looked, Rose}
-use Rattle.wx_scan.specs.Told.{AreNames, SpellsPath}
+use Rattle.wx_scan.specs.Told.{SpellsPath}
 use Rattle.wx_recursor.specs.Guarding.{guarded}
 use Rattle.wx_recursor.specs.Owning.{added, added_result}
 use Rattle.wx_recursor.specs.Seen.{NoneRefused, SeesCandidate, SeesGuard, SeesRoot, is_gap, watched_at}
@@ -29,10 +29,6 @@ use Rattle.wx_holding.specs.Backed.{AreRegistered, AreWatched}
 pub record IsStill (t : Tree) (a b : Looked) : Type 0 where
   pub told : a.tree ≡ Some t
   pub no_fault : Rose a.faults b.faults → ⊥
-
--- whatever is there has names for parts
-abbrev pub IsNamed : Tree → Type 0
-IsNamed t = (p : Path) → is_there t p ≡ true → AreNames p
 
 -- the path's own bytes spell a path of the tree
 abbrev pub IsReadable : Tree → Path → Type 0

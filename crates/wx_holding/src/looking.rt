@@ -1,7 +1,7 @@
 // One look at a path.
-ghost use Rattle.wx_holding.specs.Calm.{FindsEntries, IsNamed, IsReadable, IsStill, break_found, here_found};
+ghost use Rattle.wx_holding.specs.Calm.{FindsEntries, IsReadable, IsStill, break_found, here_found};
 ghost use Rattle.wx_recursor.specs.Seen.{guard_found_at, look_at_node, root_found};
-ghost use Rattle.wx_scan.specs.Told.{AreNames};
+ghost use Rattle.wx_scan.specs.Told.{AreNames, IsNamed};
 ghost use Rattle.wx_tree.specs.Trees.{Tree, guard_of, is_directory, is_safe, node_at};
 ghost use Rattle.std.specs.Prelude.{◌≡◌, ◌≤◌, false, true, IfOk, OnOk, OnSome, length, map};
 ghost use Rattle.wx_tree.specs.Places.{place};

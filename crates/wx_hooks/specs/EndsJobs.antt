@@ -13,7 +13,8 @@ use Rattle.wx_machine.specs.Jobs.{jobs}
 use Rattle.wx_machine.specs.Told.{TellsOn}
 
 -- The end of all jobs: the entries on top are those of the end, each told by the world alone, and no job lives. Where the end was
--- due each was due. The world's plan, its place, and where it is in its turns stay, and each fault raised its count.
+-- due each was due. The world's plan, its place, where it is in its turns, and what is known of its files stay, and each fault raised
+-- its count.
 pub record EndsJobs {Plan : Type 0} (s : Start) (p : List Entry) (a : Seen Plan) (p' : List Entry) (b : Seen Plan) : Type 0 where
   pub dying : Dying p p'
   pub none : jobs p' ≡ []

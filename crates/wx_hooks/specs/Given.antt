@@ -1,9 +1,16 @@
--- What the world answers that is asked for a turn.
-use Rattle.std.specs.Prelude.{◌≡◌, ◌≤◌, ◌+◌, ℕ, Bool, false, is_err, Result, Ok, Err}
+-- What the world answers that is asked for a turn, or for a backend.
+use Rattle.std.specs.Prelude.{◌≡◌, ◌≤◌, ◌+◌, ℕ, Bool, true, false, not, is_err, Result, Ok, Err, IfOk, Some, []}
+use Rattle.wx_watch.specs.declared.notify_fault.NotifyFault.{NotifyFault}
+use Rattle.wx_watch.specs.declared.watched.Watcher.{Watcher}
+use Rattle.wx_tree.specs.Trees.{Tree}
+use Rattle.wx_scan.specs.Backings.{Backing, failed_by, is_memory}
+use Rattle.wx_scan.specs.Looked.{Looked}
+use Rattle.wx_scan.specs.Told.{IsNamed}
 use Rattle.wx_journal.specs.declared.entry.Entry.{Entry}
-use Rattle.wx_journal.specs.declared.entry.Entry.TheVariants.{Turn as Turned, TurnFault}
+use Rattle.wx_journal.specs.declared.entry.Entry.TheVariants.{Turn as Turned, TurnFault, Make}
 use Rattle.wx_journal.specs.Told.{tell, Counts}
 use Rattle.wx_machine.specs.Seen.{Seen}
+use Rattle.wx_machine.specs.Steady.{StaysLooked}
 use Rattle.wx_machine.specs.Told.{is_last}
 use Rattle.wx_hooks.specs.declared.outside.Turned.{Turned as Given}
 use Rattle.wx_hooks.specs.declared.outside.TurnFault.{TurnFault as Fault}
@@ -22,6 +29,15 @@ abbrev pub moment_after : ℕ → Result Given Fault → ℕ
 moment_after before (Ok t) = t.turn.at
 moment_after before (Err fault) = before
 
+-- What a turn leaves of what was seen of files: counts never fall, backends stay exact, and where it was known what the tree is from the
+-- next turn on, the tree is that now, and so it stays.
+pub record TurnsTree (a b : Looked) : Type 0 where
+  pub looks_kept : a.looks ≤ b.looks
+  pub faults_kept : a.faults ≤ b.faults
+  pub exact_kept : a.exact ≡ true → b.exact ≡ true
+  pub shape_kept : (t : Tree) → a.shape ≡ Some t → b.shape ≡ Some t
+  pub tree_now : (t : Tree) → a.shape ≡ Some t → b.tree ≡ Some t
+
 -- A turn that was asked for was told as its entry, in room that was taken before. Where it failed the count rose, and no
 -- count of faults fell.
 pub record GivesTurn {Plan : Type 0} (result : Result Given Fault) (a b : Seen Plan) : Type 0 where
@@ -34,3 +50,24 @@ pub record GivesTurn {Plan : Type 0} (result : Result Given Fault) (a b : Seen P
   pub room : a.spare ≤ b.spare + 1
   pub plan_kept : b.plan ≡ a.plan
   pub place_kept : b.place ≡ a.place
+  pub looked : TurnsTree a.looked b.looked
+
+-- what the maker of backends answered, without the backend
+abbrev pub made : {B : Type 0} → Result B NotifyFault → Result (Unit {0}) NotifyFault
+made (Ok back) = Ok tt
+made (Err fault) = Err fault
+
+-- A backend that was asked for was told as its entry, in room that was taken before. It watches nothing yet. Where it couldn't be made,
+-- but for want of memory, the count of that rose. Where backends are exact and links aren't followed it is exact, and has seen each tree
+-- in which parts are names.
+pub record GivesBackend {Plan B : Type 0} (backing : B → Backing) (fits : B → Tree → Type 0) (back : ℕ) (kind : Watcher) (follow : Bool) (result : Result B NotifyFault) (a b : Seen Plan) : Type 0 where
+  pub told : b.shown.told ≡ tell (Make back kind follow (made result)) a.shown.told
+  pub maker_faults : Counts (failed_by (λ k. not (is_memory k)) result) a.progress.maker_faults b.progress.maker_faults
+  pub progress_kept : b.progress ≡ record a.progress { maker_faults = b.progress.maker_faults }
+  pub host_faults : b.shown.faults ≡ a.shown.faults
+  pub room : a.spare ≤ b.spare + 1
+  pub plan_kept : b.plan ≡ a.plan
+  pub place_kept : b.place ≡ a.place
+  pub looked : StaysLooked a.looked b.looked
+  pub empty : IfOk result (λ x. (backing x).registrations ≡ [])
+  pub exact : a.looked.exact ≡ true → follow ≡ false → IfOk result (λ x. ((backing x).exact ≡ true) × ((t : Tree) → IsNamed t → fits x t))

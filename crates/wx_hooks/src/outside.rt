@@ -5,7 +5,7 @@ ghost use Rattle.wx_machine.specs.Kept.{TellsHooks, Keeps};
 ghost use Rattle.wx_machine.specs.Journal.{listed};
 ghost use Rattle.wx_hooks.specs.ErrorHooks.{IsNewHook};
 ghost use Rattle.wx_hooks.specs.Handled.{IsNewHandler};
-ghost use Rattle.wx_hooks.specs.Given.{gives_last, GivesTurn};
+ghost use Rattle.wx_hooks.specs.Given.{gives_last, GivesBackend, GivesTurn};
 
 use crate::error_hook::ErrorHook;
 use crate::handler::ActionHandler;
@@ -14,6 +14,9 @@ use wx_error::RuntimeError;
 use wx_events::{Event, Priority};
 use wx_job::{Host, JobHooks};
 use wx_journal::{Entry, Turn};
+use wx_scan::{Backend, Scanner};
+use wx_watch::{NotifyFault, Watcher};
+use wx_words::TextPath;
 
 /// The world has no turn to give: the code of the fault.
 #[derive(Clone, Copy, Debug, PartialEq, Eq)]
@@ -27,8 +30,11 @@ pub struct Turned {
     pub done: Option<Flag>,
 }
 
-/// What gives the turns of a run.
-pub trait World: Host {
+/// What gives the turns of a run, looks at files, and makes what watches them.
+pub trait World: Host + Scanner {
+    /// What watches files.
+    type Back: Backend + Drop;
+
     /// The next turn, or the fault for which there is none. It is the last turn exactly where no turn is left; else
     /// fewer turns are left. Moments never go back. A fault comes only where the count of turn faults rose.
     fn turn(&mut self) -> Result<Turned, TurnFault>
@@ -38,6 +44,20 @@ pub trait World: Host {
         ensures ends { (Self.seen self.old).progress.left ≡ 0 → gives_last result ≡ true }
         ensures falls { gives_last result ≡ false → (Self.seen self.new).progress.left < (Self.seen self.old).progress.left }
         ensures later { IfOk result (λ given. (Self.seen self.old).progress.moment ≤ given.turn.at) };
+
+    /// Makes a backend of this name by this watcher, which follows links or doesn't. It watches nothing yet. A fault comes only
+    /// for want of memory, or where the count of faults of the maker rose.
+    fn make_backend(
+        &mut self,
+        back: u64,
+        kind: Watcher,
+        follow: bool,
+    ) -> Result<Self::Back, NotifyFault>
+        requires { 1 ≤ (Self.seen self.old).spare }
+        ensures { GivesBackend Self.Back.backing Self.Back.fits back kind follow result (Self.seen self.old) (Self.seen self.new) };
+
+    /// What no look changes is all but what was seen of files.
+    ghost only_looks: { (x y : Self) → Self.Looks.rest y ≡ Self.Looks.rest x → Self.Outside.seen y ≡ record (Self.Outside.seen x) { looked = Self.Looks.looked y } };
 }
 
 /// What the engine calls.
@@ -54,6 +74,13 @@ pub trait Hooks: JobHooks {
         requires room { 1 ≤ (Self.seen self.old).spare }
         ensures told { TellsHooks (Entry.Filter n name result) (Self.seen self.old) (Self.seen self.new) }
         ensures keeps { (p : List AnEntry) → listed name p ≡ Some (event.now, priority) → Keeps Self.seen Self.rule Self.stands self.old p (Entry.Filter n name result) self.new };
+
+    /// Shows a directory to the filter of this number. It answers whether this directory, with what is below it, is to be
+    /// watched, or why that isn't known. The error `Exit` asks for the end of the run.
+    fn check_dir(&mut self, n: u32, path: TextPath) -> Result<bool, RuntimeError>
+        requires room { 1 ≤ (Self.seen self.old).spare }
+        ensures told { TellsHooks (Entry.Dir n path result) (Self.seen self.old) (Self.seen self.new) }
+        ensures keeps { (p : List AnEntry) → Keeps Self.seen Self.rule Self.stands self.old p (Entry.Dir n path result) self.new };
 
     /// Shows an error to the error handler of this number. The hook collects what is wished.
     fn error(&mut self, n: u32, hook: &mut ErrorHook)

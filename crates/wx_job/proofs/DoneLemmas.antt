@@ -57,6 +57,10 @@ pub done_behind : {Fixed A : Type 0} (r : Result A Memory) (k : JobTask) (spawni
 done_behind (Ok u) k spawning plan plan' p a hooks p' b hooks' p'' d hooks'' led done = record { ok = λ k₀ p₀ a₀ hooks₀ r. done.ok k₀ p₀ a₀ hooks₀ (led k₀ p₀ a₀ hooks₀ r); err = tt; memory = tt; pending = tt }
 done_behind (Err e) k spawning plan plan' p a hooks p' b hooks' p'' d hooks'' led done = record { ok = tt; err = λ k₀ p₀ a₀ hooks₀ r. done.err k₀ p₀ a₀ hooks₀ (led k₀ p₀ a₀ hooks₀ r); memory = done.memory; pending = done.pending }
 
+pub err_of : {A E P : Type 0} (r : Result A E) → IsErr r → P → OnErr r P
+err_of (Ok a) bad p = tt
+err_of (Err e) bad p = p
+
 pub ok_of : {A E P : Type 0} (r : Result A E) → is_err r ≡ false → OnOk r P → P
 ok_of (Ok a) is h = h
 ok_of (Err e) is h = absurd cc

@@ -76,7 +76,7 @@ impl Outside for TestHost {
 
     ghost Plan = { ℕ };
 
-    ghost seen = { λ s. record { plan = 0; shown = record { told = Some s.told.past; faults = s.faults }; spare = s.told.spare; progress = record { turns = None; left = 0; moment = 0; turn_faults = 0; maker_faults = 0 }; place = [] } };
+    ghost seen = { λ s. record { plan = 0; shown = record { told = Some s.told.past; faults = s.faults }; spare = s.told.spare; progress = record { turns = None; left = 0; moment = 0; turn_faults = 0; maker_faults = 0 }; place = []; looked = record { tree = None; stamps = λ _. 0; shape = None; exact = false; looks = 0; faults = 0 } } };
 }
 
 impl Host for TestHost {

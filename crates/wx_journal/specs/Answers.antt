@@ -1,4 +1,4 @@
--- What a call on a child answers, and what a filter and a spawn hook do, as words.
+-- What a call on a child answers, and what a filter, a spawn hook and a maker of backends do, as words.
 use Rattle.std.proofs.Common.{ℕ, Result, refl}
 use Rattle.std.specs.Prelude.{Bool, true, false, Ok, Err, List, [], ◌∷◌, codes}
 use Rattle.wx_words.specs.Clean.{AllClean}
@@ -16,6 +16,8 @@ use Rattle.wx_events.specs.declared.process.ProcessEnd.{ProcessEnd}
 use Rattle.wx_command.specs.Commands.{spawnable}
 use Rattle.wx_command.specs.OptionsLaws.{options}
 use Rattle.wx_command.specs.declared.spawnable.Spawnable.{Spawnable}
+use Rattle.wx_watch.specs.NotifyFaults.{notify_fault}
+use Rattle.wx_watch.specs.declared.notify_fault.NotifyFault.{NotifyFault}
 use Rattle.wx_error.specs.Runtime.{runtime}
 use Rattle.wx_error.specs.declared.runtime.RuntimeError.{RuntimeError}
 use Rattle.wx_journal.specs.declared.child.HostFault.{HostFault}
@@ -77,6 +79,32 @@ verdict_so = search
 
 unfoldable pub verdict : Spelling line (Result Bool RuntimeError)
 verdict = choice verdict_rows verdict_word verdict_behind verdict_made verdict_so refl
+
+-- ---- the answer of a maker of backends: that there is one, or why there could not be
+
+abbrev pub Backed : Type 0
+Backed = Result (Unit {0}) NotifyFault
+
+abbrev pub backed_rows : List (Row line Backed)
+backed_rows = row (codes "ok") nothing (λ u. Ok u) ∷ row (codes "fail") notify_fault Err ∷ []
+
+abbrev pub backed_word : Backed → List ℕ
+backed_word (Ok u) = codes "ok"
+backed_word (Err error) = codes "fail"
+
+abbrev pub backed_behind : Backed → Behind line
+backed_behind (Ok u) = fields nothing u
+backed_behind (Err error) = fields notify_fault error
+
+pub backed_made : MadeAgain backed_rows backed_word backed_behind
+backed_made (Ok u) = (_, refl, refl)
+backed_made (Err error) = (_, refl, refl)
+
+pub backed_so : SpeltSo backed_rows backed_word backed_behind
+backed_so = search
+
+unfoldable pub backed : Spelling line Backed
+backed = choice backed_rows backed_word backed_behind backed_made backed_so refl
 
 -- ---- the answer of the poll of a begun function: whether it is ready
 

@@ -8,13 +8,16 @@ use Rattle.wx_words.specs.Combine.{Reader}
 use Rattle.wx_words.specs.Spellings.{Spelling}
 use Rattle.wx_words.specs.Choices.{Row, row, Behind, fields}
 use Rattle.wx_words.specs.ChoiceLaws.{MadeAgain, SpeltSo, choice}
-use Rattle.wx_words.specs.Parts.{line, never, both, named, list_of, as_line, number, i32, u32, optional}
+use Rattle.wx_words.specs.Parts.{line, never, both, named, list_of, as_line, number, i32, u32, optional, text}
+use Rattle.wx_words.specs.Switches.{switch}
 use Rattle.wx_text.specs.declared.list.Memory.{Memory}
 use Rattle.wx_events.specs.declared.priority.Priority.{Priority}
 use Rattle.wx_events.specs.declared.event.Event.{Event}
 use Rattle.wx_events.specs.declared.process.ProcessEnd.{ProcessEnd}
 use Rattle.wx_command.specs.Commands.{spawnable}
 use Rattle.wx_command.specs.declared.spawnable.Spawnable.{Spawnable}
+use Rattle.wx_watch.specs.Watched.{watcher}
+use Rattle.wx_watch.specs.declared.watched.Watcher.{Watcher}
 use Rattle.wx_error.specs.Runtime.{runtime}
 use Rattle.wx_error.specs.declared.runtime.RuntimeError.{RuntimeError}
 use Rattle.wx_control.specs.Ids.{id}
@@ -26,7 +29,7 @@ use Rattle.wx_control.specs.declared.control.Control.{Control}
 use Rattle.wx_journal.specs.Acts.{JournalAct, act}
 use Rattle.wx_journal.specs.AtFront.{read_front}
 use Rattle.wx_journal.specs.Beginnings.{beginning}
-use Rattle.wx_journal.specs.Answers.{done, waited, verdict, readied, hooked}
+use Rattle.wx_journal.specs.Answers.{done, waited, verdict, readied, hooked, Backed, backed}
 use Rattle.wx_journal.specs.Kinds.{ranked, turn}
 use Rattle.wx_journal.specs.Wishes.{wish}
 use Rattle.wx_journal.specs.Tags.{tag}
@@ -36,7 +39,7 @@ use Rattle.wx_journal.specs.declared.child.HostFault.{HostFault}
 use Rattle.wx_journal.specs.declared.wish.Wish.{Wish}
 use Rattle.wx_journal.specs.declared.entry.Offered.{Offered}
 use Rattle.wx_journal.specs.declared.entry.Entry.{Entry}
-use Rattle.wx_journal.specs.declared.entry.Entry.TheVariants.{Begin, Sent, Turn as Turned, TurnFault, Offer, Word as Said, Take, Filter, Show, Hand, Made, Asked, Changed, Pick, GraceOver, Spawn, Signal, Kill, Wait, Dropped, Raise, Gone, Run, Begun, Poll, Hook, JobError}
+use Rattle.wx_journal.specs.declared.entry.Entry.TheVariants.{Begin, Sent, Turn as Turned, TurnFault, Offer, Word as Said, Take, Filter, Show, Hand, Made, Asked, Changed, Pick, GraceOver, Spawn, Signal, Kill, Wait, Dropped, Raise, Gone, Run, Begun, Poll, Hook, JobError, Dir, Make, Applied}
 
 -- ---- what stands behind the first word of an entry
 
@@ -82,6 +85,12 @@ poll = both id (both u32 readied)
 abbrev pub job_error : Spelling line (Id × (ℕ × ℕ))
 job_error = both id (both u32 u32)
 
+abbrev pub dir : Spelling line (ℕ × (List ℕ × Result Bool RuntimeError))
+dir = both u32 (both text verdict)
+
+abbrev pub make : Spelling line (ℕ × (Watcher × (Bool × Backed)))
+make = both (as_line number) (both watcher (both switch backed))
+
 abbrev pub unread : Spelling line (ℕ × (List ℕ × List JournalAct))
 unread = never
 
@@ -112,6 +121,14 @@ job_rows =
     ∷ row (codes "joberror") job_error (λ p. JobError p.0 p.1.0 p.1.1)
     ∷ []
 
+-- those of files, and of jobs
+abbrev pub file_rows : List (Row line Entry)
+file_rows =
+    row (codes "dir") dir (λ p. Dir p.0 p.1.0 p.1.1)
+    ∷ row (codes "make") make (λ p. Make p.0 p.1.0 p.1.1.0 p.1.1.1)
+    ∷ row (codes "applied") (as_line number) Applied
+    ∷ job_rows
+
 -- all
 abbrev pub entry_rows : List (Row line Entry)
 entry_rows =
@@ -126,7 +143,7 @@ entry_rows =
     ∷ row (codes "show") shown (λ p. Show p.0 p.1.0 p.1.1)
     ∷ row (codes "hand") unread make_hand
     ∷ row (codes "changed") (as_line number) Changed
-    ∷ job_rows
+    ∷ file_rows
 
 abbrev pub entry_word : Entry → List ℕ
 entry_word (Begin _) = codes "begin"
@@ -156,6 +173,9 @@ entry_word (Begun _ _) = codes "begun"
 entry_word (Poll _ _ _) = codes "poll"
 entry_word (Hook _ _ _) = codes "hook"
 entry_word (JobError _ _ _) = codes "joberror"
+entry_word (Dir _ _ _) = codes "dir"
+entry_word (Make _ _ _ _) = codes "make"
+entry_word (Applied _) = codes "applied"
 
 abbrev pub entry_behind : Entry → Behind line
 entry_behind (Begin b) = fields beginning b
@@ -185,6 +205,9 @@ entry_behind (Begun job n) = fields run (job, n)
 entry_behind (Poll job n ready) = fields poll (job, (n, ready))
 entry_behind (Hook job n answer) = fields hook (job, (n, answer))
 entry_behind (JobError job n code) = fields job_error (job, (n, code))
+entry_behind (Dir n path answer) = fields dir (n, (path, answer))
+entry_behind (Make back by follow answer) = fields make (back, (by, (follow, answer)))
+entry_behind (Applied revision) = fields (as_line number) revision
 
 pub entry_made : MadeAgain entry_rows entry_word entry_behind
 entry_made (Begin b) = (_, refl, refl)

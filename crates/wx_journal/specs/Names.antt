@@ -6,7 +6,7 @@ use Rattle.wx_journal.specs.Acts.{JournalAct as Act}
 use Rattle.wx_journal.specs.declared.entry.Act.TheVariants.{Create, Ask, Change, Quit, QuitGracefully}
 use Rattle.wx_journal.specs.declared.entry.Entry.{Entry}
 use Rattle.wx_journal.specs.declared.entry.Entry.TheVariants.{Turn as Turned, Offer, Take, Filter, Hand, Made, Pick}
-use Rattle.wx_journal.specs.Sorts.{Naming, NoName, NewEvent, NewTicket, NewChild, Subject, OfChild, OfTicket, sort}
+use Rattle.wx_journal.specs.Sorts.{Naming, NoName, NewEvent, NewTicket, NewChild, NewBack, Subject, OfChild, OfTicket, sort}
 
 -- the moment of the last turn, 0 before the first
 abbrev pub moment : List Entry → ℕ
@@ -26,7 +26,11 @@ abbrev pub is_new_child : Naming → Bool
 is_new_child (NewChild child) = true
 is_new_child (_) = false
 
--- the entries that name an event, a ticket or a child
+abbrev pub is_new_back : Naming → Bool
+is_new_back (NewBack back) = true
+is_new_back (_) = false
+
+-- the entries that name an event, a ticket, a child or a backend
 abbrev pub names_event : Entry → Bool
 names_event e = is_new_event (sort e).naming
 
@@ -36,12 +40,15 @@ names_ticket e = is_new_ticket (sort e).naming
 abbrev pub names_child : Entry → Bool
 names_child e = is_new_child (sort e).naming
 
+abbrev pub names_back : Entry → Bool
+names_back e = is_new_back (sort e).naming
+
 -- how many entries are of a kind
 abbrev pub count : (Entry → Bool) → List Entry → ℕ
 count kind [] = 0
 count kind (e ∷ p) = if kind e then count kind p + 1 else count kind p
 
--- how many events, tickets and children have a name: names are given in order, from 0
+-- how many events, tickets, children and backends have a name: names are given in order, from 0
 abbrev pub event_count : List Entry → ℕ
 event_count p = count names_event p
 
@@ -50,6 +57,9 @@ ticket_count p = count names_ticket p
 
 abbrev pub child_count : List Entry → ℕ
 child_count p = count names_child p
+
+abbrev pub back_count : List Entry → ℕ
+back_count p = count names_back p
 
 -- the least number that is above one and above that of a job
 abbrev pub above : ℕ → Id → ℕ
@@ -97,6 +107,7 @@ abbrev pub IsNamed : List Entry → Naming → Subject → Type 0
 IsNamed p (NewEvent name) subject = name ≡ event_count p
 IsNamed p (NewTicket ticket) subject = ticket ≡ ticket_count p
 IsNamed p (NewChild child) subject = child ≡ child_count p
+IsNamed p (NewBack back) subject = back ≡ back_count p
 IsNamed p NoName (OfChild child) = child < child_count p
 IsNamed p NoName (OfTicket ticket) = ticket < ticket_count p
 IsNamed p NoName (_) = Unit {0}

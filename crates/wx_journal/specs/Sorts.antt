@@ -3,7 +3,7 @@
 use Rattle.std.specs.Prelude.{ℕ, Bool, true, false, is_err}
 use Rattle.wx_control.specs.declared.id.Id.{Id}
 use Rattle.wx_journal.specs.declared.entry.Entry.{Entry}
-use Rattle.wx_journal.specs.declared.entry.Entry.TheVariants.{Begin, Sent, Turn as Turned, TurnFault, Offer, Word as Said, Take, Filter, Show, Hand, Made, Asked, Changed, Pick, GraceOver, Spawn, Signal, Kill, Wait, Dropped, Raise, Gone, Run, Begun, Poll, Hook, JobError}
+use Rattle.wx_journal.specs.declared.entry.Entry.TheVariants.{Begin, Sent, Turn as Turned, TurnFault, Offer, Word as Said, Take, Filter, Show, Hand, Made, Asked, Changed, Pick, GraceOver, Spawn, Signal, Kill, Wait, Dropped, Raise, Gone, Run, Begun, Poll, Hook, JobError, Dir, Make, Applied}
 
 -- whom an entry is a call on
 pub data Callee : Type 0 where
@@ -17,6 +17,7 @@ pub data Naming : Type 0 where
   NewEvent : ℕ → Naming
   NewTicket : ℕ → Naming
   NewChild : ℕ → Naming
+  NewBack : ℕ → Naming
 
 -- What it is about. One that names a job and a child or a ticket of it is about the job.
 pub data Subject : Type 0 where
@@ -25,6 +26,7 @@ pub data Subject : Type 0 where
   OfEvents : Subject
   OfWord : Subject
   OfSettings : Subject
+  OfFiles : Subject
   OfJob : Id → Subject
   OfChild : ℕ → Subject
   OfTicket : ℕ → Subject
@@ -66,6 +68,18 @@ sort (Begun job n) = columns OnHooks NoName (OfJob job) false
 sort (Poll job n ready) = columns OnHooks NoName (OfJob job) false
 sort (Hook job n answer) = columns OnHooks NoName (OfJob job) false
 sort (JobError job n code) = columns OnHooks NoName (OfJob job) false
+sort (Dir n path answer) = columns OnHooks NoName OfFiles false
+sort (Make back watcher follow answer) = columns OnWorld (NewBack back) OfFiles false
+sort (Applied revision) = columns OnNobody NoName OfFiles false
+
+-- what is watched
+abbrev pub is_files : Subject → Bool
+is_files OfFiles = true
+is_files (_) = false
+
+-- the entries of what is watched
+abbrev pub is_of_files : Entry → Bool
+is_of_files e = is_files (sort e).subject
 
 -- a job, or a child or a ticket of one
 abbrev pub is_job : Subject → Bool

@@ -6,7 +6,7 @@ use Rattle.wx_words.specs.Parts.{line, HasWords, keyword}
 use Rattle.wx_journal.specs.declared.entry.Offered.{Offered}
 use Rattle.wx_journal.specs.declared.entry.Offered.TheVariants.{Queued, Full, Closed}
 use Rattle.wx_journal.specs.declared.entry.Word.{Word}
-use Rattle.wx_journal.specs.declared.entry.Word.TheVariants.{Idle, Ignored, Quitting, Later}
+use Rattle.wx_journal.specs.declared.entry.Word.TheVariants.{Idle, Ignored, Quitting, Later, Quiet, Stepped}
 
 abbrev pub offered_word : Offered → List ℕ
 offered_word Queued = codes "queued"
@@ -29,15 +29,19 @@ said_word Idle = codes "idle"
 said_word Ignored = codes "ignored"
 said_word Quitting = codes "quitting"
 said_word Later = codes "later"
+said_word Quiet = codes "quiet"
+said_word Stepped = codes "stepped"
 
 abbrev pub said_all : List Word
-said_all = Idle ∷ Ignored ∷ Quitting ∷ Later ∷ []
+said_all = Idle ∷ Ignored ∷ Quitting ∷ Later ∷ Quiet ∷ Stepped ∷ []
 
 pub said_found : HasWords said_word said_all
 said_found Idle = refl
 said_found Ignored = refl
 said_found Quitting = refl
 said_found Later = refl
+said_found Quiet = refl
+said_found Stepped = refl
 
 unfoldable pub said : Spelling line Word
 said = keyword said_word said_all said_found refl

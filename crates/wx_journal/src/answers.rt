@@ -1,13 +1,14 @@
-// What a call on a child answers, and what a filter and a spawn hook do, as words.
+// What a call on a child answers, and what a filter, a spawn hook and a maker of backends do, as words.
 ghost use Rattle.std.specs.Prelude.{IfOk};
 ghost use Rattle.wx_words.specs.Line.{Reads};
-ghost use Rattle.wx_journal.specs.Answers.{AreReadAgain, done, waited, verdict, readied, memory, hooked};
+ghost use Rattle.wx_journal.specs.Answers.{AreReadAgain, done, waited, verdict, backed, readied, memory, hooked};
 
 use crate::child::HostFault;
 use std::alloc::Global;
 use wx_command::Spawnable;
 use wx_error::RuntimeError;
 use wx_text::{Memory, Text};
+use wx_watch::NotifyFault;
 use wx_words::{Fields, Spelled, Words, put_row, put_word, read_rows};
 
 #[tactic(auto, unfolding(crate::specs::Answers::fault))]
@@ -62,6 +63,42 @@ pub fn read_verdict(
         b"pass" => Ok(true),
         b"reject" => Ok(false),
         b"fail" (error) => Err(error),
+    )
+}
+
+/// What a maker of backends answered, lent to be written.
+#[derive(Clone, Copy)]
+pub struct BackedRef<'a> {
+    pub answer: &'a Result<(), NotifyFault>,
+}
+
+#[tactic(auto, unfolding(crate::specs::Answers::backed))]
+impl<'a> Fields for BackedRef<'a> {
+    ghost use Rattle.wx_journal.specs.Answers.{backed};
+
+    ghost fits = { λ lent. backed.fits lent.answer.now };
+
+    ghost words = { λ lent. backed.words lent.answer.now };
+
+    fn put_fields(&self, out: &mut Text) -> Result<(), Memory> {
+        match self.answer {
+            Ok(()) => put_word(b"ok", out),
+            Err(fault) => put_row(b"fail", &fault, out),
+        }
+    }
+}
+
+/// Takes the answer of a maker of backends at the front, or loses the place.
+#[tactic(auto, unfolding(crate::specs::Answers::backed))]
+pub fn read_backed(
+    alloc: Global,
+    line: &mut Words,
+) -> Result<Option<Result<(), NotifyFault>>, Memory>
+    ensures { IfOk result (λ x. Reads line.new x (backed.read line.old)) }
+{
+    read_rows!(alloc, line;
+        b"ok" => Ok(()),
+        b"fail" (fault) => Err(fault),
     )
 }
 
@@ -153,6 +190,7 @@ pub fn answers_are_read_again()
     ensures done { AreReadAgain done }
     ensures waited { AreReadAgain waited }
     ensures verdict { AreReadAgain verdict }
+    ensures backed { AreReadAgain backed }
     ensures readied { AreReadAgain readied }
     ensures hooked { AreReadAgain hooked }
 {}

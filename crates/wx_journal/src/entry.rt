@@ -12,6 +12,8 @@ use wx_control::{Ask, Control, Id, Level};
 use wx_error::RuntimeError;
 use wx_events::{Event, Priority, ProcessEnd, Signal};
 use wx_text::{Copies, List, Memory};
+use wx_watch::{NotifyFault, Watcher};
+use wx_words::TextPath;
 
 /// What a turn brings.
 #[derive(Drop, Debug)]
@@ -32,6 +34,8 @@ pub enum TurnKind {
     Ask(Id, Ask),
     /// The settings are changed.
     Change(Change),
+    /// What keeps watches on files acts.
+    File,
     /// There is no further turn.
     Last,
 }
@@ -62,6 +66,10 @@ pub enum Word {
     Quitting,
     /// The begun function isn't ready.
     Later,
+    /// There was nothing to do about files.
+    Quiet,
+    /// A step was done of what keeps watches on files.
+    Stepped,
 }
 
 /// What a handler asks of the engine. A `J` says which job is to be created: in a journal that is its name.
@@ -209,6 +217,21 @@ pub enum Entry {
         n: u32,
         code: u32,
     },
+    /// A directory was shown to the filter of this number: whether it is to be watched, or why that isn't known.
+    Dir {
+        n: u32,
+        path: TextPath,
+        answer: Result<bool, RuntimeError>,
+    },
+    /// A backend of this name was made, which watches files by this watcher and follows links or doesn't, or could not be.
+    Make {
+        back: u64,
+        watcher: Watcher,
+        follow: bool,
+        answer: Result<(), NotifyFault>,
+    },
+    /// The settings of this revision were applied to what is watched.
+    Applied(u64),
 }
 
 impl Copies for TurnKind {
@@ -224,6 +247,7 @@ impl Copies for TurnKind {
             TurnKind::Ended(child) => Ok(TurnKind::Ended(*child)),
             TurnKind::Ask(job, ask) => Ok(TurnKind::Ask(*job, ask.copy(alloc)?)),
             TurnKind::Change(change) => Ok(TurnKind::Change(change.copy(alloc)?)),
+            TurnKind::File => Ok(TurnKind::File),
             TurnKind::Last => Ok(TurnKind::Last),
         }
     }

@@ -3,7 +3,7 @@ ghost use Rattle.std.specs.Prelude.{◌≡◌, ◌+◌, ◌<◌, ◌≤◌, ◌^
 ghost use Rattle.std.specs.List.{list_any};
 ghost use Rattle.wx_journal.specs.declared.entry.Entry.{Entry as AnEntry};
 ghost use Rattle.std.specs.Slice.Iter.{iter_rest};
-ghost use Rattle.wx_journal.specs.Names.{names_ticket, names_child, ticket_count, child_count, next_job, was_made, makes};
+ghost use Rattle.wx_journal.specs.Names.{names_ticket, names_child, names_back, ticket_count, child_count, back_count, next_job, was_made, makes};
 ghost use Rattle.wx_journal.specs.Counted.{AreAllMade};
 
 use crate::entry::Entry;
@@ -22,6 +22,7 @@ pub struct Journal {
     entries: Vec<Entry>,
     tickets: u64,
     children: u64,
+    backs: u64,
     next_job: u64,
     gaps: bool,
 }
@@ -35,7 +36,7 @@ impl Model for Journal {
 
     ghost view = { λ j. record { past = reverse j.entries.items; spare = vec_capacity j.entries - vec_len j.entries } };
 
-    ghost invariant = { λ j. AreCounted j.tickets j.children j.next_job j.gaps (reverse j.entries.items) };
+    ghost invariant = { λ j. AreCounted j.tickets j.children j.backs j.next_job j.gaps (reverse j.entries.items) };
 }
 
 impl Journal {
@@ -47,6 +48,7 @@ impl Journal {
             entries: Vec::new(alloc),
             tickets: 0,
             children: 0,
+            backs: 0,
             next_job: 0,
             gaps: false,
         })
@@ -72,6 +74,7 @@ impl Journal {
     {
         self.tickets = counted(self.entries.as_slice(), self.tickets, names_ticket(&entry));
         self.children = counted(self.entries.as_slice(), self.children, names_child(&entry));
+        self.backs = counted(self.entries.as_slice(), self.backs, names_back(&entry));
         self.gaps = has_gaps(self.gaps, self.next_job, &entry);
         self.next_job = next_job(self.next_job, &entry);
         self.entries.push_reserved(entry);
@@ -97,6 +100,13 @@ impl Journal {
         ensures { result ≡ child_count self.now.past }
     {
         self.children
+    }
+
+    /// How many backends have a name: the next one has this name.
+    pub fn backs(&self) -> u64
+        ensures { result ≡ back_count self.now.past }
+    {
+        self.backs
     }
 
     /// The id of the next new job, which is above each that was made.
@@ -158,6 +168,13 @@ fn names_child(entry: &Entry) -> bool
     ensures { result ≡ names_child entry.now }
 {
     matches!(entry, Entry::Spawn { .. })
+}
+
+/// Whether this entry names a backend.
+fn names_back(entry: &Entry) -> bool
+    ensures { result ≡ names_back entry.now }
+{
+    matches!(entry, Entry::Make { .. })
 }
 
 /// Whether this entry tells that a job of this id was made.

@@ -15,7 +15,8 @@ mod wish;
 mod words;
 
 pub use answers::{
-    HookedRef, ReadyRef, VerdictRef, answers_are_read_again, read_ready, read_verdict,
+    BackedRef, HookedRef, ReadyRef, VerdictRef, answers_are_read_again, read_backed, read_ready,
+    read_verdict,
 };
 pub use beginning::Beginning;
 pub use bytes::copy_bytes;

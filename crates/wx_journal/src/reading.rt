@@ -7,9 +7,9 @@ ghost use Rattle.wx_words.specs.ToEnd.{HasWord};
 ghost use Rattle.wx_journal.specs.AtFront.{read_front};
 ghost use Rattle.wx_journal.specs.Answers.{fault};
 ghost use Rattle.wx_words.specs.Choices.{read_at};
-ghost use Rattle.wx_journal.specs.Entries.{entry, job_rows, filtered, hook, poll, signal, spawn, hand, unread, read_hand, read_entry};
+ghost use Rattle.wx_journal.specs.Entries.{entry, file_rows, job_rows, dir, make, filtered, hook, poll, signal, spawn, hand, unread, read_hand, read_entry};
 
-use crate::answers::{read_hooked, read_ready, read_verdict};
+use crate::answers::{read_backed, read_hooked, read_ready, read_verdict};
 use crate::child::{HostFault, SpawnTag};
 use crate::entry::{Act, Entry};
 use std::alloc::Global;
@@ -17,7 +17,8 @@ use wx_command::Spawnable;
 use wx_control::Id;
 use wx_error::RuntimeError;
 use wx_text::{List, Memory};
-use wx_words::{Spelled, Words, is_word, read_result, read_row, take_literal};
+use wx_watch::{NotifyFault, Watcher};
+use wx_words::{Spelled, TextPath, Words, is_word, read_result, read_row, take_literal};
 
 /// What a call on a child answered.
 type Answered<T> = Result<T, HostFault>;
@@ -111,6 +112,49 @@ fn read_filter(
     Ok(Some((n, (name, answer))))
 }
 
+/// Takes what stands behind the first word where a directory was shown to a filter, or loses the place.
+#[tactic(auto, unfolding(wx_words::specs::Parts::both))]
+fn read_dir(
+    alloc: Global,
+    line: &mut Words,
+) -> Result<Option<(u32, (TextPath, Result<bool, RuntimeError>))>, Memory>
+    ensures { IfOk result (λ x. Reads line.new x (dir.read line.old)) }
+{
+    let Some(n) = u32::read(alloc, line)? else {
+        return Ok(None);
+    };
+    let Some(path) = TextPath::read(alloc, line)? else {
+        return Ok(None);
+    };
+    let Some(answer) = read_verdict(alloc, line)? else {
+        return Ok(None);
+    };
+    Ok(Some((n, (path, answer))))
+}
+
+/// The name of a backend, how it watches files, whether it follows links, and what its maker answered.
+type MadeBackend = (u64, (Watcher, (bool, Result<(), NotifyFault>)));
+
+/// Takes what stands behind the first word of a make, or loses the place.
+#[tactic(auto, unfolding(wx_words::specs::Parts::both))]
+fn read_make(alloc: Global, line: &mut Words) -> Result<Option<MadeBackend>, Memory>
+    ensures { IfOk result (λ x. Reads line.new x (make.read line.old)) }
+{
+    let Some(back) = u64::read(alloc, line)? else {
+        return Ok(None);
+    };
+    let Some(watcher) = Watcher::read(alloc, line)? else {
+        return Ok(None);
+    };
+    let Some(follow) = bool::read(alloc, line)? else {
+        return Ok(None);
+    };
+    let Some(answer) = read_backed(alloc, line)? else {
+        return Ok(None);
+    };
+    Ok(Some((back, (watcher, (follow, answer)))))
+}
+
 /// Takes what stands behind the first word of a poll, or loses the place.
 #[tactic(auto, unfolding(wx_words::specs::Parts::both))]
 fn read_poll(alloc: Global, line: &mut Words) -> Result<Option<(Id, (u32, bool))>, Memory>
@@ -195,6 +239,20 @@ fn read_of_job(alloc: Global, first: &[u8], line: &mut Words) -> Result<Option<E
     )
 }
 
+/// Takes what stands behind the first word of an entry of what is watched, or of a job, where this is that word, or loses
+/// the place.
+#[tactic(auto, unfolding(wx_words::specs::Parts::both))]
+fn read_of_files(alloc: Global, first: &[u8], line: &mut Words) -> Result<Option<Entry>, Memory>
+    ensures { IfOk result (λ x. Reads line.new x (read_at file_rows first.now line.old)) }
+{
+    rows_at!(alloc, line, first;
+        b"dir" (n, (path, answer) = read_dir) => Entry::Dir { n, path, answer },
+        b"make" (back, (watcher, (follow, answer)) = read_make) => Entry::Make { back, watcher, follow, answer },
+        b"applied" (revision) => Entry::Applied(revision),
+        ; read_of_job(alloc, first, line)
+    )
+}
+
 /// Takes an entry but a `Hand`, or loses the place.
 #[tactic(auto, unfolding(crate::specs::Entries::entry, wx_words::specs::Parts::both))]
 fn read_any(alloc: Global, line: &mut Words) -> Result<Option<Entry>, Memory>
@@ -215,7 +273,7 @@ fn read_any(alloc: Global, line: &mut Words) -> Result<Option<Entry>, Memory>
         b"show" (n, (error, wish)) => Entry::Show { n, error, wish },
         b"hand" (n, (names, acts) = read_no_hand) => Entry::Hand { n, names, acts },
         b"changed" (revision) => Entry::Changed(revision),
-        ; read_of_job(alloc, first, line)
+        ; read_of_files(alloc, first, line)
     )
 }
 

@@ -4,11 +4,11 @@ ghost use Rattle.wx_words.specs.Forms.{Stood};
 ghost use Rattle.wx_words.specs.Line.{joined, Taken};
 ghost use Rattle.wx_words.specs.Texts.{text_in};
 ghost use Rattle.wx_journal.specs.Entries.{entry_words, read_entry, EntryFits};
-ghost use Rattle.wx_journal.specs.Sorts.{is_of_job};
+ghost use Rattle.wx_journal.specs.Sorts.{is_of_files, is_of_job};
 ghost use Rattle.wx_journal.specs.declared.entry.Entry.{Entry as AnEntry};
 ghost use Rattle.wx_journal.specs.declared.entry.Entry.TheVariants.{Hand};
 
-use crate::answers::{HookedRef, ReadyRef, VerdictRef};
+use crate::answers::{BackedRef, HookedRef, ReadyRef, VerdictRef};
 use crate::entry::{Act, Entry, Offered, Word};
 use crate::reading::read_entry;
 use std::alloc::Global;
@@ -50,6 +50,8 @@ impl Spelled for Word {
             Word::Ignored => put_word(b"ignored", out),
             Word::Quitting => put_word(b"quitting", out),
             Word::Later => put_word(b"later", out),
+            Word::Quiet => put_word(b"quiet", out),
+            Word::Stepped => put_word(b"stepped", out),
         }
     }
 
@@ -59,6 +61,8 @@ impl Spelled for Word {
             b"ignored" => Word::Ignored,
             b"quitting" => Word::Quitting,
             b"later" => Word::Later,
+            b"quiet" => Word::Quiet,
+            b"stepped" => Word::Stepped,
         )
     }
 }
@@ -130,6 +134,32 @@ fn put_job_entry(entry: &Entry, out: &mut Text) -> Result<(), Memory>
     }
 }
 
+/// Appends the words of an entry of what is watched.
+#[tactic(auto, unfolding(crate::specs::Entries::entry, wx_words::specs::Parts::both))]
+fn put_file_entry(entry: &Entry, out: &mut Text) -> Result<(), Memory>
+    requires { is_of_files entry.now ≡ true }
+    ensures text { OnOk result (out.new ≡ out.old ++ joined (entry_words entry.now)) }
+    ensures fits { OnOk result (EntryFits entry.now) }
+{
+    match entry {
+        Entry::Dir { n, path, answer } => {
+            begin_row(b"dir", &(n, (path, VerdictRef { answer })), out)
+        }
+        Entry::Make {
+            back,
+            watcher,
+            follow,
+            answer,
+        } => begin_row(
+            b"make",
+            &(back, (watcher, (follow, BackedRef { answer }))),
+            out,
+        ),
+        Entry::Applied(revision) => begin_row(b"applied", &revision, out),
+        _ => Ok(()),
+    }
+}
+
 /// Appends the words of an entry with one space between them.
 #[tactic(auto, unfolding(crate::specs::Entries::entry, wx_words::specs::Parts::both))]
 pub fn append_entry(entry: &Entry, out: &mut Text) -> Result<(), Memory>
@@ -160,6 +190,7 @@ pub fn append_entry(entry: &Entry, out: &mut Text) -> Result<(), Memory>
         Entry::Show { n, error, wish } => begin_row(b"show", &(n, (error, wish)), out),
         Entry::Hand { n, names, acts } => put_hand(*n, names, acts, out),
         Entry::Changed(revision) => begin_row(b"changed", &revision, out),
+        Entry::Dir { .. } | Entry::Make { .. } | Entry::Applied(_) => put_file_entry(entry, out),
         Entry::Made(_)
         | Entry::Asked { .. }
         | Entry::Pick { .. }

@@ -45,10 +45,13 @@ begin throttle 0 size 1 errors 2 keyboard on follow off jobsignals on watcher na
 sent 0 urgent 0
 turn 7 ask 3 start
 turn 7 change paths 2 r /a n /b%20c
+turn 7 file
 turnfault 5
 offer 1 - full low 0
 offer 2 7 queued high 0
 word later
+word quiet
+word stepped
 take 1
 filter 1 3 reject
 filter 1 3 fail filterer glob bad%20rule
@@ -76,6 +79,21 @@ poll 3 7 later
 hook 3 2 ---- 2 sh a%20b
 hook 3 2 memory
 joberror 3 7 4294967295
+dir 0 /w pass
+dir 4294967295 /w/a%20b reject
+dir 1 % fail memory
+dir 1 /w fail filterer glob bad%20rule
+make 0 native on ok
+make 18446744073709551615 poll 0 off ok
+make 1 native off fail generic no%20luck 0
+make 1 poll 5 on fail io 28 1 /w
+make 1 native on fail nopath 1 /w/a%20b
+make 1 native on fail nowatch 2 /w /v
+make 1 native on fail badconfig 0
+make 1 poll 18446744073709551615 off fail maxwatches 0
+make 1 native on fail memory 0
+applied 0
+applied 18446744073709551615
 ";
 
 const NO_ENTRIES: &str = "
@@ -84,10 +102,14 @@ begin throttle 0 size 1 errors 2 keyboard on follow off jobsignals on watcher na
 begin size 1 throttle 0 errors 2 keyboard on follow off jobsignals on watcher native cwd /a paths 0
 sent 0 0 urgent
 turn work
+turn file
+turn 7 files
 turn 7 change
 turnfault 4294967296
 offer 1 full low 0
 word done
+word step
+word Stepped
 take -1
 filter 1 3
 show 2 memory
@@ -112,6 +134,33 @@ begun 7
 poll 3 7
 hook 3 2
 joberror 3 7
+dir
+dir 0
+dir 0 /w
+dir /w 0 pass
+dir 4294967296 /w pass
+dir 0 /w ok
+dir 0 /w fail
+dir 0 /w/a b pass
+make
+make 0
+make 0 native ok
+make 0 native on
+make 0 on native ok
+make 0 native yes ok
+make 0 poll on ok
+make native on ok
+make -1 native on ok
+make 18446744073709551616 native on ok
+make 0 native on pass
+make 0 native on fault 3
+make 0 native on fail
+make 0 native on fail maxwatches
+make 0 native on fail io 1 /w
+make 0 native on fail nopath 2 /w
+applied
+applied -1
+applied 18446744073709551616
 end ok lost 0
 Made 3
 ";

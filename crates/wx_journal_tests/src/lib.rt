@@ -4,4 +4,6 @@
 #[cfg(test)]
 mod entry_tests;
 #[cfg(test)]
+mod file_tests;
+#[cfg(test)]
 mod tests;

@@ -23,7 +23,7 @@ fn line_of(alloc: Global, entry: &Entry) -> Result<Text, Memory> {
 }
 
 /// Holds the line of an entry to this one. The entry is dropped by generic code, which is quicker to prove.
-fn expect_line(rt: &impl Abort, alloc: Global, entry: Entry, want: &[u8]) {
+pub(crate) fn expect_line(rt: &impl Abort, alloc: Global, entry: Entry, want: &[u8]) {
     let line = line_of(alloc, &entry).expect(rt, "a line");
     drop(entry);
     assert!(rt; line.as_slice() == want, "at {want:?}");
@@ -35,7 +35,7 @@ pub(crate) fn expect_yes(rt: &impl Abort, answer: Result<bool, Memory>, line: &s
 }
 
 /// Ends the test where the answer isn't no, and says at which line.
-fn expect_no(rt: &impl Abort, answer: Result<bool, Memory>, line: &str) {
+pub(crate) fn expect_no(rt: &impl Abort, answer: Result<bool, Memory>, line: &str) {
     assert!(rt; answer == Ok(false), "at {line}");
 }
 
@@ -75,7 +75,7 @@ fn event(alloc: Global) -> Event {
 }
 
 /// The path of these bytes.
-fn path(alloc: Global, bytes: &[u8]) -> Result<TextPath, Memory> {
+pub(crate) fn path(alloc: Global, bytes: &[u8]) -> Result<TextPath, Memory> {
     Ok(TextPath::new(Text::from_slice(alloc, bytes)?))
 }
 
@@ -195,6 +195,8 @@ fn entries_of_runs(rt: HostRuntime) {
     expect_line(&rt, alloc, Entry::Word(Word::Ignored), b"word ignored");
     expect_line(&rt, alloc, Entry::Word(Word::Quitting), b"word quitting");
     expect_line(&rt, alloc, Entry::Word(Word::Later), b"word later");
+    expect_line(&rt, alloc, Entry::Word(Word::Quiet), b"word quiet");
+    expect_line(&rt, alloc, Entry::Word(Word::Stepped), b"word stepped");
     expect_line(&rt, alloc, Entry::Take(1), b"take 1");
 }
 
@@ -239,7 +241,7 @@ fn filter(answer: Result<bool, RuntimeError>) -> Entry {
 }
 
 /// The error of a filter of globs that has a bad rule.
-fn bad_rule(alloc: Global) -> Result<RuntimeError, Memory> {
+pub(crate) fn bad_rule(alloc: Global) -> Result<RuntimeError, Memory> {
     let kind = Text::from_slice(alloc, b"glob")?;
     let err = Text::from_slice(alloc, b"bad rule")?;
     Ok(RuntimeError::Filterer { kind, err })
@@ -406,6 +408,7 @@ fn entries_of_turns(rt: HostRuntime) {
     expect_turn(&rt, alloc, ask, b"turn 7 ask 3 start");
     let change = TurnKind::Change(Change::Throttle(5));
     expect_turn(&rt, alloc, change, b"turn 7 change throttle 5");
+    expect_turn(&rt, alloc, TurnKind::File, b"turn 7 file");
     expect_turn(&rt, alloc, TurnKind::Last, b"turn 7 last");
 }
 
@@ -671,12 +674,13 @@ fn text_of(alloc: Global, journal: &Journal) -> Result<Text, Memory> {
     Ok(text)
 }
 
-/// How many entries, tickets and children a journal has, and the number of the next job.
-fn counts(journal: &Journal) -> (u64, u64, u64, u64) {
+/// How many entries, tickets, children and backends a journal has, and the number of the next job.
+pub(crate) fn counts(journal: &Journal) -> (u64, u64, u64, u64, u64) {
     (
         journal.len(),
         journal.tickets(),
         journal.children(),
+        journal.backs(),
         journal.next_job(),
     )
 }
@@ -704,7 +708,7 @@ fn a_journal_and_its_counts(rt: HostRuntime) {
     assert!(rt; journal.is_empty());
     list_four(&rt, alloc, &mut journal);
     assert!(rt; !journal.is_empty() && journal.as_slice().len() == 4);
-    assert!(rt; counts(&journal) == (4, 2, 1, 4));
+    assert!(rt; counts(&journal) == (4, 2, 1, 0, 4));
     let text = text_of(alloc, &journal).expect(&rt, "lines");
     drop(journal);
     assert!(rt; text.as_slice() == FOUR.as_bytes());

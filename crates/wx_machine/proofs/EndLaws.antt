@@ -20,6 +20,7 @@ use Rattle.wx_machine.specs.Jobs.{set, jobs, first_end, end}
 use Rattle.wx_machine.specs.Due.{Agenda, Ends, settle, agenda, Admits, Due, rest, IsRun}
 use Rattle.wx_machine.specs.Answer.{Dying, Alive, Dies}
 use Rattle.wx_machine.specs.RunLaws.{IsBatched, AreBatches, NoneUrgentWaits, NoneUnseenIsShown, NoneIsShownClosed, AreMadeByRule, AreServed, AreRevised}
+use Rattle.wx_machine.specs.FileLaws.{AreWatchedByRule, UnmadeEnds}
 use Rattle.wx_machine.specs.Kept.{StaysQuiet, More}
 use Rattle.wx_machine.specs.Leads.{Follows, Then}
 use Rattle.wx_machine.specs.Turns.{SameTurns, StaysInTurn}
@@ -43,6 +44,8 @@ pub record KeepsAll (s : Start) (q p : List Entry) : Type 0 where
   pub placed : IsPlaced q → IsPlaced p
   pub served : AreServed s q → AreServed s p
   pub revised : AreRevised s q → AreRevised s p
+  pub watched : AreWatchedByRule s q → AreWatchedByRule s p
+  pub ends_unmade : UnmadeEnds q → UnmadeEnds p
   pub same_window : window p ≡ window q
   pub turns : StaysInTurn q p
   pub own : NamesItsOwn q → NamesItsOwn p
@@ -62,6 +65,8 @@ keeps_one s p (Dropped c) o own = record {
   placed = end_placed (Dropped c) p tt;
   served = λ h. h;
   revised = λ h. h;
+  watched = λ h. h;
+  ends_unmade = λ h. (λ is. refl, h);
   same_window = refl;
   turns = λ p₀ h. turns_plan (Dropped c) p₀ p tt h;
   own = own;
@@ -80,6 +85,8 @@ keeps_one s p (Gone job) o own = record {
   placed = end_placed (Gone job) p tt;
   served = λ h. h;
   revised = λ h. h;
+  watched = λ h. h;
+  ends_unmade = λ h. (λ is. refl, h);
   same_window = refl;
   turns = λ p₀ h. turns_plan (Gone job) p₀ p tt h;
   own = own;
@@ -101,6 +108,8 @@ keeps_then s q p r a b = record {
   placed = λ h. b.placed (a.placed h);
   served = λ h. b.served (a.served h);
   revised = λ h. b.revised (a.revised h);
+  watched = λ h. b.watched (a.watched h);
+  ends_unmade = λ h. b.ends_unmade (a.ends_unmade h);
   same_window = b.same_window ∙ a.same_window;
   turns = λ p₀ h. b.turns p₀ (a.turns p₀ h);
   own = λ h. b.own (a.own h);
@@ -112,7 +121,7 @@ keeps_then s q p r a b = record {
 
 pub dying_keeps : (s : Start) (q p : List Entry) → Dying q p → KeepsAll s q p
 dying_keeps s q p l = elim l as (λ p _. KeepsAll s q p) [
-  | Alive ↦ record { batched = λ h. h; batches = λ h. h; calm = λ h. h; shows = λ h. h; shows_open = λ h. h; made_by_rule = λ h. h; placed = λ h. h; served = λ h. h; revised = λ h. h; same_window = refl; turns = λ p₀ h. h; own = λ h. h; quiet = λ p₀ a. a; same_set = refl; commands = λ id. refl; gone = λ id h. h }
+  | Alive ↦ record { batched = λ h. h; batches = λ h. h; calm = λ h. h; shows = λ h. h; shows_open = λ h. h; made_by_rule = λ h. h; placed = λ h. h; served = λ h. h; revised = λ h. h; watched = λ h. h; ends_unmade = λ h. h; same_window = refl; turns = λ p₀ h. h; own = λ h. h; quiet = λ p₀ a. a; same_set = refl; commands = λ id. refl; gone = λ id h. h }
   | Dies e p (l → h) d ↦ keeps_then s q p (e ∷ p) h (keeps_one s p e (of_end p e d) (λ own. (names_end p e own d, own)))
 ]
 

@@ -20,7 +20,7 @@ use Rattle.wx_machine.specs.Table.{Plan, Done, step_plan, ask_plan}
 use Rattle.wx_machine.specs.Case.{next}
 use Rattle.wx_machine.specs.Start.{Start}
 use Rattle.wx_machine.specs.Jobs.{living, parent}
-use Rattle.wx_machine.specs.Due.{Says, Agenda, Open, Comes, Plans, Ends, Breaks, IsTurn, Admits, plans, says, rest, job_turn, ended_turn, turn_agenda, follow, settle, agenda, Due, IsRun}
+use Rattle.wx_machine.specs.Due.{Says, Agenda, Open, Comes, Steps, Plans, Ends, Breaks, IsTurn, Admits, plans, says, rest, job_turn, ended_turn, turn_agenda, follow, settle, agenda, Due, IsRun}
 use Rattle.wx_machine.specs.Answer.{Dying, Alive, Dies}
 use Rattle.wx_machine.proofs.Owners.{same-is, either}
 use Rattle.wx_machine.proofs.Functions.{begun_none}
@@ -52,6 +52,7 @@ abbrev Turning : Id → List Entry → Agenda → Type 0
 Turning id p Open = Unit {0}
 Turning id p (Comes (Says word) Open) = WaitsForFunction id p (Said word)
 Turning id p (Comes x more) = ⊥
+Turning id p (Steps untouched more) = ⊥
 Turning id p (Plans k Open) = Always (Speaks id) p k
 Turning id p (Plans k more) = ⊥
 Turning id p Ends = Unit {0}
@@ -122,6 +123,7 @@ turning_more : (s : Start) (id : Id) (p : List Entry) (k : Agenda) (e : Entry) �
 turning_more s id p Open e other d f h = absurd (other d)
 turning_more s id p (Comes (Says word) Open) e other d f h = subst (λ x. Turning id (x ∷ p) (settle (x ∷ p) (follow s x p Open))) (sym d.1) (turning_settle id (Said word ∷ p) Open tt)
 turning_more s id p (Comes x more) e other d f h = absurd h
+turning_more s id p (Steps untouched more) e other d f h = absurd h
 turning_more s id p (Plans k Open) e other d f h =
     turning_plan s id p e (Plans k Open) (lawful_now p k e d f.0).of_plan (turning_plans id (e ∷ p) (next k e) (always_next (Speaks id) p k e d h))
 turning_more s id p (Plans k more) e other d f h = absurd h
@@ -157,6 +159,7 @@ says_so : (s : Start) (id : Id) (p : List Entry) (k : Agenda) (e : Entry) → (s
 says_so s id p Open e word d h = absurd (no_turn e word d)
 says_so s id p (Comes (Says said) Open) e word d h = rw d.1 h
 says_so s id p (Comes x more) e word d h = absurd h
+says_so s id p (Steps untouched more) e word d h = absurd h
 says_so s id p (Plans k Open) e word d h = spoken id p e (next k e) word (always_now (Speaks id) p k e d h)
 says_so s id p (Plans k more) e word d h = absurd h
 says_so s id p Ends e word d h = absurd (no_end e word (of_end p e d))

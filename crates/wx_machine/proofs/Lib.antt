@@ -5,6 +5,7 @@ pub mod CaseLemmas
 pub mod CutLaws
 pub mod EndLaws
 pub mod FaultLaws
+pub mod FileLaws
 pub mod Frame
 pub mod FunctionLaws
 pub mod Functions
@@ -17,9 +18,11 @@ pub mod Lawful
 pub mod LifeLaws
 pub mod MadeLaws
 pub mod Moves
+pub mod NoFiles
 pub mod OneJob
 pub mod Orderly
 pub mod Owners
+pub mod PaidLaws
 pub mod PlacedPlans
 pub mod Places
 pub mod Placing
@@ -32,5 +35,7 @@ pub mod SettleLaws
 pub mod Sound
 pub mod SteadyLemmas
 pub mod StepLaws
+pub mod Stepping
 pub mod Tickets
 pub mod Times
+pub mod Watching

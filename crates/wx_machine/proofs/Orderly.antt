@@ -1,15 +1,17 @@
 -- What is known of each journal that a worker stands for.
-use Rattle.std.specs.Prelude.{◌≡◌, ◌<◌, false, None, List, length}
+use Rattle.std.specs.Prelude.{◌≡◌, ◌<◌, true, false, None, List, length}
 use Rattle.wx_control.specs.declared.id.Id.{Id}
 use Rattle.wx_journal.specs.declared.entry.Entry.{Entry}
-use Rattle.wx_journal.specs.declared.entry.Entry.TheVariants.{Begin, Sent, Offer, Word as Said, Take, Filter, Show, Hand}
-use Rattle.wx_journal.specs.Names.{event_count, NamesItem, NamesItsOwn}
+use Rattle.wx_journal.specs.declared.entry.Entry.TheVariants.{Begin, Sent, Offer, Word as Said, Take, Filter, Show, Hand, Dir, Make, Applied}
+use Rattle.wx_journal.specs.Names.{back_count, event_count, NamesItem, NamesItsOwn}
 use Rattle.wx_machine.specs.History.{lives, child}
 use Rattle.wx_machine.specs.TicketLaws.{IsPlaced}
 use Rattle.wx_machine.specs.Start.{Start}
 use Rattle.wx_machine.specs.Jobs.{AreLawful}
+use Rattle.wx_machine.specs.Settings.{settings, revision}
+use Rattle.wx_machine.specs.Files.{source, applied, is_applied, may_be_judged}
 use Rattle.wx_machine.specs.Journal.{passes_unseen, closed, bag, offered, window}
-use Rattle.wx_machine.specs.Due.{IsGreatest, Point, PointAnswer, brings, Agenda, Open, Comes, Plans, Ends, agenda, is_quitting}
+use Rattle.wx_machine.specs.Due.{IsGreatest, Point, PointAnswer, brings, Agenda, Open, Comes, Steps, Plans, Ends, agenda, is_quitting}
 use Rattle.wx_machine.proofs.Always.{Always}
 use Rattle.wx_machine.proofs.Lawful.{Revises, MadeInOrder, Lawful}
 
@@ -19,7 +21,7 @@ IsQuiet Open = Unit {0}
 IsQuiet Ends = Unit {0}
 IsQuiet (_) = ⊥
 
--- What is known of each entry that a point of a run brings. None brings another.
+-- What is known of each entry that a point of a run brings, or a step. None brings another.
 abbrev pub IsBrought : Start → List Entry → Entry → Type 0
 IsBrought s p (Begin beginning) = Unit {0}
 IsBrought s p (Sent name event priority) = name ≡ event_count p
@@ -29,6 +31,9 @@ IsBrought s p (Take name) = IsGreatest name (bag p) × (closed p ≡ false)
 IsBrought s p (Filter n name answer) = (name < event_count p) × (passes_unseen name p ≡ false) × (closed p ≡ false)
 IsBrought s p (Show n error wish) = closed p ≡ false
 IsBrought s p (Hand n names acts) = (names ≡ window p) × AreLawful p acts × (0 < length (window p))
+IsBrought s p (Dir n path answer) = (n ≡ (applied s p).filterer) × (may_be_judged s p path ≡ true)
+IsBrought s p (Make back watcher follow answer) = (back ≡ back_count p) × (watcher ≡ (applied s p).file_watcher) × (follow ≡ (applied s p).follow_symlinks)
+IsBrought s p (Applied named) = (named ≡ revision s p) × (is_applied (settings s p) (source s p).applied ≡ false)
 IsBrought s p (_) = ⊥
 
 -- each entry that this point may bring behind these is such, whatever is answered
@@ -38,6 +43,7 @@ AllBrought s p x = (a : PointAnswer s p x) → IsBrought s p (brings s p x a)
 -- what may stand behind points: it fits whatever comes before it
 abbrev pub IsLasting : Start → Agenda → Type 0
 IsLasting s (Comes x more) = ((p : List Entry) → AllBrought s p x) × IsLasting s more
+IsLasting s (Steps untouched more) = IsLasting s more
 IsLasting s (Plans k more) = ⊥
 IsLasting s (_) = Unit {0}
 
@@ -45,6 +51,7 @@ IsLasting s (_) = Unit {0}
 -- of it that tells a change names the next revision, and answers a change that waits.
 abbrev pub IsFit : Start → List Entry → Agenda → Type 0
 IsFit s p (Comes x more) = AllBrought s p x × IsLasting s more
+IsFit s p (Steps untouched more) = IsLasting s more
 IsFit s p (Plans k more) = Lawful p k × IsQuiet more × Always (Revises s) p k
 IsFit s p (_) = Unit {0}
 

@@ -1,6 +1,6 @@
 -- What the plans of a run let come, and what they name.
 use Rattle.std.proofs.Common.{◌≡◌, ℕ, ◌+◌, Bool, true, false, cond, List, [], ◌∷◌, arith, refl, ap, sym, subst, ◌∙◌, eq-eqb}
-use Rattle.std.specs.Prelude.{◌==◌, ◌||◌, ◌<◌, T, Option, None, Some, length}
+use Rattle.std.specs.Prelude.{◌==◌, ◌||◌, T, Option, None, Some}
 use Rattle.std.proofs.lemmas.Bool.{or_right}
 use Rattle.wx_command.specs.declared.command.Command.{Command}
 use Rattle.wx_config.specs.Changes.{changed}
@@ -16,7 +16,7 @@ use Rattle.wx_journal.specs.Acts.{JournalAct as Act}
 use Rattle.wx_journal.specs.declared.entry.Act.TheVariants.{Create, Ask, Change, Quit, QuitGracefully}
 use Rattle.wx_journal.specs.declared.entry.Entry.{Entry}
 use Rattle.wx_journal.specs.declared.entry.Entry.TheVariants.{Word as Said, Made, Asked, Changed, GraceOver, Spawn, Signal, Dropped, Gone}
-use Rattle.wx_journal.specs.Sorts.{Subject, OfRun, OfTurn, OfEvents, OfSettings, sort}
+use Rattle.wx_journal.specs.Sorts.{Subject, OfRun, OfTurn, OfEvents, OfSettings, OfFiles, sort}
 use Rattle.wx_journal.specs.declared.entry.Word.TheVariants.{Ignored}
 use Rattle.wx_journal.specs.Names.{Names, NamesItsOwn, creates, is_created, ticket_count}
 use Rattle.wx_machine.specs.History.{same, lives, child}
@@ -60,10 +60,12 @@ own_planned id p OfRun s = absurd s
 own_planned id p OfTurn s = absurd s
 own_planned id p OfEvents s = absurd s
 own_planned id p OfSettings s = absurd s
+own_planned id p OfFiles s = absurd s
 own_planned id p (_) s = tt
 
 pub plan_fit : (id : Id) (e : Entry) (p : List Entry) → Fits id p e → IsOfPlan e
-plan_fit id e p s = own_planned id p (sort e).subject (own_fit id e p s)
+plan_fit id (Said word) p s = s
+plan_fit id (e) p s = own_planned id p (sort e).subject (own_fit id e p s)
 
 free_fit : (id : Id) (e : Entry) (k : Plan) (p : List Entry) → IsSound id p e k → IsFree p e
 free_fit id (Spawn c job tag what answer) k p s = rw s.fits.0 (s.alive, s.fits.1)

@@ -5,7 +5,7 @@ use Rattle.wx_events.specs.declared.process.Signal.{Signal}
 use Rattle.wx_config.specs.declared.change.Change.{Change as AChange}
 use Rattle.wx_control.specs.declared.id.Id.{Id}
 use Rattle.wx_journal.specs.Acts.{JournalAct as Act}
-use Rattle.wx_journal.specs.declared.entry.Act.TheVariants.{Create, Ask, Change, Quit, QuitGracefully}
+use Rattle.wx_journal.specs.declared.entry.Act.TheVariants.{Create, Change}
 use Rattle.wx_journal.specs.Names.{above, creates}
 use Rattle.wx_machine.specs.declared.quit.QuitManner.{QuitManner}
 use Rattle.wx_machine.specs.declared.quit.QuitManner.TheVariants.{Abort, Graceful}

@@ -18,11 +18,11 @@ use Rattle.wx_machine.proofs.AfterwardsLemmas.{GoesBy}
 use Rattle.wx_error.specs.declared.error.CriticalError.TheVariants.{IoError, Memory}
 use Rattle.wx_machine.specs.Start.{Start}
 use Rattle.wx_machine.specs.Jobs.{jobs, first_end}
-use Rattle.wx_machine.specs.Due.{Agenda, Open, Comes, Plans, Ends, Breaks, Admits, plans, rest, settle, agenda, Due, IsRun}
+use Rattle.wx_machine.specs.Due.{Agenda, Open, Comes, Steps, Plans, Ends, Breaks, Admits, plans, rest, settle, agenda, Due, IsRun}
 use Rattle.wx_journal.specs.Lines.{Answer}
 use Rattle.wx_machine.specs.Answer.{Dying, Alive, Dies, IsComplete, IsBroken, Wishes, MemoryCuts, Answers}
 use Rattle.wx_machine.proofs.Orderly.{IsFit, GoneRunNone}
-use Rattle.wx_machine.proofs.RunLaws.{brought, orderly, free, free_end}
+use Rattle.wx_machine.proofs.RunLaws.{brought, came, orderly, free, free_end}
 use Rattle.wx_machine.proofs.AllJobs.{is_child_some, one_parent}
 use Rattle.wx_machine.proofs.JobSets.{IsIn, in_jobs, may_dead}
 use Rattle.wx_machine.proofs.PlanLaws.{lawful_now, of_end}
@@ -70,6 +70,7 @@ end_next p (job ∷ ids) c id e own its dropped d =
 next_dropped : (s : Start) (p : List Entry) (k : Agenda) (c : ℕ) (id : Id) (e : Entry) → NamesItsOwn p → IsFit s p k → child id p ≡ Some c → Admits s p k (Dropped c) → Admits s (Dropped c ∷ p) (settle (Dropped c ∷ p) (rest (Dropped c) k)) e → e ≡ Gone id
 next_dropped s p Open c id e own fit its dropped d = absurd dropped
 next_dropped s p (Comes x more) c id e own fit its dropped d = absurd (brought s p x more (Dropped c) dropped fit)
+next_dropped s p (Steps untouched more) c id e own fit its dropped d = absurd (came s p untouched more (Dropped c) dropped)
 next_dropped s p (Plans k more) c id e own fit its dropped d =
     let go = (lawful_now p k (Dropped c) dropped fit.0).lets_go in
     let mine : go.0 ≡ id = one_parent c id go.0 p own its go.1 in

@@ -1,16 +1,27 @@
--- What is refused after faults, and while a function is begun.
-use Rattle.std.proofs.Common.{[], ◌∷◌, Ok, Err, false, refl}
-use Rattle.std.specs.Prelude.{pos}
+-- What is refused after faults, while a function is begun, and of what is watched.
+use Rattle.std.proofs.Common.{◌≡◌, ℕ, Bool, List, [], ◌∷◌, Ok, Err, true, false, refl, arith}
+use Rattle.std.specs.Prelude.{pos, codes, Result, Some, None}
 use Rattle.wx_command.specs.declared.spawnable.Spawnable.{Spawnable}
 use Rattle.wx_events.specs.declared.process.ProcessEnd.{ProcessEnd}
 use Rattle.wx_control.specs.declared.control.Control.TheVariants.{Start, GracefulStop, AsyncFunc}
 use Rattle.wx_control.specs.declared.level.Level.TheVariants.{Normal}
 use Rattle.wx_events.specs.declared.process.Signal.{Signal as ASignal}
 use Rattle.wx_journal.specs.declared.child.SpawnTag.TheVariants.{Default}
-use Rattle.wx_journal.specs.declared.entry.Entry.TheVariants.{Turn as Turned, Word as Said, Made, Asked, Pick, GraceOver, Spawn, Signal, Kill, Wait, Raise, Run, Begun, Poll}
-use Rattle.wx_journal.specs.declared.entry.TurnKind.TheVariants.{Job}
-use Rattle.wx_journal.specs.declared.entry.Word.TheVariants.{Idle}
+use Rattle.wx_journal.specs.declared.entry.Entry.TheVariants.{Turn as Turned, Word as Said, Made, Asked, Pick, GraceOver, Spawn, Signal, Kill, Wait, Raise, Gone, Run, Begun, Poll, Dir, Make, Applied}
+use Rattle.wx_journal.specs.declared.entry.TurnKind.TheVariants.{Job, File}
+use Rattle.wx_journal.specs.declared.entry.Word.TheVariants.{Idle, Stepped}
 use Rattle.wx_journal.specs.declared.entry.Turn.{Turn}
+use Rattle.wx_watch.specs.declared.notify_fault.NotifyFault.{NotifyFault}
+use Rattle.wx_watch.specs.declared.watched.Watcher.{Watcher}
+use Rattle.wx_config.specs.declared.config.Config.{Config}
+use Rattle.wx_control.specs.declared.id.Id.{Id}
+use Rattle.wx_error.specs.declared.runtime.RuntimeError.{RuntimeError}
+use Rattle.wx_tree.specs.Places.{place}
+use Rattle.wx_machine.specs.Start.{Start as AStart}
+use Rattle.wx_machine.specs.Steps.{IsPaid}
+use Rattle.wx_machine.specs.Due.{Applies, Open, Comes, turn_agenda}
+use Rattle.wx_machine.specs.Files.{has_paths, is_to_make, is_below_recursive}
+use Rattle.wx_machine.specs.FileLaws.{AreWatchedByRule, UnmadeEnds}
 use Rattle.wx_machine.specs.TicketLaws.{WaitForFunctions}
 use Rattle.wx_machine.specs.Afterwards.{GoesOnAfterFaults, AreOverOnce}
 
@@ -45,3 +56,48 @@ signal_refused what h = h.0 (record { 0 = 0 }) refl (record { n = 7; ticket = 0 
 -- another function is none of it
 other_refused : WaitForFunctions (Poll (record { 0 = 0 }) 8 false ∷ Begun (record { 0 = 0 }) 7 ∷ Pick (record { 0 = 0 }) 0 ∷ Asked 0 (record { 0 = 0 }) Normal (AsyncFunc 7) ∷ Made (record { 0 = 0 }) ∷ []) → ⊥
 other_refused h = let is = h.0 (record { 0 = 0 }) refl (record { n = 7; ticket = 0 }) refl in absurd cc
+
+-- ---- what is watched
+
+-- nothing but the end comes behind a backend that couldn't be made
+unmade_refused : (watcher : Watcher) (links : Bool) (fault : NotifyFault) → UnmadeEnds (Said Idle ∷ Make 0 watcher links (Err fault) ∷ []) → ⊥
+unmade_refused watcher links fault h = let is = h.0 refl in absurd cc
+
+unmade_taken : (watcher : Watcher) (links : Bool) (fault : NotifyFault) (job : Id) → UnmadeEnds (Gone job ∷ Make 0 watcher links (Err fault) ∷ [])
+unmade_taken watcher links fault job = (λ is. refl, (λ is. absurd cc, tt))
+
+-- no directory is judged before settings were applied
+unapplied_refused : (s : AStart) (n : ℕ) (path : List ℕ) (answer : Result Bool RuntimeError) → AreWatchedByRule s (Dir n path answer ∷ []) → ⊥
+unapplied_refused s n path answer h = let is = h.0.some_applied in absurd cc
+
+-- a directory lies strictly below a recursive path, seen from the folder
+below_taken : is_below_recursive (codes "/w") (record { path = codes "a/../src"; recursive = true } ∷ []) (place (codes "/w/src/b")) ≡ true
+below_taken = refl
+
+itself_refused : is_below_recursive (codes "/w") (record { path = codes "src"; recursive = true } ∷ []) (place (codes "/w/src")) ≡ false
+itself_refused = refl
+
+beside_refused : is_below_recursive (codes "/w") (record { path = codes "/src"; recursive = true } ∷ []) (place (codes "/w/src/b")) ≡ false
+beside_refused = refl
+
+flat_refused : is_below_recursive (codes "/w") (record { path = codes "src"; recursive = false } ∷ []) (place (codes "/w/src/b")) ≡ false
+flat_refused = refl
+
+-- where no backend stands one is to be made, if a path is to be watched
+none_stands : (c d : Config) → has_paths c ≡ true → is_to_make c (record { applied = Some d; current = None }) ≡ true
+none_stands c d some = rw some refl
+
+-- the first turn about files applies the settings
+first_applies : (s : AStart) → turn_agenda s File 7 [] ≡ Comes Applies Open
+first_applies s = refl
+
+-- settings that were applied bring one step without a look, and not two
+swept_taken : IsPaid 5 (Said Stepped ∷ Applied 0 ∷ []) 5 0
+swept_taken = omega arith
+
+twice_refused : IsPaid 5 (Said Stepped ∷ Said Stepped ∷ Applied 0 ∷ []) 5 0 → ⊥
+twice_refused h = omega (arith, h)
+
+-- a look brings the second
+looked_taken : IsPaid 5 (Said Stepped ∷ Said Stepped ∷ Applied 0 ∷ []) 6 0
+looked_taken = omega arith

@@ -11,6 +11,7 @@ use Rattle.wx_events.specs.declared.priority.Priority.{Priority}
 use Rattle.wx_command.specs.declared.command.Command.{Command}
 use Rattle.wx_config.specs.Changes.{last_revision}
 use Rattle.wx_config.specs.declared.change.Change.{Change as AChange}
+use Rattle.wx_watch.specs.declared.notify_fault.NotifyFault.{NotifyFault}
 use Rattle.wx_error.specs.declared.runtime.RuntimeError.{RuntimeError}
 use Rattle.wx_error.specs.declared.runtime.RuntimeError.TheVariants.{Exit}
 use Rattle.wx_error.specs.declared.error.CriticalError.{CriticalError}
@@ -18,12 +19,12 @@ use Rattle.wx_control.specs.declared.id.Id.{Id}
 use Rattle.wx_control.specs.declared.ask.Ask.{Ask as AnAsk}
 use Rattle.wx_control.specs.Asks.{sends_of}
 use Rattle.wx_journal.specs.declared.entry.Entry.{Entry}
-use Rattle.wx_journal.specs.declared.entry.Entry.TheVariants.{Begin, Sent, Turn as Turned, TurnFault, Offer, Word as Said, Take, Filter, Show, Hand, Made, Changed, Spawn, Gone}
+use Rattle.wx_journal.specs.declared.entry.Entry.TheVariants.{Begin, Sent, Turn as Turned, TurnFault, Offer, Word as Said, Take, Filter, Show, Hand, Made, Changed, Spawn, Gone, Dir, Make, Applied}
 use Rattle.wx_journal.specs.Acts.{JournalAct as Act}
 use Rattle.wx_journal.specs.declared.entry.Named.{Named}
 use Rattle.wx_journal.specs.declared.entry.Turn.{Turn}
 use Rattle.wx_journal.specs.declared.entry.TurnKind.{TurnKind}
-use Rattle.wx_journal.specs.declared.entry.TurnKind.TheVariants.{Arrive, Signal, Keys, Work, Job, Ended, Ask, Change, Last}
+use Rattle.wx_journal.specs.declared.entry.TurnKind.TheVariants.{Arrive, Signal, Keys, Work, Job, Ended, Ask, Change, File, Last}
 use Rattle.wx_journal.specs.declared.entry.Word.{Word}
 use Rattle.wx_journal.specs.declared.entry.Word.TheVariants.{Idle, Ignored, Quitting}
 use Rattle.wx_journal.specs.Names.{moment, event_count, creates, is_created, next_job, Names, NamesItsOwn}
@@ -43,7 +44,8 @@ use Rattle.wx_machine.proofs.JobSets.{lawful_hand}
 use Rattle.wx_machine.proofs.QuitActs.{creates_quit_asks, lawful_quit_asks, changes_quit_asks}
 use Rattle.wx_machine.specs.Settings.{turn_changes, pending, settings, revision, change_count}
 use Rattle.wx_machine.specs.Journal.{listed, passes_unseen, lets_pass, closed, ending, named, bag, one_if, and_one, is_among, unhanded, passed, window, batches, is_over, is_urgent_named, is_urgent_in}
-use Rattle.wx_machine.specs.Due.{IsGreatest, Point, Takes, Filters, Hands, Agenda, Open, Comes, Plans, Ends, Breaks, IsTurn, Admits, sends, plans, says, stays, rest, job_turn, ended_turn, work_going, turn_agenda, after_pass, after_drop, after_show, after_hand, follow, is_quitting, settle, agenda, Due, IsRun, offers, keys_open, before}
+use Rattle.wx_machine.specs.Files.{source, is_applied, is_to_make}
+use Rattle.wx_machine.specs.Due.{IsGreatest, Point, Takes, Filters, Hands, Applies, Makes, Step, Judges, Errs, Remakes, Finishes, Rests, step_entry, Agenda, Open, Comes, Steps, Plans, Ends, Breaks, IsTurn, Admits, sends, plans, says, stays, goes_on, rest, job_turn, ended_turn, work_going, watch_turn, file_turn, turn_agenda, after_pass, after_drop, after_show, after_make, after_hand, follow, is_quitting, settle, agenda, Due, IsRun, offers, keys_open, before}
 use Rattle.wx_machine.proofs.BagLaws.{NamesBelow, bag_facts}
 use Rattle.wx_machine.specs.Leads.{Leads, Here, Then, Follows}
 use Rattle.wx_machine.proofs.Orderly.{IsQuiet, IsBrought, IsLasting, IsFit, IsGoing, GoneRunNone, IsOrderly}
@@ -52,7 +54,7 @@ use Rattle.wx_machine.proofs.PlanLaws.{lawful_now, placed_now, lawful_next, lawf
 use Rattle.wx_machine.proofs.Always.{Always, always_now, always_next}
 use Rattle.wx_machine.proofs.Lawful.{IsOfPlan, IsFree, InOrder, Revises, Lawful}
 use Rattle.wx_machine.specs.Last.{last_is, last_added}
-use Rattle.wx_machine.specs.RunLaws.{joined, IsBatched, NoneUrgent, UrgentLast, urgent_in, IsBatch, AreBatches, NoneUrgentWaits, NoneUnseenIsShown, NoneIsShownClosed, AreServed, IsRevised, AreRevised}
+use Rattle.wx_machine.specs.RunLaws.{joined, IsBatched, NoneUrgent, UrgentLast, urgent_in, IsBatch, AreBatches, NoneUrgentWaits, NoneUnseenIsShown, NoneIsShownClosed, AreServed, AreRevised}
 
 -- ---- what an agenda that admits an entry says of it
 
@@ -70,10 +72,22 @@ no_plan_turns (_) o i = i
 pub brought : (s : Start) (p : List Entry) (x : Point) (more : Agenda) (e : Entry) → Admits s p (Comes x more) e → IsFit s p (Comes x more) → IsBrought s p e
 brought s p x more e d f = subst (IsBrought s p) (sym d.1) (f.0 d.0)
 
--- any other is one that a point brought
+-- what a step brings
+pub step_brought : (s : Start) (p : List Entry) (untouched : Bool) (a : Step s p untouched) → IsBrought s p (step_entry s p untouched a)
+step_brought s p untouched (Judges path below answer) = (refl, below)
+step_brought s p untouched (Errs error wish is_open) = is_open
+step_brought s p untouched (Remakes answer) = (refl, refl, refl)
+step_brought s p untouched Finishes = tt
+step_brought s p untouched (Rests is_untouched) = tt
+
+pub came : (s : Start) (p : List Entry) (untouched : Bool) (more : Agenda) (e : Entry) → Admits s p (Steps untouched more) e → IsBrought s p e
+came s p untouched more e d = subst (IsBrought s p) (sym d.1) (step_brought s p untouched d.0)
+
+-- any other is one that a point brought, or a step
 pub admitted : (s : Start) (p : List Entry) (k : Agenda) (e : Entry) → (IsTurn e → ⊥) → (IsOfPlan e → ⊥) → Admits s p k e → IsFit s p k → IsBrought s p e
 admitted s p Open e turn plan d f = absurd (turn d)
 admitted s p (Comes x more) e turn plan d f = brought s p x more e d f
+admitted s p (Steps untouched more) e turn plan d f = came s p untouched more e d
 admitted s p (Plans k more) e turn plan d f = absurd (plan (lawful_now p k e d f.0).of_plan)
 admitted s p Ends e turn plan d f = absurd (plan (end_is_plan e (of_end p e d)))
 admitted s p Breaks e turn plan d f = absurd d
@@ -142,6 +156,7 @@ fit_quiet s p (_) q = absurd q
 
 fit_lasting : (s : Start) (p : List Entry) (more : Agenda) → IsLasting s more → IsFit s p more
 fit_lasting s p (Comes x more) l = (l.0 p, l.1)
+fit_lasting s p (Steps untouched more) l = l
 fit_lasting s p (Plans k more) l = absurd l
 fit_lasting s p (_) l = tt
 
@@ -156,6 +171,10 @@ lasting_sends s (x ∷ xs) = (λ p a. refl, lasting_sends s xs)
 -- what stands behind an entry of a point lasts
 lasting_stays : (s : Start) (x : Point) (e : Entry) (more : Agenda) → IsLasting s more → IsLasting s (stays x e more)
 lasting_stays s x e more l = l
+
+-- what stands behind an entry of a step lasts: the step, or what stands behind it
+lasting_step : (s : Start) (e : Entry) (more : Agenda) → IsLasting s more → IsLasting s (rest e (Steps true more))
+lasting_step s e more l = either (IsLasting s) (goes_on e) (Steps false more) more l l
 
 fit_says : (s : Start) (p : List Entry) (word : Word) → IsFit s p (says word)
 fit_says s p word = (λ a. tt, tt)
@@ -200,6 +219,15 @@ fit_change : (s : Start) (p : List Entry) (change : AChange) (b : Bool) → pend
 fit_change s p change true wait h = fit_says s p Ignored
 fit_change s p change false wait h = fit_plans s p (change_plan (revision s p) Done) Open (lawful_change (revision s p) p h) tt (revised_change s p change wait)
 
+-- what a turn about what is watched owes
+fit_watch : (s : Start) (p : List Entry) (current : Option ℕ) → IsFit s p (watch_turn current)
+fit_watch s p None = fit_says s p Ignored
+fit_watch s p (Some back) = tt
+
+pub fit_file : (s : Start) (p : List Entry) (is : Bool) → is_applied (settings s p) (source s p).applied ≡ is → IsFit s p (cond is (watch_turn (source s p).current) (Comes Applies Open))
+fit_file s p true e = fit_watch s p (source s p).current
+fit_file s p false e = (λ a. (refl, e), tt)
+
 fit_turn : (s : Start) (p : List Entry) (kind : TurnKind) (at : ℕ) → pending p ≡ turn_changes kind → NamesItsOwn p → IsPlaced p → IsFit s p (turn_agenda s kind at p)
 fit_turn s p (Arrive event priority) at wait own h = (λ a. (refl, tt, refl), tt)
 fit_turn s p (Signal signal) at wait own h = either (IsFit s p) (hears_signal (settings s p).signal_job_control signal) _ _ (λ a. (refl, tt, refl), tt) (fit_says s p Ignored)
@@ -209,6 +237,7 @@ fit_turn s p (Job id) at wait own h = fit_job s p id (living id p) own h
 fit_turn s p (Ended c) at wait own h = fit_ended s p (parent c p) own h
 fit_turn s p (Ask id ask) at wait own h = fit_ask s p id ask (lives id p) refl own h
 fit_turn s p (Change change) at wait own h = fit_change s p change (revision s p == last_revision) wait h
+fit_turn s p File at wait own h = fit_file s p (is_applied (settings s p) (source s p).applied) refl
 fit_turn s p Last at wait own h = tt
 
 fit_hand : (s : Start) (p : List Entry) (n : ℕ) (names : List ℕ) (acts : List Act) → AreLawful p acts → IsPlaced (Hand n names acts ∷ p) → IsFit s (Hand n names acts ∷ p) (after_hand s acts p)
@@ -252,7 +281,15 @@ fit_show s p (Some error) more l = tt
 pub below_taken : (p : List Entry) (name : ℕ) → IsGreatest name (bag p) → NamesItsOwn p → name < event_count p
 below_taken p name greatest own = named_below (event_count p) name (bag p) _ (bag_facts p own).below greatest
 
--- after what a point brought, where this stands behind it
+fit_applied : (s : Start) (p : List Entry) (makes : Bool) (more : Agenda) → IsLasting s more → IsFit s p (cond makes (Comes Makes more) more)
+fit_applied s p true more l = (λ a. (refl, refl, refl), l)
+fit_applied s p false more l = fit_lasting s p more l
+
+fit_make : (s : Start) (p : List Entry) (answer : Result (Unit {0}) NotifyFault) (more : Agenda) → IsLasting s more → IsFit s p (after_make answer more)
+fit_make s p (Ok done) more l = fit_lasting s p more l
+fit_make s p (Err fault) more l = tt
+
+-- after what a point brought, or a step, where this stands behind it
 fit_brought : (s : Start) (p : List Entry) (e : Entry) (more : Agenda) → IsBrought s p e → IsLasting s more → NamesItsOwn p → IsPlaced p → IsFit s (e ∷ p) (follow s e p more)
 fit_brought s p (Turned t) more b l own placed = absurd b
 fit_brought s p (TurnFault code) more b l own placed = absurd b
@@ -260,6 +297,8 @@ fit_brought s p (Take name) more b l own placed = fit_take s p name (passes_unse
 fit_brought s p (Filter n name answer) more b l own placed = fit_filter s p n name answer (lets_pass answer) (is_urgent_named name p || is_over s (Filter n name answer ∷ p) (moment p)) more refl b.2 l
 fit_brought s p (Show n error wish) more b l own placed = fit_show s (Show n error wish ∷ p) (ending error wish) more l
 fit_brought s p (Hand n names acts) more b l own placed = fit_hand s p n names acts b.1 (placed_silent (Hand n names acts) p tt placed)
+fit_brought s p (Applied named) more b l own placed = fit_applied s (Applied named ∷ p) (is_to_make (settings s p) (source s p)) more l
+fit_brought s p (Make back watcher links answer) more b l own placed = fit_make s (Make back watcher links answer ∷ p) answer more l
 fit_brought s p (e) more b l own placed = fit_lasting s (e ∷ p) more l
 
 -- after a turn
@@ -276,12 +315,15 @@ follow_plan s p (Take name) more o = absurd o
 follow_plan s p (Filter n name answer) more o = absurd o
 follow_plan s p (Show n error wish) more o = absurd o
 follow_plan s p (Hand n names acts) more o = absurd o
+follow_plan s p (Applied named) more o = absurd o
+follow_plan s p (Make back watcher links answer) more o = absurd o
 follow_plan s p (_) more o = refl
 
 -- after any entry that is admitted
 fit_follow : (s : Start) (p : List Entry) (k : Agenda) (e : Entry) → Admits s p k e → IsFit s p k → NamesItsOwn p → IsPlaced p → IsFit s (e ∷ p) (follow s e p (rest e k))
 fit_follow s p Open e d f own placed = fit_turned s p e d own placed
 fit_follow s p (Comes x more) e d f own placed = fit_brought s p e (stays x e more) (brought s p x more e d f) (lasting_stays s x e more f.1) own placed
+fit_follow s p (Steps untouched more) e d f own placed = fit_brought s p e (rest e (Steps untouched more)) (came s p untouched more e d) (lasting_step s e more f) own placed
 fit_follow s p (Plans k more) e d f own placed = subst (IsFit s (e ∷ p)) (sym (follow_plan s p e (plans (next k e) more) (lawful_now p k e d f.0).of_plan)) (fit_plans s (e ∷ p) (next k e) more (lawful_next p k e d f.0) f.1 (always_next (Revises s) p k e d f.2))
 fit_follow s p Ends e d f own placed = subst (IsFit s (e ∷ p)) (sym (follow_plan s p e Ends (end_is_plan e (of_end p e d)))) tt
 fit_follow s p Breaks e d f own placed = absurd d
@@ -325,11 +367,15 @@ next_brought s p (Take name) b own = silent p (Take name) tt (below_taken p name
 next_brought s p (Filter n name answer) b own = silent p (Filter n name answer) tt b.0 tt tt
 next_brought s p (Show n error wish) b own = silent p (Show n error wish) tt tt tt tt
 next_brought s p (Hand n names acts) b own = silent p (Hand n names acts) tt (subst (AllByRecursion (λ name. name < event_count p)) (sym b.0) (window_below p own)) tt tt
+next_brought s p (Dir n path answer) b own = silent p (Dir n path answer) tt tt tt tt
+next_brought s p (Make back watcher links answer) b own = silent p (Make back watcher links answer) tt b.0 tt tt
+next_brought s p (Applied named) b own = silent p (Applied named) tt tt tt tt
 next_brought s p (_) b own = absurd b
 
 next_is : (s : Start) (p : List Entry) (k : Agenda) (e : Entry) → Admits s p k e → IsFit s p k → NamesItsOwn p → IsNext p e
 next_is s p Open e d f own = next_turn p e d
 next_is s p (Comes x more) e d f own = next_brought s p e (brought s p x more e d f) own
+next_is s p (Steps untouched more) e d f own = next_brought s p e (came s p untouched more e d) own
 next_is s p (Plans k more) e d f own = let h = lawful_now p k e d f.0 in record { names = h.names; in_order = h.in_order; free = h.free; placed = λ _. placed_now p k e d f.0 }
 next_is s p Ends e d f own = record { names = names_end p e own d; in_order = end_in_order e p (of_end p e d); free = free_end p e d; placed = end_placed e p (of_end p e d) }
 next_is s p Breaks e d f own = absurd d
@@ -380,6 +426,7 @@ going_brought s p (e) more b g = going_calm (e ∷ p) (settle (e ∷ p) (follow 
 going_more : (s : Start) (p : List Entry) (k : Agenda) (e : Entry) → Admits s p k e → IsFit s p k → IsGoing p k → IsGoing (e ∷ p) (settle (e ∷ p) (follow s e p (rest e k)))
 going_more s p Open e d f g = going_turned s p e d g
 going_more s p (Comes x more) e d f g = going_brought s p e (stays x e more) (brought s p x more e d f) g
+going_more s p (Steps untouched more) e d f g = going_brought s p e (rest e (Steps untouched more)) (came s p untouched more e d) g
 going_more s p (Plans k more) e d f g = subst (λ (j : Agenda). IsGoing (e ∷ p) (settle (e ∷ p) j)) (sym (follow_plan s p e (plans (next k e) more) (lawful_now p k e d f.0).of_plan)) (going_plans (e ∷ p) (next k e) more f.1)
 going_more s p Ends e d f g = subst (λ (j : Agenda). IsGoing (e ∷ p) (settle (e ∷ p) j)) (sym (follow_plan s p e Ends (end_is_plan e (of_end p e d)))) tt
 going_more s p Breaks e d f g = absurd d
@@ -388,6 +435,7 @@ going_more s p Breaks e d f g = absurd d
 pub open_at_turn : (s : Start) (p : List Entry) (k : Agenda) (e : Entry) → IsTurn e → Admits s p k e → IsFit s p k → k ≡ Open
 open_at_turn s p Open e i d f = refl
 open_at_turn s p (Comes x more) e i d f = absurd (no_turn s p e (brought s p x more e d f) i)
+open_at_turn s p (Steps untouched more) e i d f = absurd (no_turn s p e (came s p untouched more e d) i)
 open_at_turn s p (Plans k more) e i d f = absurd (no_plan_turns e (lawful_now p k e d f.0).of_plan i)
 open_at_turn s p Ends e i d f = absurd (no_plan_turns e (end_is_plan e (of_end p e d)) i)
 open_at_turn s p Breaks e i d f = absurd d
@@ -404,7 +452,7 @@ orderly_turn s t p open_is h =
       in_order = (tt, h.in_order);
       idle = h.idle;
       placed = placed;
-      fit = fit_settle s (Turned t ∷ p) _ (fit_turn s (Turned t ∷ p) t.kind t.at refl (tt, h.own) placed);
+      fit = fit_settle s (Turned t ∷ p) (turn_agenda s t.kind t.at (Turned t ∷ p)) (fit_turn s (Turned t ∷ p) t.kind t.at refl (tt, h.own) placed);
       going = going_turned s p (Turned t) tt (subst (IsGoing p) open_is h.going);
     }
 
@@ -415,7 +463,7 @@ orderly_more s e p d h =
       in_order = (n.in_order, h.in_order);
       idle = idle_more p e n.free h.idle;
       placed = n.placed h.placed;
-      fit = fit_settle s (e ∷ p) _ (fit_follow s p (agenda s p) e d h.fit h.own h.placed);
+      fit = fit_settle s (e ∷ p) (follow s e p (rest e (agenda s p))) (fit_follow s p (agenda s p) e d h.fit h.own h.placed);
       going = going_more s p (agenda s p) e d h.fit h.going;
     }
 
@@ -507,11 +555,20 @@ no_batch : (s : Start) (p : List Entry) (k : Agenda) (e : Entry) → is_hand e �
 no_batch s p (Comes Hands more) e other d = let both : true ≡ false = sym (ap is_hand d.1) ∙ other in absurd cc
 no_batch s p (_) e other d = refl
 
+-- no step hands one
+no_hand_step : (s : Start) (p : List Entry) (untouched : Bool) (a : Step s p untouched) (n : ℕ) (names : List ℕ) (acts : List Act) → Hand n names acts ≡ step_entry s p untouched a → ⊥
+no_hand_step s p untouched (Judges path below answer) n names acts e = cc
+no_hand_step s p untouched (Errs error wish is_open) n names acts e = cc
+no_hand_step s p untouched (Remakes answer) n names acts e = cc
+no_hand_step s p untouched Finishes n names acts e = cc
+no_hand_step s p untouched (Rests is_untouched) n names acts e = cc
+
 -- one that admits a batch owes it
 batch_at : (s : Start) (p : List Entry) (k : Agenda) (n : ℕ) (names : List ℕ) (acts : List Act) → Admits s p k (Hand n names acts) → IsFit s p k → Waits s p k → IsBatch s p (window p)
 batch_at s p Open n names acts d f w = absurd d
 batch_at s p (Comes Hands more) n names acts d f w = w
 batch_at s p (Comes x more) n names acts d f w = let h = d.1 in absurd cc
+batch_at s p (Steps untouched more) n names acts d f w = absurd (no_hand_step s p untouched d.0 n names acts d.1)
 batch_at s p (Plans k more) n names acts d f w = absurd (lawful_now p k (Hand n names acts) d f.0).of_plan
 batch_at s p Ends n names acts d f w = absurd (of_end p (Hand n names acts) d)
 batch_at s p Breaks n names acts d f w = absurd d
@@ -519,6 +576,7 @@ batch_at s p Breaks n names acts d f w = absurd d
 -- what stands behind an entry
 waits_rest : (s : Start) (p p' : List Entry) (k : Agenda) (e : Entry) → IsFit s p k → NoneUrgentWaits p' → Waits s p' (rest e k)
 waits_rest s p p' (Comes x more) e f h = waits_lasting s p' (stays x e more) (lasting_stays s x e more f.1) h
+waits_rest s p p' (Steps untouched more) e f h = either (Waits s p') (goes_on e) (Steps false more) more h (waits_lasting s p' more f h)
 waits_rest s p p' (Plans k more) e f h = waits_plans s p' (next k e) more f.1 h
 waits_rest s p p' (_) e f h = h
 
@@ -544,6 +602,13 @@ waits_ended : (s : Start) (p : List Entry) (id : Option Id) → NoneUrgentWaits 
 waits_ended s p None h = h
 waits_ended s p (Some id) h = waits_job s p id (living id p) h
 
+waits_watch : (s : Start) (p : List Entry) (current : Option ℕ) → NoneUrgentWaits p → Waits s p (watch_turn current)
+waits_watch s p None h = h
+waits_watch s p (Some back) h = h
+
+pub waits_file : (s : Start) (p : List Entry) → NoneUrgentWaits p → Waits s p (file_turn (settings s p) (source s p))
+waits_file s p h = either (Waits s p) (is_applied (settings s p) (source s p).applied) (watch_turn (source s p).current) (Comes Applies Open) (waits_watch s p (source s p).current h) h
+
 waits_turn : (s : Start) (p : List Entry) (kind : TurnKind) (at : ℕ) → moment p ≡ at → NoneUrgentWaits p → Waits s p (turn_agenda s kind at p)
 waits_turn s p (Arrive event priority) at now h = h
 waits_turn s p (Signal signal) at now h = either (Waits s p) (hears_signal (settings s p).signal_job_control signal) _ (says Ignored) h h
@@ -553,6 +618,7 @@ waits_turn s p (Job id) at now h = waits_job s p id (living id p) h
 waits_turn s p (Ended c) at now h = waits_ended s p (parent c p) h
 waits_turn s p (Ask id ask) at now h = either (Waits s p) (lives id p) _ _ (waits_plans s p (ask_plan id (sends_of ask) Done) Open tt h) h
 waits_turn s p (Change change) at now h = either (Waits s p) (revision s p == last_revision) (says Ignored) (plans (change_plan (revision s p) Done) Open) h h
+waits_turn s p File at now h = waits_file s p h
 waits_turn s p Last at now h = h
 
 -- an event that passed is a batch with the window, or waits there and isn't urgent
@@ -589,6 +655,14 @@ waits_show : (s : Start) (p : List Entry) (o : Option CriticalError) (more : Age
 waits_show s p None more then h = then h
 waits_show s p (Some error) more then h = h
 
+waits_applied : (s : Start) (p : List Entry) (makes : Bool) (more : Agenda) → (NoneUrgentWaits p → Waits s p more) → NoneUrgentWaits p → Waits s p (cond makes (Comes Makes more) more)
+waits_applied s p true more then h = h
+waits_applied s p false more then h = then h
+
+waits_make : (s : Start) (p : List Entry) (answer : Result (Unit {0}) NotifyFault) (more : Agenda) → (NoneUrgentWaits p → Waits s p more) → NoneUrgentWaits p → Waits s p (after_make answer more)
+waits_make s p (Ok done) more then h = then h
+waits_make s p (Err fault) more then h = h
+
 waits_filter : (s : Start) (p : List Entry) (n name : ℕ) (answer : Result Bool RuntimeError) (passes : Bool) (more : Agenda) → lets_pass answer ≡ passes → (NoneUrgentWaits (Filter n name answer ∷ p) → Waits s (Filter n name answer ∷ p) more) → NoneUrgentWaits p → Waits s (Filter n name answer ∷ p) (cond passes (after_pass s name (Filter n name answer ∷ p) more) (after_drop answer more))
 waits_filter s p n name answer true more is then h = waits_pass s p (Filter n name answer ∷ p) name (is_urgent_named name p) (is_over s (Filter n name answer ∷ p) (moment p)) more (joined_if p name (lets_pass answer) is) refl refl refl then h
 waits_filter s p n name answer false more is then h = waits_drop s (Filter n name answer ∷ p) answer more then (stays_if p name (lets_pass answer) is h)
@@ -617,6 +691,9 @@ waits_follow s (Show n error wish) p d o h = waits_show s (Show n error wish ∷
 waits_follow s (Hand n names acts) p d o h =
     let none : window (Hand n names acts ∷ p) ≡ [] = window_handed n names acts p (hand_is s p n names acts o d).0 in
     waits_plans s (Hand n names acts ∷ p) (act_plan (λ id. lives id p) (revision s p) (with_quit_asks p acts)) Open tt (subst (NoneUrgent (urgent_in (Hand n names acts ∷ p))) (sym none) tt)
+waits_follow s (Applied named) p d o h = waits_applied s (Applied named ∷ p) (is_to_make (settings s p) (source s p)) (rest (Applied named) (agenda s p)) (waits_rest s p (Applied named ∷ p) (agenda s p) (Applied named) o.fit) (calm_before s p (Applied named) h refl d)
+waits_follow s (Make back watcher links answer) p d o h =
+    waits_make s (Make back watcher links answer ∷ p) answer (rest (Make back watcher links answer) (agenda s p)) (waits_rest s p (Make back watcher links answer ∷ p) (agenda s p) (Make back watcher links answer) o.fit) (calm_before s p (Make back watcher links answer) h refl d)
 waits_follow s (e) p d o h = waits_rest s p (e ∷ p) (agenda s p) e o.fit (calm_before s p e h refl d)
 
 waits_more : (s : Start) (e : Entry) (p : List Entry) → Due s p e → IsOrderly s p → Waits s p (agenda s p) → Waits s (e ∷ p) (agenda s (e ∷ p))
@@ -658,6 +735,7 @@ run_is_served s (_ ∷ p) r = run_is_served s p r.1
 revises : (s : Start) (p : List Entry) (k : Agenda) (named : ℕ) → Admits s p k (Changed named) → IsFit s p k → Revises s p (Changed named) Done
 revises s p Open named d f = absurd d
 revises s p (Comes x more) named d f = absurd (brought s p x more (Changed named) d f)
+revises s p (Steps untouched more) named d f = absurd (came s p untouched more (Changed named) d)
 revises s p (Plans k more) named d f = always_now (Revises s) p k (Changed named) d f.2
 revises s p Ends named d f = absurd (of_end p (Changed named) d)
 revises s p Breaks named d f = absurd d

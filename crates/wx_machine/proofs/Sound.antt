@@ -1,6 +1,6 @@
 -- What the plan of a job names is the job's, and what following it leaves.
 use Rattle.std.proofs.Common.{◌≡◌, ◌≢◌, ℕ, ◌+◌, ◌≤◌, ◌<◌, Bool, true, false, cond, List, [], ◌∷◌, Option, Some, None, Result, Ok, Err, refl, arith, ap, sym, ◌∙◌, eq-eqb}
-use Rattle.std.specs.Prelude.{not, ◌&&◌, ◌-◌, ◌^◌, min, is_err}
+use Rattle.std.specs.Prelude.{T, not, ◌&&◌, ◌-◌, ◌^◌, min, is_err}
 use Rattle.std.specs.Bool.{MatchBool}
 use Rattle.wx_events.specs.declared.process.ProcessEnd.{ProcessEnd}
 use Rattle.wx_command.specs.declared.command.Command.{Command}
@@ -29,7 +29,7 @@ use Rattle.wx_events.specs.declared.process.Signal.{Signal as ASignal}
 use Rattle.wx_machine.specs.History.{same, lives, waits, child, kept, begun, grace, unless, reaped_child, still_running, asked_of}
 use Rattle.wx_machine.specs.Leaves.{SameHistory}
 use Rattle.wx_machine.specs.Table.{Words, Given, Left, Call, Adds, Spawns, Signals, Waits, ShowsFault, Plan, Done, GivenUp, Owes, Kit, kit, kit_after, adds, asks, raises, shows, tries, reap, waiters, raise_grace, number_of, signalled, graceful, restart, spawn, fresh_by, fresh, row, fresh_over, over, ended_in, ended_by, polled, pick_by, case, step_by, ask_second, ask_plan, send_plan, end_plan, leave}
-use Rattle.wx_machine.specs.Case.{CallAnswer, entry, PlanAdmits, is_fault, next, IsCut, PlanLeads, PlanHere, PlanThen}
+use Rattle.wx_machine.specs.Case.{CallAnswer, entry, PlanAdmits, is_plan_word, is_fault, next, IsCut, PlanLeads, PlanHere, PlanThen}
 use Rattle.wx_machine.specs.Faults.{fault_count, Counted}
 use Rattle.wx_machine.specs.Added.{Added, Same, More}
 use Rattle.wx_machine.specs.JobLaws.{unreaped, Runs, AreReaped, AfterFaults, CallsItsChild, NamesChildren, NamesTickets}
@@ -60,6 +60,7 @@ Fits id p (GraceOver job) = (job ≡ id) × (g : Grace) × (grace id p ≡ Some 
 Fits id p (Spawn c job tag what answer) = (job ≡ id) × (child id p ≡ None) × (c ≡ child_count p)
 Fits id p (Gone job) = (job ≡ id) × (child id p ≡ None)
 Fits id p (Hook job n answer) = (job ≡ id) × (child id p ≡ None)
+Fits id p (Said word) = T (is_plan_word word)
 Fits id p (e) = IsOwn id p (sort e).subject
 
 -- what an entry that fits is about
@@ -71,6 +72,7 @@ own_fit id (GraceOver job) p s = s.0
 own_fit id (Spawn c job tag what answer) p s = s.0
 own_fit id (Gone job) p s = s.0
 own_fit id (Hook job n answer) p s = s.0
+own_fit id (Said word) p s = tt
 own_fit id (_) p s = s
 
 -- a child that an entry is about runs
@@ -267,13 +269,13 @@ sound_ended_by : (id : Id) (by : Kit) (o : Option Grace) (p : List Entry) → ((
 sound_ended_by id by None p asked held = sound_parked id by Done p held (λ q none alive still. tt)
 sound_ended_by id by (Some g) p asked held = sound_ended_in id by g p (asked g refl) held
 
-sound_says : (id : Id) (word : Word) (p : List Entry) → lives id p ≡ true → Sound id p (adds (Said word) Done)
-sound_says id word p alive = λ a. (record { alive = alive; fits = tt; names = λ own. tt; closes = tt }, tt)
+sound_says : (id : Id) (word : Word) (p : List Entry) → T (is_plan_word word) → lives id p ≡ true → Sound id p (adds (Said word) Done)
+sound_says id word p planned alive = λ a. (record { alive = alive; fits = planned; names = λ own. tt; closes = tt }, tt)
 
 sound_polled : (id : Id) (f : Function) (p : List Entry) → lives id p ≡ true → IsAsked id f.ticket p → Sound id p (polled id f)
 sound_polled id f p alive asked = λ a.
     let q : List Entry = Poll id f.n a ∷ p in
-    (record { alive = alive; fits = refl; names = λ own. tt; closes = tt }, both _ (sound_says id TheLater q alive) (sound_raises id f.ticket q alive asked))
+    (record { alive = alive; fits = refl; names = λ own. tt; closes = tt }, both _ (sound_says id TheLater q tt alive) (sound_raises id f.ticket q alive asked))
 
 -- ---- a step
 
@@ -288,7 +290,7 @@ sound_case id by (Next t control) p alive held is =
     let asked : IsAsked id t p = λ own. picked_of id p t control own f.found in
     λ a. (record { alive = alive; fits = refl; names = is_named id t p asked; closes = tt }, sound_row id (kit_after control by) t control (child id p) (Pick id t ∷ p) refl (λ signals levels. signal_none id t control p is.1 signals levels) alive asked (record { parked = held.parked; grace = held.grace }))
 sound_case id by Leave p alive held is = sound_leave id (child id p) p refl alive
-sound_case id by Nothing p alive held is = sound_says id TheIdle p alive
+sound_case id by Nothing p alive held is = sound_says id TheIdle p tt alive
 
 pub sound_step : (closed : Bool) (id : Id) (command : Command) (p : List Entry) → Sound id p (step_by closed id command p)
 sound_step closed id command p =

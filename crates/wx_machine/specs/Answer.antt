@@ -53,7 +53,8 @@ MemoryCuts s p = IsBehindTurn p ⊎ NoneIsToGo (agenda s p)
 abbrev pub Wishes : CriticalError → List Entry → Type 0
 Wishes error p = wished p ≡ Some error
 
--- Why a run breaks off here with an error: for want of memory, where it may, or since the error handler wished it.
+-- Why a run breaks off here with an error: for want of memory, where it may, since the error handler wished it, or since a backend
+-- couldn't be made.
 abbrev pub BreaksOff : Start → List Entry → CriticalError → Type 0
 BreaksOff s p Memory = MemoryCuts s p
 BreaksOff s p (error) = Wishes error p
@@ -74,7 +75,7 @@ pub record HasFailed (s : Start) (p : List Entry) (about : List ℕ) (err : ℕ)
 
 -- Ok comes only of a complete run without the fault of a turn. An error about a turn comes of one with this fault. Want of
 -- memory comes of a run that was cut where memory may be wanted. Each error, but an exit, also comes directly after the
--- error handler wished it.
+-- error handler wished it, and what is said of a backend that couldn't be made directly after that.
 abbrev pub Answers : Start → List Entry → Answer → Type 0
 Answers s p (Ok u) = IsComplete s p × (turn_fault p ≡ None)
 Answers s p (Err (IoError about err)) = HasFailed s p about err ⊎ IsBroken (Wishes (IoError about err)) s p

@@ -6,7 +6,9 @@ use Rattle.wx_events.specs.declared.process.ProcessEnd.{ProcessEnd}
 use Rattle.wx_control.specs.declared.id.Id.{Id}
 use Rattle.wx_journal.specs.declared.child.HostFault.{HostFault}
 use Rattle.wx_journal.specs.declared.entry.Entry.{Entry}
-use Rattle.wx_journal.specs.declared.entry.Entry.TheVariants.{Asked, Spawn, Signal, Kill, Wait, Poll, Hook, JobError}
+use Rattle.wx_journal.specs.declared.entry.Entry.TheVariants.{Word as Said, Asked, Spawn, Signal, Kill, Wait, Poll, Hook, JobError}
+use Rattle.wx_journal.specs.declared.entry.Word.{Word}
+use Rattle.wx_journal.specs.declared.entry.Word.TheVariants.{Idle, Ignored, Quitting, Later, Quiet, Stepped}
 use Rattle.wx_journal.specs.Sorts.{Subject, OfWord, OfSettings, is_job, sort}
 use Rattle.wx_journal.specs.Names.{ticket_count, child_count}
 use Rattle.wx_journal.specs.Told.{tell, tell_if, is_world, is_hooks, Counts}
@@ -67,8 +69,18 @@ is_planned OfWord = true
 is_planned OfSettings = true
 is_planned (subject) = is_job subject
 
+-- the words that a plan may say
+abbrev pub is_plan_word : Word → Bool
+is_plan_word Idle = true
+is_plan_word Ignored = true
+is_plan_word Quitting = false
+is_plan_word Later = true
+is_plan_word Quiet = false
+is_plan_word Stepped = false
+
 abbrev pub is_of_plan : Entry → Bool
-is_of_plan e = is_planned (sort e).subject
+is_of_plan (Said word) = is_plan_word word
+is_of_plan (e) = is_planned (sort e).subject
 
 -- the entry holds the fault of a call on a child
 abbrev pub is_fault : Entry → Bool

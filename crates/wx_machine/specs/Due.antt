@@ -8,17 +8,19 @@ use Rattle.wx_events.specs.declared.process.Signal.{Signal as ASignal}
 use Rattle.wx_keys.specs.Keys.{signal_event, hears_signal, key_events}
 use Rattle.prio_channel.specs.Channel.{AllAtMost}
 use Rattle.wx_journal.specs.declared.entry.Entry.{Entry}
-use Rattle.wx_journal.specs.declared.entry.Entry.TheVariants.{Begin, Sent, Turn as Turned, TurnFault, Offer, Word as Said, Take, Filter, Show, Hand}
+use Rattle.wx_journal.specs.declared.entry.Entry.TheVariants.{Begin, Sent, Turn as Turned, TurnFault, Offer, Word as Said, Take, Filter, Show, Hand, Dir, Make, Applied}
 use Rattle.wx_journal.specs.Acts.{JournalAct as Act}
 use Rattle.wx_journal.specs.declared.entry.Named.{Named}
 use Rattle.wx_journal.specs.declared.entry.TurnKind.{TurnKind}
-use Rattle.wx_journal.specs.declared.entry.TurnKind.TheVariants.{Arrive, Signal, Keys, Work, Job, Ended, Ask, Change, Last}
+use Rattle.wx_journal.specs.declared.entry.TurnKind.TheVariants.{Arrive, Signal, Keys, Work, Job, Ended, Ask, Change, File, Last}
 use Rattle.wx_journal.specs.declared.entry.Word.{Word}
-use Rattle.wx_journal.specs.declared.entry.Word.TheVariants.{Idle, Ignored, Quitting}
+use Rattle.wx_journal.specs.declared.entry.Word.TheVariants.{Idle, Ignored, Quitting, Quiet, Stepped}
 use Rattle.wx_journal.specs.Told.{is_turn}
-use Rattle.wx_journal.specs.Names.{moment, event_count}
+use Rattle.wx_journal.specs.Names.{moment, event_count, back_count}
 use Rattle.wx_command.specs.declared.command.Command.{Command}
 use Rattle.wx_config.specs.Changes.{last_revision}
+use Rattle.wx_config.specs.declared.config.Config.{Config}
+use Rattle.wx_watch.specs.declared.notify_fault.NotifyFault.{NotifyFault}
 use Rattle.wx_error.specs.declared.runtime.RuntimeError.{RuntimeError}
 use Rattle.wx_error.specs.declared.runtime.RuntimeError.TheVariants.{Exit}
 use Rattle.wx_error.specs.declared.error.CriticalError.{CriticalError}
@@ -34,6 +36,7 @@ use Rattle.wx_machine.specs.Jobs.{living, parent, jobs, AreLawful, change_plan, 
 use Rattle.wx_machine.specs.Keyboard.{hears_keys}
 use Rattle.wx_machine.specs.Settings.{settings, revision, MayChange}
 use Rattle.wx_machine.specs.Quits.{is_aborting, graceful}
+use Rattle.wx_machine.specs.Files.{Source, source, applied, is_applied, is_to_make, may_be_judged}
 use Rattle.wx_machine.specs.Journal.{is_urgent_named, passes_unseen, lets_pass, closed, ending, named, bag, offered, window, is_over}
 
 -- the first entry of a run
@@ -74,8 +77,13 @@ pub data Point : Type 0 where
   Shows : RuntimeError → Point
   -- the window is handed
   Hands : Point
+  -- the settings that stand are applied to what is watched
+  Applies : Point
+  -- a backend is made by the settings that were applied
+  Makes : Point
 
--- what may be answered behind these entries: which event is taken, what a filter, an error handler or an action answers
+-- what may be answered behind these entries: which event is taken, what a filter, an error handler, an action or the maker of backends
+-- answers
 abbrev pub PointAnswer : Start → List Entry → Point → Type 0
 PointAnswer s p Begins = Unit {0}
 PointAnswer s p (Sends event priority) = Unit {0}
@@ -85,6 +93,8 @@ PointAnswer s p Takes = (name : ℕ) × IsGreatest name (bag p)
 PointAnswer s p (Filters name) = Result Bool RuntimeError
 PointAnswer s p (Shows error) = Wish
 PointAnswer s p Hands = (acts : List Act) × AreLawful p acts × MayChange (revision s p) acts
+PointAnswer s p Applies = Unit {0}
+PointAnswer s p Makes = Result (Unit {0}) NotifyFault
 
 -- the entry behind these, with this answer
 abbrev pub brings : (s : Start) → (p : List Entry) → (x : Point) → PointAnswer s p x → Entry
@@ -96,6 +106,29 @@ brings s p Takes a = Take a.0
 brings s p (Filters name) a = Filter (settings s p).filterer name a
 brings s p (Shows error) a = Show (settings s p).error_handler error a
 brings s p Hands a = Hand (settings s p).action_handler (window p) a.0
+brings s p Applies a = Applied (revision s p)
+brings s p Makes a = Make (back_count p) (applied s p).file_watcher (applied s p).follow_symlinks a
+
+-- What may come next of a step of what keeps watches. Where nothing of it came yet there may be none.
+pub data Step (s : Start) (p : List Entry) (untouched : Bool) : Type 0 where
+  -- a directory is shown to the filter
+  Judges : (path : List ℕ) → may_be_judged s p path ≡ true → Result Bool RuntimeError → Step s p untouched
+  -- an error is shown to the error handler, while the queue isn't closed
+  Errs : RuntimeError → Wish → closed p ≡ false → Step s p untouched
+  -- a backend is made in place of the one that stands
+  Remakes : Result (Unit {0}) NotifyFault → Step s p untouched
+  -- it is done
+  Finishes : Step s p untouched
+  -- there is none to take
+  Rests : untouched ≡ true → Step s p untouched
+
+-- the entry of it behind these: filter, watcher and links are those of the settings that were applied
+abbrev pub step_entry : (s : Start) → (p : List Entry) → (untouched : Bool) → Step s p untouched → Entry
+step_entry s p untouched (Judges path below answer) = Dir (applied s p).filterer path answer
+step_entry s p untouched (Errs error wish is_open) = Show (settings s p).error_handler error wish
+step_entry s p untouched (Remakes answer) = Make (back_count p) (applied s p).file_watcher (applied s p).follow_symlinks answer
+step_entry s p untouched Finishes = Said Stepped
+step_entry s p untouched (Rests is_untouched) = Said Quiet
 
 -- What is still owed. An answer or an event that was taken decides how it goes on.
 pub data Agenda : Type 0 where
@@ -103,6 +136,8 @@ pub data Agenda : Type 0 where
   Open : Agenda
   -- this comes, and then what stands behind it
   Comes : Point → Agenda → Agenda
+  -- a step of what keeps watches, with whether nothing of it came yet, and then what stands behind it
+  Steps : Bool → Agenda → Agenda
   -- this plan of jobs is followed
   Plans : Plan → Agenda → Agenda
   -- the end: each job that lives ends, and then nothing may come
@@ -118,6 +153,7 @@ IsTurn e = T (is_turn e)
 abbrev pub Admits : Start → List Entry → Agenda → Entry → Type 0
 Admits s p Open e = IsTurn e
 Admits s p (Comes x more) e = (a : PointAnswer s p x) × (e ≡ brings s p x a)
+Admits s p (Steps untouched more) e = (a : Step s p untouched) × (e ≡ step_entry s p untouched a)
 Admits s p (Plans k more) e = PlanAdmits p k e
 Admits s p Ends e = PlanAdmits p (end p) e
 Admits s p Breaks e = ⊥
@@ -140,9 +176,17 @@ says word = Comes (Says word) Open
 abbrev pub stays : Point → Entry → Agenda → Agenda
 stays x e more = more
 
+-- the entries with which a step goes on
+abbrev pub goes_on : Entry → Bool
+goes_on (Dir n path answer) = true
+goes_on (Show n error wish) = true
+goes_on (Make back watcher follow answer) = true
+goes_on (_) = false
+
 -- what stands behind the entry that was owed first
 abbrev pub rest : Entry → Agenda → Agenda
 rest e (Comes x more) = stays x e more
+rest e (Steps untouched more) = if goes_on e then Steps false more else more
 rest e (Plans k more) = plans (next k e) more
 rest e (k) = k
 
@@ -198,6 +242,14 @@ ask_turn id ask p = if lives id p then plans (ask_plan id (sends_of ask) Done) O
 abbrev pub change_turn : ℕ → Agenda
 change_turn revision = if revision == last_revision then says Ignored else plans (change_plan revision Done) Open
 
+-- Settings that were not applied yet are. Else what keeps watches takes a step, or rests; where no backend stands the turn is ignored.
+abbrev pub watch_turn : Option ℕ → Agenda
+watch_turn None = says Ignored
+watch_turn (Some back) = Steps true Open
+
+abbrev pub file_turn : Config → Source → Agenda
+file_turn c x = if is_applied c x.applied then watch_turn x.current else Comes Applies Open
+
 -- what a turn of this kind and moment owes, behind its entry
 abbrev pub turn_agenda : Start → TurnKind → ℕ → List Entry → Agenda
 turn_agenda s (Arrive event priority) at p = Comes (Offers event priority) Open
@@ -208,6 +260,7 @@ turn_agenda s (Job id) at p = job_turn id (living id p) p
 turn_agenda s (Ended c) at p = ended_turn (parent c p) p
 turn_agenda s (Ask id ask) at p = ask_turn id ask p
 turn_agenda s (Change change) at p = change_turn (revision s p)
+turn_agenda s File at p = file_turn (settings s p) (source s p)
 turn_agenda s Last at p = Ends
 
 -- An event that passed is handed at once, with the window, where it is urgent or the throttle is over.
@@ -232,6 +285,15 @@ abbrev pub after_show : Option CriticalError → Agenda → Agenda
 after_show None more = more
 after_show (Some error) more = Breaks
 
+-- After settings were applied a backend is made, where one is to be.
+abbrev pub after_applied : Config → Source → Agenda → Agenda
+after_applied c x more = if is_to_make c x then Comes Makes more else more
+
+-- Where a backend couldn't be made the run breaks off.
+abbrev pub after_make : Result (Unit {0}) NotifyFault → Agenda → Agenda
+after_make (Ok done) more = more
+after_make (Err fault) more = Breaks
+
 -- what comes where nothing else is owed: the end, where it was asked for
 abbrev pub after_acts : Bool → Agenda
 after_acts ends = if ends then Ends else Open
@@ -248,6 +310,8 @@ follow s (Take name) p more = after_take s name p more
 follow s (Filter n name answer) p more = after_filter s name answer (Filter n name answer ∷ p) more
 follow s (Show n error wish) p more = after_show (ending error wish) more
 follow s (Hand n names acts) p more = after_hand s acts p
+follow s (Applied revision) p more = after_applied (settings s p) (source s p) more
+follow s (Make back watcher follows answer) p more = after_make answer more
 follow s (_) p more = more
 
 -- the end was asked for gracefully, and no job lives

@@ -7,7 +7,7 @@ use Rattle.wx_events.specs.Priority.{is_urgent}
 use Rattle.wx_journal.specs.Names.{moment, count}
 use Rattle.wx_journal.specs.Told.{is_turn}
 use Rattle.wx_journal.specs.declared.entry.Entry.{Entry}
-use Rattle.wx_journal.specs.declared.entry.Entry.TheVariants.{Sent, Turn as Turned, TurnFault, Offer, Take, Filter, Show, Hand}
+use Rattle.wx_journal.specs.declared.entry.Entry.TheVariants.{Sent, Turn as Turned, TurnFault, Offer, Take, Filter, Show, Hand, Dir, Make}
 use Rattle.wx_journal.specs.declared.entry.Named.{Named}
 use Rattle.wx_journal.specs.declared.entry.Offered.{Offered}
 use Rattle.wx_journal.specs.declared.entry.Offered.TheVariants.{Queued, Full, Closed}
@@ -19,6 +19,7 @@ use Rattle.wx_journal.specs.declared.wish.Wish.{Wish}
 use Rattle.wx_journal.specs.declared.wish.Wish.TheVariants.{Nothing, Elevate, Critical}
 use Rattle.wx_machine.specs.Start.{Start}
 use Rattle.wx_machine.specs.Settings.{settings}
+use Rattle.wx_machine.specs.Files.{init_error}
 use Rattle.wx_machine.specs.Told.{is_last}
 
 -- the event of this name, with its priority
@@ -69,6 +70,7 @@ abbrev pub closed : List Entry → Bool
 closed [] = false
 closed (Filter n name answer ∷ p) = is_exit answer || closed p
 closed (Show n error wish ∷ p) = is_close wish || closed p
+closed (Dir n path answer ∷ p) = is_exit answer || closed p
 closed (_ ∷ p) = closed p
 
 -- the error that a wish ends the run with, of an error that was shown: an exit only closes the queue
@@ -82,6 +84,7 @@ ending error (Critical wished) = Some wished
 abbrev pub wished : List Entry → Option CriticalError
 wished [] = None
 wished (Show n error wish ∷ p) = ending error wish
+wished (Make back watcher follow answer ∷ p) = init_error watcher answer
 wished (_ ∷ p) = None
 
 -- the item of this name, and the items without it

@@ -4,6 +4,8 @@ pub mod Answer
 pub mod Case
 pub mod Due
 pub mod Faults
+pub mod FileLaws
+pub mod Files
 pub mod Held
 pub mod History
 pub mod JobLaws
@@ -22,6 +24,7 @@ pub mod Settings
 pub mod Start
 pub mod States
 pub mod Steady
+pub mod Steps
 pub mod Table
 pub mod TicketLaws
 pub mod Told

@@ -1,5 +1,5 @@
 -- The settings that a journal tells, and the changes of them that wait.
-use Rattle.std.specs.Prelude.{◌≡◌, ℕ, ◌+◌, ◌≤◌, ◌<◌, Bool, true, false, List, [], ◌∷◌, length}
+use Rattle.std.specs.Prelude.{ℕ, ◌+◌, ◌≤◌, ◌<◌, Bool, true, false, List, [], ◌∷◌, length}
 use Rattle.wx_config.specs.Changes.{changed, last_revision}
 use Rattle.wx_config.specs.declared.change.Change.{Change as AChange}
 use Rattle.wx_config.specs.declared.config.Config.{Config}

@@ -1,16 +1,28 @@
 -- What calls on children leave of the outside.
-use Rattle.std.specs.Prelude.{◌≡◌, ◌≤◌, ◌+◌, ℕ, Bool}
+use Rattle.std.specs.Prelude.{◌≡◌, ◌≤◌, ◌+◌, ℕ, Bool, true, Some}
+use Rattle.wx_tree.specs.Trees.{Tree}
+use Rattle.wx_scan.specs.Looked.{Looked}
 use Rattle.wx_journal.specs.declared.entry.Entry.{Entry}
 use Rattle.wx_journal.specs.Names.{moment}
 use Rattle.wx_journal.specs.Told.{tell, Counts}
 use Rattle.wx_journal.specs.Written.{Written}
 use Rattle.wx_machine.specs.Seen.{Seen, Hooked}
 
--- its plan, where it is in its turns, and where the object lies that is lent to it
+-- What a call that is no look leaves of what was seen of files: counts never fall, backends stay exact, and where it is known what the
+-- tree is from the next turn on this stays so, and so does the tree.
+pub record StaysLooked (a b : Looked) : Type 0 where
+  pub looks_kept : a.looks ≤ b.looks
+  pub faults_kept : a.faults ≤ b.faults
+  pub exact_kept : a.exact ≡ true → b.exact ≡ true
+  pub shape_kept : (t : Tree) → a.shape ≡ Some t → b.shape ≡ Some t
+  pub tree_kept : (t : Tree) → a.shape ≡ Some t → b.tree ≡ a.tree
+
+-- its plan, where it is in its turns, where the object lies that is lent to it, and what was seen of files
 pub record IsSteady {Fixed : Type 0} (a b : Seen Fixed) : Type 0 where
   pub plan_kept : b.plan ≡ a.plan
   pub progress_kept : b.progress ≡ a.progress
   pub place_kept : b.place ≡ a.place
+  pub looked_kept : StaysLooked a.looked b.looked
 
 -- all but the room, of which there is no less
 pub record OnlyRoom {Fixed : Type 0} (a b : Seen Fixed) : Type 0 where

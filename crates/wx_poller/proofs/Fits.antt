@@ -17,7 +17,7 @@ use Rattle.wx_tree.proofs.ListLemmas.{In-filter}
 use Rattle.wx_tree.proofs.PathLemmas.{same_part-refl, same_part-true}
 use Rattle.wx_scan.specs.Backings.{AllSpellPaths, Backing, BringsNoChange, failed_by, IsExact, is_memory, is_registered, is_watch_fault, register, tells_change, unregister}
 use Rattle.wx_scan.specs.Looked.{Looked, Rose}
-use Rattle.wx_scan.specs.Told.{SpellsPath}
+use Rattle.wx_scan.specs.Told.{IsNamed, SpellsPath}
 use Rattle.wx_scan.specs.declared.scanner.ScanError.{ScanError}
 use Rattle.wx_scan.specs.declared.scanner.ScanError.TheVariants.{Memory as OutOfMemory}
 use Rattle.wx_watch.specs.declared.notify_fault.NotifyFault.{NotifyFault}
@@ -26,7 +26,7 @@ use Rattle.wx_watch.specs.declared.notify_fault.NotifyFaultKind.TheVariants.{Gen
 use Rattle.wx_poller.specs.declared.seen.Seen.{Seen}
 use Rattle.wx_poller.specs.Changes.{changes, creation, has_type, is_kept, is_modified, modification, removal, told}
 use Rattle.wx_poller.specs.Covering.{covers, is_covered, is_lone}
-use Rattle.wx_poller.specs.Fitting.{Agrees, FitsTree, IsNamed, IsTold, NoneTells, any_shows, is_spelled, shown, shows, type_of}
+use Rattle.wx_poller.specs.Fitting.{Agrees, FitsTree, IsTold, NoneTells, any_shows, is_spelled, shown, shows, type_of}
 use Rattle.wx_poller.specs.Listings.{IsMap, Sight, same_type, seen_at, type_at}
 use Rattle.wx_poller.specs.declared.poller.Poller.{Poller}
 use Rattle.wx_poller.specs.Polled.{Brought, Gives, GivesNext, IsPending, TellsNone, fault_of, gives_next}

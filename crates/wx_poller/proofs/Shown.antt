@@ -16,11 +16,11 @@ use Rattle.wx_tree.specs.declared.node.Node.TheVariants.{Dir, File, Link}
 use Rattle.wx_tree.proofs.PathLemmas.{same-true, same_part-refl, same_part-true}
 use Rattle.wx_tree.proofs.PlaceLemmas.{place_spelled}
 use Rattle.wx_scan.specs.Backings.{AllSpellPaths, is_registered}
-use Rattle.wx_scan.specs.Told.{AreNames, SpellsPath, has_link_above, is_fault, is_link_node, kind_of}
+use Rattle.wx_scan.specs.Told.{AreNames, IsNamed, SpellsPath, has_link_above, is_fault, is_link_node, kind_of}
 use Rattle.wx_scan.specs.declared.scanner.ScanError.{ScanError}
 use Rattle.wx_scan.specs.declared.scanner.ScanError.TheVariants.{Io, Memory as OutOfMemory, NotFound}
 use Rattle.wx_poller.specs.declared.seen.Seen.{Seen}
-use Rattle.wx_poller.specs.Fitting.{Agrees, Answers, IsKnown, IsNamed, any_shows, is_spelled, shown, shows, type_of}
+use Rattle.wx_poller.specs.Fitting.{Agrees, Answers, IsKnown, any_shows, is_spelled, shown, shows, type_of}
 use Rattle.wx_poller.specs.Listings.{Sight, is_dir, seen_at, type_at}
 
 names_parts : (p : Path) → AreNames p → AreParts p

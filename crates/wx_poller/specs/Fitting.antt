@@ -3,14 +3,14 @@ use Rattle.std.specs.Prelude.{ℕ, ◌≡◌, Bool, true, false, ◌&&◌, ◌||
 use Rattle.wx_events.specs.declared.file_type.FileType.{FileType}
 use Rattle.wx_events.specs.declared.file_type.FileType.TheVariants as type
 use Rattle.wx_notify.specs.declared.notify.Notify.{Notify}
-use Rattle.wx_tree.specs.Paths.{Path, has_entry, same_part}
+use Rattle.wx_tree.specs.Paths.{has_entry, same_part}
 use Rattle.wx_tree.specs.Places.{place, spelled}
-use Rattle.wx_tree.specs.Trees.{Tree, is_directory, is_there, node_at}
+use Rattle.wx_tree.specs.Trees.{Tree, is_directory, node_at}
 use Rattle.wx_tree.specs.declared.node.Node.{Node}
 use Rattle.wx_tree.specs.declared.node.Node.TheVariants.{Dir, File, Link}
 use Rattle.wx_scan.specs.Backings.{tells_change}
 use Rattle.wx_scan.specs.Looked.{Looked, Rose}
-use Rattle.wx_scan.specs.Told.{AreNames}
+use Rattle.wx_scan.specs.Told.{IsNamed}
 use Rattle.wx_scan.specs.declared.scanner.ScanError.{ScanError}
 use Rattle.wx_scan.specs.declared.scanner.ScanError.TheVariants.{Io, Memory as OutOfMemory, NotFound}
 use Rattle.wx_poller.specs.declared.seen.Seen.{Seen}
@@ -41,10 +41,6 @@ shown t rs p = if any_shows t rs p && is_spelled p then type_of (node_at t (plac
 -- a listing of these paths has what they show, and nothing else
 abbrev pub Agrees : Tree → List (List ℕ) → List Sight → Type 0
 Agrees t rs seen = (p : List ℕ) → type_at seen p ≡ shown t rs p
-
--- what is there has names for its parts
-abbrev pub IsNamed : Tree → Type 0
-IsNamed t = (p : Path) → is_there t p ≡ true → AreNames p
 
 abbrev pub NoneTells : List Notify → Type 0
 NoneTells [] = Unit {0}

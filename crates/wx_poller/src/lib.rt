@@ -10,5 +10,6 @@ mod past;
 mod poller;
 mod seen;
 
+pub use past::Past;
 pub use poller::Poller;
 pub use seen::Seen;

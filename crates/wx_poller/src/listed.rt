@@ -3,11 +3,11 @@ ghost use Rattle.std.specs.Prelude.{◌≡◌, ℕ, List, [], ◌∷◌, if◌th
 ghost use Rattle.std.specs.Option.{option_or};
 ghost use Rattle.wx_scan.specs.Backings.{AllSpellPaths, is_registered};
 ghost use Rattle.wx_scan.specs.Looked.{OnlyLooks, Rose};
-ghost use Rattle.wx_scan.specs.Told.{SpellsPath, is_fault};
+ghost use Rattle.wx_scan.specs.Told.{IsNamed, SpellsPath, is_fault};
 ghost use Rattle.wx_tree.specs.Paths.{Path, same_part};
 ghost use Rattle.wx_tree.specs.Places.{place};
 ghost use Rattle.wx_tree.specs.Trees.{Tree, is_there, node_at};
-ghost use Rattle.wx_poller.specs.Fitting.{Agrees, Answers, IsKnown, IsNamed, IsTold, shown, type_of};
+ghost use Rattle.wx_poller.specs.Fitting.{Agrees, Answers, IsKnown, IsTold, shown, type_of};
 ghost use Rattle.wx_poller.specs.Listings.{type_at};
 ghost use Rattle.wx_events.specs.declared.file_type.FileType.TheVariants.{Dir as AFolder};
 ghost use Rattle.wx_tree.specs.declared.node.Node.TheVariants.{Dir as ADirectory};

@@ -2,11 +2,11 @@
 ghost use Rattle.std.specs.Option.{option_or};
 ghost use Rattle.std.specs.Prelude.{◌≡◌, ℕ, List as AList, [], ◌∷◌, ◌++◌, not, true, if◌then◌else◌, IfOk, OnOk, OnErr};
 ghost use Rattle.wx_poller.specs.Changes.{changes};
-ghost use Rattle.wx_poller.specs.Fitting.{Agrees, Answers, IsNamed, IsTold};
+ghost use Rattle.wx_poller.specs.Fitting.{Agrees, Answers, IsTold};
 ghost use Rattle.wx_poller.specs.Listings.{IsMap, seen_at};
 ghost use Rattle.wx_poller.specs.Polled.{Brought, Counts, Fits, Gives, GivesNext, IsRefused, Polls, TellsNone, Unwatched, Watched, backing_of, fault_of};
 ghost use Rattle.wx_scan.specs.Backings.{AllSpellPaths, Brings, BringsNoChange, Changes, GivesUp, IsExact, WatchesAt, failed_by, is_memory, is_registered, is_unwatch_fault, is_watch_fault, register, unregister};
-ghost use Rattle.wx_scan.specs.Told.{SpellsPath};
+ghost use Rattle.wx_scan.specs.Told.{IsNamed, SpellsPath};
 ghost use Rattle.wx_tree.specs.Paths.{Path};
 ghost use Rattle.wx_scan.specs.Looked.{OnlyLooks, Rose};
 ghost use Rattle.wx_tree.specs.Trees.{Tree};

@@ -76,16 +76,20 @@ fn status_of(answer: &Result<(), CriticalError>) -> Result<Status, Memory>
     }
 }
 
-/// The text of the journal of a run with its end line, and the status of the run, where the hooks were not short.
+/// The text of the journal of a run with its end line, and the status of the run, where neither its world nor its hooks were short.
 fn shown(
     alloc: Global,
-    short: bool,
+    short_world: bool,
+    short_hooks: bool,
     journal: &Journal,
     answer: &Result<(), CriticalError>,
 ) -> Result<(Text, Status), Memory>
-    ensures { IfOk result (λ r. (short ≡ false) × IsShown journal.now.past answer.now r.0 r.1) }
+    ensures { IfOk result (λ r. (short_world ≡ false) × (short_hooks ≡ false) × IsShown journal.now.past answer.now r.0 r.1) }
 {
-    if short {
+    if short_world {
+        return Err(Memory);
+    }
+    if short_hooks {
         return Err(Memory);
     }
     let status = status_of(answer)?;
@@ -103,7 +107,9 @@ fn play(alloc: Global, script: &Script) -> Result<(Text, Status), Memory>
     let mut hooks = ScriptHooks::new(alloc, script)?;
     let mut journal = Journal::new(alloc)?;
     let answer = engine.main(alloc, &mut world, &mut hooks, &mut journal);
-    let out = shown(alloc, hooks.short(), &journal, &answer);
+    let short_world = world.short();
+    let short_hooks = hooks.short();
+    let out = shown(alloc, short_world, short_hooks, &journal, &answer);
     drop(answer);
     out
 }

@@ -4,9 +4,15 @@
 #[cfg(test)]
 mod feeding_tests;
 #[cfg(test)]
+mod file_drafts;
+#[cfg(test)]
+mod file_rules;
+#[cfg(test)]
 mod random;
 #[cfg(test)]
 mod random_counts;
+#[cfg(test)]
+mod random_file_tests;
 #[cfg(test)]
 mod random_jobs;
 #[cfg(test)]

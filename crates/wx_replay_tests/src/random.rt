@@ -414,12 +414,18 @@ impl Draft {
         self.rules.give(Turn::Change, self.moment);
     }
 
-    /// A line that is not read.
+    /// A line that is not read, or that no turn of these scripts asks for.
     fn put_unread(&mut self) {
-        let line = match self.draw(3) {
+        let line = match self.draw(9) {
             0 => b"\n".as_slice(),
             1 => b"#\n",
-            _ => b"# turn 0 work\n",
+            2 => b"# turn 0 work\n",
+            3 => b"node dir /w\n",
+            4 => b"gone /w\n",
+            5 => b"dir fail exit\n",
+            6 => b"make fail memory 0\n",
+            7 => b"fail scan 0 1\n",
+            _ => b"fail watch 0 1\n",
         };
         self.put(line);
     }

@@ -4,6 +4,8 @@
 #[cfg(test)]
 mod again_tests;
 #[cfg(test)]
+mod file_tests;
+#[cfg(test)]
 mod function_tests;
 #[cfg(test)]
 mod grace_tests;

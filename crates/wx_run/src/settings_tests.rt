@@ -44,7 +44,7 @@ const RUNS: [(&[u8], &[u8]); 9] = [
         b"turn 0 change onaction 5\nturn 0 arrive urgent 0\nturn 0 work\n",
         b"turn 0 work\ntake 0\nhand 5 1 0\nturn 0 last\nend ok lost 0\n",
     ),
-    // what has no effect yet is changed all the same
+    // what is watched is changed, though no turn is about files
     (
         b"turn 0 change signal\nturn 0 change paths 2 r /w n /x\nturn 0 change watcher poll 7\nturn 0 change follow off\nturn 0 change keyboard on\nturn 0 change paths 0\n",
         b"turn 0 change signal\nchanged 1\nturn 0 change paths 2 r /w n /x\nchanged 2\nturn 0 change watcher poll 7\nchanged 3\nturn 0 change follow off\nchanged 4\nturn 0 change keyboard on\nchanged 5\nturn 0 change paths 0\nchanged 6\nturn 0 last\nend ok lost 0\n",

@@ -31,7 +31,7 @@ pub(crate) fn run(alloc: Global, line: &[u8], script: &[u8]) -> Result<(MemSink,
 }
 
 /// Ends the test where this isn't so of this script, or of these words.
-fn expect_so(rt: &impl Abort, so: bool, script: &[u8]) {
+pub(crate) fn expect_so(rt: &impl Abort, so: bool, script: &[u8]) {
     assert!(rt; so, "of {script:?}");
 }
 
@@ -50,7 +50,13 @@ pub(crate) fn expect_text(
 }
 
 /// Holds what is written for this script, behind its first line, to be this journal, and the run to end so.
-fn expect_journal(rt: &impl Abort, alloc: Global, script: &[u8], journal: &[u8], want: Status) {
+pub(crate) fn expect_journal(
+    rt: &impl Abort,
+    alloc: Global,
+    script: &[u8],
+    journal: &[u8],
+    want: Status,
+) {
     let (sink, status) = run(alloc, b"replay", script).expect(rt, "memory for a run");
     let (_, rest) = cut(sink.text().as_slice(), 10).expect(rt, "a first line");
     expect_so(rt, rest == journal, script);
@@ -82,7 +88,7 @@ fn an_empty_script(rt: HostRuntime) {
 }
 
 // Scripts, the journal of each behind its first line, and how its run ends.
-const RUNS: [(&[u8], &[u8], Status); 8] = [
+const RUNS: [(&[u8], &[u8], Status); 9] = [
     // a queue of one
     (
         b"set size 1\nturn 0 arrive normal 0\nturn 0 arrive normal 0\nturn 0 arrive normal 0\nturn 0 work\nturn 0 arrive normal 0\n",
@@ -123,6 +129,12 @@ const RUNS: [(&[u8], &[u8], Status); 8] = [
     (
         b"# two batches\n\naction\naction quit quit\nturn 0 arrive normal 0\nturn 0 work\nturn 1 arrive urgent 0\nturn 1 work\nturn 2 arrive urgent 0\nturn 2 work\nturn 3 work\n",
         b"turn 0 arrive normal 0\noffer 0 - queued normal 0\nturn 0 work\ntake 0\nturn 1 arrive urgent 0\noffer 1 - queued urgent 0\nturn 1 work\ntake 1\nhand 0 2 0 1\nturn 2 arrive urgent 0\noffer 2 - queued urgent 0\nturn 2 work\ntake 2\nhand 0 1 2 quit\nend ok lost 0\n",
+        Status::Done,
+    ),
+    // answers about directories, which no turn asks for here
+    (
+        b"set throttle 0\ndir reject\ndir fail exit\nfilter pass\nturn 0 arrive low 1 unknown\nturn 0 work\ndir reject\n",
+        b"turn 0 arrive low 1 unknown\noffer 0 - queued low 1 unknown\nturn 0 work\ntake 0\nfilter 0 0 pass\nhand 0 1 0\nturn 0 last\nend ok lost 0\n",
         Status::Done,
     ),
     // a fault at once

@@ -4,7 +4,7 @@ use Rattle.wx_watch.specs.declared.scan_fault.EntryKind.{EntryKind}
 use Rattle.wx_watch.specs.declared.scan_fault.EntryKind.TheVariants.{Directory, NonFollowedSymlink, Other}
 use Rattle.wx_tree.specs.Paths.{Part, Path, same_part}
 use Rattle.wx_tree.specs.Places.{is_part, spelled}
-use Rattle.wx_tree.specs.Trees.{IsListing, Tree, is_directory_node, is_there_node, node_at}
+use Rattle.wx_tree.specs.Trees.{IsListing, Tree, is_directory_node, is_there, is_there_node, node_at}
 use Rattle.wx_tree.specs.declared.node.Node.{Node}
 use Rattle.wx_tree.specs.declared.node.Node.TheVariants.{Dir, File, Link}
 use Rattle.wx_scan.specs.Looked.{Looked, Rose}
@@ -18,6 +18,10 @@ is_name x = is_part x && not (same_part x (codes ".") || same_part x (codes ".."
 abbrev pub AreNames : Path → Type 0
 AreNames [] = Unit {0}
 AreNames (x ∷ p) = (is_name x ≡ true) × AreNames p
+
+-- whatever is there has names for parts
+abbrev pub IsNamed : Tree → Type 0
+IsNamed t = (p : Path) → is_there t p ≡ true → AreNames p
 
 abbrev pub is_link_node : Option Node → Bool
 is_link_node None = false

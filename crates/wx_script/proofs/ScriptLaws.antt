@@ -16,9 +16,9 @@ use Rattle.wx_script.specs.declared.script.ScriptTurn.TheVariants.{Turn, Fault}
 use Rattle.wx_script.specs.Follows.{IsScript}
 use Rattle.wx_script.specs.FollowLaws.{rises_turn, rises_fault, come_more}
 use Rattle.wx_script.specs.declared.lines.Line.{Line}
-use Rattle.wx_script.specs.declared.lines.Line.TheVariants.{Nothing, Throttle, Size, ErrorSize, Keyboard, Follow, JobSignals, Watcher, Folder, Path, Send, Turn as Turned, Fault as Failed, Acts, Filter, Wishes, Poll, Hook, Spawn, Signal, Kill, Wait}
+use Rattle.wx_script.specs.declared.lines.Line.TheVariants.{Nothing, Throttle, Size, ErrorSize, Keyboard, Follow, JobSignals, Watcher, Folder, Path, Send, Turn as Turned, Fault as Failed, Acts, Filter, Dir, Wishes, Poll, Hook, Spawn, Signal, Kill, Wait, Edit, Make, FailScan, FailWatch}
 use Rattle.wx_script.specs.Lines.{can_bring, is_scripted, if_scripted, read_form, line_in}
-use Rattle.wx_script.specs.Scripts.{start, is_early, accepts, step, begun_by, IsScriptOf}
+use Rattle.wx_script.specs.Scripts.{start, is_early, is_placed, edited_path, with_turn, accepts, step, begun_by, IsScriptOf}
 
 -- ---- no line brings a last turn
 
@@ -96,13 +96,14 @@ accepts_lawful s t (Send event priority) is come e =
     let room : length s.sends < s.size = grind (arith, nat_tests, test) in
     subst IsScript g.1 (record { size = is.size; error_size = is.error_size; sends = omega (arith, room, length-append s.sends ((event, priority) ∷ [])); folder = is.folder; comes = is.comes; rises = is.rises })
 accepts_lawful s t (Turned turn) is come e =
-    let g = cond_some (nat_le s.last turn.at) (record s { turns = s.turns ++ Turn turn ∷ []; last = turn.at }) t e in
+    let g = cond_some (nat_le s.last turn.at) (with_turn (record s { last = turn.at }) (Turn turn)) t e in
     subst IsScript g.1 (record { size = is.size; error_size = is.error_size; sends = is.sends; folder = is.folder; comes = come_more s.turns (Turn turn) is.comes (ap not come); rises = rises_turn s.turns s.last turn is.rises g.0 })
 accepts_lawful s t (Failed code) is come e =
-    let same : record s { turns = s.turns ++ Fault code ∷ [] } ≡ t = some_same e in
+    let same : with_turn s (Fault code) ≡ t = some_same e in
     subst IsScript same (record { size = is.size; error_size = is.error_size; sends = is.sends; folder = is.folder; comes = come_more s.turns (Fault code) is.comes refl; rises = rises_fault s.turns s.last code is.rises })
 accepts_lawful s t (Acts acts) is come e = subst IsScript (some_same e) (record { size = is.size; error_size = is.error_size; sends = is.sends; folder = is.folder; comes = is.comes; rises = is.rises })
 accepts_lawful s t (Filter answer) is come e = subst IsScript (some_same e) (record { size = is.size; error_size = is.error_size; sends = is.sends; folder = is.folder; comes = is.comes; rises = is.rises })
+accepts_lawful s t (Dir answer) is come e = subst IsScript (some_same e) (record { size = is.size; error_size = is.error_size; sends = is.sends; folder = is.folder; comes = is.comes; rises = is.rises })
 accepts_lawful s t (Wishes wish) is come e = subst IsScript (some_same e) (record { size = is.size; error_size = is.error_size; sends = is.sends; folder = is.folder; comes = is.comes; rises = is.rises })
 accepts_lawful s t (Poll ready) is come e = subst IsScript (some_same e) (record { size = is.size; error_size = is.error_size; sends = is.sends; folder = is.folder; comes = is.comes; rises = is.rises })
 accepts_lawful s t (Hook words) is come e = subst IsScript (some_same e) (record { size = is.size; error_size = is.error_size; sends = is.sends; folder = is.folder; comes = is.comes; rises = is.rises })
@@ -110,6 +111,12 @@ accepts_lawful s t (Spawn answer) is come e = subst IsScript (some_same e) (reco
 accepts_lawful s t (Signal answer) is come e = subst IsScript (some_same e) (record { size = is.size; error_size = is.error_size; sends = is.sends; folder = is.folder; comes = is.comes; rises = is.rises })
 accepts_lawful s t (Kill answer) is come e = subst IsScript (some_same e) (record { size = is.size; error_size = is.error_size; sends = is.sends; folder = is.folder; comes = is.comes; rises = is.rises })
 accepts_lawful s t (Wait answer) is come e = subst IsScript (some_same e) (record { size = is.size; error_size = is.error_size; sends = is.sends; folder = is.folder; comes = is.comes; rises = is.rises })
+accepts_lawful s t (Edit edit) is come e =
+    let g = cond_some (is_placed (edited_path edit)) (record s { pending = s.pending ++ edit ∷ [] }) t e in
+    subst IsScript g.1 (record { size = is.size; error_size = is.error_size; sends = is.sends; folder = is.folder; comes = is.comes; rises = is.rises })
+accepts_lawful s t (Make answer) is come e = subst IsScript (some_same e) (record { size = is.size; error_size = is.error_size; sends = is.sends; folder = is.folder; comes = is.comes; rises = is.rises })
+accepts_lawful s t (FailScan failing) is come e = subst IsScript (some_same e) (record { size = is.size; error_size = is.error_size; sends = is.sends; folder = is.folder; comes = is.comes; rises = is.rises })
+accepts_lawful s t (FailWatch failing) is come e = subst IsScript (some_same e) (record { size = is.size; error_size = is.error_size; sends = is.sends; folder = is.folder; comes = is.comes; rises = is.rises })
 
 step_lawful : (s t : Script) (line : List ℕ) → IsScript s → step s line ≡ Some t → IsScript t
 step_lawful s t line is e =

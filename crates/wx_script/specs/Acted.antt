@@ -1,5 +1,5 @@
--- The acts of a script, the answers of its filter and of begun functions, and the words of its spawn hooks; and the rule of
--- hooks that follow it.
+-- The acts of a script, the answers of its filter, about events and about directories, and of begun functions, and the words
+-- of its spawn hooks; and the rule of hooks that follow it.
 use Rattle.std.specs.Prelude.{◌≡◌, ℕ, ◌+◌, ◌-◌, ◌^◌, min, Bool, true, not, nat_lt, ◌||◌, ◌&&◌, if◌then◌else◌, Option, None, Some, Ok, List, [], ◌∷◌, ◌++◌, length, get_or}
 use Rattle.std.specs.List.{list_any}
 use Rattle.wx_command.specs.declared.command.Command.{Command}
@@ -11,7 +11,7 @@ use Rattle.wx_control.specs.declared.job.Job.{Job}
 use Rattle.wx_journal.specs.Acts.{JournalAct as Act}
 use Rattle.wx_journal.specs.declared.entry.Act.TheVariants.{Create, Ask as Asks, Change, Quit, QuitGracefully}
 use Rattle.wx_journal.specs.declared.entry.Entry.{Entry}
-use Rattle.wx_journal.specs.declared.entry.Entry.TheVariants.{Filter, Show, Hand, Poll, Hook}
+use Rattle.wx_journal.specs.declared.entry.Entry.TheVariants.{Filter, Show, Hand, Poll, Hook, Dir}
 use Rattle.wx_journal.specs.declared.wish.Wish.{Wish}
 use Rattle.wx_journal.specs.declared.wish.Wish.TheVariants.{Nothing}
 use Rattle.wx_journal.specs.Names.{next_job, was_made}
@@ -61,13 +61,21 @@ hand_acts (_) = None
 abbrev pub hands : Calls (List ScriptAct) (List Act)
 hands = record { pick = hand_acts; usual = []; says = λ p acts. performed p [] acts }
 
--- the calls of the filter: each is answered by its line, and those for which none is left let the event pass
+-- the calls of the filter about events: each is answered by its line, and those for which none is left let the event pass
 abbrev pub verdict_of : Entry → Option Verdict
 verdict_of (Filter n name answer) = Some answer
 verdict_of (_) = None
 
 abbrev pub filters : Calls Verdict Verdict
 filters = answered_by verdict_of (Ok true)
+
+-- its calls about directories: each is answered by its line, and those for which none is left let the directory pass
+abbrev pub dir_verdict_of : Entry → Option Verdict
+dir_verdict_of (Dir n path answer) = Some answer
+dir_verdict_of (_) = None
+
+abbrev pub dirs : Calls Verdict Verdict
+dirs = answered_by dir_verdict_of (Ok true)
 
 -- the calls of the error handler: each wishes what its line says, and those for which none is left wish nothing
 abbrev pub wish_of : Entry → Option Wish
@@ -119,6 +127,7 @@ AreHooksUsed lines used p = used ≡ min (hook_count p) (length lines)
 pub record Wished : Type 0 where
   pub actions : List (List ScriptAct)
   pub filters : List Verdict
+  pub dirs : List Verdict
   pub errors : List Wish
   pub polls : List Bool
   pub hooks : List (List (List ℕ))
@@ -127,6 +136,7 @@ pub record Wished : Type 0 where
 pub record IsWished (plan : Wished) (p : List Entry) (e : Entry) : Type 0 where
   pub acts : IsAnswered hands plan.actions p e
   pub verdict : IsAnswered filters plan.filters p e
+  pub judgement : IsAnswered dirs plan.dirs p e
   pub wish : IsAnswered errors plan.errors p e
   pub ready : IsAnswered polls plan.polls p e
   pub words : IsHooked plan.hooks p e

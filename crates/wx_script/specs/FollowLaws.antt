@@ -9,7 +9,7 @@ use Rattle.wx_command.specs.Spawnables.{spawnable_of}
 use Rattle.wx_control.specs.declared.id.Id.{Id}
 use Rattle.wx_machine.specs.History.{RunsOnly}
 use Rattle.wx_journal.specs.declared.entry.Entry.{Entry}
-use Rattle.wx_journal.specs.declared.entry.Entry.TheVariants.{Filter, Show, Hand, Poll, Hook, Spawn}
+use Rattle.wx_journal.specs.declared.entry.Entry.TheVariants.{Filter, Show, Hand, Poll, Hook, Dir, Spawn, Make}
 use Rattle.wx_journal.specs.declared.entry.Turn.{Turn as Timed}
 use Rattle.wx_journal.specs.Told.{tell_if, tells, anywhere, is_world, is_hooks, is_turn, Obeys, Same, More}
 use Rattle.wx_script.specs.declared.script.Script.{Script}
@@ -17,7 +17,7 @@ use Rattle.wx_script.specs.declared.script.ScriptTurn.{ScriptTurn}
 use Rattle.wx_script.specs.declared.script.ScriptTurn.TheVariants.{Turn, Fault}
 use Rattle.wx_script.specs.Answered.{Calls, with_answer, answers_of, due_answer, due_answers, IsAnswered, AreAnswered, AreUsed, AreAmong, answered_by}
 use Rattle.wx_script.specs.HostCalls.{HostCall, row, reply, calls, FollowsAnswers}
-use Rattle.wx_script.specs.Acted.{hands, filters, errors, polls, LeavesWords, IsHooked, AreHooked, AreHooksUsed, Wished, IsWished}
+use Rattle.wx_script.specs.Acted.{hands, filters, dirs, errors, polls, LeavesWords, IsHooked, AreHooked, AreHooksUsed, Wished, IsWished}
 use Rattle.wx_script.specs.Turns.{comes, risen, Rises, Given, given, newest, turns_of, FollowsGiven}
 use Rattle.wx_script.specs.Follows.{given_of, wished_of, FollowsTurns}
 
@@ -113,6 +113,10 @@ pub filters_among : AreAmong filters (anywhere is_hooks)
 filters_among p (Filter n name answer) other = absurd cc
 filters_among p (_) other = refl
 
+pub dirs_among : AreAmong dirs (anywhere is_hooks)
+dirs_among p (Dir n path answer) other = absurd cc
+dirs_among p (_) other = refl
+
 pub errors_among : AreAmong errors (anywhere is_hooks)
 errors_among p (Show n error wish) other = absurd cc
 errors_among p (_) other = refl
@@ -133,7 +137,7 @@ hooked_over lines p (_) other = tt
 
 -- a spawn hook that was given what its job was created to run, and left the words that are due behind, did what was wished
 pub leaves_wished : (plan : Wished) (p : List Entry) (job : Id) (n : ℕ) (left : Result Spawnable Memory) (what : Command) → RunsOnly job what p → LeavesWords plan.hooks p (spawnable_of what) (Hook job n left) → IsWished plan p (Hook job n left)
-leaves_wished plan p job n left what runs words = record { acts = tt; verdict = tt; wish = tt; ready = tt; words = λ created so. rw (runs created so) words }
+leaves_wished plan p job n left what runs words = record { acts = tt; verdict = tt; judgement = tt; wish = tt; ready = tt; words = λ created so. rw (runs created so) words }
 
 -- where each call on the hooks passes a rule by which spawn hooks leave the words that are due, all do
 pub obeys_hooked : (lines : List (List (List ℕ))) (rule : List Entry → Entry → Type 0) → ((p : List Entry) (e : Entry) → rule p e → IsHooked lines p e) → (p : List Entry) → Obeys rule [] p → AreHooked lines p
@@ -146,6 +150,7 @@ obeys_hooked lines rule due _ (More e p before passes) = (now (is_hooks e) refl,
 
 calls_among : (k : HostCall) → AreAmong (calls k) is_world
 calls_among k p (Spawn child job tag what answer) other = search
+calls_among k p (Make back kind follow answer) other = search
 calls_among k p (_) other = search
 
 -- a world that answers what the script says, told the calls of this run
@@ -188,10 +193,11 @@ come_more (y ∷ turns) x all one = go (comes y) all (λ e. come_more turns x e 
 
 -- what hooks that follow a script keep, by their rule
 pub wished_follows : (s : Script) (plan : Wished) (p : List Entry) → plan ≡ wished_of s → Obeys (λ q e. IsWished plan q e) [] p
-    → AreAnswered hands s.actions p × AreAnswered filters s.filters p × AreAnswered errors s.errors p × AreAnswered polls s.polls p × AreHooked s.hooks p
+    → AreAnswered hands s.actions p × AreAnswered filters s.filters p × AreAnswered dirs s.dirs p × AreAnswered errors s.errors p × AreAnswered polls s.polls p × AreHooked s.hooks p
 wished_follows s plan p is obeys = (
   subst (λ (w : Wished). AreAnswered hands w.actions p) is (obeys_answered hands hands_among plan.actions _ (λ q e due. due.acts) p obeys),
   subst (λ (w : Wished). AreAnswered filters w.filters p) is (obeys_answered filters filters_among plan.filters _ (λ q e due. due.verdict) p obeys),
+  subst (λ (w : Wished). AreAnswered dirs w.dirs p) is (obeys_answered dirs dirs_among plan.dirs _ (λ q e due. due.judgement) p obeys),
   subst (λ (w : Wished). AreAnswered errors w.errors p) is (obeys_answered errors errors_among plan.errors _ (λ q e due. due.wish) p obeys),
   subst (λ (w : Wished). AreAnswered polls w.polls p) is (obeys_answered polls polls_among plan.polls _ (λ q e due. due.ready) p obeys),
   subst (λ (w : Wished). AreHooked w.hooks p) is (obeys_hooked plan.hooks _ (λ q e due. due.words) p obeys),

@@ -1,5 +1,5 @@
 -- What it means that a run follows a script.
-use Rattle.std.specs.Prelude.{◌≡◌, ◌≤◌, ℕ, true, Option, None, Some, List, [], ◌∷◌, length}
+use Rattle.std.specs.Prelude.{◌≡◌, ◌≤◌, ℕ, true, Option, None, Some, List, [], ◌∷◌, ◌++◌, length}
 use Rattle.std.specs.List.{list_all}
 use Rattle.wx_journal.specs.declared.entry.Entry.{Entry}
 use Rattle.wx_config.specs.Defaults.{default_config}
@@ -10,7 +10,7 @@ use Rattle.wx_script.specs.declared.script.Script.{Script}
 use Rattle.wx_script.specs.Turns.{comes, Rises, Given, FollowsGiven}
 use Rattle.wx_script.specs.Answered.{AreAnswered}
 use Rattle.wx_script.specs.HostCalls.{FollowsAnswers}
-use Rattle.wx_script.specs.Acted.{hands, filters, errors, polls, AreHooked, Wished}
+use Rattle.wx_script.specs.Acted.{hands, filters, dirs, errors, polls, AreHooked, Wished}
 
 -- the folder of its engine
 abbrev pub folder_or_top : Option (List ℕ) → List ℕ
@@ -51,23 +51,24 @@ start_of ready s = record {
 
 -- what its world gives
 abbrev pub given_of : Script → Given
-given_of s = record { turns = s.turns; last = s.last; answers = s.answers }
+given_of s = record { turns = s.turns; last = s.last; answers = s.answers; edits = s.edits ++ s.pending ∷ [] }
 
 -- what its hooks do
 abbrev pub wished_of : Script → Wished
-wished_of s = record { actions = s.actions; filters = s.filters; errors = s.errors; polls = s.polls; hooks = s.hooks }
+wished_of s = record { actions = s.actions; filters = s.filters; dirs = s.dirs; errors = s.errors; polls = s.polls; hooks = s.hooks }
 
 -- the turns of the run are the script's first ones, and then last turns at its last moment
 abbrev pub FollowsTurns : Script → List Entry → Type 0
 FollowsTurns s p = FollowsGiven s.turns s.last p
 
 -- the run follows the script: in its turns, in what is asked for in each call of the action handler, in what the error
--- handler wishes, in the words that spawn hooks append, and in what the calls of the filter, the polls of begun functions and
--- the calls on the host are answered
+-- handler wishes, in the words that spawn hooks append, and in what the calls of the filter about events and about
+-- directories, the polls of begun functions, the calls on the host and those on the maker of backends are answered
 pub record FollowsScript (s : Script) (p : List Entry) : Type 0 where
   pub turns : FollowsTurns s p
   pub acts : AreAnswered hands s.actions p
   pub filtered : AreAnswered filters s.filters p
+  pub judged : AreAnswered dirs s.dirs p
   pub wished : AreAnswered errors s.errors p
   pub polled : AreAnswered polls s.polls p
   pub hooked : AreHooked s.hooks p

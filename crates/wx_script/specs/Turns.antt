@@ -7,6 +7,7 @@ use Rattle.wx_journal.specs.declared.entry.TurnKind.TheVariants.{Last}
 use Rattle.wx_journal.specs.Told.{is_turn}
 use Rattle.wx_machine.specs.Told.{is_last}
 use Rattle.wx_script.specs.declared.answers.Answers.{Answers}
+use Rattle.wx_script.specs.declared.script.TreeEdit.{TreeEdit}
 use Rattle.wx_script.specs.declared.script.ScriptTurn.{ScriptTurn}
 use Rattle.wx_script.specs.declared.script.ScriptTurn.TheVariants.{Turn, Fault}
 
@@ -25,11 +26,13 @@ risen before (Fault code ∷ turns) = risen before turns
 abbrev pub Rises : List ScriptTurn → ℕ → Type 0
 Rises turns last = risen 0 turns ≡ Some last
 
--- what a world gives: these turns, and then last turns at this moment, and these answers to the calls on the host
+-- what a world gives: these turns, and then last turns at this moment, and these answers to the calls on the host and on the maker
+-- of backends; and how it edits its tree when each turn is asked for
 pub record Given : Type 0 where
   pub turns : List ScriptTurn
   pub last : ℕ
   pub answers : Answers
+  pub edits : List (List TreeEdit)
 
 -- the entry of a turn of a script, and where there is none that of a last turn
 abbrev pub entry_of : ScriptTurn → Entry

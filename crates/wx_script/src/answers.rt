@@ -1,4 +1,4 @@
-// What a script says that the host answers, a field for each kind of calls.
+// What a script says that the host and the maker of backends answer, a field for each kind of calls.
 ghost use Rattle.std.specs.Prelude.{◌≡◌, IfOk};
 ghost use Rattle.wx_script.specs.HostCalls.{no_answers};
 
@@ -6,6 +6,7 @@ use std::alloc::Global;
 use wx_events::ProcessEnd;
 use wx_journal::HostFault;
 use wx_text::{Copies, List, Memory};
+use wx_watch::NotifyFault;
 
 /// The answers to the calls of each kind, in order.
 #[derive(Drop, Debug)]
@@ -18,6 +19,8 @@ pub struct Answers {
     pub kills: List<Result<(), HostFault>>,
     /// To the waits for them.
     pub waits: List<Result<ProcessEnd, HostFault>>,
+    /// To the makes of backends.
+    pub makes: List<Result<(), NotifyFault>>,
 }
 
 impl Answers {
@@ -30,6 +33,7 @@ impl Answers {
             signals: List::new(alloc),
             kills: List::new(alloc),
             waits: List::new(alloc),
+            makes: List::new(alloc),
         }
     }
 }
@@ -40,11 +44,13 @@ impl Copies for Answers {
         let signals = copied(alloc, &self.signals)?;
         let kills = copied(alloc, &self.kills)?;
         let waits = copied(alloc, &self.waits)?;
+        let makes = copied_makes(alloc, self.makes.as_slice())?;
         Ok(Answers {
             spawns,
             signals,
             kills,
             waits,
+            makes,
         })
     }
 }
@@ -56,6 +62,33 @@ fn copied<T: Copy>(alloc: Global, answers: &List<T>) -> Result<List<T>, Memory>
     Ok(List::from_vec(Vec::from_slice(alloc, answers.as_slice())?))
 }
 
+/// The answers to makes once more. It fails only for want of memory.
+fn copied_makes(
+    alloc: Global,
+    answers: &[Result<(), NotifyFault>],
+) -> Result<List<Result<(), NotifyFault>>, Memory>
+    ensures { IfOk result (λ copied. copied ≡ answers.now) }
+{
+    let mut copied = List::new(alloc);
+    for answer in answers {
+        copied.push(copied_make(alloc, answer)?)?;
+    }
+    Ok(copied)
+}
+
+/// The answer to a make once more. It fails only for want of memory.
+fn copied_make(
+    alloc: Global,
+    answer: &Result<(), NotifyFault>,
+) -> Result<Result<(), NotifyFault>, Memory>
+    ensures { IfOk result (λ copied. copied ≡ answer.now) }
+{
+    match answer {
+        Ok(()) => Ok(Ok(())),
+        Err(fault) => Ok(Err(fault.copy(alloc)?)),
+    }
+}
+
 /// How many answers of each kind were used.
 #[derive(Clone, Copy, Default, Debug)]
 pub struct Used {
@@ -63,4 +96,5 @@ pub struct Used {
     pub signals: usize,
     pub kills: usize,
     pub waits: usize,
+    pub makes: usize,
 }

@@ -9,4 +9,4 @@ mod script;
 pub use answers::{Answers, Used};
 pub use lines::{Line, line_in};
 pub use reading::{BadLine, read_script};
-pub use script::{Script, ScriptAct, ScriptTurn, Wanted};
+pub use script::{FailingCall, Script, ScriptAct, ScriptTurn, TreeEdit, Wanted};

@@ -4,16 +4,17 @@ ghost use Rattle.wx_words.specs.Line.{Reads};
 ghost use Rattle.wx_words.specs.Combine.{read_as};
 ghost use Rattle.wx_words.specs.Parts.{list_of, text};
 ghost use Rattle.wx_script.specs.declared.lines.Line.TheVariants.{Hook};
-ghost use Rattle.wx_script.specs.Lines.{can_bring, is_scripted, if_scripted, read_set, read_form, said_in, line_in};
+ghost use Rattle.wx_script.specs.Lines.{can_bring, is_scripted, if_scripted, read_set, read_node, read_fail, read_form, said_in, line_in};
 
-use crate::script::ScriptAct;
+use crate::script::{FailingCall, ScriptAct, TreeEdit};
 use std::alloc::Global;
 use wx_error::RuntimeError;
 use wx_events::{Event, Priority, ProcessEnd};
-use wx_journal::{HostFault, Turn, TurnKind, Wish, read_ready, read_verdict};
+use wx_journal::{HostFault, Turn, TurnKind, Wish, read_backed, read_ready, read_verdict};
 use wx_keys::fits_read;
 use wx_text::{List, Memory, Text};
-use wx_watch::{WatchedPath, Watcher};
+use wx_tree::Node;
+use wx_watch::{NotifyFault, WatchedPath, Watcher};
 use wx_words::{Spelled, TextPath, Words, read_result, read_rows, read_to_end};
 
 /// What a line of a script says.
@@ -47,8 +48,10 @@ pub enum Line {
     Fault(u32),
     /// The action handler asks for this in one call.
     Acts(List<ScriptAct>),
-    /// The filter answers this.
+    /// The filter answers this about an event.
     Filter(Result<bool, RuntimeError>),
+    /// The filter answers this about a directory.
+    Dir(Result<bool, RuntimeError>),
     /// The error handler wishes this.
     Wishes(Wish),
     /// Whether a begun function is ready in one poll.
@@ -63,6 +66,14 @@ pub enum Line {
     Kill(Result<(), HostFault>),
     /// The host answers this to a wait.
     Wait(Result<ProcessEnd, HostFault>),
+    /// The tree of files is changed.
+    Edit(TreeEdit),
+    /// The maker of backends answers this.
+    Make(Result<(), NotifyFault>),
+    /// A call on the scanner fails.
+    FailScan(FailingCall),
+    /// A call on each backend fails.
+    FailWatch(FailingCall),
 }
 
 /// Whether a script can say that a turn brings this: all but a last turn, and but more bytes than a read from the keyboard takes.
@@ -114,6 +125,29 @@ fn take_words(alloc: Global, line: &mut Words) -> Result<Option<Line>, Memory>
     }
 }
 
+/// Takes what stands at a path of the tree, or loses the place.
+#[tactic(auto, unfolding(crate::specs::Lines::read_node))]
+fn take_node(alloc: Global, line: &mut Words) -> Result<Option<Line>, Memory>
+    ensures { IfOk result (λ said. Reads line.new said (read_node line.old)) }
+{
+    read_rows!(alloc, line;
+        b"dir" (path) => Line::Edit(TreeEdit::Node(path, Node::Dir)),
+        b"file" (path, stamp) => Line::Edit(TreeEdit::Node(path, Node::File(stamp))),
+        b"link" (path, target) => Line::Edit(TreeEdit::Node(path, Node::Link(target))),
+    )
+}
+
+/// Takes which call is to fail, or loses the place.
+#[tactic(auto, unfolding(crate::specs::Lines::read_fail))]
+fn take_fail(alloc: Global, line: &mut Words) -> Result<Option<Line>, Memory>
+    ensures { IfOk result (λ said. Reads line.new said (read_fail line.old)) }
+{
+    read_rows!(alloc, line;
+        b"scan" (call, code) => Line::FailScan(FailingCall { call, code }),
+        b"watch" (call, code) => Line::FailWatch(FailingCall { call, code }),
+    )
+}
+
 /// Takes what the first word calls for, or loses the place.
 #[tactic(auto, using(crate::specs::Wishes::script_act_has_word), unfolding(crate::specs::Lines::read_form))]
 fn take_form(alloc: Global, line: &mut Words) -> Result<Option<Line>, Memory>
@@ -126,6 +160,7 @@ fn take_form(alloc: Global, line: &mut Words) -> Result<Option<Line>, Memory>
         b"turn" (turn) => Line::Turn(turn),
         b"turnfault" (code) => Line::Fault(code),
         b"filter" (answer = read_verdict) => Line::Filter(answer),
+        b"dir" (answer = read_verdict) => Line::Dir(answer),
         b"error" (wish) => Line::Wishes(wish),
         b"poll" (ready = read_ready) => Line::Poll(ready),
         b"hook" (said = take_words) => said,
@@ -133,6 +168,10 @@ fn take_form(alloc: Global, line: &mut Words) -> Result<Option<Line>, Memory>
         b"signal" (answer = read_result) => Line::Signal(answer),
         b"kill" (answer = read_result) => Line::Kill(answer),
         b"wait" (answer = read_result) => Line::Wait(answer),
+        b"node" (said = take_node) => said,
+        b"gone" (path) => Line::Edit(TreeEdit::Gone(path)),
+        b"make" (answer = read_backed) => Line::Make(answer),
+        b"fail" (said = take_fail) => said,
     )
 }
 

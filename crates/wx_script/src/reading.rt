@@ -1,17 +1,19 @@
 // A script from its lines.
-ghost use Rattle.std.specs.Prelude.{◌≡◌, ◌==◌, ◌&&◌, true, false, [], ◌∷◌, ◌++◌, Some, None, Ok, Err, ℕ, length, IfOk, MatchBool, MatchOption, MatchResult};
+ghost use Rattle.std.specs.Prelude.{◌≡◌, ◌==◌, ◌&&◌, true, false, [], ◌∷◌, ◌++◌, Some, None, Ok, Err, ℕ, length, IfOk, OnOk, MatchBool, MatchOption, MatchResult};
 ghost use Rattle.wx_machine.specs.Start.{is_absolute};
 ghost use Rattle.wx_script.specs.Follows.{IsScript};
 ghost use Rattle.wx_script.specs.declared.script.Script.{Script};
-ghost use Rattle.wx_script.specs.declared.lines.Line.TheVariants.{Size, ErrorSize, Folder, Path, Send, Turn as Turned};
-ghost use Rattle.wx_script.specs.Scripts.{is_early, accepts, step, start, IsScriptOf, IsFirstBad};
+ghost use Rattle.wx_script.specs.declared.lines.Line.TheVariants.{Size, ErrorSize, Folder, Path, Send, Turn as Turned, Fault as Failed, Edit};
+ghost use Rattle.wx_script.specs.Scripts.{is_early, is_placed, edited_path, with_turn, accepts, step, start, IsScriptOf, IsFirstBad};
 
 use crate::answers::Answers;
 use crate::lines::{Line, line_in};
-use crate::script::{Script, ScriptTurn};
+use crate::script::{Script, ScriptTurn, TreeEdit};
 use std::alloc::Global;
+use std::mem;
 use wx_events::{Event, Priority};
 use wx_journal::Turn;
+use wx_paths::normalize;
 use wx_text::{List, Memory};
 use wx_watch::{WatchedPath, Watcher};
 use wx_words::{TextPath, cut};
@@ -36,12 +38,17 @@ fn start(alloc: Global) -> Script
         paths: List::new(alloc),
         sends: List::new(alloc),
         turns: List::new(alloc),
+        edits: List::new(alloc),
+        pending: List::new(alloc),
         actions: List::new(alloc),
         filters: List::new(alloc),
+        dirs: List::new(alloc),
         errors: List::new(alloc),
         polls: List::new(alloc),
         hooks: List::new(alloc),
         answers: Answers::new(alloc),
+        failing_looks: List::new(alloc),
+        failing_watches: List::new(alloc),
         last: 0,
     }
 }
@@ -133,14 +140,62 @@ fn add_send(script: &mut Script, event: Event, priority: Priority) -> Result<boo
     Ok(fits)
 }
 
+/// Adds a turn, before which what pends is edited. It fails only for want of memory.
+fn give(alloc: Global, script: &mut Script, turn: ScriptTurn) -> Result<(), Memory>
+    ensures { OnOk result (script.new ≡ with_turn script.old turn) }
+{
+    let edits = mem::replace(&mut script.pending, List::new(alloc));
+    script.edits.push(edits)?;
+    script.turns.push(turn)
+}
+
 /// Adds a turn, where it can stand here.
-fn add_turn(script: &mut Script, turn: Turn) -> Result<bool, Memory>
+fn add_turn(alloc: Global, script: &mut Script, turn: Turn) -> Result<bool, Memory>
     ensures { IfOk result (λ fits. MatchBool fits (accepts script.old (Turned turn) ≡ Some script.new) (accepts script.old (Turned turn) ≡ None)) }
 {
     let fits = script.last <= turn.at;
     if fits {
         script.last = turn.at;
-        script.turns.push(ScriptTurn::Turn(turn))?;
+        give(alloc, script, ScriptTurn::Turn(turn))?;
+    }
+    Ok(fits)
+}
+
+/// Adds a fault in the place of a turn.
+fn add_fault(alloc: Global, script: &mut Script, code: u32) -> Result<bool, Memory>
+    ensures { IfOk result (λ fits. (fits ≡ true) × (accepts script.old (Failed code) ≡ Some script.new)) }
+{
+    give(alloc, script, ScriptTurn::Fault(code))?;
+    Ok(true)
+}
+
+/// Whether a path is absolute and as `normalize` makes it.
+fn is_placed(alloc: Global, path: &TextPath) -> Result<bool, Memory>
+    ensures { IfOk result (λ placed. placed ≡ is_placed path.now) }
+{
+    let normal = normalize(alloc, path)?;
+    Ok(is_absolute(path) && normal == *path)
+}
+
+/// The path that is edited.
+fn edited_path(edit: &TreeEdit) -> &TextPath
+    ensures { result.now ≡ edited_path edit.now }
+{
+    match edit {
+        TreeEdit::Node(path, _) => path,
+        TreeEdit::Gone(path) => path,
+    }
+}
+
+/// Adds a change of the tree, where its path is one.
+fn add_edit(alloc: Global, script: &mut Script, edit: TreeEdit) -> Result<bool, Memory>
+    ensures { IfOk result (λ fits. MatchBool fits (accepts script.old (Edit edit) ≡ Some script.new) (accepts script.old (Edit edit) ≡ None)) }
+{
+    let fits = is_placed(alloc, edited_path(&edit))?;
+    if fits {
+        script.pending.push(edit)?;
+    } else {
+        drop(edit);
     }
     Ok(fits)
 }
@@ -154,7 +209,7 @@ fn added<T: Drop>(list: &mut List<T>, value: T) -> Result<bool, Memory>
 }
 
 /// Adds what a line says, where it can stand here.
-fn add(script: &mut Script, said: Line) -> Result<bool, Memory>
+fn add(alloc: Global, script: &mut Script, said: Line) -> Result<bool, Memory>
     ensures { IfOk result (λ fits. MatchBool fits (accepts script.old said ≡ Some script.new) (accepts script.old said ≡ None)) }
 {
     match said {
@@ -169,10 +224,11 @@ fn add(script: &mut Script, said: Line) -> Result<bool, Memory>
         Line::Folder(folder) => Ok(set_folder(script, folder)),
         Line::Path(path) => add_path(script, path),
         Line::Send(event, priority) => add_send(script, event, priority),
-        Line::Turn(turn) => add_turn(script, turn),
-        Line::Fault(code) => added(&mut script.turns, ScriptTurn::Fault(code)),
+        Line::Turn(turn) => add_turn(alloc, script, turn),
+        Line::Fault(code) => add_fault(alloc, script, code),
         Line::Acts(acts) => added(&mut script.actions, acts),
         Line::Filter(answer) => added(&mut script.filters, answer),
+        Line::Dir(answer) => added(&mut script.dirs, answer),
         Line::Wishes(wish) => added(&mut script.errors, wish),
         Line::Poll(ready) => added(&mut script.polls, ready),
         Line::Hook(words) => added(&mut script.hooks, words),
@@ -180,6 +236,10 @@ fn add(script: &mut Script, said: Line) -> Result<bool, Memory>
         Line::Signal(answer) => added(&mut script.answers.signals, answer),
         Line::Kill(answer) => added(&mut script.answers.kills, answer),
         Line::Wait(answer) => added(&mut script.answers.waits, answer),
+        Line::Edit(edit) => add_edit(alloc, script, edit),
+        Line::Make(answer) => added(&mut script.answers.makes, answer),
+        Line::FailScan(failing) => added(&mut script.failing_looks, failing),
+        Line::FailWatch(failing) => added(&mut script.failing_watches, failing),
     }
 }
 
@@ -189,7 +249,7 @@ fn add_line(alloc: Global, script: &mut Script, line: &[u8]) -> Result<bool, Mem
 {
     match line_in(alloc, line)? {
         None => Ok(false),
-        Some(said) => add(script, said),
+        Some(said) => add(alloc, script, said),
     }
 }
 

@@ -1,4 +1,6 @@
 // What is written down for a run.
+ghost use Rattle.std.specs.Prelude.{◌≡◌, IfOk};
+
 use crate::answers::Answers;
 use std::alloc::Global;
 use wx_command::Command;
@@ -7,6 +9,7 @@ use wx_error::RuntimeError;
 use wx_events::{Event, Priority};
 use wx_journal::{Act, Turn, Wish};
 use wx_text::{Copies, List, Memory, Text};
+use wx_tree::Node;
 use wx_watch::{WatchedPath, Watcher};
 use wx_words::{Spelled, TextPath, Words, put_row, read_rows};
 
@@ -26,6 +29,45 @@ impl Copies for ScriptTurn {
             ScriptTurn::Fault(code) => Ok(ScriptTurn::Fault(*code)),
         }
     }
+}
+
+/// A change of the tree of files.
+#[derive(Drop, Debug)]
+pub enum TreeEdit {
+    /// This stands at the path, in the place of what stood there.
+    Node(TextPath, Node),
+    /// The path is gone, and all below it.
+    Gone(TextPath),
+}
+
+impl Copies for TreeEdit {
+    fn copy(&self, alloc: Global) -> Result<TreeEdit, Memory> {
+        match self {
+            TreeEdit::Node(path, node) => {
+                let path = path.copy(alloc)?;
+                Ok(TreeEdit::Node(path, copied_node(alloc, node)?))
+            }
+            TreeEdit::Gone(path) => Ok(TreeEdit::Gone(path.copy(alloc)?)),
+        }
+    }
+}
+
+/// The same node once more. It fails only for want of memory.
+fn copied_node(alloc: Global, node: &Node) -> Result<Node, Memory>
+    ensures { IfOk result (λ copied. copied ≡ node.now) }
+{
+    match node {
+        Node::Dir => Ok(Node::Dir),
+        Node::File(stamp) => Ok(Node::File(*stamp)),
+        Node::Link(target) => Ok(Node::Link(target.copy(alloc)?)),
+    }
+}
+
+/// A call that is to fail: which one, counted from 0, and with which code.
+#[derive(Clone, Copy, Debug)]
+pub struct FailingCall {
+    pub call: u64,
+    pub code: u32,
 }
 
 /// Which job is created by an act of a script.
@@ -120,18 +162,28 @@ pub struct Script {
     pub sends: List<(Event, Priority)>,
     /// The turns, in order. Those after them are last turns.
     pub turns: List<ScriptTurn>,
+    /// The changes of the tree that are made when the first turn is asked for, the second, and so on.
+    pub edits: List<List<TreeEdit>>,
+    /// Those that are made when the turn after them is asked for.
+    pub pending: List<TreeEdit>,
     /// What the action handler asks for: the acts of its first call, of its second, and so on.
     pub actions: List<List<ScriptAct>>,
-    /// What the filter answers: to its first call, to its second, and so on.
+    /// What the filter answers about events: to its first call about one, to its second, and so on.
     pub filters: List<Result<bool, RuntimeError>>,
+    /// What the filter answers about directories: to its first call about one, to its second, and so on.
+    pub dirs: List<Result<bool, RuntimeError>>,
     /// What the error handler wishes: in its first call, in its second, and so on.
     pub errors: List<Wish>,
     /// Whether a begun function is ready: in the first poll of one, in the second, and so on.
     pub polls: List<bool>,
     /// What spawn hooks append to the words of what is spawned: in their first call, in the second, and so on.
     pub hooks: List<List<Text>>,
-    /// What the host answers.
+    /// What the host and the maker of backends answer.
     pub answers: Answers,
+    /// The calls on the scanner that fail.
+    pub failing_looks: List<FailingCall>,
+    /// The calls on each backend that fail, counted from its make.
+    pub failing_watches: List<FailingCall>,
     /// The moment of the last turn that is written down, in nanoseconds, 0 where there is none.
     pub last: u64,
 }

@@ -158,6 +158,178 @@ fn reads_lines_about_filters(rt: HostRuntime) {
     }
 }
 
+/// How many answers of the filter about events and about directories the script of these bytes has, and how many of the latter
+/// stand before the first that excludes one.
+fn dir_counts(alloc: Global, bytes: &[u8]) -> Option<(usize, usize, usize)> {
+    let script = script_in(alloc, bytes)?;
+    let dirs = script.dirs.as_slice();
+    let first = dirs.iter().position(|answer| matches!(answer, Ok(false)));
+    let before = first.unwrap_or(dirs.len());
+    Some((script.filters.len(), dirs.len(), before))
+}
+
+const DIRS: [(&[u8], (usize, usize, usize)); 6] = [
+    (b"", (0, 0, 0)),
+    (b"dir pass\n", (0, 1, 1)),
+    (b"dir reject\ndir pass\n", (0, 2, 0)),
+    (
+        b"dir fail exit\nfilter reject\ndir pass\nfilter pass\ndir reject\n",
+        (2, 3, 2),
+    ),
+    (
+        b"dir fail filterer glob bad%20rule\ndir fail memory\n",
+        (0, 2, 2),
+    ),
+    (
+        b"dir pass\nset size 2\nsend low 0\ndir reject\nturn 0 work\ndir pass\nturnfault 5\ndir reject\n",
+        (0, 4, 1),
+    ),
+];
+
+#[test]
+fn reads_lines_about_directories(rt: HostRuntime) {
+    for (bytes, want) in &DIRS {
+        expect_so(&rt, dir_counts(rt.alloc(), bytes) == Some(*want), bytes);
+    }
+}
+
+const NO_DIRS: [&[u8]; 19] = [
+    b"dir\n",
+    b"dir \n",
+    b"dir pass",
+    b"dir passes\n",
+    b"dir Pass\n",
+    b"dir pass \n",
+    b"dir pass 0\n",
+    b"dir pass reject\n",
+    b"dir ok\n",
+    b"dir ready\n",
+    b"dir reject /w\n",
+    b"dir /w reject\n",
+    b"dir 0 /w pass\n",
+    b"dir fail\n",
+    b"dir fail none\n",
+    b"dir fail exit 0\n",
+    b"dir fail filterer glob\n",
+    b"dirs pass\n",
+    b"set dir pass\n",
+];
+
+#[test]
+fn refuses_lines_about_directories(rt: HostRuntime) {
+    each_is_bad(&rt, rt.alloc(), &NO_DIRS);
+}
+
+/// What the script of these bytes has of files: for how many turns it has changes of the tree, how many changes before the first of
+/// these, how many behind the last, and how many answers of the maker, looks that fail and calls on backends that fail.
+fn file_counts(
+    alloc: Global,
+    bytes: &[u8],
+) -> Option<((usize, usize, usize), (usize, usize, usize))> {
+    let script = script_in(alloc, bytes)?;
+    let first = script.edits.as_slice().first();
+    let edits = (
+        script.edits.len(),
+        first.map_or(0, |edits| edits.len()),
+        script.pending.len(),
+    );
+    let answers = (
+        script.answers.makes.len(),
+        script.failing_looks.len(),
+        script.failing_watches.len(),
+    );
+    Some((edits, answers))
+}
+
+const FILES: [(&[u8], ((usize, usize, usize), (usize, usize, usize))); 8] = [
+    (b"", ((0, 0, 0), (0, 0, 0))),
+    (b"node dir /\nnode dir /w\n", ((0, 0, 2), (0, 0, 0))),
+    (
+        b"node dir /\nnode dir /w\nturn 0 file\ngone /w\n",
+        ((1, 2, 1), (0, 0, 0)),
+    ),
+    (
+        b"turn 0 work\nnode file /f 18446744073709551615\nturnfault 5\nnode link /l ../x\nnode link /m %\nturn 0 file\n",
+        ((3, 0, 0), (0, 0, 0)),
+    ),
+    (
+        b"node dir /a%20b\nset size 2\nsend low 0\nnode file /a%20b/.x 0\nturn 0 file\n",
+        ((1, 2, 0), (0, 0, 0)),
+    ),
+    (
+        b"make ok\nturn 0 file\nmake fail nopath 0\nmake fail io 28 1 /w\nmake fail memory 0\n",
+        ((1, 0, 0), (4, 0, 0)),
+    ),
+    (
+        b"fail scan 0 4294967295\nturn 0 file\nfail scan 18446744073709551615 0\nfail watch 3 5\n",
+        ((1, 0, 0), (0, 2, 1)),
+    ),
+    (
+        b"fail watch 3 5\nfail watch 3 6\nset follow off\nmake fail generic a%20b 2 / /w\n",
+        ((0, 0, 0), (1, 0, 2)),
+    ),
+];
+
+#[test]
+fn reads_lines_about_files(rt: HostRuntime) {
+    for (bytes, want) in &FILES {
+        expect_so(&rt, file_counts(rt.alloc(), bytes) == Some(*want), bytes);
+    }
+}
+
+const NO_FILES: [&[u8]; 45] = [
+    b"node\n",
+    b"node /w\n",
+    b"node dir\n",
+    b"node dir %\n",
+    b"node dir w\n",
+    b"node dir ./w\n",
+    b"node dir /w/\n",
+    b"node dir //w\n",
+    b"node dir /./w\n",
+    b"node dir /w/..\n",
+    b"node dir /w/../v\n",
+    b"node dir /..\n",
+    b"node dir /w 0\n",
+    b"node other /w\n",
+    b"node file /f\n",
+    b"node file 1 /f\n",
+    b"node file /f -1\n",
+    b"node file /f 01\n",
+    b"node file /f 18446744073709551616\n",
+    b"node file f 1\n",
+    b"node link /l\n",
+    b"node link l /w\n",
+    b"node link /l /w 0\n",
+    b"gone\n",
+    b"gone w\n",
+    b"gone %\n",
+    b"gone /w/.\n",
+    b"gone /w /v\n",
+    b"gone dir /w\n",
+    b"make\n",
+    b"make pass\n",
+    b"make ok 0\n",
+    b"make fail\n",
+    b"make fail nopath\n",
+    b"make fail exit\n",
+    b"fail\n",
+    b"fail scan\n",
+    b"fail scan 0\n",
+    b"fail scan 0 4294967296\n",
+    b"fail scan -1 5\n",
+    b"fail scan 0 5 6\n",
+    b"fail watch 0\n",
+    b"fail watch 18446744073709551616 5\n",
+    b"fail next 0 5\n",
+    b"turn 0 file 0\n",
+];
+
+#[test]
+fn refuses_lines_about_files(rt: HostRuntime) {
+    each_is_bad(&rt, rt.alloc(), &NO_FILES);
+}
+
 /// How many answers of the filter and wishes of the error handler the script of these bytes has, and the size of the channel of errors.
 fn error_counts(alloc: Global, bytes: &[u8]) -> Option<(usize, usize, u32)> {
     let script = script_in(alloc, bytes)?;

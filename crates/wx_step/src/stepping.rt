@@ -1,5 +1,6 @@
 // One step: the first of the queue, or the sweep, and then letting go.
-ghost use Rattle.wx_holding.specs.Calm.{IsCalm, IsNamed, StandsBy};
+ghost use Rattle.wx_scan.specs.Told.{IsNamed};
+ghost use Rattle.wx_holding.specs.Calm.{IsCalm, StandsBy};
 ghost use Rattle.wx_recursor.specs.Sound.{AreSound, things};
 ghost use Rattle.wx_step.specs.Calmly.{ActsCalmly, FirstsCalmly, HandsCalmly, IsFirstReadable, IsReadableItem, StepsCalmly};
 ghost use Rattle.wx_tree.specs.Trees.{Tree};

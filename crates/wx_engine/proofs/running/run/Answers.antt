@@ -5,32 +5,49 @@ use Rattle.wx_machine.proofs.AllJobs.{same_turns}
 use Rattle.wx_machine.specs.Kept.{Same, Still, Past}
 use Rattle.wx_machine.proofs.KeptLemmas.{promised}
 use Rattle.wx_machine.specs.Leads.{Here}
+use Rattle.std.specs.Prelude.{None}
+use Rattle.wx_machine.specs.Start.{Start}
+use Rattle.wx_machine.proofs.NoFiles.{begin_adds_none, dying_adds_none, source_kept}
+use Rattle.wx_machine.proofs.PaidLaws.{paid_first, paid_kept}
 use Rattle.wx_machine.proofs.RunLaws.{orderly, run_led, run_is_batched, run_has_batches}
 use Rattle.wx_engine.proofs.MainLaws.{leads_world, leads_hooks, dying_hooks, answered_ran, ran_is_batched, ran_has_batches}
 use Rattle.wx_engine.proofs.BeginLemmas.{begun_run}
 use Rattle.wx_engine.proofs.RunLemmas.{stopped, caused_by, broken, wants, calm_stops, calm_begun}
+use Rattle.wx_engine.proofs.WatchLemmas.{few_steps}
 use Rattle.wx_engine.proofs.running.run.Goals as goal
 
 pub returns-in_err-about-clause-answers : goal.returns-in_err-about-clause-answers
-returns-in_err-about-clause-answers g c = wants g.start c.args.journal.now.past c.from_residual.result c.from_residual.ensures.1 (rw c.requires.1.1.1 (broken g.start [] tt refl tt))
+returns-in_err-about-clause-answers g c = wants g.start c.args.journal.now.past c.from_residual.result c.from_residual.ensures.1 (rw c.requires.1.1.1.1 (broken g.start [] tt refl tt))
 
 pub returns-in_err-about-clause-lists : goal.returns-in_err-about-clause-lists
-returns-in_err-about-clause-lists g c = rw c.requires.1.1.1 (record { world_told = refl; hooks_told = refl; turns_told = refl; count = omega arith; early = omega arith; host_faults = counted_from [] _ [] _ (λ p n before. before) })
+returns-in_err-about-clause-lists g c = rw c.requires.1.1.1.1 (record { world_told = refl; hooks_told = refl; turns_told = refl; count = omega arith; early = omega arith; host_faults = counted_from [] _ [] _ (λ p n before. before); steps = few_steps [] _ _ (paid_first _) })
 
 pub returns-in_err-about-clause-laws : goal.returns-in_err-about-clause-laws
-returns-in_err-about-clause-laws g c = rw c.requires.1.1.1 (record { batched = refl; batches = tt; calm = tt; rise = tt })
+returns-in_err-about-clause-laws g c = rw c.requires.1.1.1.1 (record { batched = refl; batches = tt; calm = tt; rise = tt })
 
 pub returns-in_err-about-clause-promised : goal.returns-in_err-about-clause-promised
-returns-in_err-about-clause-promised g c = rw c.requires.1.1.1 (promised (λ h. g.H.JobHooks.seen h) (λ plan. g.H.JobHooks.rule plan) (λ h. g.H.JobHooks.stands h) c.args.hooks.now [] c.args.hooks.now [] (λ h. g.met.H.JobHooks.stands_other h) tt Still)
+returns-in_err-about-clause-promised g c = rw c.requires.1.1.1.1 (promised (λ h. g.H.JobHooks.seen h) (λ plan. g.H.JobHooks.rule plan) (λ h. g.H.JobHooks.stands h) c.args.hooks.now [] c.args.hooks.now [] (λ h. g.met.H.JobHooks.stands_other h) tt Still)
+
+pub returns-in_err-folder-clause-answers : goal.returns-in_err-folder-clause-answers
+returns-in_err-folder-clause-answers g c = wants g.start c.args.journal.now.past c.from_residual-in_err-folder.result c.from_residual-in_err-folder.ensures.1 (rw c.requires.1.1.1.1 (broken g.start [] tt refl tt))
+
+pub returns-in_err-folder-clause-lists : goal.returns-in_err-folder-clause-lists
+returns-in_err-folder-clause-lists g c = rw c.requires.1.1.1.1 (record { world_told = refl; hooks_told = refl; turns_told = refl; count = omega arith; early = omega arith; host_faults = counted_from [] _ [] _ (λ p n before. before); steps = few_steps [] _ _ (paid_first _) })
+
+pub returns-in_err-folder-clause-laws : goal.returns-in_err-folder-clause-laws
+returns-in_err-folder-clause-laws g c = rw c.requires.1.1.1.1 (record { batched = refl; batches = tt; calm = tt; rise = tt })
+
+pub returns-in_err-folder-clause-promised : goal.returns-in_err-folder-clause-promised
+returns-in_err-folder-clause-promised g c = rw c.requires.1.1.1.1 (promised (λ h. g.H.JobHooks.seen h) (λ plan. g.H.JobHooks.rule plan) (λ h. g.H.JobHooks.stands h) c.args.hooks.now [] c.args.hooks.now [] (λ h. g.met.H.JobHooks.stands_other h) tt Still)
 
 -- ---- the beginning alone
 
 pub returns-in_err-state-clause-answers : goal.returns-in_err-state-clause-answers
-returns-in_err-state-clause-answers g c = wants g.start c.begin.new.journal.past c.from_residual-in_err-state.result c.from_residual-in_err-state.ensures.1 (broken g.start c.begin.new.journal.past (begun_run g.start _ _ c.requires.1.1.1 c.begin.ensures.adds) c.begin.ensures.none c.in_err-state.ensures.cut)
+returns-in_err-state-clause-answers g c = wants g.start c.begin.new.journal.past c.from_residual-in_err-state.result c.from_residual-in_err-state.ensures.1 (broken g.start c.begin.new.journal.past (begun_run g.start _ _ c.requires.1.1.1.1 c.begin.ensures.adds) c.begin.ensures.none c.in_err-state.ensures.cut)
 
 pub returns-in_err-state-clause-lists : goal.returns-in_err-state-clause-lists
 returns-in_err-state-clause-lists g c =
-    let adds = rw c.requires.1.1.1 at c.begin.ensures.adds in
+    let adds = rw c.requires.1.1.1.1 at c.begin.ensures.adds in
     let same = adds.turns [] (same_turns []) in
     record {
       world_told = leads_world g.start _ _ _ _ _ (adds.follows (g.W.Outside.seen c.args.world.now).shown.told (g.H.JobHooks.seen c.args.hooks.now).told [] _ _ Here);
@@ -39,53 +56,60 @@ returns-in_err-state-clause-lists g c =
       count = omega (arith, same.count);
       early = omega (arith, same.early);
       host_faults = counted_from [] _ _ _ (adds.counts _);
+      steps = few_steps c.begin.new.journal.past _ _ (paid_kept _ [] c.begin.new.journal.past _ _ 0 (begin_adds_none g.start c.begin.new.journal.past None None None None (adds.follows None None) adds.turns) (omega arith) (paid_first _));
     }
 
 pub returns-in_err-state-clause-laws : goal.returns-in_err-state-clause-laws
 returns-in_err-state-clause-laws g c =
-    let run = begun_run g.start _ _ c.requires.1.1.1 c.begin.ensures.adds in
-    record { batched = run_is_batched g.start _ run; batches = run_has_batches g.start _ run; calm = calm_begun g.start _ run c.in_err-state.ensures.cut; rise = ((rw c.requires.1.1.1 at c.begin.ensures.adds).turns [] (same_turns [])).rise tt }
+    let run = begun_run g.start _ _ c.requires.1.1.1.1 c.begin.ensures.adds in
+    record { batched = run_is_batched g.start _ run; batches = run_has_batches g.start _ run; calm = calm_begun g.start _ run c.in_err-state.ensures.cut; rise = ((rw c.requires.1.1.1.1 at c.begin.ensures.adds).turns [] (same_turns [])).rise tt }
 
 pub returns-in_err-state-clause-promised : goal.returns-in_err-state-clause-promised
 returns-in_err-state-clause-promised g c =
-    promised (λ h. g.H.JobHooks.seen h) (λ plan. g.H.JobHooks.rule plan) (λ h. g.H.JobHooks.stands h) c.args.hooks.now [] c.args.hooks.now c.begin.new.journal.past (λ h. g.met.H.JobHooks.stands_other h) (orderly g.start _ (begun_run g.start _ _ c.requires.1.1.1 c.begin.ensures.adds)).own
-    (Past _ _ _ Still ((rw c.requires.1.1.1 at c.begin.ensures.adds).quiet [] Same))
+    promised (λ h. g.H.JobHooks.seen h) (λ plan. g.H.JobHooks.rule plan) (λ h. g.H.JobHooks.stands h) c.args.hooks.now [] c.args.hooks.now c.begin.new.journal.past (λ h. g.met.H.JobHooks.stands_other h) (orderly g.start _ (begun_run g.start _ _ c.requires.1.1.1.1 c.begin.ensures.adds)).own
+    (Past _ _ _ Still ((rw c.requires.1.1.1.1 at c.begin.ensures.adds).quiet [] Same))
 
 -- ---- with the turns and the end
 
 pub serve_turns-answer-requires : goal.serve_turns-answer-requires
 serve_turns-answer-requires g c = λ κs lives.
-    let same = (rw c.requires.1.1.1 at c.begin.ensures.adds).turns [] (same_turns []) in (
+    let adds = rw c.requires.1.1.1.1 at c.begin.ensures.adds in
+    let same = adds.turns [] (same_turns []) in (
       lives.0,
       (
-        lives.1,
+        lives.1.0,
         (
-          record {
-            rests = record {
-              stands = c.in_ok-state.ensures.stands;
-              room = record { in_journal = omega (arith, c.in_ok-state.ensures.room); in_host = omega (arith, c.in_ok-state.ensures.room) };
-              rise = same.rise tt;
-            };
-            open_is = c.in_ok-state.ensures.open;
-            fault = same.fault;
-            now = omega (arith, same.now);
-          },
-          search rules,
+          lives.1.1,
+          (
+            record {
+              rests = record {
+                stands = c.in_ok-state.ensures.stands;
+                room = record { in_journal = omega (arith, c.in_ok-state.ensures.room); in_host = omega (arith, c.in_ok-state.ensures.room) };
+                rise = same.rise tt;
+              };
+              run = begun_run g.start _ _ c.requires.1.1.1.1 c.begin.ensures.adds;
+              files = c.new-files.ensures.stands g.start _ (ap (λ (s : Start). s.folder) (sym (c.engine.view_is ∙ c.requires.1.1.1.0)) ∙ sym c.in_ok-folder.ensures) (source_kept g.start [] _ (begin_adds_none g.start _ None None None None (adds.follows None None) adds.turns));
+              open_is = c.in_ok-state.ensures.open;
+              fault = same.fault;
+              now = omega (arith, same.now);
+            },
+            search rules,
+          ),
         ),
       ),
     )
 
 pub returns-clause-answers : goal.returns-clause-answers
 returns-clause-answers g c =
-    stopped g.start c.serve_turns-answer.new.journal.past c.end_jobs.new.journal.past c.serve_turns-answer.result (run_led g.start _ _ _ _ _ _ c.serve_turns-answer.ensures.serves.follows (begun_run g.start _ _ c.requires.1.1.1 c.begin.ensures.adds)) c.serve_turns-answer.ensures.stops c.end_jobs.ensures.dying c.end_jobs.ensures.none
+    stopped g.start c.serve_turns-answer.new.journal.past c.end_jobs.new.journal.past c.serve_turns-answer.result (run_led g.start _ _ _ _ _ _ c.serve_turns-answer.ensures.serves.follows (begun_run g.start _ _ c.requires.1.1.1.1 c.begin.ensures.adds)) c.serve_turns-answer.ensures.stops c.end_jobs.ensures.dying c.end_jobs.ensures.none
 
 pub returns-clause-cause : goal.returns-clause-cause
 returns-clause-cause g c =
-    caused_by g.start c.serve_turns-answer.new.journal.past c.end_jobs.new.journal.past c.serve_turns-answer.result _ _ _ (ap (λ k. k.turn_faults) (sym c.end_jobs.ensures.kept.progress_kept)) (run_led g.start _ _ _ _ _ _ c.serve_turns-answer.ensures.serves.follows (begun_run g.start _ _ c.requires.1.1.1 c.begin.ensures.adds)) c.end_jobs.ensures.dying c.end_jobs.ensures.none (returns-clause-answers g c) c.serve_turns-answer.ensures.cause
+    caused_by g.start c.serve_turns-answer.new.journal.past c.end_jobs.new.journal.past c.serve_turns-answer.result _ _ _ (sym c.end_jobs.ensures.kept.progress_kept) (run_led g.start _ _ _ _ _ _ c.serve_turns-answer.ensures.serves.follows (begun_run g.start _ _ c.requires.1.1.1.1 c.begin.ensures.adds)) c.end_jobs.ensures.dying c.end_jobs.ensures.none (returns-clause-answers g c) c.serve_turns-answer.ensures.cause
 
 pub returns-clause-lists : goal.returns-clause-lists
 returns-clause-lists g c =
-    let adds = rw c.requires.1.1.1 at c.begin.ensures.adds in
+    let adds = rw c.requires.1.1.1.1 at c.begin.ensures.adds in
     let served = c.serve_turns-answer.ensures.serves in
     let ended = dying_turns g.start _ _ c.end_jobs.ensures.dying in
     let begun = adds.turns [] (same_turns []) in
@@ -98,11 +122,12 @@ returns-clause-lists g c =
       count = omega (arith, begun.count, served.count, ended.count);
       early = omega (arith, begun.early, served.early, ended.early);
       host_faults = counted_from [] _ _ _ (λ p n k. c.end_jobs.ensures.faults p n (served.counts p n (adds.counts _ p n k)));
+      steps = few_steps c.end_jobs.new.journal.past _ _ (paid_kept _ c.serve_turns-answer.new.journal.past c.end_jobs.new.journal.past _ _ 0 (dying_adds_none _ _ c.end_jobs.ensures.dying) c.end_jobs.ensures.kept.looked_kept.looks_kept (c.serve_turns-answer.ensures.paid _ (rw c.new-files.ensures.owing (paid_kept _ [] c.begin.new.journal.past _ _ 0 (begin_adds_none g.start c.begin.new.journal.past None None None None (adds.follows None None) adds.turns) (omega arith) (paid_first _)))));
     }
 
 pub returns-clause-laws : goal.returns-clause-laws
 returns-clause-laws g c =
-    let run = run_led g.start _ _ _ _ _ _ c.serve_turns-answer.ensures.serves.follows (begun_run g.start _ _ c.requires.1.1.1 c.begin.ensures.adds) in
+    let run = run_led g.start _ _ _ _ _ _ c.serve_turns-answer.ensures.serves.follows (begun_run g.start _ _ c.requires.1.1.1.1 c.begin.ensures.adds) in
     let ran = answered_ran g.start _ c.serve_turns-answer.result (returns-clause-answers g c) in
     record {
       batched = ran_is_batched g.start _ ran;
@@ -115,4 +140,4 @@ pub returns-clause-promised : goal.returns-clause-promised
 returns-clause-promised g c =
     let ended = dying_keeps g.start c.serve_turns-answer.new.journal.past c.end_jobs.new.journal.past c.end_jobs.ensures.dying in
     promised (λ h. g.H.JobHooks.seen h) (λ plan. g.H.JobHooks.rule plan) (λ h. g.H.JobHooks.stands h) c.args.hooks.now [] c.serve_turns-answer.new.hooks c.end_jobs.new.journal.past (λ h. g.met.H.JobHooks.stands_other h) (ended.own c.serve_turns-answer.ensures.rests.stands.own)
-    (Past _ _ _ (c.serve_turns-answer.ensures.keeps _ _ (Past _ _ _ Still ((rw c.requires.1.1.1 at c.begin.ensures.adds).quiet [] Same))) (ended.quiet _ Same))
+    (Past _ _ _ (c.serve_turns-answer.ensures.keeps _ _ (Past _ _ _ Still ((rw c.requires.1.1.1.1 at c.begin.ensures.adds).quiet [] Same))) (ended.quiet _ Same))

@@ -1,79 +1,43 @@
-use Rattle.std.proofs.Common.{refl, arith, inr, ◌∙◌}
-use Rattle.wx_journal.specs.declared.entry.TurnKind.TheVariants.{Arrive, Last}
-use Rattle.wx_machine.proofs.SteadyLemmas.{only_none}
-use Rattle.wx_machine.specs.Due.{Open}
-use Rattle.wx_machine.proofs.SettleLaws.{settle_calm, served_open}
-use Rattle.wx_action.proofs.HandLemmas.{works_served}
-use Rattle.wx_action.proofs.TurnLaws.{at_turn}
-use Rattle.wx_action.proofs.Serving.{hooks_none, continues_room, continues_grows}
-use Rattle.wx_action.proofs.BreakLemmas.{breaks_want, breaks_left}
+use Rattle.std.proofs.Common.{refl, sym, ◌∙◌}
+use Rattle.wx_file_turns.specs.Standing.{owing}
+use Rattle.wx_engine.proofs.TurnLemmas.{serves_other, serves_files}
+use Rattle.wx_engine.proofs.WatchLemmas.{Aside, ok_always, file_kind, files_over, aside, aside_source, aside_pays, aside_makes_none}
+use Rattle.wx_engine.proofs.running.serve.Goals.{After-serve_other}
 use Rattle.wx_engine.proofs.running.serve.Goals as goal
 
-pub arrive-requires : goal.arrive-requires
-arrive-requires g c =
-    let d = at_turn g.start c.args.state.now c.args.at (Arrive c.in-Arrive.event c.in-Arrive.priority) c.args.journal.now.past tt (rw c.in-Arrive.is at c.requires.1.1) in (Open, record { stands = d.stands; due = d.due })
+-- ---- a turn about what is watched
 
-pub returns-in_ok-arrive-in-Arrive-clause-works : goal.returns-in_ok-arrive-in-Arrive-clause-works
-returns-in_ok-arrive-in-Arrive-clause-works g c =
-    let d = at_turn g.start c.args.state.now c.args.at (Arrive c.in-Arrive.event c.in-Arrive.priority) c.args.journal.now.past tt (rw c.in-Arrive.is at c.requires.1.1) in
-    rw c.worked.ensures (works_served g.start c.arrive.new.self c.arrive.new.journal.past c.arrive.ensures.grows.stands (served_open g.start c.arrive.new.journal.past (c.in_ok-arrive-in-Arrive.ensures.done Open d.due ∙ settle_calm c.args.journal.now.past Open d.going)))
+pub file_turn-requires : goal.file_turn-requires
+file_turn-requires g c = λ κs lives. (
+  lives.0,
+  (
+    lives.1.0,
+    (lives.1.1, ((c.args.at, rw (file_kind c.args.kind (sym c.is_file_turn.ensures ∙ c.if-is_file_turn.true)) at c.requires.1.1.1.0), c.requires.1.1.1.1.1)),
+  ),
+)
 
-pub returns-in_ok-job_turn-in-Job-clause-works : goal.returns-in_ok-job_turn-in-Job-clause-works
-returns-in_ok-job_turn-in-Job-clause-works g c = rw c.worked-in-Job.ensures (works_served g.start c.job_turn.new.worker c.job_turn.new.journal.past c.job_turn.ensures.continues.stands c.in_ok-job_turn-in-Job.ensures.steps.done)
+pub returns-then-is_file_turn-clause-serves : goal.returns-then-is_file_turn-clause-serves
+returns-then-is_file_turn-clause-serves g c = serves_files _ _ _ g.start _ _ _ _ _ _ _ _ c.file_turn.ensures.attends
 
-pub returns-in_ok-ended_turn-in-Ended-clause-works : goal.returns-in_ok-ended_turn-in-Ended-clause-works
-returns-in_ok-ended_turn-in-Ended-clause-works g c = rw c.worked-in-Ended.ensures (works_served g.start c.ended_turn.new.worker c.ended_turn.new.journal.past c.ended_turn.ensures.continues.stands c.in_ok-ended_turn-in-Ended.ensures.steps.done)
+pub returns-then-is_file_turn-clause-last : goal.returns-then-is_file_turn-clause-last
+returns-then-is_file_turn-clause-last g c = λ on. rw (file_kind c.args.kind (sym c.is_file_turn.ensures ∙ c.if-is_file_turn.true)) refl
 
-pub returns-in_ok-ask_turn-in-Ask-clause-works : goal.returns-in_ok-ask_turn-in-Ask-clause-works
-returns-in_ok-ask_turn-in-Ask-clause-works g c = rw c.worked-in-Ask.ensures (works_served g.start c.ask_turn.new.worker c.ask_turn.new.journal.past c.ask_turn.ensures.grows.stands c.in_ok-ask_turn-in-Ask.ensures.settles.done)
+pub returns-in_err-file_turn-clause-serves : goal.returns-in_err-file_turn-clause-serves
+returns-in_err-file_turn-clause-serves g c = serves_files _ _ _ g.start _ _ _ _ _ _ _ _ c.file_turn.ensures.attends
 
-pub returns-in_ok-change_turn-in-Change-clause-works : goal.returns-in_ok-change_turn-in-Change-clause-works
-returns-in_ok-change_turn-in-Change-clause-works g c = rw c.worked-in-Change.ensures (works_served g.start c.change_turn.new.worker c.change_turn.new.journal.past c.change_turn.ensures.grows.stands c.in_ok-change_turn-in-Change.ensures.settles.done)
+-- ---- a turn that isn't about what is watched
 
-pub returns-in-Last-clause-continues : goal.returns-in-Last-clause-continues
-returns-in-Last-clause-continues g c = continues_room _ _ _ _ _ _ _ _ _ _ _ (at_turn g.start c.args.state.now c.args.at Last c.args.journal.now.past tt (rw c.in-Last.is at c.requires.1.1)).stands refl (omega arith) only_none (hooks_none _ _ _)
+other : (g : _) (c : After-serve_other g) → Aside g.start c.args.journal.now.past c.serve_other.new.journal.past
+other g c = aside g.start c.args.state.now c.args.at c.args.kind c.args.journal.now.past c.serve_other.new.journal.past _ _ _ _ c.requires.1.1.1.0 (sym c.is_file_turn.ensures ∙ c.if-is_file_turn.false) c.requires.1.1.1.1.0 c.serve_other.ensures.continues.serves.follows c.serve_other.ensures.continues.serves.turns
 
-pub returns-in_ok-arrive-in-Arrive-clause-continues : goal.returns-in_ok-arrive-in-Arrive-clause-continues
-returns-in_ok-arrive-in-Arrive-clause-continues g c = continues_grows _ _ _ _ _ _ _ _ _ _ c.arrive.ensures.grows
+pub returns-clause-serves : goal.returns-clause-serves
+returns-clause-serves g c = serves_other _ _ _ g.start _ _ _ _ _ _ _ _ c.serve_other.ensures.continues
 
-pub returns-in_err-arrive-in-Arrive-clause-continues : goal.returns-in_err-arrive-in-Arrive-clause-continues
-returns-in_err-arrive-in-Arrive-clause-continues g c = continues_grows _ _ _ _ _ _ _ _ _ _ c.arrive.ensures.grows
+pub returns-clause-files : goal.returns-clause-files
+returns-clause-files g c = ok_always c.serve_other.result _ (files_over g.start c.args.files.now c.args.journal.now.past c.serve_other.new.journal.past (aside_source g.start _ _ (other g (goal.at.returns-clause-files g c).After-serve_other)) c.requires.1.1.1.1.1)
 
-pub returns-in_ok-ask_turn-in-Ask-clause-continues : goal.returns-in_ok-ask_turn-in-Ask-clause-continues
-returns-in_ok-ask_turn-in-Ask-clause-continues g c = continues_grows _ _ _ _ _ _ _ _ _ _ c.ask_turn.ensures.grows
+pub returns-clause-paid : goal.returns-clause-paid
+returns-clause-paid g c = aside_pays g.start c.args.journal.now.past c.serve_other.new.journal.past (g.W.Outside.seen c.args.world.now) (g.W.Outside.seen c.serve_other.new.world) (owing c.args.files.now) (other g (goal.at.returns-clause-paid g c).After-serve_other) c.serve_other.ensures.continues.serves.steady.looked_kept.looks_kept
 
-pub returns-in_err-ask_turn-in-Ask-clause-continues : goal.returns-in_err-ask_turn-in-Ask-clause-continues
-returns-in_err-ask_turn-in-Ask-clause-continues g c = continues_grows _ _ _ _ _ _ _ _ _ _ c.ask_turn.ensures.grows
-
-pub returns-in_ok-change_turn-in-Change-clause-continues : goal.returns-in_ok-change_turn-in-Change-clause-continues
-returns-in_ok-change_turn-in-Change-clause-continues g c = continues_grows _ _ _ _ _ _ _ _ _ _ c.change_turn.ensures.grows
-
-pub returns-in_err-change_turn-in-Change-clause-continues : goal.returns-in_err-change_turn-in-Change-clause-continues
-returns-in_err-change_turn-in-Change-clause-continues g c = continues_grows _ _ _ _ _ _ _ _ _ _ c.change_turn.ensures.grows
-
-pub returns-in_err-job_turn-in-Job-clause-breaks : goal.returns-in_err-job_turn-in-Job-clause-breaks
-returns-in_err-job_turn-in-Job-clause-breaks g c = breaks_want g.start c.job_turn.new.journal.past c.from_residual-in_err-job_turn-in-Job.result c.from_residual-in_err-job_turn-in-Job.ensures.1 (breaks_left g.start c.args.state.now c.args.at c.args.kind c.args.journal.now.past _ c.requires.1.1 c.in_err-job_turn-in-Job.ensures.steps.err)
-
-pub returns-in_err-ended_turn-in-Ended-clause-breaks : goal.returns-in_err-ended_turn-in-Ended-clause-breaks
-returns-in_err-ended_turn-in-Ended-clause-breaks g c = breaks_want g.start c.ended_turn.new.journal.past c.from_residual-in_err-ended_turn-in-Ended.result c.from_residual-in_err-ended_turn-in-Ended.ensures.1 (breaks_left g.start c.args.state.now c.args.at c.args.kind c.args.journal.now.past _ c.requires.1.1 c.in_err-ended_turn-in-Ended.ensures.steps.err)
-
-pub returns-in_ok-signal_turn-in-Signal-clause-continues : goal.returns-in_ok-signal_turn-in-Signal-clause-continues
-returns-in_ok-signal_turn-in-Signal-clause-continues g c = continues_grows _ _ _ _ _ _ _ _ _ _ c.signal_turn.ensures.grows
-
-pub returns-in_err-signal_turn-in-Signal-clause-continues : goal.returns-in_err-signal_turn-in-Signal-clause-continues
-returns-in_err-signal_turn-in-Signal-clause-continues g c = continues_grows _ _ _ _ _ _ _ _ _ _ c.signal_turn.ensures.grows
-
-pub returns-in_ok-keys_turn-in-Keys-clause-continues : goal.returns-in_ok-keys_turn-in-Keys-clause-continues
-returns-in_ok-keys_turn-in-Keys-clause-continues g c = continues_grows _ _ _ _ _ _ _ _ _ _ c.keys_turn.ensures.grows
-
-pub returns-in_err-keys_turn-in-Keys-clause-continues : goal.returns-in_err-keys_turn-in-Keys-clause-continues
-returns-in_err-keys_turn-in-Keys-clause-continues g c = continues_grows _ _ _ _ _ _ _ _ _ _ c.keys_turn.ensures.grows
-
-pub returns-in_err-keys_turn-in-Keys-clause-breaks : goal.returns-in_err-keys_turn-in-Keys-clause-breaks
-returns-in_err-keys_turn-in-Keys-clause-breaks g c = breaks_want g.start c.keys_turn.new.journal.past c.from_residual-in_err-keys_turn-in-Keys.result c.from_residual-in_err-keys_turn-in-Keys.ensures.1 (inr c.in_err-keys_turn-in-Keys.ensures.cut)
-
-pub returns-in_ok-signal_turn-in-Signal-clause-works : goal.returns-in_ok-signal_turn-in-Signal-clause-works
-returns-in_ok-signal_turn-in-Signal-clause-works g c = rw c.worked-in-Signal.ensures (works_served g.start c.signal_turn.new.worker c.signal_turn.new.journal.past c.signal_turn.ensures.grows.stands c.in_ok-signal_turn-in-Signal.ensures.settles.done)
-
-pub returns-in_ok-keys_turn-in-Keys-clause-works : goal.returns-in_ok-keys_turn-in-Keys-clause-works
-returns-in_ok-keys_turn-in-Keys-clause-works g c = rw c.worked-in-Keys.ensures (works_served g.start c.keys_turn.new.worker c.keys_turn.new.journal.past c.keys_turn.ensures.grows.stands c.in_ok-keys_turn-in-Keys.ensures.done)
+pub returns-clause-maker : goal.returns-clause-maker
+returns-clause-maker g c = aside_makes_none g.start _ _ _ _ (other g (goal.at.returns-clause-maker g c).After-serve_other) c.serve_other.ensures.continues.serves.steady.progress_kept

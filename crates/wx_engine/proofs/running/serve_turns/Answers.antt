@@ -1,4 +1,4 @@
-use Rattle.std.proofs.Common.{◌+◌, ◌≤◌, ap, arith, refl, sym, ◌∙◌}
+use Rattle.std.proofs.Common.{◌+◌, ◌≤◌, ◌∷◌, ap, arith, refl, sym, ◌∙◌}
 use Rattle.wx_journal.specs.declared.entry.Entry.TheVariants.{Turn as Turned, TurnFault}
 use Rattle.wx_journal.specs.Told.{tell}
 use Rattle.wx_machine.specs.Seen.{Shown}
@@ -6,13 +6,20 @@ use Rattle.wx_machine.specs.Faults.{CountsOn}
 use Rattle.wx_machine.proofs.AllJobs.{same_turns}
 use Rattle.wx_machine.specs.RunLaws.{MomentsRise}
 use Rattle.wx_machine.specs.Journal.{early_count}
+use Rattle.wx_machine.specs.Added.{Same as SameJournal, More}
+use Rattle.wx_machine.specs.Due.{IsRun}
 use Rattle.wx_machine.specs.Kept.{KeepsOn, Past}
 use Rattle.wx_machine.specs.Leads.{Follows}
+use Rattle.wx_machine.proofs.RunLaws.{run_led}
 use Rattle.wx_action.specs.Stands.{HasEndRoom}
+use Rattle.wx_file_turns.specs.Serves.{PaysOn}
+use Rattle.wx_file_turns.specs.Standing.{owing}
 use Rattle.wx_action.proofs.TurnLaws.{next_turn}
 use Rattle.wx_machine.specs.Told.{is_last}
 use Rattle.wx_engine.specs.Run.{Rests, ServesTurns}
 use Rattle.wx_engine.proofs.TurnLemmas.{Drawn, turn_drawn, fault_drawn, drawn_follows, drawn_quiet, drawn_counts, early_drawn, served, turn_stands, fault_stands, turns_then}
+use Rattle.wx_engine.proofs.RunLemmas.{turn_cause}
+use Rattle.wx_engine.proofs.WatchLemmas.{files_over, pays_over, pays_none}
 use Rattle.wx_engine.proofs.running.serve_turns.Goals.{After-push-in-turns, After-serve}
 use Rattle.wx_engine.proofs.running.serve_turns.Goals as goal
 
@@ -60,6 +67,19 @@ listed g c =
       place_kept = c.in-Ok.ensures.gives.place_kept ∙ only.steady.place_kept ∙ c.turns.invariant.world_place;
     }
 
+-- the journal up to here is a run
+run_before : (g : _) (c : After-push-in-turns g) → IsRun g.start c.turns.journal.past
+run_before g c = run_led g.start _ _ _ _ _ _ c.turns.invariant.follows c.requires.1.1.1.0.run
+
+-- steps are paid for as they were, by looks that don't fall
+room_looks : (g : _) (c : After-push-in-turns g) → (g.W.Outside.seen c.turns.world).looked.looks ≤ (g.W.Outside.seen c.turn.new.self).looked.looks
+room_looks g c = omega (arith, c.in_ok-make_room.ensures.rest.steady.looked_kept.looks_kept, c.in-Ok.ensures.gives.looked.looks_kept)
+
+paid : (g : _) (c : After-push-in-turns g) → PaysOn c.args.journal.now.past (g.W.Outside.seen c.args.world.now) (owing c.args.files.now) c.push-in-turns.new.self.past (g.W.Outside.seen c.turn.new.self) (owing c.turns.files)
+paid g c =
+    let grown = rw c.in_ok-make_room.ensures.same at c.push-in-turns.ensures.past in
+    pays_over c.args.journal.now.past c.turns.journal.past c.push-in-turns.new.self.past (g.W.Outside.seen c.args.world.now) (g.W.Outside.seen c.turns.world) (g.W.Outside.seen c.turn.new.self) (owing c.args.files.now) (owing c.turns.files) c.turns.invariant.paid (rw grown (More (Turned c.in-Ok.given.turn) c.turns.journal.past SameJournal refl)) (room_looks g c)
+
 -- the worker is as it was, where the kind of the turn was copied
 served_room : (g : _) (c : After-serve g) → HasEndRoom c.turns.state c.push-in-turns.new.self.spare (g.W.Outside.seen c.turn.new.self).spare → HasEndRoom c.kind_again-kind.new.state c.push-in-turns.new.self.spare (g.W.Outside.seen c.turn.new.self).spare
 served_room g c room = rw (rw c.in_ok-kind.was at c.kind_again-kind.ensures.same) room
@@ -68,21 +88,33 @@ served_room g c room = rw (rw c.in_ok-kind.was at c.kind_again-kind.ensures.same
 
 rests : (g : _) (c : After-serve g) → HasEndRoom c.turns.state c.push-in-turns.new.self.spare (g.W.Outside.seen c.turn.new.self).spare → MomentsRise c.push-in-turns.new.self.past → Rests g.start c.serve.new.state c.serve.new.journal (g.W.Outside.seen c.serve.new.world)
 rests g c room rise = record {
-  stands = c.serve.ensures.continues.stands;
-  room = c.serve.ensures.continues.room (served_room g c room);
-  rise = (c.serve.ensures.continues.serves.turns c.push-in-turns.new.self.past (same_turns c.push-in-turns.new.self.past)).rise rise;
+  stands = c.serve.ensures.serves.stands;
+  room = c.serve.ensures.serves.room (served_room g c room);
+  rise = (c.serve.ensures.serves.turns c.push-in-turns.new.self.past (same_turns c.push-in-turns.new.self.past)).rise rise;
 }
+
+-- also where no step is to come any more
+paid_on : (g : _) (c : After-serve g) → PaysOn c.args.journal.now.past (g.W.Outside.seen c.args.world.now) (owing c.args.files.now) c.push-in-turns.new.self.past (g.W.Outside.seen c.turn.new.self) (owing c.turns.files) → PaysOn c.args.journal.now.past (g.W.Outside.seen c.args.world.now) (owing c.args.files.now) c.serve.new.journal.past (g.W.Outside.seen c.serve.new.world) 0
+paid_on g c before = pays_none c.args.journal.now.past c.serve.new.journal.past (g.W.Outside.seen c.args.world.now) (g.W.Outside.seen c.serve.new.world) (owing c.args.files.now) (owing c.serve.new.files) (λ n k. c.serve.ensures.paid n (before n k))
 
 -- ---- the goals
 
 pub serve-requires : goal.serve-requires
-serve-requires g c = λ κs lives. (
-  lives.0,
-  (
-    lives.1,
-    rw (rw c.in_ok-kind.was at c.kind_again-kind.ensures.same, rw c.in_ok-kind.was at c.kind_again-kind.ensures.again) (next_turn g.start c.turns.state c.turns.journal.past c.push-in-turns.new.self.past c.in-Ok.given.turn.at c.in-Ok.given.turn.kind c.turns.invariant.stands c.turns.invariant.open_is (rw c.in_ok-make_room.ensures.same at c.push-in-turns.ensures.past)),
-  ),
-)
+serve-requires g c = λ κs lives.
+    let at = (goal.at.serve-requires g c).After-push-in-turns in
+    let grown = rw c.in_ok-make_room.ensures.same at c.push-in-turns.ensures.past in (
+      lives.0,
+      (
+        lives.1.0,
+        (
+          lives.1.1,
+          (
+            rw (rw c.in_ok-kind.was at c.kind_again-kind.ensures.same, rw c.in_ok-kind.was at c.kind_again-kind.ensures.again) (next_turn g.start c.turns.state c.turns.journal.past c.push-in-turns.new.self.past c.in-Ok.given.turn.at c.in-Ok.given.turn.kind c.turns.invariant.stands c.turns.invariant.open_is grown),
+            (rw grown ((drawn g at).due, run_before g at), rw grown (files_over g.start c.turns.files c.turns.journal.past (Turned c.in-Ok.given.turn ∷ c.turns.journal.past) refl c.turns.invariant.files)),
+          ),
+        ),
+      ),
+    )
 
 pub returns-in_err-make_room-clause-rests : goal.returns-in_err-make_room-clause-rests
 returns-in_err-make_room-clause-rests g c =
@@ -152,52 +184,61 @@ pub returns-in_err-serve-clause-rests : goal.returns-in_err-serve-clause-rests
 returns-in_err-serve-clause-rests g c = let at = goal.at.returns-in_err-serve-clause-rests g c in rests g at.After-serve (listed_room g at.After-push-in-turns) (listed_rise g at.After-push-in-turns)
 
 pub returns-in_err-serve-clause-serves : goal.returns-in_err-serve-clause-serves
-returns-in_err-serve-clause-serves g c = turns_then g.start _ _ _ _ _ _ _ _ _ (listed g (goal.at.returns-in_err-serve-clause-serves g c).After-push-in-turns) c.serve.ensures.continues.serves
+returns-in_err-serve-clause-serves g c = turns_then _ _ _ g.start _ _ _ _ _ _ _ _ _ _ _ (listed g (goal.at.returns-in_err-serve-clause-serves g c).After-push-in-turns) c.serve.ensures.serves
+
+pub returns-in_err-serve-clause-paid : goal.returns-in_err-serve-clause-paid
+returns-in_err-serve-clause-paid g c = let at = goal.at.returns-in_err-serve-clause-paid g c in paid_on g at.After-serve (paid g at.After-push-in-turns)
 
 pub returns-in_err-serve-clause-keeps : goal.returns-in_err-serve-clause-keeps
-returns-in_err-serve-clause-keeps g c = λ x₀ p₀ k. c.serve.ensures.continues.keeps x₀ p₀ (keeps g (goal.at.returns-in_err-serve-clause-keeps g c).After-push-in-turns x₀ p₀ k)
+returns-in_err-serve-clause-keeps g c = λ x₀ p₀ k. c.serve.ensures.serves.keeps x₀ p₀ (keeps g (goal.at.returns-in_err-serve-clause-keeps g c).After-push-in-turns x₀ p₀ k)
 
 pub returns-in-End-clause-rests : goal.returns-in-End-clause-rests
 returns-in-End-clause-rests g c = let at = goal.at.returns-in-End-clause-rests g c in rests g at.After-serve (listed_room g at.After-push-in-turns) (listed_rise g at.After-push-in-turns)
 
 pub returns-in-End-clause-serves : goal.returns-in-End-clause-serves
-returns-in-End-clause-serves g c = turns_then g.start _ _ _ _ _ _ _ _ _ (listed g (goal.at.returns-in-End-clause-serves g c).After-push-in-turns) c.serve.ensures.continues.serves
+returns-in-End-clause-serves g c = turns_then _ _ _ g.start _ _ _ _ _ _ _ _ _ _ _ (listed g (goal.at.returns-in-End-clause-serves g c).After-push-in-turns) c.serve.ensures.serves
+
+pub returns-in-End-clause-paid : goal.returns-in-End-clause-paid
+returns-in-End-clause-paid g c = let at = goal.at.returns-in-End-clause-paid g c in paid_on g at.After-serve (paid g at.After-push-in-turns)
 
 pub returns-in-End-clause-keeps : goal.returns-in-End-clause-keeps
-returns-in-End-clause-keeps g c = λ x₀ p₀ k. c.serve.ensures.continues.keeps x₀ p₀ (keeps g (goal.at.returns-in-End-clause-keeps g c).After-push-in-turns x₀ p₀ k)
+returns-in-End-clause-keeps g c = λ x₀ p₀ k. c.serve.ensures.serves.keeps x₀ p₀ (keeps g (goal.at.returns-in-End-clause-keeps g c).After-push-in-turns x₀ p₀ k)
 
 pub turns-smaller : goal.turns-smaller
 turns-smaller g c =
     let kind_is = rw c.in_ok-kind.was at c.kind_again-kind.ensures.again in
     let comes = ap is_last (sym kind_is) ∙ c.in_ok-serve.ensures.last c.in-On.is in
-    let left_is = ap (λ k. k.left) c.serve.ensures.continues.serves.steady.progress_kept in
+    let left_is = ap (λ k. k.left) c.serve.ensures.serves.steady.progress_kept in
     omega (arith, c.in-Ok.ensures.falls comes, ap (λ k. k.left) c.in_ok-make_room.ensures.rest.steady.progress_kept, left_is)
 
 pub turns-preserved : goal.turns-preserved
 turns-preserved g c =
     let at = goal.at.turns-preserved g c in
-    let v = served c.in-Ok.given.turn c.turns.journal.past c.push-in-turns.new.self.past c.serve.new.journal.past (rw c.in_ok-make_room.ensures.same at c.push-in-turns.ensures.past) (c.serve.ensures.continues.serves.turns _ (same_turns _)) in
+    let v = served c.in-Ok.given.turn c.turns.journal.past c.push-in-turns.new.self.past c.serve.new.journal.past (rw c.in_ok-make_room.ensures.same at c.push-in-turns.ensures.past) (c.serve.ensures.serves.turns _ (same_turns _)) in
     let kind_is = rw c.in_ok-kind.was at c.kind_again-kind.ensures.again in
     let comes = ap is_last (sym kind_is) ∙ c.in_ok-serve.ensures.last c.in-On.is in
-    let left_is = ap (λ k. k.left) c.serve.ensures.continues.serves.steady.progress_kept in
-    let moment_is = ap (λ k. k.moment) c.serve.ensures.continues.serves.steady.progress_kept in
-    let faults_is = ap (λ k. k.turn_faults) c.serve.ensures.continues.serves.steady.progress_kept in
+    let left_is = ap (λ k. k.left) c.serve.ensures.serves.steady.progress_kept in
+    let moment_is = ap (λ k. k.moment) c.serve.ensures.serves.steady.progress_kept in
+    let faults_is = ap (λ k. k.turn_faults) c.serve.ensures.serves.steady.progress_kept in
     record {
       about = c.turns.invariant.about;
-      stands = c.serve.ensures.continues.stands;
-      room = c.serve.ensures.continues.room (served_room g at.After-serve (listed_room g at.After-push-in-turns));
+      stands = c.serve.ensures.serves.stands;
+      room = c.serve.ensures.serves.room (served_room g at.After-serve (listed_room g at.After-push-in-turns));
       open_is = rw c.in-On.is at c.in_ok-serve.ensures.works;
       fault = v.fault ∙ c.turns.invariant.fault;
       now = omega (arith, v.now, moment_is, c.in-Ok.ensures.gives.moment);
       rise = v.rise (omega (arith, c.turns.invariant.now, c.in-Ok.ensures.later, ap (λ k. k.moment) c.in_ok-make_room.ensures.rest.steady.progress_kept)) c.turns.invariant.rise;
-      follows = λ q wq hq l. c.serve.ensures.continues.serves.follows q wq hq (follows g at.After-push-in-turns q wq hq l);
+      follows = λ q wq hq l. c.serve.ensures.serves.follows q wq hq (follows g at.After-push-in-turns q wq hq l);
       turns = λ before e.
-          ap (λ k. k.turns) c.serve.ensures.continues.serves.steady.progress_kept ∙ c.in-Ok.ensures.gives.turns ∙ ap (λ l. tell (Turned c.in-Ok.given.turn) l) (ap (λ k. k.turns) c.in_ok-make_room.ensures.rest.steady.progress_kept ∙ c.turns.invariant.turns before e) ∙ sym (v.told before);
+          ap (λ k. k.turns) c.serve.ensures.serves.steady.progress_kept ∙ c.in-Ok.ensures.gives.turns ∙ ap (λ l. tell (Turned c.in-Ok.given.turn) l) (ap (λ k. k.turns) c.in_ok-make_room.ensures.rest.steady.progress_kept ∙ c.turns.invariant.turns before e) ∙ sym (v.told before);
       count = omega (arith, v.count, c.turns.invariant.count, c.in-Ok.ensures.falls comes, ap (λ k. k.left) c.in_ok-make_room.ensures.rest.steady.progress_kept, left_is);
       early = omega (arith, v.early, c.turns.invariant.early, c.in-Ok.ensures.falls comes, ap (λ k. k.left) c.in_ok-make_room.ensures.rest.steady.progress_kept, left_is);
       faults = omega (arith, c.turns.invariant.faults, c.in-Ok.ensures.gives.faults.later, ap (λ k. k.turn_faults) c.in_ok-make_room.ensures.rest.steady.progress_kept, faults_is);
-      host_faults = λ p₀ n₀ before. c.serve.ensures.continues.serves.counts p₀ n₀ (counts g at.After-push-in-turns p₀ n₀ before);
-      keeps = λ x₀ p₀ k. c.serve.ensures.continues.keeps x₀ p₀ (keeps g at.After-push-in-turns x₀ p₀ k);
-      world_plan = c.serve.ensures.continues.serves.steady.plan_kept ∙ c.in-Ok.ensures.gives.plan_kept ∙ c.in_ok-make_room.ensures.rest.steady.plan_kept ∙ c.turns.invariant.world_plan;
-      world_place = c.serve.ensures.continues.serves.steady.place_kept ∙ c.in-Ok.ensures.gives.place_kept ∙ c.in_ok-make_room.ensures.rest.steady.place_kept ∙ c.turns.invariant.world_place;
+      makers = omega (arith, c.turns.invariant.makers, c.in-Ok.ensures.gives.maker_faults, c.serve.ensures.maker.later, ap (λ k. k.maker_faults) c.in_ok-make_room.ensures.rest.steady.progress_kept);
+      files = c.in_ok-serve.ensures.files;
+      paid = λ n before. c.serve.ensures.paid n (paid g at.After-push-in-turns n before);
+      host_faults = λ p₀ n₀ before. c.serve.ensures.serves.counts p₀ n₀ (counts g at.After-push-in-turns p₀ n₀ before);
+      keeps = λ x₀ p₀ k. c.serve.ensures.serves.keeps x₀ p₀ (keeps g at.After-push-in-turns x₀ p₀ k);
+      world_plan = c.serve.ensures.serves.steady.plan_kept ∙ c.in-Ok.ensures.gives.plan_kept ∙ c.in_ok-make_room.ensures.rest.steady.plan_kept ∙ c.turns.invariant.world_plan;
+      world_place = c.serve.ensures.serves.steady.place_kept ∙ c.in-Ok.ensures.gives.place_kept ∙ c.in_ok-make_room.ensures.rest.steady.place_kept ∙ c.turns.invariant.world_place;
     }

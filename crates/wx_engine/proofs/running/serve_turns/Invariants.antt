@@ -8,6 +8,8 @@ use Rattle.wx_machine.specs.RunLaws.{MomentsRise}
 use Rattle.wx_machine.specs.Kept.{KeepsOn}
 use Rattle.wx_machine.specs.Leads.{Follows}
 use Rattle.wx_action.specs.Stands.{Stands, HasEndRoom}
+use Rattle.wx_file_turns.specs.Serves.{PaysOn}
+use Rattle.wx_file_turns.specs.Standing.{FilesStand, owing}
 use Rattle.wx_engine.specs.Run.{TellsTurns}
 use Rattle.wx_engine.proofs.running.serve_turns.Given as goal
 
@@ -28,6 +30,9 @@ invariant-turns g l = record {
   count : turn_count l.journal.past + (g.W.Outside.seen l.world).progress.left ≤ turn_count l.fn.journal.past + (g.W.Outside.seen l.fn.world).progress.left;
   early : early_count l.journal.past + (g.W.Outside.seen l.world).progress.left ≤ early_count l.fn.journal.past + (g.W.Outside.seen l.fn.world).progress.left;
   faults : (g.W.Outside.seen l.fn.world).progress.turn_faults ≤ (g.W.Outside.seen l.world).progress.turn_faults;
+  makers : (g.W.Outside.seen l.fn.world).progress.maker_faults ≤ (g.W.Outside.seen l.world).progress.maker_faults;
+  files : FilesStand g.start l.files l.journal.past;
+  paid : PaysOn l.fn.journal.past (g.W.Outside.seen l.fn.world) (owing l.fn.files) l.journal.past (g.W.Outside.seen l.world) (owing l.files);
   host_faults : CountsOn l.fn.journal.past (g.W.Outside.seen l.fn.world).shown.faults l.journal.past (g.W.Outside.seen l.world).shown.faults;
   keeps : KeepsOn (λ h. g.H.JobHooks.seen h) (λ plan. g.H.JobHooks.rule plan) (λ h. g.H.JobHooks.stands h) l.fn.hooks l.fn.journal.past l.hooks l.journal.past;
   world_plan : (g.W.Outside.seen l.world).plan ≡ (g.W.Outside.seen l.fn.world).plan;

@@ -3,7 +3,8 @@ use Rattle.std.specs.Option.{option_or}
 use Rattle.wx_tree.specs.Trees.{Tree}
 use Rattle.wx_scan.specs.Backings.{AllSpellPaths}
 use Rattle.wx_scan.specs.Looked.{OnlyLooks}
-use Rattle.wx_poller.specs.Fitting.{IsNamed, IsTold, shown}
+use Rattle.wx_scan.specs.Told.{IsNamed}
+use Rattle.wx_poller.specs.Fitting.{IsTold, shown}
 use Rattle.wx_poller.specs.Listings.{type_at}
 use Rattle.wx_poller.proofs.listed.list_all.Given as goal
 

@@ -13,8 +13,8 @@ use Rattle.wx_replay.proofs.replaying.play.Goals as goal
 pub returns-clause-text : goal.returns-clause-text
 returns-clause-text c = IfOk-weaker c.shown-out.result _ (λ r. IsReplay c.args.script.now r.0 r.1) (λ r whole.
     let j : List Entry = c.main-answer.new.journal.past in
-    let kept = wished_follows c.args.script.now _ j c.in_ok-hooks.ensures.plan (c.main-answer.ensures.rule (sym c.short.ensures ∙ whole.0) c.in_ok-hooks.ensures.stands) in
-    let shown = whole.1 in
+    let kept = wished_follows c.args.script.now _ j c.in_ok-hooks.ensures.plan (c.main-answer.ensures.rule (sym c.short-short_hooks.ensures ∙ whole.1) c.in_ok-hooks.ensures.stands) in
+    let shown = whole.2 in
     record {
       journal = j;
       answer = c.main-answer.result;
@@ -27,12 +27,13 @@ returns-clause-text c = IfOk-weaker c.shown-out.result _ (λ r. IsReplay c.args.
             (c.main-answer.ensures.turns ∙ ap (λ (before : List Entry). tells (anywhere is_turn) j (Some (turns_of before))) c.in_ok-world.ensures.told);
         acts = kept.0;
         filtered = kept.1;
-        wished = kept.2;
-        polled = kept.3;
-        hooked = kept.4;
+        judged = kept.2;
+        wished = kept.3;
+        polled = kept.4;
+        hooked = kept.5;
         answers = follows_answers c.args.script.now _ c.main-answer.new.world.told.past j
             (c.main-answer.ensures.world_plan ∙ c.in_ok-world.ensures.plan)
-            (λ k. (c.main-answer.new.world.answered k).0)
+            (λ k. (c.main-answer.new.world.answered (sym c.short-short_world.ensures ∙ whole.0) k).0)
             (c.main-answer.ensures.world ∙ ap (λ (before : List Entry). tells is_world j (Some before)) c.in_ok-world.ensures.told);
       };
       fits = shown.fits;
@@ -43,4 +44,4 @@ returns-clause-text c = IfOk-weaker c.shown-out.result _ (λ r. IsReplay c.args.
     ) c.shown-out.ensures
 
 pub returns-clause-status : goal.returns-clause-status
-returns-clause-status c = IfOk-weaker c.shown-out.result _ (λ r. IsWritten r.1) (λ r whole. whole.1.written) c.shown-out.ensures
+returns-clause-status c = IfOk-weaker c.shown-out.result _ (λ r. IsWritten r.1) (λ r whole. whole.2.written) c.shown-out.ensures

@@ -1,12 +1,8 @@
-use Rattle.std.proofs.Common.{refl, arith}
-use Rattle.wx_action.proofs.ArriveLemmas.{StepsOver, grows, said_done, said_then}
+use Rattle.wx_action.proofs.ArriveLemmas.{says_due, said_rest}
 use Rattle.wx_action.proofs.worker_state.Worker.say.Goals as goal
 
-done : (g : _) (c : goal.After-push g) → StepsOver g.start c.args.self.now c.args.journal.now.past c.push.new.self.past
-done g c = said_done g.start c.args.self.now c.args.journal.now.past c.push.new.self.past c.args.word c.requires.0 c.requires.1.stands c.requires.1.due (rw c.in_ok-reserve.ensures.same at c.push.ensures.past)
-
-pub returns-clause-grows : goal.returns-clause-grows
-returns-clause-grows g c = grows _ _ _ _ _ (done g c) refl (omega (arith, c.in_ok-reserve.ensures.room, c.push.ensures.room))
+pub say_due-requires : goal.say_due-requires
+say_due-requires g c = (c.requires.1.stands, says_due g.start c.args.journal.now.past c.args.word c.requires.0 c.requires.1.due)
 
 pub returns-clause-done : goal.returns-clause-done
-returns-clause-done g c = said_then g.start c.args.journal.now.past c.push.new.self.past c.args.word (rw c.in_ok-reserve.ensures.same at c.push.ensures.past)
+returns-clause-done g c = said_rest g.start c.args.journal.now.past c.say_due.new.journal.past c.args.word c.say_due.result c.say_due.ensures.said

@@ -1,7 +1,9 @@
-use Rattle.std.proofs.Common.{◌≡◌, length, drop, sym, ◌∙◌}
+use Rattle.std.proofs.Common.{◌≡◌, ◌||◌, min, length, drop, sym, ◌∙◌}
+use Rattle.wx_script.specs.declared.script.ScriptTurn.TheVariants.{Turn}
 use Rattle.wx_script.specs.HostCalls.{UsesAnswers}
 use Rattle.wx_script.specs.Turns.{FollowsGiven, turns_of}
-use Rattle.wx_follow.proofs.GivenLaws.{rest_more, rest_none, follows_more, follows_last, turn_over}
+use Rattle.wx_follow.specs.Edits.{FollowsEdits}
+use Rattle.wx_follow.proofs.GivenLaws.{rest_more, rest_none, follows_more, follows_last, turn_over, perhaps_short, edits_more, edits_turn, lines_turn}
 use Rattle.wx_follow.proofs.script_world.ScriptWorldWorld.turn.Goals.{After-push-2}
 use Rattle.wx_follow.proofs.script_world.ScriptWorldWorld.turn.Goals as goal
 
@@ -13,6 +15,15 @@ invariant_of-self-clause-follows c = rw (c.push.ensures.past, c.last_turn.ensure
 pub invariant_of-self-clause-rest : goal.invariant_of-self-clause-rest
 invariant_of-self-clause-rest c = rw (c.push.ensures.past, c.in_default.ensures.same) (rest_none c.args.self.now.turns (length (turns_of c.args.self.now.told.past)) (sym c.in_default.ensures.none ∙ c.args.self.now.rest))
 
+pub invariant_of-self-clause-answered : goal.invariant_of-self-clause-answered
+invariant_of-self-clause-answered c = rw (c.push.ensures.past, c.either-self.ensures) (turn_over (c.args.self.now.is_short || c.edit_next-short.result) c.args.self.now.answers c.args.self.now.used c.args.self.now.told.past (Turn c.last_turn.result) (perhaps_short c.args.self.now.is_short c.edit_next-short.result c.args.self.now.answers c.args.self.now.used c.args.self.now.told.past c.args.self.now.answered))
+
+pub invariant_of-self-clause-edited : goal.invariant_of-self-clause-edited
+invariant_of-self-clause-edited c = rw (c.push.ensures.past, c.either-self.ensures) (edits_more c.args.self.now.is_short c.edit_next-short.result c.args.self.now.edits (length (turns_of c.args.self.now.told.past)) c.args.self.now.changed c.args.self.now.tree.entries.items c.edit_next-short.new.tree.entries.items c.args.self.now.lines c.edit_next-short.ensures.edited c.args.self.now.edited)
+
+pub invariant_of-self-clause-lines : goal.invariant_of-self-clause-lines
+invariant_of-self-clause-lines c = rw c.push.ensures.past (lines_turn c.args.self.now.edits c.args.self.now.told.past (Turn c.last_turn.result) c.args.self.now.changed c.passed-self.result c.args.self.now.lines c.passed-self.ensures)
+
 -- ---- a turn of the script was told, or its fault
 
 follows : (c : After-push-2) → FollowsGiven c.args.self.now.turns c.args.self.now.last c.push-2.new.self.past
@@ -21,8 +32,14 @@ follows c = rw (c.push-2.ensures.past, c.entry_of.ensures, c.in-Some.ensures.twi
 rest : (c : After-push-2) → c.next.new.self ≡ drop (length (turns_of c.push-2.new.self.past)) c.args.self.now.turns
 rest c = rw (c.push-2.ensures.past, c.entry_of.ensures, c.in-Some.ensures.twice) (rest_more c.args.self.now.turns c.args.self.now.told.past _ _ (sym c.in-Some.ensures.some ∙ c.args.self.now.rest))
 
-answered : (c : After-push-2) → UsesAnswers c.args.self.now.answers c.args.self.now.used c.push-2.new.self.past
-answered c = rw (c.push-2.ensures.past, c.entry_of.ensures) (turn_over c.args.self.now.answers c.args.self.now.used c.args.self.now.told.past c.in-Some.told c.args.self.now.answered)
+answered : (c : After-push-2) → UsesAnswers c.either-self.result c.args.self.now.answers c.args.self.now.used c.push-2.new.self.past
+answered c = rw (c.push-2.ensures.past, c.entry_of.ensures, c.either-self.ensures) (turn_over (c.args.self.now.is_short || c.edit_next-short.result) c.args.self.now.answers c.args.self.now.used c.args.self.now.told.past c.in-Some.told (perhaps_short c.args.self.now.is_short c.edit_next-short.result c.args.self.now.answers c.args.self.now.used c.args.self.now.told.past c.args.self.now.answered))
+
+edited : (c : After-push-2) → FollowsEdits c.either-self.result c.args.self.now.edits (length (turns_of c.push-2.new.self.past)) c.edit_next-short.new.tree.entries.items
+edited c = rw (c.push-2.ensures.past, c.entry_of.ensures, c.either-self.ensures) (edits_turn (c.args.self.now.is_short || c.edit_next-short.result) c.args.self.now.edits c.args.self.now.told.past c.in-Some.told c.edit_next-short.new.tree.entries.items (edits_more c.args.self.now.is_short c.edit_next-short.result c.args.self.now.edits (length (turns_of c.args.self.now.told.past)) c.args.self.now.changed c.args.self.now.tree.entries.items c.edit_next-short.new.tree.entries.items c.args.self.now.lines c.edit_next-short.ensures.edited c.args.self.now.edited))
+
+lines : (c : After-push-2) → c.passed-self.result ≡ min (length (turns_of c.push-2.new.self.past)) (length c.args.self.now.edits)
+lines c = rw (c.push-2.ensures.past, c.entry_of.ensures) (lines_turn c.args.self.now.edits c.args.self.now.told.past c.in-Some.told c.args.self.now.changed c.passed-self.result c.args.self.now.lines c.passed-self.ensures)
 
 -- ---- the goals
 
@@ -43,3 +60,15 @@ invariant_of-self-in-Turn-clause-answered c = answered (goal.at.invariant_of-sel
 
 pub invariant_of-self-in-Fault-clause-answered : goal.invariant_of-self-in-Fault-clause-answered
 invariant_of-self-in-Fault-clause-answered c = answered (goal.at.invariant_of-self-in-Fault-clause-answered c).After-push-2
+
+pub invariant_of-self-in-Turn-clause-edited : goal.invariant_of-self-in-Turn-clause-edited
+invariant_of-self-in-Turn-clause-edited c = edited (goal.at.invariant_of-self-in-Turn-clause-edited c).After-push-2
+
+pub invariant_of-self-in-Fault-clause-edited : goal.invariant_of-self-in-Fault-clause-edited
+invariant_of-self-in-Fault-clause-edited c = edited (goal.at.invariant_of-self-in-Fault-clause-edited c).After-push-2
+
+pub invariant_of-self-in-Turn-clause-lines : goal.invariant_of-self-in-Turn-clause-lines
+invariant_of-self-in-Turn-clause-lines c = lines (goal.at.invariant_of-self-in-Turn-clause-lines c).After-push-2
+
+pub invariant_of-self-in-Fault-clause-lines : goal.invariant_of-self-in-Fault-clause-lines
+invariant_of-self-in-Fault-clause-lines c = lines (goal.at.invariant_of-self-in-Fault-clause-lines c).After-push-2

@@ -1,7 +1,7 @@
 use Rattle.std.proofs.Common.{◌≡◌, ◌≤◌, ◌+◌, length, set, length-set, add-one, arith, refl, ap, ◌∙◌}
 use Rattle.std.specs.Prelude.{None}
 use Rattle.wx_machine.proofs.Sound.{leads_counted}
-use Rattle.wx_machine.proofs.SteadyLemmas.{steady_then}
+use Rattle.wx_machine.proofs.SteadyLemmas.{steady_none, steady_then}
 use Rattle.wx_machine.proofs.FaultLaws.{counts_end}
 use Rattle.wx_hooks.proofs.EndLemmas.{ending_starts, ending_goes, ending_ends}
 use Rattle.wx_hooks.proofs.job_list.JobList.end_all.Goals as goal
@@ -13,7 +13,7 @@ loop-place-init g c = record {
   journal_room = let room = c.requires.1.1.1.0 in omega (arith, ap length c.self.view_is, room);
   host_room = let room = c.requires.1.1.1.1 in omega (arith, ap length c.self.view_is, room);
   faults = omega arith;
-  kept = record { plan_kept = refl; progress_kept = refl; place_kept = refl };
+  kept = steady_none;
 }
 
 pub loop-place-preserved : goal.loop-place-preserved

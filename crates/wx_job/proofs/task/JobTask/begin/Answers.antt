@@ -1,4 +1,5 @@
 use Rattle.std.proofs.Common.{rules}
+use Rattle.wx_machine.proofs.CaseLemmas.{leads}
 use Rattle.wx_job.proofs.Sets.{steps}
 use Rattle.wx_job.proofs.task.JobTask.begin.Goals as goal
 
@@ -7,3 +8,6 @@ returns-clause-served g c = let stands = c.requires.ready.stands in let here = c
 
 pub returns-clause-begun : goal.returns-clause-begun
 returns-clause-begun g c = search (rules, steps)
+
+pub returns-in-Err-clause-failed : goal.returns-in-Err-clause-failed
+returns-in-Err-clause-failed g c = search (rules, leads)

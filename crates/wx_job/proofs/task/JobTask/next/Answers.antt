@@ -2,6 +2,7 @@ use Rattle.std.proofs.Common.{◌≡◌, refl, arith, ap, rules}
 use Rattle.wx_machine.specs.States.{child_of}
 use Rattle.wx_job.specs.Parkings.{Tickets}
 use Rattle.wx_job.specs.Stands.{kit_of}
+use Rattle.wx_machine.proofs.SteadyLemmas.{steady_none}
 use Rattle.wx_job.proofs.DoneLemmas.{done_picked, done_parked, parked_row}
 use Rattle.wx_job.proofs.Sets.{steps}
 use Rattle.wx_job.proofs.StandsLemmas.{row-is}
@@ -21,3 +22,6 @@ returns-in-Some-clause-served g c =
 
 pub returns-in-None-clause-done : goal.returns-in-None-clause-done
 returns-in-None-clause-done g c = done_parked c.pick.new.self _ c.args.self.now.id c.args.ticket _ _ _ _ _ (parked_row c.args.self.now.id (kit_of c.args.self.now) c.args.ticket c.args.control (child_of c.args.self.now.state) c.args.self.now.state c.in-None.ensures.parks refl) c.pick.ensures.entry
+
+pub returns-in-None-clause-served : goal.returns-in-None-clause-served
+returns-in-None-clause-served g c = record { stood = search (rules, steps); keeps = search (rules, steps); uses = record { steady = steady_none; now = search (rules, steps); in_journal = search (rules, steps); in_host = search (rules, steps); in_hooks = search (rules, steps) } }

@@ -1,6 +1,7 @@
 use Rattle.std.proofs.Common.{◌≡◌, ap, sym, ◌∙◌, rules}
 use Rattle.std.specs.Prelude.{is_some}
 use Rattle.wx_machine.specs.Table.{waiters}
+use Rattle.wx_machine.proofs.SteadyLemmas.{steady_then}
 use Rattle.wx_job.specs.declared.task.JobTask.{JobTask}
 use Rattle.wx_job.specs.Prepared.{fresh_or}
 use Rattle.wx_job.specs.Stands.{kit_of}
@@ -9,7 +10,7 @@ use Rattle.wx_job.proofs.Sets.{steps}
 use Rattle.wx_job.proofs.task.JobTask.restart.Goals as goal
 
 pub returns-clause-served : goal.returns-clause-served
-returns-clause-served g c = record { stood = search (rules, steps); keeps = search (rules, steps); uses = search (rules, steps) }
+returns-clause-served g c = record { stood = search (rules, steps); keeps = search (rules, steps); uses = record { steady = steady_then c.reap.ensures.served.uses.steady (steady_then c.raise_parked.ensures.spends.steady c.start.ensures.served.uses.steady); now = search (rules, steps); in_journal = search (rules, steps); in_host = search (rules, steps); in_hooks = search (rules, steps) } }
 
 pub returns-clause-done : goal.returns-clause-done
 returns-clause-done g c =

@@ -1,4 +1,5 @@
 use Rattle.std.proofs.Common.{rules}
+use Rattle.wx_machine.proofs.CaseLemmas.{leads}
 use Rattle.wx_job.proofs.Sets.{steps}
 use Rattle.wx_job.proofs.task.JobTask.signal.Goals as goal
 
@@ -7,3 +8,6 @@ returns-in-Err-clause-served g c = record { stood = search (rules, steps); keeps
 
 pub returns-in_default-clause-follows : goal.returns-in_default-clause-follows
 returns-in_default-clause-follows g c = search (rules, steps)
+
+pub returns-in-Err-clause-follows : goal.returns-in-Err-clause-follows
+returns-in-Err-clause-follows g c = search (rules, leads)

@@ -1,0 +1,9 @@
+pub mod Applied
+pub mod DirLemmas
+pub mod Entries
+pub mod Onward
+pub mod Rebuilt
+pub mod Standing
+pub mod Staying
+pub mod Steps
+pub mod TurnLemmas

@@ -1,0 +1,202 @@
+-- What is kept of what is watched stands on.
+use Rattle.wx_scan.specs.declared.backend.Backend.{Ghosts}
+use Rattle.std.proofs.Common.{◌≡◌, ◌<◌, ◌+◌, ℕ, Bool, true, false, cond, List, [], ◌∷◌, ◌++◌, inl, inr, arith, refl, ap, sym, subst, ◌∙◌}
+use Rattle.std.specs.Prelude.{◌⊎◌, Option, None, Some, is_some, Result, Ok, Err, ◌||◌, ◌&&◌}
+use Rattle.std.proofs.lemmas.Bool.{eqb-true}
+use Rattle.wx_watch.specs.declared.notify_fault.NotifyFault.{NotifyFault}
+use Rattle.wx_watch.specs.declared.watched.WatchedPath.{WatchedPath}
+use Rattle.wx_config.specs.Changes.{changed}
+use Rattle.wx_config.specs.declared.change.Change.{Change}
+use Rattle.wx_config.specs.declared.change.Change.TheVariants.{Signal, Pathset, FileWatcher, FollowSymlinks, KeyboardEvents, Throttle, Filterer, OnError, OnAction}
+use Rattle.wx_config.specs.declared.config.Config.{Config}
+use Rattle.wx_paths.specs.Paths.{is_absolute}
+use Rattle.wx_tree.specs.Lists.{In}
+use Rattle.wx_tree.specs.Paths.{Path, holds_below}
+use Rattle.wx_tree.specs.declared.root.Root.{Root}
+use Rattle.wx_lane.specs.Public.{named}
+use Rattle.wx_dir_check.specs.Checks.{is_below_any}
+use Rattle.wx_recursor.specs.Owners.{has_root}
+use Rattle.wx_step.specs.Asking.{AreAllowed}
+use Rattle.wx_fs.specs.Kept.{keep_root, keep_roots, kept_root, kept_roots}
+use Rattle.wx_holding.specs.Holding.{state_of}
+use Rattle.wx_journal.specs.declared.entry.Entry.{Entry}
+use Rattle.wx_journal.specs.declared.entry.Entry.TheVariants.{Changed, Make, Applied}
+use Rattle.wx_machine.specs.Start.{Start}
+use Rattle.wx_machine.specs.Settings.{settings, first_changed, pending}
+use Rattle.wx_machine.specs.Files.{Source, source, stand, applied, is_applied, is_below_recursive}
+use Rattle.wx_file_turns.specs.declared.files.Files.{Files}
+use Rattle.wx_file_turns.specs.declared.files.Watching.{Watching}
+use Rattle.wx_file_turns.specs.Standing.{SameRoots, WatchesBy, StandsBy, FilesStand, is_revision, revision_of}
+use Rattle.wx_file_turns.specs.Judged.{recursive_places, IsUpToDate}
+use Rattle.wx_file_turns.specs.Stepping.{IsWatching}
+use Rattle.wx_file_turns.proofs.Staying.{Asked, asked}
+
+-- ---- settings of the revision that stands are those that stand
+
+abbrev IsNoLater : Option Config → Config → Type 0
+IsNoLater None c = Unit {0}
+IsNoLater (Some a) c = (a ≡ c) ⊎ (a.change_signal < c.change_signal)
+
+raised : (change : Change) (c : Config) → (changed change c).change_signal ≡ c.change_signal + 1
+raised Signal c = refl
+raised (Pathset paths) c = refl
+raised (FileWatcher watcher) c = refl
+raised (FollowSymlinks on) c = refl
+raised (KeyboardEvents on) c = refl
+raised (Throttle throttle) c = refl
+raised (Filterer n) c = refl
+raised (OnError n) c = refl
+raised (OnAction n) c = refl
+
+later_by_one : (change : Change) (o : Option Config) (c : Config) → IsNoLater o c → IsNoLater o (changed change c)
+later_by_one change None c h = tt
+later_by_one change (Some a) c (inl same) = inr (let up = raised change c in let was : a.change_signal ≡ c.change_signal = ap (λ (d : Config). d.change_signal) same in omega (arith, up, was))
+later_by_one change (Some a) c (inr less) = inr (let up = raised change c in omega (arith, up, less))
+
+later_by : (changes : List Change) (o : Option Config) (c : Config) → IsNoLater o c → IsNoLater o (first_changed changes c)
+later_by [] o c h = h
+later_by (change ∷ changes) o c h = later_by_one change o c h
+
+stood : (back : ℕ) (answer : Result (Unit {0}) NotifyFault) (x : Source) → (stand back answer x).applied ≡ x.applied
+stood back (Ok done) x = refl
+stood back (Err fault) x = refl
+
+no_later : (s : Start) (p : List Entry) → IsNoLater (source s p).applied (settings s p)
+no_later s [] = tt
+no_later s (Make back watcher follow answer ∷ p) = subst (λ (o : Option Config). IsNoLater o (settings s p)) (sym (stood back answer (source s p))) (no_later s p)
+no_later s (Applied revision ∷ p) = inl refl
+no_later s (Changed revision ∷ p) = later_by (pending p) (source s p).applied (settings s p) (no_later s p)
+no_later s (_ ∷ p) = no_later s p
+
+same_revision : (o : Option Config) (c : Config) → IsNoLater o c → is_applied c o ≡ true → o ≡ Some c
+same_revision None c h is = absurd cc
+same_revision (Some a) c (inl same) is = ap (λ (d : Config). Some d) same
+same_revision (Some a) c (inr less) is = let same : a.change_signal ≡ c.change_signal = eqb-true a.change_signal c.change_signal is in absurd (omega (arith, same, less))
+
+pub up_to_date : (s : Start) (p : List Entry) → is_applied (settings s p) (source s p).applied ≡ true → IsUpToDate s p
+up_to_date s p is = same_revision (source s p).applied (settings s p) (no_later s p) is
+
+-- whether it was applied, as it is kept
+pub revision_known : (c : Config) (o : Option Config) → is_revision c.change_signal (revision_of o) ≡ is_applied c o
+revision_known c None = refl
+revision_known c (Some a) = refl
+
+-- what was applied is what stands
+pub applied_is : (s : Start) (p : List Entry) → IsUpToDate s p → applied s p ≡ settings s p
+applied_is s p now = rw now refl
+
+-- ---- directories below the paths that are watched
+
+below_one : (b : Bool) (q p : Path) (qs : List Path) → is_below_any (cond b (q ∷ qs) qs) p ≡ ((b && holds_below q p) || is_below_any qs p)
+below_one true q p qs = refl
+below_one false q p qs = refl
+
+below_places : (folder : List ℕ) (ws : List WatchedPath) (p : Path) → is_below_any (recursive_places folder ws) p ≡ is_below_recursive folder ws p
+below_places folder [] p = refl
+below_places folder (w ∷ ws) p = below_one w.recursive (named folder w.path) p (recursive_places folder ws) ∙ ap (λ (b : Bool). (w.recursive && holds_below (named folder w.path) p) || b) (below_places folder ws p)
+
+pub below_known : (folder : List ℕ) (ws : List WatchedPath) (p : Path) → is_below_any (recursive_places folder ws) p ≡ true → is_below_recursive folder ws p ≡ true
+below_known folder ws p h = sym (below_places folder ws p) ∙ h
+
+in_more : (x : Root) (rs : List Root) (y : Root) → In x (rs ++ y ∷ []) → In x rs ⊎ (y ≡ x)
+in_more x [] y (inl same) = inr same
+in_more x [] y (inr none) = absurd none
+in_more x (r ∷ rs) y (inl same) = inl (inl same)
+in_more x (r ∷ rs) y (inr m) = cases (in_more x rs y m)
+  where
+    cases : (In x rs ⊎ (y ≡ x)) → In x (r ∷ rs) ⊎ (y ≡ x)
+    cases (inl m) = inl (inr m)
+    cases (inr same) = inr same
+
+in_kept : (b : Bool) (x : Root) (rs : List Root) (y : Root) → In x (cond b rs (rs ++ y ∷ [])) → In x rs ⊎ (y ≡ x)
+in_kept true x rs y m = inl m
+in_kept false x rs y m = in_more x rs y m
+
+place_later : (b : Bool) (q : Path) (p : Path) (qs : List Path) → In p qs → In p (cond b (q ∷ qs) qs)
+place_later true q p qs m = inr m
+place_later false q p qs m = m
+
+place_now : (b : Bool) (q : Path) (qs : List Path) → b ≡ true → In q (cond b (q ∷ qs) qs)
+place_now true q qs is = inl refl
+place_now false q qs is = absurd cc
+
+places_kept : (folder : List ℕ) (ws : List WatchedPath) (rs : List Root) (r : Root) → In r (keep_roots folder ws rs) → r.recursive ≡ true → In r rs ⊎ In r.path (recursive_places folder ws)
+places_kept folder [] rs r m is = inl m
+places_kept folder (w ∷ ws) rs r m is = cases (places_kept folder ws (keep_root (kept_root folder w) rs) r m is)
+  where
+    this : (kept_root folder w ≡ r) → In r.path (recursive_places folder (w ∷ ws))
+    this same =
+        let on : w.recursive ≡ true = ap (λ (x : Root). x.recursive) same ∙ is in
+        subst (λ (p : Path). In p (recursive_places folder (w ∷ ws))) (ap (λ (x : Root). x.path) same) (place_now w.recursive (named folder w.path) (recursive_places folder ws) on)
+
+    first : (In r rs ⊎ (kept_root folder w ≡ r)) → In r rs ⊎ In r.path (recursive_places folder (w ∷ ws))
+    first (inl m) = inl m
+    first (inr same) = inr (this same)
+
+    cases : (In r (keep_root (kept_root folder w) rs) ⊎ In r.path (recursive_places folder ws)) → In r rs ⊎ In r.path (recursive_places folder (w ∷ ws))
+    cases (inl m) = first (in_kept (has_root (kept_root folder w) rs) r rs (kept_root folder w) m)
+    cases (inr m) = inr (place_later w.recursive (named folder w.path) r.path (recursive_places folder ws) m)
+
+none_left : (folder : List ℕ) (ws : List WatchedPath) (r : Root) → (In r [] ⊎ In r.path (recursive_places folder ws)) → In r.path (recursive_places folder ws)
+none_left folder ws r (inl none) = absurd none
+none_left folder ws r (inr m) = m
+
+-- what keeps watches asks only below recursive paths
+pub allowed : (folder : List ℕ) (ws : List WatchedPath) (rs : List Root) → SameRoots rs (kept_roots folder ws) → AreAllowed (recursive_places folder ws) rs
+allowed folder ws rs same r m is = none_left folder ws r (places_kept folder ws [] r (same.there r m) is)
+
+-- ---- what keeps watches
+
+-- it does so over the calls of a step
+pub watches_on : {B : Type 0} {G : Ghosts B} (folder : List ℕ) (c : Config) (back back' : ℕ) (w v : Watching B G) → WatchesBy folder c back w → v.back ≡ back' → v.recursor.spent ≡ false → is_some v.recursor.back ≡ true → (v.recursor.kind ≡ w.recursor.kind) × (v.recursor.follow ≡ w.recursor.follow) × (v.recursor.cwd ≡ w.recursor.cwd)
+    → asked (state_of v.recursor.held) ≡ asked (state_of w.recursor.held) → WatchesBy folder c back' v
+watches_on folder c back back' w v h named unspent installed others same = record {
+  named = named;
+  unspent = unspent;
+  has_backend = installed;
+  installed = ap (λ (x : Asked). x.backend) same ∙ h.installed;
+  kind_kept = others.0 ∙ h.kind_kept;
+  follow_kept = others.1 ∙ h.follow_kept;
+  folder_kept = others.2 ∙ h.folder_kept;
+  roots_kept = subst (λ (rs : List Root). SameRoots rs (kept_roots folder c.pathset)) (sym (ap (λ (x : Asked). x.roots) same)) h.roots_kept;
+  filter_kept = ap (λ (x : Asked). x.filter) same ∙ h.filter_kept;
+}
+
+-- where the settings that stand were applied and it stands, it keeps watches by them
+standing : {B : Type 0} {G : Ghosts B} (folder : List ℕ) (o : Option Config) (current : Option ℕ) (c : Config) (w : Watching B G) → o ≡ Some c → StandsBy folder o current (Some w) → (back : ℕ) × (current ≡ Some back) × WatchesBy folder c back w
+standing folder None current c w is h = absurd cc
+standing folder (Some d) None c w is h = absurd h
+standing folder (Some d) (Some back) c w is h = let same : d ≡ c = cc is in (back, refl, subst (λ (d : Config). WatchesBy folder d back w) same h)
+
+pub files_watch : {B : Type 0} {G : Ghosts B} (s : Start) (f : Files B G) (w : Watching B G) (p : List Entry) → FilesStand s f p → IsUpToDate s p → f.source ≡ Some w → IsWatching s w p
+files_watch s f w p h now is =
+    let found = standing s.folder (source s p).applied (source s p).current (settings s p) w now (subst (StandsBy s.folder (source s p).applied (source s p).current) is h.source_kept) in
+    record { applied_now = now; back = found.0; current = found.1; watches = found.2 }
+
+pub watch_files : {B : Type 0} {G : Ghosts B} (s : Start) (f : Files B G) (w : Watching B G) (p : List Entry) → IsWatching s w p → f.source ≡ Some w → f.applied ≡ Some (settings s p).change_signal → f.folder ≡ s.folder → is_absolute f.folder ≡ true → FilesStand s f p
+watch_files s f w p h is revision folder absolute = record {
+  absolute = absolute;
+  folder_kept = folder;
+  revision_kept = revision ∙ sym (ap revision_of h.applied_now);
+  source_kept = rw (h.applied_now, h.current, is) h.watches;
+}
+
+-- it stands for each journal that says the same of what is watched
+pub files_still : {B : Type 0} {G : Ghosts B} (s : Start) (f : Files B G) (p p' : List Entry) → source s p' ≡ source s p → FilesStand s f p → FilesStand s f p'
+files_still s f p p' same h = record {
+  absolute = h.absolute;
+  folder_kept = h.folder_kept;
+  revision_kept = h.revision_kept ∙ sym (ap (λ (x : Source). revision_of x.applied) same);
+  source_kept = rw same h.source_kept;
+}
+
+-- where none stands no backend does
+none_stands : {B : Type 0} {G : Ghosts B} (folder : List ℕ) (o : Option Config) (current : Option ℕ) (f : Option (Watching B G)) → f ≡ None → StandsBy folder o current f → current ≡ None
+none_stands folder None None f is h = refl
+none_stands folder None (Some back) f is h = absurd h
+none_stands folder (Some c) None f is h = refl
+none_stands folder (Some c) (Some back) None is h = absurd h
+none_stands folder (Some c) (Some back) (Some w) is h = absurd cc
+
+pub files_none : {B : Type 0} {G : Ghosts B} (s : Start) (f : Files B G) (p : List Entry) → FilesStand s f p → f.source ≡ None → (source s p).current ≡ None
+files_none s f p h is = none_stands s.folder (source s p).applied (source s p).current f.source is h.source_kept

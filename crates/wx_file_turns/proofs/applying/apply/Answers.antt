@@ -1,0 +1,53 @@
+use Rattle.std.proofs.Common.{◌≡◌, ◌∷◌, refl}
+use Rattle.std.specs.Prelude.{true, false}
+use Rattle.wx_journal.specs.declared.entry.Entry.TheVariants.{Applied}
+use Rattle.wx_machine.specs.Due.{Applies, Comes, Open, agenda}
+use Rattle.wx_machine.proofs.SteadyLemmas.{only_none}
+use Rattle.wx_action.specs.Stands.{Stands}
+use Rattle.wx_file_turns.specs.Serves.{AttendsAlone}
+use Rattle.wx_file_turns.proofs.Applied.{empty_known, is_behind, none_owed}
+use Rattle.wx_file_turns.proofs.Entries.{applied_alone, applied_stands}
+use Rattle.wx_file_turns.proofs.Onward.{alone_room, alone_then}
+use Rattle.wx_file_turns.proofs.Steps.{applied_now_due}
+use Rattle.wx_file_turns.proofs.applying.apply.Goals.{After-push}
+use Rattle.wx_file_turns.proofs.applying.apply.Goals as goal
+
+-- settings were said to be applied, in room that was taken
+alone : (g : _) (c : After-push g) → AttendsAlone g.start c.args.worker.now c.args.journal.now (g.W.Outside.seen c.args.world.now) c.push.new.self (g.W.Outside.seen c.args.world.now)
+alone g c =
+    let w = c.args.worker.now in
+    let j = c.args.journal.now in
+    let k = c.reserve.new.journal in
+    let a = g.W.Outside.seen c.args.world.now in
+    let stands : Stands g.start w k.past = rw c.reserve.ensures.same c.requires.1.1.0.stands in
+    let owes : agenda g.start k.past ≡ Comes Applies Open = rw c.reserve.ensures.same c.requires.1.1.0.due in
+    alone_then g.start w j k c.push.new.self a a a (alone_room g.start w j k a a c.requires.1.1.0.stands c.reserve.ensures.same c.reserve.ensures.kept only_none)
+    (applied_alone g.start w k c.push.new.self a w.config.change_signal stands (applied_now_due g.start w k.past stands owes) c.push.ensures.past c.in_ok-reserve.ensures.room c.push.ensures.room)
+
+pub returns-then-is_empty-clause-served : goal.returns-then-is_empty-clause-served
+returns-then-is_empty-clause-served g c =
+    let grown : c.push.new.self.past ≡ Applied c.args.worker.now.config.change_signal ∷ c.args.journal.now.past = rw c.reserve.ensures.same at c.push.ensures.past in
+    none_owed g.start c.args.journal.now.past _ c.args.worker.now.config c.requires.1.1.0.due c.requires.1.1.1.0 c.requires.1.1.0.stands.config_kept grown (empty_known c.args.worker.now.config.pathset c.get.result.now c.is_empty.result true c.get.ensures c.is_empty.ensures c.if-is_empty.true)
+
+pub returns-then-is_empty-clause-alone : goal.returns-then-is_empty-clause-alone
+returns-then-is_empty-clause-alone g c = alone g (goal.at.returns-then-is_empty-clause-alone g c).After-push
+
+pub returns-clause-alone : goal.returns-clause-alone
+returns-clause-alone g c = alone_then g.start c.args.worker.now c.args.journal.now c.push.new.self _ _ _ _ (alone g (goal.at.returns-clause-alone g c).After-push) c.watch.ensures.alone
+
+pub watch-requires : goal.watch-requires
+watch-requires g c = λ κs lives.
+    let grown : c.push.new.self.past ≡ Applied c.args.worker.now.config.change_signal ∷ c.args.journal.now.past = rw c.reserve.ensures.same at c.push.ensures.past in
+    let stands : Stands g.start c.args.worker.now c.args.journal.now.past = c.requires.1.1.0.stands in (
+      lives.0,
+      (
+        lives.1,
+        (
+          rw grown (applied_stands g.start c.args.worker.now c.args.journal.now.past c.args.worker.now.config.change_signal stands),
+          (
+            rw grown c.requires.1.1.1.0,
+            is_behind g.start c.args.files.now _ c.args.journal.now.past _ c.args.worker.now.config c.requires.1.1.1.1 c.requires.1.1.0.due c.requires.1.1.1.0 stands.config_kept grown refl refl refl (empty_known c.args.worker.now.config.pathset c.get.result.now c.is_empty.result false c.get.ensures c.is_empty.ensures c.if-is_empty.false),
+          ),
+        ),
+      ),
+    )

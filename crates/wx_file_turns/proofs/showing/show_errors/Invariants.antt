@@ -1,0 +1,15 @@
+use Rattle.std.specs.Prelude.{length}
+use Rattle.wx_file_turns.specs.Judged.{IsStepping, StepsHand}
+use Rattle.wx_file_turns.proofs.showing.show_errors.Given as goal
+
+abbrev pub ghost-show_error : goal.ghost-show_error
+ghost-show_error g a = g.start
+
+abbrev pub invariant-loop-error : goal.invariant-loop-error
+invariant-loop-error g l = record {
+  hand : StepsHand (λ h. g.H.JobHooks.seen h) (λ plan. g.H.JobHooks.rule plan) (λ h. g.H.JobHooks.stands h) g.start l.fn.worker l.fn.journal l.fn.hooks l.worker l.journal l.hooks;
+  stepping : IsStepping g.start l.journal.past;
+}
+
+abbrev pub decreases-loop-error : goal.decreases-loop-error
+decreases-loop-error g l = length l.left

@@ -1,0 +1,16 @@
+use Rattle.wx_file_turns.proofs.Onward.{onward_leaves, steps_by_hand, steps_then}
+use Rattle.wx_file_turns.proofs.Rebuilt.{at_step_still, work_worth}
+use Rattle.wx_file_turns.proofs.stepping.work.Goals as goal
+
+pub returns-in_err-show_errors-clause-steps : goal.returns-in_err-show_errors-clause-steps
+returns-in_err-show_errors-clause-steps g c = steps_then _ _ _ g.start _ _ _ _ _ _ _ _ _ _ _ _ c.take_step.ensures.steps (steps_by_hand _ _ _ g.start _ _ _ _ _ _ _ c.show_errors.ensures.hand)
+
+-- where a rebuild is asked for
+pub rebuild_where-requires : goal.rebuild_where-requires
+rebuild_where-requires g c = λ κs lives. (lives.0, (lives.1.0, (lives.1.1, (c.show_errors.ensures.hand.grows.stands, at_step_still g.start _ _ _ c.in_ok-shown.ensures.at_step c.show_errors.ensures.hand.leaves c.in_ok-show_errors.ensures.stepping))))
+
+pub returns-clause-steps : goal.returns-clause-steps
+returns-clause-steps g c = steps_then _ _ _ g.start _ _ _ _ _ _ _ _ _ _ _ _ (steps_then _ _ _ g.start _ _ _ _ _ _ _ _ _ _ _ _ c.take_step.ensures.steps (steps_by_hand _ _ _ g.start _ _ _ _ _ _ _ c.show_errors.ensures.hand)) c.rebuild_where.ensures.steps
+
+pub returns-clause-worthwhile : goal.returns-clause-worthwhile
+returns-clause-worthwhile g c = work_worth c.rebuild_where.result _ _ _ _ _ _ _ _ _ _ c.in_ok-shown.ensures.worthwhile c.take_step.ensures.steps.onward (onward_leaves g.start _ _ _ c.show_errors.ensures.hand.leaves) c.rebuild_where.ensures.steps.onward c.rebuild_where.ensures.work c.rebuild_where.ensures.none

@@ -1,0 +1,127 @@
+// A step of what keeps watches.
+ghost use Rattle.std.specs.Prelude.{◌≡◌, ◌≤◌, ◌+◌, true, false, IfErr, OnOk};
+ghost use Rattle.wx_machine.specs.Answer.{BreaksHere};
+ghost use Rattle.wx_machine.specs.Due.{Open, Steps, agenda, is_quitting};
+ghost use Rattle.wx_machine.specs.Start.{Start};
+ghost use Rattle.wx_machine.specs.Steps.{work_count};
+ghost use Rattle.wx_action.specs.Stands.{Owes, Stands};
+ghost use Rattle.wx_file_turns.specs.Serves.{Attends, PaysOn};
+ghost use Rattle.wx_file_turns.specs.Standing.{owed, works};
+ghost use Rattle.wx_file_turns.specs.Stepping.{IsAtStep, IsWatching, IsWorthwhile, StepsOn};
+
+use crate::files::Watching;
+use crate::judging::take_step;
+use crate::rebuilding::rebuild;
+use crate::showing::{say, show_errors};
+use std::alloc::Global;
+use wx_action::{Hooks, Worker, World};
+use wx_error::CriticalError;
+use wx_journal::{Journal, Word};
+use wx_words::TextPath;
+
+/// The rebuild of a step, where it asks for one.
+fn rebuild_where<W: World, H: Hooks>(
+    alloc: Global,
+    asked: bool,
+    watching: &mut Watching<W::Back>,
+    worker: &mut Worker,
+    world: &mut W,
+    hooks: &mut H,
+    journal: &mut Journal,
+) -> Result<(), CriticalError>
+    ghost start: { Start }
+    requires stands { Stands start worker.old journal.old.past }
+    requires at_step { IsAtStep start watching.old journal.old.past }
+    ensures steps { StepsOn H.seen H.rule H.stands start worker.old journal.old (W.seen world.old) hooks.old worker.new journal.new (W.seen world.new) hooks.new }
+    ensures at_step { OnOk result (IsAtStep start watching.new journal.new.past) }
+    ensures work { OnOk result (asked ≡ true → work_count journal.old.past + 1 ≤ work_count journal.new.past) }
+    ensures none { asked ≡ false → watching.new ≡ watching.old }
+    ensures breaks { IfErr result (λ error. BreaksHere start journal.new.past error) }
+{
+    if asked {
+        return rebuild(alloc, watching, worker, world, hooks, journal);
+    }
+    Ok(())
+}
+
+/// All of a step but its last word: what keeps watches does one, its errors are shown, and where it asks for a rebuild of the
+/// backend that is done. It fails where a backend can't be made, where the error handler wished that the run ends with an error, and
+/// for want of memory.
+fn work<W: World, H: Hooks>(
+    alloc: Global,
+    folder: &TextPath,
+    watching: &mut Watching<W::Back>,
+    worker: &mut Worker,
+    world: &mut W,
+    hooks: &mut H,
+    journal: &mut Journal,
+) -> Result<(), CriticalError>
+    ghost start: { Start }
+    requires stands { Stands start worker.old journal.old.past }
+    requires at_step { IsAtStep start watching.old journal.old.past }
+    requires folder { folder.now ≡ start.folder }
+    ensures steps { StepsOn H.seen H.rule H.stands start worker.old journal.old (W.seen world.old) hooks.old worker.new journal.new (W.seen world.new) hooks.new }
+    ensures at_step { OnOk result (IsAtStep start watching.new journal.new.past) }
+    ensures worthwhile { OnOk result (IsWorthwhile watching.new journal.old.past (W.seen world.old) journal.new.past (W.seen world.new)) }
+    ensures breaks { IfErr result (λ error. BreaksHere start journal.new.past error) }
+{
+    let shown = take_step(alloc, folder, watching, worker, world, hooks, journal)?;
+    let asked = shown.rebuild_backend;
+    show_errors(alloc, worker, shown.errors, hooks, journal)?;
+    rebuild_where(alloc, asked, watching, worker, world, hooks, journal)
+}
+
+/// A step of what keeps watches, which has work: it does one, its errors are shown, where it asks for a rebuild of the backend that
+/// is done, and the turn says so. It fails where a backend can't be made, where the error handler wished that the run ends with an
+/// error, and for want of memory.
+pub(crate) fn step<W: World, H: Hooks>(
+    alloc: Global,
+    folder: &TextPath,
+    watching: &mut Watching<W::Back>,
+    worker: &mut Worker,
+    world: &mut W,
+    hooks: &mut H,
+    journal: &mut Journal,
+) -> Result<(), CriticalError>
+    ghost start: { Start }
+    requires stands { Stands start worker.old journal.old.past }
+    requires at_step { IsAtStep start watching.old journal.old.past }
+    requires going { is_quitting journal.old.past ≡ false }
+    requires folder { folder.now ≡ start.folder }
+    ensures attends { Attends H.seen H.rule H.stands start worker.old journal.old (W.seen world.old) hooks.old worker.new journal.new (W.seen world.new) hooks.new }
+    ensures served { OnOk result (agenda start journal.new.past ≡ Open) }
+    ensures watching { OnOk result (IsWatching start watching.new journal.new.past) }
+    ensures breaks { IfErr result (λ error. BreaksHere start journal.new.past error) }
+    ensures paid { PaysOn journal.old.past (W.seen world.old) 1 journal.new.past (W.seen world.new) (owed (works watching.new)) }
+{
+    work(alloc, folder, watching, worker, world, hooks, journal)?;
+    say(worker, Word::Stepped, journal)?;
+    Ok(())
+}
+
+/// A turn where a backend stands: a step, where there is work, else the turn says that there is none. It fails as a step does.
+pub(crate) fn attend<W: World, H: Hooks>(
+    alloc: Global,
+    folder: &TextPath,
+    watching: &mut Watching<W::Back>,
+    worker: &mut Worker,
+    world: &mut W,
+    hooks: &mut H,
+    journal: &mut Journal,
+) -> Result<(), CriticalError>
+    ghost start: { Start }
+    requires owes { Owes start worker.old journal.old.past (Steps true Open) }
+    requires watching { IsWatching start watching.old journal.old.past }
+    requires going { is_quitting journal.old.past ≡ false }
+    requires folder { folder.now ≡ start.folder }
+    ensures attends { Attends H.seen H.rule H.stands start worker.old journal.old (W.seen world.old) hooks.old worker.new journal.new (W.seen world.new) hooks.new }
+    ensures served { OnOk result (agenda start journal.new.past ≡ Open) }
+    ensures watching { OnOk result (IsWatching start watching.new journal.new.past) }
+    ensures breaks { IfErr result (λ error. BreaksHere start journal.new.past error) }
+    ensures paid { PaysOn journal.old.past (W.seen world.old) (owed (works watching.old)) journal.new.past (W.seen world.new) (owed (works watching.new)) }
+{
+    if watching.has_work() {
+        return step(alloc, folder, watching, worker, world, hooks, journal);
+    }
+    Ok(say(worker, Word::Quiet, journal)?)
+}
