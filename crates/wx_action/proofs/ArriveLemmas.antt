@@ -1,6 +1,6 @@
 -- An event is offered to the queue, or listed as sent, or a word is said.
-use Rattle.std.proofs.Common.{◌≡◌, ℕ, ◌+◌, ◌<◌, ◌≤◌, true, false, List, [], ◌∷◌, length, arith, refl, ap, sym, subst, ◌∙◌}
-use Rattle.std.specs.Prelude.{None, Result, Ok, Err, OnOk, OnErr}
+use Rattle.std.proofs.Common.{◌≡◌, ℕ, ◌+◌, ◌<◌, ◌≤◌, Bool, true, false, List, [], ◌∷◌, length, arith, refl, ap, sym, subst, ◌∙◌}
+use Rattle.std.specs.Prelude.{Option, None, Result, Ok, Err, OnOk, OnErr}
 use Rattle.wx_events.specs.declared.event.Event.{Event}
 use Rattle.wx_events.specs.declared.priority.Priority.{Priority}
 use Rattle.prio_channel.specs.Channel.{Channel}
@@ -12,19 +12,21 @@ use Rattle.wx_journal.specs.declared.entry.Named.{Named}
 use Rattle.wx_journal.specs.declared.entry.Word.{Word}
 use Rattle.wx_journal.specs.declared.entry.Offered.{Offered}
 use Rattle.wx_journal.specs.declared.entry.Offered.TheVariants.{Queued, Full, Closed}
-use Rattle.wx_journal.specs.Names.{event_count}
+use Rattle.wx_journal.specs.Names.{event_count, NamesItem}
+use Rattle.wx_journal.specs.Told.{tell_if, is_world}
 use Rattle.wx_journal.specs.Written.{Written}
 use Rattle.wx_action.specs.declared.worker_state.Worker.{Worker}
 use Rattle.wx_machine.specs.Start.{Start}
 use Rattle.wx_config.specs.declared.change.Change.{Change}
 use Rattle.wx_config.specs.declared.config.Config.{Config}
 use Rattle.wx_machine.specs.Settings.{pending, first_changed, settings}
-use Rattle.wx_machine.specs.Journal.{closed, bag}
+use Rattle.wx_machine.specs.Journal.{closed, bag, offered}
 use Rattle.wx_machine.specs.Due.{Point, Sends, Offers, Says, Agenda, Open, Comes, rest, is_quitting, settle, agenda, Due}
 use Rattle.wx_machine.proofs.SettleLaws.{served_open, settle_calm, settle_over}
 use Rattle.wx_machine.specs.Kept.{StaysQuiet, More}
-use Rattle.wx_machine.specs.Leads.{FollowsAlone, Then}
+use Rattle.wx_machine.specs.Leads.{Leads, FollowsAlone, Then}
 use Rattle.wx_machine.specs.Turns.{StaysInTurn}
+use Rattle.wx_action.specs.Calls.{offer_of}
 use Rattle.wx_action.specs.Serves.{AddsAlone, Grows, OwesRest, Settles}
 use Rattle.wx_action.proofs.ServesLaws.{adds, adds_none, adds_then}
 use Rattle.wx_machine.proofs.AllJobs.{turns_over}
@@ -82,29 +84,52 @@ said_rest s p p' word (Err e) said = tt
 pub says_due : (s : Start) (p : List Entry) (word : Word) (more : Agenda) → agenda s p ≡ Comes (Says word) more → Due s p (Said word)
 says_due s p word more due = rw due (tt, refl)
 
--- a word is said
-pub said_done : (s : Start) (w : Worker) (p p' : List Entry) (word : Word) → Stands s w p → Due s p (Said word) → p' ≡ Said word ∷ p → StepsOver s w p p'
-said_done s w p p' word stands due grown = rw grown (record {
+-- a word is said, which is no call on the world
+pub said_done : (s : Start) (w : Worker) (p p' : List Entry) (word : Word) → Stands s w p → Due s p (Said word) → is_world p (Said word) ≡ false → p' ≡ Said word ∷ p → StepsOver s w p p'
+said_done s w p p' word stands due alone grown = rw grown (record {
   stands = stands_behind s w (Said word) p refl tt stands;
-  follows = λ world hooks p₀ world₀ hooks₀ l. Then (Said word) p world hooks l due;
+  follows = λ world hooks p₀ world₀ hooks₀ l. subst (λ (told : Bool). Leads s p₀ world₀ hooks₀ (Said word ∷ p) (tell_if told (Said word) world) hooks) alone (Then (Said word) p world hooks l due);
   quiet = λ p₀ a. More _ p a refl;
   turns = turns_over _ _ refl;
 })
 
-pub offer_done : (s : Start) (w : Worker) (p p' : List Entry) (event : Event) (priority : Priority) (more : Agenda) (new : Channel Named) (result : Offered) → Stands s w p → agenda s p ≡ Comes (Offers event priority) more
-    → IsOffered w.queue (record { name = w.named; event = event }, priority) new result → new.size ≡ w.queue.size → new.closed ≡ w.queue.closed → p' ≡ Offer w.named None result event priority ∷ p
+-- what a queue took is what is due to be said of it
+pub offer_result : (s : Start) (w : Worker) (p : List Entry) (event : Event) (priority : Priority) (new : Channel Named) (result : Offered) → Stands s w p → IsOffered w.queue (record { name = w.named; event = event }, priority) new result → result ≡ offered s p
+offer_result s w p event priority new result stands is = offered_is s w p _ new result stands (subst (λ (n : ℕ). IsOffered w.queue (record { name = n; event = event }, priority) new result) stands.named_kept is)
+
+pub offer_done : (s : Start) (w : Worker) (p p' : List Entry) (item : Option ℕ) (event : Event) (priority : Priority) (new : Channel Named) (result : Offered) → Stands s w p → Due s p (offer_of s p item event priority) → NamesItem p item
+    → IsOffered w.queue (record { name = w.named; event = event }, priority) new result → new.size ≡ w.queue.size → new.closed ≡ w.queue.closed → p' ≡ Offer w.named item result event priority ∷ p
     → StepsOver s (record w { queue = new; named = w.named + 1 }) p p'
-offer_done s w p p' event priority more new result stands due is size closed grown =
+offer_done s w p p' item event priority new result stands due named is size closed grown =
     let name : w.named ≡ event_count p = stands.named_kept in
     let is' : IsOffered w.queue (record { name = event_count p; event = event }, priority) new result = subst (λ (n : ℕ). IsOffered w.queue (record { name = n; event = event }, priority) new result) name is in
-    let d : Due s p (Offer (event_count p) None result event priority) = rw due (tt, ap (λ (r : Offered). Offer (event_count p) None r event priority) (offered_is s w p _ new result stands is')) in
-    let P : ℕ → Type 0 = λ n. StepsOver s (record w { queue = new; named = w.named + 1 }) p (Offer n None result event priority ∷ p) in
+    let d : Due s p (Offer (event_count p) item result event priority) = subst (λ (r : Offered). Due s p (Offer (event_count p) item r event priority)) (sym (offer_result s w p event priority new result stands is)) due in
+    let P : ℕ → Type 0 = λ n. StepsOver s (record w { queue = new; named = w.named + 1 }) p (Offer n item result event priority ∷ p) in
     rw grown (subst P (sym name) (record {
-      stands = stands_offered s w p event priority new result stands is' size closed;
-      follows = λ world hooks p₀ world₀ hooks₀ l. Then (Offer (event_count p) None result event priority) p world hooks l d;
+      stands = stands_offered s w p item event priority new result stands named is' size closed;
+      follows = λ world hooks p₀ world₀ hooks₀ l. Then (Offer (event_count p) item result event priority) p world hooks l d;
       quiet = λ p₀ a. More _ p a refl;
       turns = turns_over _ _ refl;
     }))
+
+-- its entry is the one that was due
+pub offer_named : (s : Start) (w : Worker) (p p' : List Entry) (item : Option ℕ) (event : Event) (priority : Priority) (new : Channel Named) (result : Offered) → Stands s w p
+    → IsOffered w.queue (record { name = w.named; event = event }, priority) new result → p' ≡ Offer w.named item result event priority ∷ p → p' ≡ offer_of s p item event priority ∷ p
+offer_named s w p p' item event priority new result stands is grown =
+    grown ∙ ap (λ (n : ℕ). Offer n item result event priority ∷ p) stands.named_kept ∙ ap (λ (r : Offered). Offer (event_count p) item r event priority ∷ p) (offer_result s w p event priority new result stands is)
+
+-- where an offer is owed, that of no item is due
+pub offers_due : (s : Start) (p : List Entry) (event : Event) (priority : Priority) (more : Agenda) → agenda s p ≡ Comes (Offers event priority) more → Due s p (offer_of s p None event priority)
+offers_due s p event priority more due = rw due (tt, refl)
+
+pub offered_rest : {X E : Type 0} (s : Start) (p p' : List Entry) (event : Event) (priority : Priority) (result : Result X E) → OnOk result (p' ≡ offer_of s p None event priority ∷ p) → OnOk result (OwesRest s (Offers event priority) p p')
+offered_rest s p p' event priority (Ok u) grown = offered_then s p p' _ event priority _ grown
+offered_rest s p p' event priority (Err e) grown = tt
+
+-- no offer asks for the end
+pub offered_quits : {X E : Type 0} (s : Start) (p p' : List Entry) (event : Event) (priority : Priority) (result : Result X E) → OnOk result (p' ≡ offer_of s p None event priority ∷ p) → OnErr result (p' ≡ p) → is_quitting p' ≡ is_quitting p
+offered_quits s p p' event priority (Ok u) grown err = rw grown refl
+offered_quits s p p' event priority (Err e) grown err = rw err refl
 
 -- no change sets the size of the queue
 size_first : (changes : List Change) (c : Config) → (first_changed changes c).event_channel_size ≡ c.event_channel_size

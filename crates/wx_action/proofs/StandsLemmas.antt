@@ -14,7 +14,7 @@ use Rattle.wx_journal.specs.declared.entry.Named.{Named}
 use Rattle.wx_journal.specs.declared.entry.Offered.{Offered}
 use Rattle.wx_journal.specs.declared.entry.Offered.TheVariants.{Queued, Full, Closed}
 use Rattle.wx_journal.specs.Acts.{JournalAct as Act}
-use Rattle.wx_journal.specs.Names.{event_count, Names, NamesItsOwn}
+use Rattle.wx_journal.specs.Names.{event_count, Names, NamesItem, NamesItsOwn}
 use Rattle.wx_machine.specs.History.{command}
 use Rattle.wx_machine.specs.Leaves.{SameHistory}
 use Rattle.wx_hooks.specs.declared.held.Held.{Held}
@@ -184,11 +184,11 @@ offered_is s w p item new Closed stands is =
     rw shut refl
 
 -- the worker after an offer
-pub stands_offered : (s : Start) (w : Worker) (p : List Entry) (event : Event) (priority : Priority) (new : Channel Named) (result : Offered) → Stands s w p
+pub stands_offered : (s : Start) (w : Worker) (p : List Entry) (item : Option ℕ) (event : Event) (priority : Priority) (new : Channel Named) (result : Offered) → Stands s w p → NamesItem p item
     → IsOffered w.queue (record { name = event_count p; event = event }, priority) new result → new.size ≡ w.queue.size → new.closed ≡ w.queue.closed
-    → Stands s (record w { queue = new; named = w.named + 1 }) (Offer (event_count p) None result event priority ∷ p)
-stands_offered s w p event priority new Queued stands is size same_closed = record {
-  own = ((refl, tt), stands.own);
+    → Stands s (record w { queue = new; named = w.named + 1 }) (Offer (event_count p) item result event priority ∷ p)
+stands_offered s w p item event priority new Queued stands named is size same_closed = record {
+  own = ((refl, named), stands.own);
   config_kept = stands.config_kept;
   queue_kept = same-trans _ _ _ is.0 (add-bag w.queue.items (bag p) _ stands.queue_kept);
   size_kept = size ∙ stands.size_kept;
@@ -198,13 +198,13 @@ stands_offered s w p event priority new Queued stands is size same_closed = reco
   events_kept = events-rise (event_count p) (Some (event, priority)) (lookup p) (window p) w.batch.events (window_below p stands.own) stands.events_kept;
   first_kept = stands.first_kept;
   jobs_kept = stands.jobs_kept;
-  tasks_kept = tasks_silent (Offer (event_count p) None Queued event priority) p w.jobs refl stands.tasks_kept;
+  tasks_kept = tasks_silent (Offer (event_count p) item Queued event priority) p w.jobs refl stands.tasks_kept;
   idle_kept = stands.idle_kept;
   graceful_kept = stands.graceful_kept;
   ended_kept = stands.ended_kept;
 }
-stands_offered s w p event priority new Full stands is size same_closed = record {
-  own = ((refl, tt), stands.own);
+stands_offered s w p item event priority new Full stands named is size same_closed = record {
+  own = ((refl, named), stands.own);
   config_kept = stands.config_kept;
   queue_kept = rw is.0 stands.queue_kept;
   size_kept = size ∙ stands.size_kept;
@@ -214,13 +214,13 @@ stands_offered s w p event priority new Full stands is size same_closed = record
   events_kept = events-rise (event_count p) (Some (event, priority)) (lookup p) (window p) w.batch.events (window_below p stands.own) stands.events_kept;
   first_kept = stands.first_kept;
   jobs_kept = stands.jobs_kept;
-  tasks_kept = tasks_silent (Offer (event_count p) None Full event priority) p w.jobs refl stands.tasks_kept;
+  tasks_kept = tasks_silent (Offer (event_count p) item Full event priority) p w.jobs refl stands.tasks_kept;
   idle_kept = stands.idle_kept;
   graceful_kept = stands.graceful_kept;
   ended_kept = stands.ended_kept;
 }
-stands_offered s w p event priority new Closed stands is size same_closed = record {
-  own = ((refl, tt), stands.own);
+stands_offered s w p item event priority new Closed stands named is size same_closed = record {
+  own = ((refl, named), stands.own);
   config_kept = stands.config_kept;
   queue_kept = rw is.0 stands.queue_kept;
   size_kept = size ∙ stands.size_kept;
@@ -230,7 +230,7 @@ stands_offered s w p event priority new Closed stands is size same_closed = reco
   events_kept = events-rise (event_count p) (Some (event, priority)) (lookup p) (window p) w.batch.events (window_below p stands.own) stands.events_kept;
   first_kept = stands.first_kept;
   jobs_kept = stands.jobs_kept;
-  tasks_kept = tasks_silent (Offer (event_count p) None Closed event priority) p w.jobs refl stands.tasks_kept;
+  tasks_kept = tasks_silent (Offer (event_count p) item Closed event priority) p w.jobs refl stands.tasks_kept;
   idle_kept = stands.idle_kept;
   graceful_kept = stands.graceful_kept;
   ended_kept = stands.ended_kept;

@@ -314,7 +314,7 @@ idle_done s w p p' at owes going is_open over empty grown =
     let takes : closed p ≡ false = sym stands.closed_kept ∙ is_open in
     let none : (length (bag p) == 0) ≡ true = rw (← same-length w.queue.items (bag p) stands.queue_kept) empty in
     let owed : agenda s p ≡ says Idle = owes.due ∙ rw (takes, later, none) refl in
-    record { steps = said_done s w p p' Idle stands (says_due s p Idle Open owed) grown; collects = (inl (record { going = going; early = rw owes.now later; none = empty_is (bag p) none; said = grown }), said_then s p p' Idle grown Open owed ∙ settle_calm p Open owes.going) }
+    record { steps = said_done s w p p' Idle stands (says_due s p Idle Open owed) refl grown; collects = (inl (record { going = going; early = rw owes.now later; none = empty_is (bag p) none; said = grown }), said_then s p p' Idle grown Open owed ∙ settle_calm p Open owes.going) }
 
 -- the queue was closed
 pub stop_done : (s : Start) (w : Worker) (p : List Entry) (at : ℕ) → Stands s w p → agenda s p ≡ work_going s p at → graceful p ≡ false → w.queue.closed ≡ true → Collects s p collected.Stop p
@@ -341,7 +341,7 @@ quitting_done : (s : Start) (w : Worker) (p p' : List Entry) (at : ℕ) → Owes
 quitting_done s w p p' at owes asked grown =
     let quits : graceful p ≡ true = sym owes.stands.graceful_kept ∙ asked in
     let owed : agenda s p ≡ says Quitting = owes.due ∙ rw quits refl in
-    record { steps = said_done s w p p' Quitting owes.stands (says_due s p Quitting Open owed) grown; collects = (inr (record { asked = quits; said = grown }), said_then s p p' Quitting grown Open owed ∙ settle_calm p Open owes.going) }
+    record { steps = said_done s w p p' Quitting owes.stands (says_due s p Quitting Open owed) refl grown; collects = (inr (record { asked = quits; said = grown }), said_then s p p' Quitting grown Open owed ∙ settle_calm p Open owes.going) }
 
 -- so the turn says it, or there was no memory for that
 pub quitting_grows : {K Fixed E : Type 0} (seen : K → Hooked Fixed) (rule : Fixed → List Entry → Entry → Type 0) (holds : K → List Entry → Type 0) (s : Start) (w : Worker) (p p' : List Entry) (x : K) (at : ℕ) (result : Result Found E) → OwesAt s w at p (work s p at) → w.graceful ≡ true

@@ -1,8 +1,9 @@
 // What a worker says and shows in any turn, by what is due: the entry of a word (`say_due`), and of an error that is shown
 // (`call_show`). Each asks that its entry is due, whatever brings it.
-ghost use Rattle.std.specs.Prelude.{◌≡◌, ◌∷◌, ◌||◌, IfOk, IfErr, OnOk, OnErr, is_some, true};
+ghost use Rattle.std.specs.Prelude.{◌≡◌, ◌∷◌, ◌||◌, IfOk, IfErr, OnOk, OnErr, is_some, true, false};
 ghost use Rattle.wx_job.specs.Calls.{AreRoomy};
 ghost use Rattle.wx_journal.specs.declared.entry.Entry.TheVariants.{Word as Said};
+ghost use Rattle.wx_journal.specs.Told.{is_world};
 ghost use Rattle.wx_machine.specs.Start.{Start};
 ghost use Rattle.wx_machine.specs.Answer.{BreaksHere};
 ghost use Rattle.wx_machine.specs.Journal.{is_exit, is_close, ending};
@@ -60,11 +61,12 @@ pub fn close_where(ends: bool, queue: &mut PrioQueue<Named>)
 }
 
 impl Worker {
-    /// Says this of a turn, which is due. It fails only for want of memory, and adds no entry then.
+    /// Says this of a turn, which is due, and is no call on the world. It fails only for want of memory, and adds no entry then.
     pub fn say_due(&self, word: Word, journal: &mut Journal) -> Result<(), Memory>
         ghost start: { Start }
         requires stands { Stands start self.now journal.old.past }
         requires due { Due start journal.old.past (Said word) }
+        requires alone { is_world journal.old.past (Said word) ≡ false }
         ensures grows { Grows start self.now journal.old self.now journal.new }
         ensures said { OnOk result (journal.new.past ≡ Said word ∷ journal.old.past) }
         ensures err { OnErr result (journal.new.past ≡ journal.old.past) }

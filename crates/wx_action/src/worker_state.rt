@@ -5,6 +5,7 @@ ghost use Rattle.wx_events.specs.declared.priority.Priority.{Priority as APriori
 ghost use Rattle.wx_config.specs.Changes.{changed, last_revision};
 ghost use Rattle.wx_journal.specs.declared.entry.Entry.TheVariants.{Changed};
 ghost use Rattle.wx_journal.specs.declared.entry.Word.TheVariants.{Ignored};
+ghost use Rattle.wx_journal.specs.Names.{NamesItem};
 ghost use Rattle.wx_machine.specs.Steady.{OnlyRoom};
 ghost use Rattle.wx_machine.specs.Kept.{OnlyHooksRoom};
 ghost use Rattle.wx_action.specs.Serves.{Grows, OwesRest};
@@ -12,7 +13,8 @@ ghost use Rattle.wx_machine.specs.Start.{Start, IsSize};
 ghost use Rattle.wx_machine.specs.Journal.{closed, bag};
 ghost use Rattle.wx_machine.specs.Keyboard.{ended_over};
 ghost use Rattle.wx_machine.specs.Answer.{NoneIsToGo};
-ghost use Rattle.wx_machine.specs.Due.{Sends, Offers, Says, Agenda, Comes, Open, begin_of, offers, is_quitting, agenda};
+ghost use Rattle.wx_machine.specs.Due.{Sends, Offers, Says, Agenda, Comes, Due, Open, begin_of, offers, is_quitting, agenda};
+ghost use Rattle.wx_action.specs.Calls.{offer_of};
 ghost use Rattle.wx_keys.specs.Keys.{ends_input};
 ghost use Rattle.wx_action.specs.Stands.{Stands, Owes, IsOffered, end_room};
 
@@ -159,6 +161,43 @@ impl Worker {
         Ok(())
     }
 
+    /// Offers an event to the queue, which is due: of this item of a backend, where it is made of one. It fails only for want of
+    /// memory. The worker stays as it was then, and no entry is added.
+    pub fn offer(
+        &mut self,
+        alloc: Global,
+        item: Option<u64>,
+        event: Event,
+        priority: Priority,
+        journal: &mut Journal,
+    ) -> Result<(), Memory>
+        ghost start: { Start }
+        requires stands { Stands start self.old journal.old.past }
+        requires due { Due start journal.old.past (offer_of start journal.old.past item event priority) }
+        requires named { NamesItem journal.old.past item }
+        ensures grows { Grows start self.old journal.old self.new journal.new }
+        ensures done { OnOk result (journal.new.past ≡ offer_of start journal.old.past item event priority ∷ journal.old.past) }
+        ensures err { OnErr result (journal.new.past ≡ journal.old.past) }
+        ensures same { OnErr result (self.new ≡ self.old) }
+    {
+        let Ok(()) = self.reserve(1, journal) else {
+            drop(event);
+            return Err(Memory);
+        };
+        let (event, twice) = with_copy(alloc, event)?;
+        let name = self.named;
+        let result = offer_to(&mut self.queue, Named { name, event: twice }, priority);
+        self.named = name + 1;
+        journal.push(Entry::Offer {
+            name,
+            item,
+            result,
+            event,
+            priority,
+        });
+        Ok(())
+    }
+
     /// Offers an event to the queue. It fails only for want of memory. The worker stays as it was then, and no entry is added.
     pub fn arrive(
         &mut self,
@@ -175,22 +214,7 @@ impl Worker {
         ensures err { OnErr result (journal.new.past ≡ journal.old.past) }
         ensures same { OnErr result (self.new ≡ self.old) }
     {
-        let Ok(()) = self.reserve(1, journal) else {
-            drop(event);
-            return Err(Memory);
-        };
-        let (event, twice) = with_copy(alloc, event)?;
-        let name = self.named;
-        let result = offer_to(&mut self.queue, Named { name, event: twice }, priority);
-        self.named = name + 1;
-        journal.push(Entry::Offer {
-            name,
-            item: None,
-            result,
-            event,
-            priority,
-        });
-        Ok(())
+        self.offer(alloc, None, event, priority, journal)
     }
 
     /// Offers these events of keys to the queue, one by one. It fails only for want of memory, behind any of the offers.

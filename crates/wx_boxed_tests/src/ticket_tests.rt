@@ -16,6 +16,7 @@ use wx_follow::ScriptWorld;
 use wx_hooks::{ActionHandler, TurnFault, Turned, World};
 use wx_job::{Host, Outside};
 use wx_journal::{HostFault, SpawnTag, TurnKind};
+use wx_notify::Notify;
 use wx_scan::{EntryKind, Looks, ScanError, Scanner};
 use wx_script::Script;
 use wx_text::{Copies, List, Memory, Text};
@@ -189,6 +190,19 @@ impl<W: World> World for Polls<W> {
         follow: bool,
     ) -> Result<W::Back, NotifyFault> {
         self.inner.make_backend(back, kind, follow)
+    }
+
+    fn listen(
+        &mut self,
+        item: u64,
+        name: u64,
+        back: &mut W::Back,
+    ) -> Option<Result<Notify, NotifyFault>> {
+        self.inner.listen(item, name, back)
+    }
+
+    fn ready(&mut self, revision: u64, flag: &Flag) {
+        self.inner.ready(revision, flag);
     }
 
     fn turn(&mut self) -> Result<Turned, TurnFault> {

@@ -1,15 +1,18 @@
 -- What a run that led from the empty journal to this one told.
-use Rattle.std.proofs.Common.{◌≡◌, inl, inr, Option, None, Some, List, [], ◌∷◌, Ok, Err, refl, ap, sym, ◌∙◌}
+use Rattle.std.proofs.Common.{◌≡◌, false, inl, inr, Option, None, Some, List, [], ◌∷◌, Ok, Err, refl, ap, sym, ◌∙◌}
 use Rattle.std.specs.Prelude.{IfErr}
 use Rattle.wx_journal.specs.declared.entry.Entry.{Entry}
-use Rattle.wx_journal.specs.declared.entry.Entry.TheVariants.{Show, Dropped, Gone}
+use Rattle.wx_journal.specs.declared.entry.Entry.TheVariants.{Offer, Show, Dropped, Gone}
 use Rattle.wx_journal.specs.Told.{Rose, tell_if, tells, anywhere, is_world, is_hooks}
 use Rattle.wx_machine.specs.TicketLaws.{Throughout, WaitForFunctions, GracesNeedChildren, IsPlaced}
 use Rattle.wx_machine.proofs.Graces.{graces_need_children}
 use Rattle.wx_machine.specs.Start.{Start}
 use Rattle.wx_machine.specs.Progress.{Progress}
-use Rattle.wx_machine.specs.FileLaws.{AreWatchedByRule, UnmadeEnds}
-use Rattle.wx_machine.proofs.FileLaws.{run_is_watched, run_ends_unmade}
+use Rattle.wx_machine.specs.Added.{Same, More}
+use Rattle.wx_machine.specs.Files.{AddsNoFiles, is_about_files}
+use Rattle.wx_machine.specs.FileLaws.{AreFromFiles, AreWatchedByRule, UnmadeEnds}
+use Rattle.wx_machine.proofs.NoFiles.{dying_adds_none}
+use Rattle.wx_machine.proofs.FileLaws.{run_is_watched, run_is_from_files, run_ends_unmade}
 use Rattle.wx_error.specs.declared.error.CriticalError.{CriticalError}
 use Rattle.wx_error.specs.declared.error.CriticalError.TheVariants.{IoError, FsWatcherInit, Memory}
 use Rattle.wx_machine.specs.Answer.{Dying, Alive, Dies, IsBroken, AtAnyPlace, Wishes, MemoryCuts, Answers}
@@ -123,6 +126,21 @@ ran_is_revised s p (inr broken) = (dying_keeps s broken.before p broken.dying).r
 pub ran_is_watched : (s : Start) (p : List Entry) → Ran s p → AreWatchedByRule s p
 ran_is_watched s p (inl complete) = run_is_watched s p complete.run
 ran_is_watched s p (inr broken) = (dying_keeps s broken.before p broken.dying).watched (run_is_watched s broken.before broken.run)
+
+-- an entry about nothing that is watched offers no item
+from_files_over : (s : Start) (e : Entry) (p : List Entry) → is_about_files e ≡ false → AreFromFiles s p → AreFromFiles s (e ∷ p)
+from_files_over s (Offer name None result event priority) p other h = h
+from_files_over s (Offer name (Some item) result event priority) p other h = absurd cc
+from_files_over s (_) p other h = h
+
+from_files_on : (s : Start) (q p : List Entry) → AddsNoFiles q p → AreFromFiles s q → AreFromFiles s p
+from_files_on s q _ Same h = h
+from_files_on s q _ (More e p a other) h = from_files_over s e p other (from_files_on s q p a h)
+
+-- each event that was offered of an item was brought
+pub ran_is_from_files : (s : Start) (p : List Entry) → Ran s p → AreFromFiles s p
+ran_is_from_files s p (inl complete) = run_is_from_files s p complete.run
+ran_is_from_files s p (inr broken) = from_files_on s broken.before p (dying_adds_none broken.before p broken.dying) (run_is_from_files s broken.before broken.run)
 
 -- behind a backend that couldn't be made nothing but the end comes
 pub ran_ends_unmade : (s : Start) (p : List Entry) → Ran s p → UnmadeEnds p

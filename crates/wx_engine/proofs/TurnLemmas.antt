@@ -17,13 +17,13 @@ use Rattle.wx_machine.specs.Steady.{IsSteady}
 use Rattle.wx_machine.specs.RunLaws.{MomentsRise}
 use Rattle.wx_machine.specs.Faults.{CountsOn}
 use Rattle.wx_machine.proofs.FaultLaws.{counts_entry}
-use Rattle.wx_machine.specs.Kept.{Quiet, Same, More}
+use Rattle.wx_machine.specs.Kept.{Past, Quiet, Same, More}
 use Rattle.wx_machine.specs.Leads.{Leads, Follows, Then}
 use Rattle.wx_action.specs.Stands.{Stands}
 use Rattle.wx_machine.specs.Turns.{SameTurns}
 use Rattle.wx_machine.specs.Seen.{Seen, Hooked}
 use Rattle.wx_action.specs.Serves.{Continues}
-use Rattle.wx_file_turns.specs.Serves.{Attends}
+use Rattle.wx_file_turns.specs.Serves.{Attends, AttendsAlone}
 use Rattle.wx_machine.proofs.AllJobs.{same_turns}
 use Rattle.wx_engine.specs.Run.{StaysInPlace, ServesTurn, ServesTurns}
 use Rattle.wx_machine.specs.Told.{is_last, TellsNoEnd}
@@ -134,6 +134,19 @@ serves_files seen rule holds s w j a x w' j' b x' h = record {
   keeps = h.keeps;
   room = h.room;
 }
+
+-- one in which hooks aren't called
+pub serves_alone : {K Fixed Plan : Type 0} (seen : K → Hooked Fixed) (rule : Fixed → List Entry → Entry → Type 0) (holds : K → List Entry → Type 0) (s : Start) (w : Worker) (j : Written) (a : Seen Plan) (x : K) (j' : Written) (b : Seen Plan) → AttendsAlone s w j a j' b → ServesTurn seen rule holds s w j a x w j' b x
+serves_alone seen rule holds s w j a x j' b h =
+    let served = h.serves (seen x).told in record {
+      stands = h.stands;
+      follows = served.follows;
+      turns = served.turns;
+      counts = served.counts;
+      steady = record { plan_kept = served.steady.plan_kept; progress_kept = served.steady.progress_kept; place_kept = served.steady.place_kept; looked_kept = served.steady.looked_kept };
+      keeps = λ x₀ p₀ k. Past x j.past j'.past k (h.quiet j.past Same);
+      room = h.room;
+    }
 
 -- ---- turns were served, and then one more
 

@@ -7,7 +7,7 @@ use Rattle.wx_journal.specs.declared.entry.Entry.{Entry}
 use Rattle.wx_journal.specs.declared.entry.Entry.TheVariants.{Turn as Turned, Make}
 use Rattle.wx_journal.specs.declared.entry.Turn.{Turn}
 use Rattle.wx_journal.specs.declared.entry.TurnKind.{TurnKind}
-use Rattle.wx_journal.specs.declared.entry.TurnKind.TheVariants.{File}
+use Rattle.wx_journal.specs.declared.entry.TurnKind.TheVariants.{Last}
 use Rattle.wx_journal.specs.Told.{Counts}
 use Rattle.wx_machine.specs.Start.{Start}
 use Rattle.wx_machine.specs.Seen.{Seen}
@@ -18,6 +18,7 @@ use Rattle.wx_machine.specs.Added.{Same, More}
 use Rattle.wx_machine.specs.Files.{source, is_about_files, AddsNoFiles, is_file_turn}
 use Rattle.wx_machine.specs.Leads.{Follows}
 use Rattle.wx_machine.specs.Steps.{IsPaid}
+use Rattle.wx_machine.specs.Told.{is_last}
 use Rattle.wx_machine.specs.Turns.{StaysInTurn}
 use Rattle.wx_machine.proofs.AllJobs.{same_turns}
 use Rattle.wx_machine.proofs.NoFiles.{turn_adds_none, source_kept}
@@ -34,13 +35,13 @@ pub ok_always : {A E : Type 0} (r : Result A E) (P : Type 0) → P → OnOk r P
 ok_always (Ok a) P h = h
 ok_always (Err e) P h = tt
 
-pub file_kind : (kind : TurnKind) → is_file_turn kind ≡ true → kind ≡ File
-file_kind File is = refl
-file_kind (_) is = absurd cc
+pub about_files : (kind : TurnKind) → is_file_turn kind ≡ true → is_last kind ≡ false
+about_files Last is = absurd cc
+about_files (_) is = refl
 
 -- what is kept of what is watched stands for a journal that says the same of it
 pub files_over : {B : Type 0} {G : Ghosts B} (s : Start) (f : Files B G) (p p' : List Entry) → source s p' ≡ source s p → FilesStand s f p → FilesStand s f p'
-files_over s f p p' same stands = record { absolute = stands.absolute; folder_kept = stands.folder_kept; revision_kept = rw same stands.revision_kept; source_kept = rw same stands.source_kept }
+files_over s f p p' same stands = record { absolute = stands.absolute; folder_kept = stands.folder_kept; revision_kept = rw same stands.revision_kept; source_kept = rw same stands.source_kept; intake_kept = record { lane_kept = rw same stands.intake_kept.lane_kept; asks_kept = rw same stands.intake_kept.asks_kept; since_kept = rw same stands.intake_kept.since_kept; fence_kept = rw same stands.intake_kept.fence_kept; fenced_kept = rw same stands.intake_kept.fenced_kept } }
 
 -- ---- a turn that isn't about it
 

@@ -1,5 +1,5 @@
 // A run of the engine.
-ghost use Rattle.std.specs.Prelude.{◌≡◌, ◌∷◌, [], ◌+◌, ◌<◌, ◌≤◌, false, OnOk, OnErr, IfOk, IfErr, codes};
+ghost use Rattle.std.specs.Prelude.{◌≡◌, ◌∷◌, [], ℕ, ◌+◌, ◌<◌, ◌≤◌, true, false, OnOk, OnErr, IfOk, IfErr, codes};
 ghost use Rattle.wx_machine.specs.Steady.{OnlyRoom};
 ghost use Rattle.wx_machine.specs.Kept.{KeepsOn, Promised};
 ghost use Rattle.wx_action.specs.Serves.{AddsAlone, Continues};
@@ -25,7 +25,7 @@ use wx_action::{
 use wx_config::Config;
 use wx_control::Flag;
 use wx_error::CriticalError;
-use wx_file_turns::{Files, file_turn};
+use wx_file_turns::{Files, file_turn, listen_turn};
 use wx_hooks::{Hooks, World};
 use wx_job::{Host, JobHooks};
 use wx_journal::{Beginning, Entry, Journal, TurnKind, copy_bytes};
@@ -159,7 +159,7 @@ fn serve_other<W: World, H: Hooks>(
             change_turn(state, change, journal)?;
             Ok(state.worked())
         }
-        TurnKind::File => unreachable!(),
+        TurnKind::Listen | TurnKind::File => unreachable!(),
         TurnKind::Last => Ok(Worked::End),
     }
 }
@@ -168,7 +168,35 @@ fn serve_other<W: World, H: Hooks>(
 fn is_file_turn(kind: &TurnKind) -> bool
     ensures { result ≡ is_file_turn kind.now }
 {
-    matches!(kind, TurnKind::File)
+    matches!(kind, TurnKind::Listen | TurnKind::File)
+}
+
+/// What is due in a turn about what is watched: the backend that stands is asked what it brings, or what keeps watches acts. It fails
+/// for want of memory, where a backend can't be made, and where the error handler wished it.
+fn serve_files<W: World, H: Hooks>(
+    kind: TurnKind,
+    files: &mut Files<W::Back>,
+    state: &mut Worker,
+    world: &mut W,
+    hooks: &mut H,
+    journal: &mut Journal,
+) -> Result<(), CriticalError>
+    ghost start: { Start }
+    requires turn { (at : ℕ) × AtTurn start state.old at kind journal.old.past }
+    requires about { is_file_turn kind ≡ true }
+    requires files { FilesStand start files.old journal.old.past }
+    ensures serves { ServesTurn H.seen H.rule H.stands start state.old journal.old (W.seen world.old) hooks.old state.new journal.new (W.seen world.new) hooks.new }
+    ensures served { OnOk result (agenda start journal.new.past ≡ Open) }
+    ensures breaks { IfErr result (λ error. BreaksOff start journal.new.past error) }
+    ensures files { OnOk result (FilesStand start files.new journal.new.past) }
+    ensures paid { PaysOn journal.old.past (W.seen world.old) (owing files.old) journal.new.past (W.seen world.new) (owing files.new) }
+    ensures maker { Counts (ends_unmade journal.new.past) (W.seen world.old).progress.maker_faults (W.seen world.new).progress.maker_faults }
+{
+    match kind {
+        TurnKind::Listen => Ok(listen_turn(files, state, world, journal)?),
+        TurnKind::File => file_turn(files, state, world, hooks, journal),
+        _ => unreachable!(),
+    }
 }
 
 /// The same in a turn of any kind. One about what is watched also fails where a backend can't be made; then the world's count of
@@ -196,7 +224,7 @@ fn serve<W: World, H: Hooks>(
     ensures maker { Counts (ends_unmade journal.new.past) (W.seen world.old).progress.maker_faults (W.seen world.new).progress.maker_faults }
 {
     if is_file_turn(&kind) {
-        file_turn(files, state, world, hooks, journal)?;
+        serve_files(kind, files, state, world, hooks, journal)?;
         return Ok(Worked::On);
     }
     serve_other(files.alloc, kind, done, at, state, world, hooks, journal)
@@ -239,6 +267,7 @@ fn kind_again(alloc: Global, kind: &TurnKind, state: &mut Worker) -> Result<Turn
         TurnKind::Ended(child) => Ok(TurnKind::Ended(*child)),
         TurnKind::Ask(id, ask) => Ok(TurnKind::Ask(*id, ask.copy(alloc)?)),
         TurnKind::Change(change) => Ok(TurnKind::Change(change.copy(alloc)?)),
+        TurnKind::Listen => Ok(TurnKind::Listen),
         TurnKind::File => Ok(TurnKind::File),
         TurnKind::Last => Ok(TurnKind::Last),
     }
@@ -308,8 +337,8 @@ pub(crate) fn run<W: World, H: Hooks>(
 {
     let about = Text::from_slice(alloc, b"turn")?;
     let folder = engine.folder.copy(alloc)?;
+    let mut files: Files<W::Back> = Files::new(alloc, folder, engine.config.event_channel_size)?;
     let mut state = begin(alloc, engine, journal)?;
-    let mut files: Files<W::Back> = Files::new(alloc, folder);
     let answer = serve_turns(alloc, about, &mut files, &mut state, world, hooks, journal);
     end_jobs(&mut state, world, journal);
     answer

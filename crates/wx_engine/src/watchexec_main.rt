@@ -10,7 +10,7 @@ ghost use Rattle.wx_machine.specs.Journal.{turn_count, early_count};
 ghost use Rattle.wx_machine.specs.RunLaws.{IsBatched, AreBatches, NoneUrgentWaits, NoneUnseenIsShown, NoneIsShownClosed, MomentsRise, AreMadeByRule, AreServed, AreRevised};
 ghost use Rattle.wx_machine.specs.Answer.{Answers};
 ghost use Rattle.wx_machine.specs.Faults.{Counted};
-ghost use Rattle.wx_machine.specs.FileLaws.{AreWatchedByRule, UnmadeEnds};
+ghost use Rattle.wx_machine.specs.FileLaws.{AreFromFiles, AreWatchedByRule, UnmadeEnds};
 ghost use Rattle.wx_engine.specs.Run.{HasCause, Ran, AreFewSteps};
 ghost use Rattle.wx_engine.specs.Completes.{IsOkOrMemory, NoneEnds, AreGranted};
 ghost use Rattle.wx_engine.specs.Offers.{AreOffered};
@@ -92,10 +92,12 @@ impl Watchexec {
         ensures served { AreServed self journal.new.past }
         ensures revisions { AreRevised self journal.new.past }
 
-        // What is watched: the directories that are judged, the backends that are made, and the settings that are applied are those
-        // that the rules say. Behind a backend that couldn't be made nothing but the end comes. There are at most as many steps as
+        // What is watched: the directories that are judged, the backends that are made, the settings that are applied, and what is
+        // brought, heard, let go and offered are those that the rules say. Each event that is offered of an item was brought by a live
+        // backend and is of a path that was applied; they come in the order brought, each once at most. Behind a backend that couldn't be made nothing but the end comes. There are at most as many steps as
         // looks in this call, and entries that bring work; or the count of looks stands at the end of its range.
         ensures watched { AreWatchedByRule self journal.new.past }
+        ensures from_files { AreFromFiles self journal.new.past }
         ensures ends_unmade { UnmadeEnds journal.new.past }
         ensures steps { AreFewSteps journal.new.past (W.seen world.old).looked.looks (W.seen world.new).looked.looks }
 

@@ -53,7 +53,7 @@ fn sort(kind: &TurnKind) -> u32 {
         TurnKind::Job(_) | TurnKind::Ended(_) | TurnKind::Ask(_, _) => 3,
         TurnKind::Change(_) => 4,
         TurnKind::Signal(_) | TurnKind::Keys(_) => 5,
-        TurnKind::File => 6,
+        TurnKind::Listen | TurnKind::File => 6,
     }
 }
 

@@ -495,7 +495,7 @@ const FILES: &[u8] =
 
 /// Two visits, two scans, a look at each entry, a scan of the one that is watched, and a sweep.
 const JUDGED: &[u8] =
-    b"turn 0 change paths 2 r /w r /v\nchanged 1\nturn 1 file\napplied 1\nmake 0 native on ok\nturn 1 file\nword stepped\nturn 1 file\nword stepped\nturn 1 file\nword stepped\nturn 1 file\nword stepped\nturn 1 file\ndir 0 /w/b reject\nword stepped\nturn 1 file\ndir 0 /v/a pass\nword stepped\nturn 1 file\nword stepped\nturn 1 file\nword stepped\nturn 1 file\nword quiet\nturn 1 last\nend ok lost 0\n";
+    b"turn 0 change paths 2 r /w r /v\nchanged 1\nturn 1 file\napplied 1\nmake 0 native on ok\nturn 1 file\nword stepped\nturn 1 file\nword stepped\nturn 1 file\nword stepped\nturn 1 file\nword stepped\nturn 1 file\ndir 0 /w/b reject\nword stepped\nturn 1 file\ndir 0 /v/a pass\nword stepped\nturn 1 file\nword stepped\nturn 1 file\nword stepped\nturn 1 file\nready 1\nturn 1 last\nend ok lost 0\n";
 
 #[test]
 fn directories_are_judged_by_their_paths(rt: HostRuntime) -> Result<(), Fail> {

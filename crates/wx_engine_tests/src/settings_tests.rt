@@ -6,7 +6,7 @@ use std::alloc::Global;
 use std::test::Fail;
 use wx_command::Spawnable;
 use wx_config::{Change, Config};
-use wx_control::Id;
+use wx_control::{Flag, Id};
 use wx_engine::Watchexec;
 use wx_error::RuntimeError;
 use wx_events::{Event, Priority};
@@ -152,5 +152,45 @@ fn the_last_revision_is_refused(rt: HostRuntime) -> Result<(), Fail> {
     assert!(rt; two.0 && two.1 == [Ok(()), Ok(()), SPENT]);
     let none = runs_at(rt.alloc(), u64::MAX, BATCH, NONE)?;
     assert!(rt; none.0 && none.1 == [SPENT, SPENT, SPENT]);
+    Ok(())
+}
+
+/// An engine that doesn't follow links, and a copy of the flag of its settings.
+fn engine_and_flag(alloc: Global) -> Result<(Watchexec, Flag), Memory> {
+    let folder = root(alloc)?;
+    let mut config = Config::new(alloc)?;
+    config.follow_symlinks.replace(false);
+    let ready = config.fs_ready(alloc)?;
+    let engine = Watchexec::with_config(alloc, config, folder)?;
+    Ok((engine, ready))
+}
+
+/// Whether the flag of the settings is raised before a run of these lines, and whether it is behind it.
+fn raised_by(alloc: Global, lines: &[u8]) -> Result<(bool, bool), Fail> {
+    let script = script_of(alloc, lines)?;
+    let mut hooks = Changing {
+        alloc,
+        answers: [Ok(()), Ok(()), Ok(())],
+    };
+    let (engine, mut ready) = engine_and_flag(alloc)?;
+    let before = ready.look();
+    let text = run_text(alloc, engine, &script, &mut hooks);
+    drop(script);
+    drop(text?);
+    Ok((before, ready.look()))
+}
+
+/// A path is to be watched from the first turn on.
+const WATCHED: &[u8] =
+    b"node dir /\nnode dir /w\nturn 0 change paths 1 r /w\nturn 1 file\nturn 1 file\nturn 1 file\nturn 1 file\nturn 1 file\nturn 1 file\nturn 1 file\nturn 1 file\nturn 1 file\nturn 1 file\nturn 1 file\nturn 1 file\nturn 1 file\nturn 1 file\nturn 1 file\nturn 1 file\nturn 1 file\nturn 1 file\nturn 1 file\nturn 1 file\nturn 1 file\nturn 1 file\nturn 1 file\nturn 1 file\nturn 1 file\nturn 1 file\nturn 1 file\nturn 1 file\nturn 1 file\nturn 1 file\n";
+
+/// The same, but that the turns end before all is watched.
+const BEGUN: &[u8] =
+    b"node dir /\nnode dir /w\nturn 0 change paths 1 r /w\nturn 1 file\nturn 1 file\n";
+
+#[test]
+fn the_flag_is_raised_once_all_is_watched(rt: HostRuntime) -> Result<(), Fail> {
+    assert!(rt; raised_by(rt.alloc(), WATCHED)? == (false, true));
+    assert!(rt; raised_by(rt.alloc(), BEGUN)? == (false, false));
     Ok(())
 }

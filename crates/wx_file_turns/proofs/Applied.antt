@@ -18,16 +18,19 @@ use Rattle.wx_holding.specs.Holding.{state_of}
 use Rattle.wx_fs.specs.Kept.{kept_roots}
 use Rattle.wx_journal.specs.declared.entry.Entry.{Entry}
 use Rattle.wx_journal.specs.declared.entry.Entry.TheVariants.{Applied}
+use Rattle.wx_journal.specs.Names.{back_count, item_count}
 use Rattle.wx_machine.specs.Start.{Start}
 use Rattle.wx_machine.specs.Settings.{settings}
-use Rattle.wx_machine.specs.Files.{source, is_any, has_paths, serves, is_same_watcher, is_same_switch}
+use Rattle.wx_machine.specs.Files.{source, is_any, has_paths, are_all_in, are_same_roots, asked, serves, is_same_watcher, is_same_switch, watches_same}
 use Rattle.wx_machine.specs.Due.{Applies, Makes, Open, Comes, agenda, settle, is_quitting}
 use Rattle.wx_machine.proofs.SettleLaws.{settle_calm}
 use Rattle.wx_machine.proofs.Stepping.{applies_then}
 use Rattle.wx_file_turns.specs.declared.files.Files.{Files}
 use Rattle.wx_file_turns.specs.declared.files.Watching.{Watching}
-use Rattle.wx_file_turns.specs.Applying.{are_all_in, are_same_roots, serves_by, any_serves, has_same, is_settled, ServesStill, makes_unless, IsBehind}
-use Rattle.wx_file_turns.specs.Standing.{SameRoots, WatchesBy, StandsBy, FilesStand, revision_of}
+use Rattle.wx_file_turns.specs.Applying.{serves_by, any_serves, has_same, is_settled, ServesStill, makes_unless, IsBehind}
+use Rattle.wx_file_turns.specs.Standing.{SameRoots, WatchesBy, StandsBy, IntakeStands, FilesStand, revision_of}
+use Rattle.wx_file_turns.specs.declared.intake.Intake.{Intake}
+use Rattle.wx_file_turns.specs.Intake.{begun}
 
 -- ---- what is the same
 
@@ -46,16 +49,16 @@ root_first : (r s : Root) (rs : List Root) → (has_root r rs ≡ true → In r 
 root_first r s rs more (inl same) = inl (same_root-true s r same)
 root_first r s rs more (inr later) = inr (more later)
 
-root_in : (r : Root) (rs : List Root) → has_root r rs ≡ true → In r rs
+pub root_in : (r : Root) (rs : List Root) → has_root r rs ≡ true → In r rs
 root_in r [] is = absurd cc
 root_in r (s ∷ rs) is = root_first r s rs (λ later. root_in r rs later) (or_cases (same_root s r) (has_root r rs) is)
 
-all_in : (rs qs : List Root) → are_all_in rs qs ≡ true → (r : Root) → In r rs → In r qs
+pub all_in : (rs qs : List Root) → are_all_in rs qs ≡ true → (r : Root) → In r rs → In r qs
 all_in [] qs is r m = absurd m
 all_in (s ∷ rs) qs is r (inl same) = let parts = and_parts (has_root s qs) (are_all_in rs qs) is in subst (λ (x : Root). In x qs) same (root_in s qs parts.0)
 all_in (s ∷ rs) qs is r (inr m) = let parts = and_parts (has_root s qs) (are_all_in rs qs) is in all_in rs qs parts.1 r m
 
-roots_same : (rs qs : List Root) → are_same_roots rs qs ≡ true → SameRoots qs rs
+pub roots_same : (rs qs : List Root) → are_same_roots rs qs ≡ true → SameRoots qs rs
 roots_same rs qs is = let parts = and_parts (are_all_in rs qs) (are_all_in qs rs) is in record { there = all_in qs rs parts.1; back = all_in rs qs parts.0 }
 
 -- ---- roots and filter
@@ -138,9 +141,19 @@ settled : (p : List Entry) (serves : Bool) → is_quitting p ≡ false → settl
 settled p true going = settle_calm p Open going
 settled p false going = refl
 
+-- what waits, where settings were applied
+pub intake_begun : (s : Start) (i i' : Intake) (p p' : List Entry) (c : Config) (same : Bool) → IntakeStands s i p → c ≡ settings s p → same ≡ watches_same s.folder (settings s p) (source s p).applied → p' ≡ Applied c.change_signal ∷ p → i' ≡ begun c.change_signal same (back_count p) (item_count p) i → IntakeStands s i' p'
+intake_begun s i i' p p' c same h is tested grown new = rw (grown, new) (record {
+  lane_kept = h.lane_kept;
+  asks_kept = ap (λ (d : Config). asked d.change_signal) is;
+  since_kept = rw (tested, h.since_kept) refl;
+  fence_kept = refl;
+  fenced_kept = refl;
+})
+
 -- where some path is to be watched
-pub is_behind : {B : Type 0} {G : Ghosts B} (s : Start) (f g : Files B G) (p p' : List Entry) (c : Config) → FilesStand s f p → agenda s p ≡ Comes Applies Open → is_quitting p ≡ false → c ≡ settings s p → p' ≡ Applied c.change_signal ∷ p → g.folder ≡ f.folder → g.applied ≡ Some c.change_signal → g.source ≡ f.source → (length c.pathset == 0) ≡ false → IsBehind s g p'
-is_behind s f g p p' c h owes going is grown same_folder applied same_source some =
+pub is_behind : {B : Type 0} {G : Ghosts B} (s : Start) (f g : Files B G) (p p' : List Entry) (c : Config) → FilesStand s f p → agenda s p ≡ Comes Applies Open → is_quitting p ≡ false → c ≡ settings s p → p' ≡ Applied c.change_signal ∷ p → g.folder ≡ f.folder → g.applied ≡ Some c.change_signal → g.source ≡ f.source → IntakeStands s g.intake p' → (length c.pathset == 0) ≡ false → IsBehind s g p'
+is_behind s f g p p' c h owes going is grown same_folder applied same_source intake some =
     let paths : has_paths (settings s p) ≡ true = rw is at (any_kept c.pathset false some) in
     let current : (source s (Applied c.change_signal ∷ p)).current ≡ (source s p).current = ap (λ (b : Bool). cond b (source s p).current None) paths in
     rw grown (record {
@@ -150,18 +163,20 @@ is_behind s f g p p' c h owes going is grown same_folder applied same_source som
       revision_kept = applied ∙ ap (λ (d : Config). Some d.change_signal) is;
       before = (source s p).applied;
       source_kept = rw (current, same_source) h.source_kept;
+      intake_kept = rw grown at intake;
       due = applies_then s p c.change_signal Open owes ∙ ap (settle (Applied c.change_signal ∷ p)) (makes_known (has_paths (settings s p)) (serves (settings s p) (source s p).applied (source s p).current) paths) ∙ settled (Applied c.change_signal ∷ p) (serves (settings s p) (source s p).applied (source s p).current) going ∙ ap (λ (o : Option ℕ). makes_unless (serves (settings s p) (source s p).applied o)) (sym current);
     })
 
 -- where no path is to be watched any more
-pub none_watched : {B : Type 0} {G : Ghosts B} (s : Start) (f g : Files B G) (p p' : List Entry) (c : Config) → FilesStand s f p → c ≡ settings s p → p' ≡ Applied c.change_signal ∷ p → g.folder ≡ f.folder → g.applied ≡ Some c.change_signal → g.source ≡ None → (length c.pathset == 0) ≡ true → FilesStand s g p'
-none_watched s f g p p' c h is grown same_folder applied gone none =
+pub none_watched : {B : Type 0} {G : Ghosts B} (s : Start) (f g : Files B G) (p p' : List Entry) (c : Config) → FilesStand s f p → c ≡ settings s p → p' ≡ Applied c.change_signal ∷ p → g.folder ≡ f.folder → g.applied ≡ Some c.change_signal → g.source ≡ None → IntakeStands s g.intake p' → (length c.pathset == 0) ≡ true → FilesStand s g p'
+none_watched s f g p p' c h is grown same_folder applied gone intake none =
     let paths : has_paths (settings s p) ≡ false = rw is at (any_kept c.pathset true none) in
     rw grown (record {
       absolute = rw same_folder h.absolute;
       folder_kept = same_folder ∙ h.folder_kept;
       revision_kept = applied ∙ ap (λ (d : Config). Some d.change_signal) is;
-      source_kept = rw (paths, gone) tt;
+      source_kept = rw (paths, gone) paths;
+      intake_kept = rw grown at intake;
     })
 
 none_made : (paths serves : Bool) → paths ≡ false → cond (paths && not serves) (Comes Makes Open) Open ≡ Open
@@ -189,6 +204,7 @@ refreshed s f g w v p c (Ok x) h is alike stood same watches =
       folder_kept = h.folder_kept;
       revision_kept = h.revision_kept ∙ sym (ap revision_of h.applied_now);
       source_kept = stands_for s.folder (source s p).applied (source s p).current (settings s p) still.0 v h.applied_now still.1 by;
+      intake_kept = h.intake_kept;
     })
 
 pub none_refreshed : {X E B : Type 0} {G : Ghosts B} (s : Start) (f : Files B G) (p : List Entry) (c : Config) (result : Result X E) → any_serves c f.source ≡ true → f.source ≡ None → OnOk result (FilesStand s f p)

@@ -9,16 +9,17 @@ use Rattle.wx_machine.specs.Progress.{Progress}
 use Rattle.wx_machine.specs.Seen.{Seen, Hooked}
 use Rattle.wx_machine.specs.Kept.{OnlyHooksRoom, Same, Past}
 use Rattle.wx_machine.specs.Settings.{settings}
+use Rattle.wx_machine.specs.Files.{Source}
 use Rattle.wx_machine.specs.Due.{is_quitting}
 use Rattle.wx_machine.specs.Steady.{OnlyRoom, StaysLooked}
 use Rattle.wx_machine.proofs.SteadyLemmas.{looked_none, looked_then}
 use Rattle.wx_action.specs.declared.worker_state.Worker.{Worker}
-use Rattle.wx_action.specs.Serves.{AddsAlone, AddsHand}
+use Rattle.wx_action.specs.Serves.{AddsAlone, AddsHand, Grows}
 use Rattle.wx_action.specs.Stands.{Stands}
 use Rattle.wx_action.proofs.Serving.{hand_then, hand_room, keeps_adds}
-use Rattle.wx_file_turns.specs.Serves.{unmade_count, CountsUnmade, LeavesWatch, OnlyWatched, ServesWatch, Attends, AttendsAlone, GrowsAlone, CountsOnward}
+use Rattle.wx_file_turns.specs.Serves.{unmade_count, CountsUnmade, LeavesWatch, OnlyWatched, ServesWatch, Attends, AttendsAlone, AttendsHand, GrowsAlone, CountsOnward}
 use Rattle.wx_file_turns.specs.Judged.{StepsHand}
-use Rattle.wx_file_turns.specs.Stepping.{StepsOn}
+use Rattle.wx_file_turns.specs.Stepping.{StaysBrought, StepsOn}
 
 -- ---- what was seen
 
@@ -32,13 +33,13 @@ looked_on a b h = record {
 }
 
 pub watched_none : {Plan : Type 0} {a : Seen Plan} → OnlyWatched a a
-watched_none = record { plan_kept = refl; progress_kept = refl; host_faults = refl; place_kept = refl; looked_kept = looked_none }
+watched_none = record { plan_kept = refl; progress_kept = refl; host_faults = omega arith; place_kept = refl; looked_kept = looked_none }
 
 pub watched_then : {Plan : Type 0} {a b c : Seen Plan} → OnlyWatched a b → OnlyWatched b c → OnlyWatched a c
 watched_then {Plan} {a} {b} {c} h g = record {
   plan_kept = g.plan_kept ∙ h.plan_kept;
   progress_kept = g.progress_kept ∙ ap (λ (x : Progress). record x { maker_faults = c.progress.maker_faults }) h.progress_kept;
-  host_faults = g.host_faults ∙ h.host_faults;
+  host_faults = omega (arith, h.host_faults, g.host_faults);
   place_kept = g.place_kept ∙ h.place_kept;
   looked_kept = looked_then h.looked_kept g.looked_kept;
 }
@@ -48,7 +49,7 @@ pub watched_room : {Plan : Type 0} {a b : Seen Plan} → OnlyRoom a b → OnlyWa
 watched_room {Plan} {a} {b} only = record {
   plan_kept = only.steady.plan_kept;
   progress_kept = only.steady.progress_kept ∙ sym (ap (λ (x : Progress). record a.progress { maker_faults = x.maker_faults }) only.steady.progress_kept);
-  host_faults = ap (λ x. x.faults) only.shown;
+  host_faults = (let same : b.shown.faults ≡ a.shown.faults = ap (λ x. x.faults) only.shown in omega (arith, same));
   place_kept = only.steady.place_kept;
   looked_kept = only.steady.looked_kept;
 }
@@ -120,7 +121,7 @@ serves_looked s p a b looked hooks same only = rw same (record {
   turns = λ p₀ t. t;
   counts = λ p₀ n₀ c. c;
   unmade = unmade_none p a.progress.maker_faults;
-  steady = record { plan_kept = refl; progress_kept = refl; host_faults = refl; place_kept = refl; looked_kept = looked_on a.looked looked only };
+  steady = record { plan_kept = refl; progress_kept = refl; host_faults = omega arith; place_kept = refl; looked_kept = looked_on a.looked looked only };
   settings_kept = refl;
   quits_kept = refl;
 })
@@ -128,7 +129,7 @@ serves_looked s p a b looked hooks same only = rw same (record {
 -- ---- what a step leaves
 
 pub leaves_none : (s : Start) (p : List Entry) → LeavesWatch s p p
-leaves_none s p = record { settings_kept = refl; source_kept = refl; quits_kept = refl; steps_kept = refl; work_kept = refl; unmade_kept = refl }
+leaves_none s p = record { settings_kept = refl; source_kept = refl; quits_kept = refl; steps_kept = refl; work_kept = refl; unmade_kept = refl; items_kept = refl }
 
 pub leaves_then : (s : Start) (p q r : List Entry) → LeavesWatch s p q → LeavesWatch s q r → LeavesWatch s p r
 leaves_then s p q r h g = record {
@@ -138,6 +139,7 @@ leaves_then s p q r h g = record {
   steps_kept = g.steps_kept ∙ h.steps_kept;
   work_kept = g.work_kept ∙ h.work_kept;
   unmade_kept = g.unmade_kept ∙ h.unmade_kept;
+  items_kept = g.items_kept ∙ h.items_kept;
 }
 
 pub leaves_same : (s : Start) (p p' : List Entry) → p' ≡ p → LeavesWatch s p p'
@@ -151,6 +153,34 @@ onward_then p q r a b c h g = record { steps_kept = g.steps_kept ∙ h.steps_kep
 
 pub onward_leaves : {Plan : Type 0} (s : Start) (p p' : List Entry) (a : Seen Plan) → LeavesWatch s p p' → CountsOnward p a p' a
 onward_leaves s p p' a h = record { steps_kept = h.steps_kept; work_more = omega (arith, h.work_kept); looks_more = omega arith }
+
+-- ---- what waits
+
+pub brought_none : (s : Start) (p : List Entry) → StaysBrought s p p
+brought_none s p = record { lane_kept = refl; asks_kept = refl; since_kept = refl; fence_kept = refl; fenced_kept = refl; items_kept = refl }
+
+pub brought_same : (s : Start) (p p' : List Entry) → p' ≡ p → StaysBrought s p p'
+brought_same s p p' same = rw same (brought_none s p)
+
+pub brought_then : (s : Start) (p q r : List Entry) → StaysBrought s p q → StaysBrought s q r → StaysBrought s p r
+brought_then s p q r h g = record {
+  lane_kept = g.lane_kept ∙ h.lane_kept;
+  asks_kept = g.asks_kept ∙ h.asks_kept;
+  since_kept = g.since_kept ∙ h.since_kept;
+  fence_kept = g.fence_kept ∙ h.fence_kept;
+  fenced_kept = g.fenced_kept ∙ h.fenced_kept;
+  items_kept = g.items_kept ∙ h.items_kept;
+}
+
+pub brought_leaves : (s : Start) (p p' : List Entry) → LeavesWatch s p p' → StaysBrought s p p'
+brought_leaves s p p' h = record {
+  lane_kept = ap (λ (x : Source). x.lane) h.source_kept;
+  asks_kept = ap (λ (x : Source). x.asks) h.source_kept;
+  since_kept = ap (λ (x : Source). x.since) h.source_kept;
+  fence_kept = ap (λ (x : Source). x.fence) h.source_kept;
+  fenced_kept = ap (λ (x : Source). x.fenced) h.source_kept;
+  items_kept = h.items_kept;
+}
 
 -- ---- with worker and hooks
 
@@ -195,6 +225,32 @@ module _ {K Fixed : Type 0} (seen : K → Hooked Fixed) (rule : Fixed → List E
     room = λ r. record { in_journal = h.grows.room r.in_journal; in_host = r.in_host };
   }
 
+  -- the worker may have changed, and hooks may have been called
+  pub attends_heard : {Plan : Type 0} (w : Worker) (j : Written) (a : Seen Plan) (x : K) (w' : Worker) (j' : Written) (x' : K) → AttendsHand seen rule holds s w j x w' j' x' → Attends seen rule holds s w j a x w' j' a x'
+  attends_heard w j a x w' j' x' h = record {
+    stands = h.grows.stands;
+    serves = record {
+      follows = h.grows.adds.follows a.shown.told;
+      turns = h.grows.adds.turns;
+      counts = h.grows.adds.counts a.shown.faults;
+      unmade = unmade_same j.past j'.past a.progress.maker_faults a.progress.maker_faults h.unmade_kept refl;
+      steady = watched_none;
+      settings_kept = h.settings_kept;
+      quits_kept = h.quits_kept;
+    };
+    keeps = h.grows.keeps;
+    room = λ r. record { in_journal = h.room r.in_journal; in_host = omega (arith, h.end_kept, r.in_host) };
+  }
+
+  -- the worker may have changed
+  pub attends_adds : {Plan : Type 0} (w : Worker) (j : Written) (a : Seen Plan) (x : K) (w' : Worker) (j' : Written) → Grows s w j w' j' → settings s j'.past ≡ settings s j.past → is_quitting j'.past ≡ is_quitting j.past → unmade_count j'.past ≡ unmade_count j.past → Attends seen rule holds s w j a x w' j' a x
+  attends_adds w j a x w' j' h settled quits same = record {
+    stands = h.stands;
+    serves = serves_adds s j.past j'.past a (seen x).told h.adds settled quits same;
+    keeps = keeps_adds seen rule holds x s j.past j'.past h.adds;
+    room = λ r. record { in_journal = h.room r.in_journal; in_host = omega (arith, h.end_kept, r.in_host) };
+  }
+
   -- it was looked at
   pub attends_looked : {Plan : Type 0} (w : Worker) (j : Written) (a b : Seen Plan) (x : K) (looked : Looked) → Stands s w j.past → b ≡ record a { looked = looked } → OnlyLooks a.looked looked → Attends seen rule holds s w j a x w j b x
   attends_looked w j a b x looked stands same only = record {
@@ -235,21 +291,23 @@ module _ {K Fixed : Type 0} (seen : K → Hooked Fixed) (rule : Fixed → List E
   steps_then u v w j k l a b c x y z g h = record {
     attends = attends_then u v w j k l a b c x y z g.attends h.attends;
     onward = onward_then j.past k.past l.past a b c g.onward h.onward;
+    brought = brought_then s j.past k.past l.past g.brought h.brought;
   }
 
   pub steps_none : {Plan : Type 0} (w : Worker) (j : Written) (a : Seen Plan) (x : K) → Stands s w j.past → StepsOn seen rule holds s w j a x w j a x
-  steps_none w j a x stands = record { attends = attends_none w j a x stands; onward = onward_none j.past a }
+  steps_none w j a x stands = record { attends = attends_none w j a x stands; onward = onward_none j.past a; brought = brought_none s j.past }
 
   pub steps_by_hand : {Plan : Type 0} (w : Worker) (j : Written) (a : Seen Plan) (x : K) (w' : Worker) (j' : Written) (x' : K) → StepsHand seen rule holds s w j x w' j' x' → StepsOn seen rule holds s w j a x w' j' a x'
-  steps_by_hand w j a x w' j' x' h = record { attends = attends_hand w j a x w' j' x' h; onward = onward_leaves s j.past j'.past a h.leaves }
+  steps_by_hand w j a x w' j' x' h = record { attends = attends_hand w j a x w' j' x' h; onward = onward_leaves s j.past j'.past a h.leaves; brought = brought_leaves s j.past j'.past h.leaves }
 
-  pub steps_alone : {Plan : Type 0} (w : Worker) (j : Written) (a : Seen Plan) (x : K) (j' : Written) (b : Seen Plan) → AttendsAlone s w j a j' b → CountsOnward j.past a j'.past b → StepsOn seen rule holds s w j a x w j' b x
-  steps_alone w j a x j' b h onward = record { attends = attends_alone w j a x j' b h; onward = onward }
+  pub steps_alone : {Plan : Type 0} (w : Worker) (j : Written) (a : Seen Plan) (x : K) (j' : Written) (b : Seen Plan) → AttendsAlone s w j a j' b → CountsOnward j.past a j'.past b → StaysBrought s j.past j'.past → StepsOn seen rule holds s w j a x w j' b x
+  steps_alone w j a x j' b h onward brought = record { attends = attends_alone w j a x j' b h; onward = onward; brought = brought }
 
   pub steps_looked : {Plan : Type 0} (w : Worker) (j : Written) (a b : Seen Plan) (x : K) (looked : Looked) → Stands s w j.past → b ≡ record a { looked = looked } → OnlyLooks a.looked looked → StepsOn seen rule holds s w j a x w j b x
   steps_looked w j a b x looked stands same only = record {
     attends = attends_looked w j a b x looked stands same only;
     onward = rw same (record { steps_kept = refl; work_more = omega arith; looks_more = only.looks });
+    brought = brought_none s j.past;
   }
 
 -- ---- where hooks aren't called

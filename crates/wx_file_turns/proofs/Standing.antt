@@ -14,21 +14,29 @@ use Rattle.wx_tree.specs.Lists.{In}
 use Rattle.wx_tree.specs.Paths.{Path, holds_below}
 use Rattle.wx_tree.specs.declared.root.Root.{Root}
 use Rattle.wx_lane.specs.Public.{named}
+use Rattle.wx_lane.specs.declared.lane.LaneItem.{LaneItem}
 use Rattle.wx_dir_check.specs.Checks.{is_below_any}
 use Rattle.wx_recursor.specs.Owners.{has_root}
 use Rattle.wx_step.specs.Asking.{AreAllowed}
 use Rattle.wx_fs.specs.Kept.{keep_root, keep_roots, kept_root, kept_roots}
 use Rattle.wx_holding.specs.Holding.{state_of}
 use Rattle.wx_journal.specs.declared.entry.Entry.{Entry}
-use Rattle.wx_journal.specs.declared.entry.Entry.TheVariants.{Changed, Make, Applied}
+use Rattle.wx_journal.specs.declared.entry.Entry.TheVariants.{Offer, Word as Said, Changed, Make, Applied, LetGo}
+use Rattle.wx_journal.specs.declared.entry.LetGoCause.{LetGoCause}
+use Rattle.wx_journal.specs.declared.entry.LetGoCause.TheVariants.{Full, Obsolete, Uncovered}
+use Rattle.wx_journal.specs.declared.entry.Word.{Word}
+use Rattle.wx_journal.specs.declared.entry.Word.TheVariants.{Stepped}
+use Rattle.wx_journal.specs.Names.{item_count}
 use Rattle.wx_machine.specs.Start.{Start}
 use Rattle.wx_machine.specs.Settings.{settings, first_changed, pending}
-use Rattle.wx_machine.specs.Files.{Source, source, stand, applied, is_applied, is_below_recursive}
+use Rattle.wx_machine.specs.Files.{Source, source, let_go, offer_item, said, stand, applied, is_applied, is_below_recursive, unwatched}
 use Rattle.wx_file_turns.specs.declared.files.Files.{Files}
 use Rattle.wx_file_turns.specs.declared.files.Watching.{Watching}
-use Rattle.wx_file_turns.specs.Standing.{SameRoots, WatchesBy, StandsBy, FilesStand, is_revision, revision_of}
+use Rattle.wx_file_turns.specs.declared.intake.Intake.{Intake}
+use Rattle.wx_file_turns.specs.Standing.{SameRoots, WatchesBy, StandsBy, IntakeStands, FilesStand, is_revision, revision_of}
 use Rattle.wx_file_turns.specs.Judged.{recursive_places, IsUpToDate}
-use Rattle.wx_file_turns.specs.Stepping.{IsWatching}
+use Rattle.wx_file_turns.specs.Intake.{nothing_brought, stepped}
+use Rattle.wx_file_turns.specs.Stepping.{IsWatching, KeepsBrought, StaysBrought}
 use Rattle.wx_file_turns.proofs.Staying.{Asked, asked}
 
 -- ---- settings of the revision that stands are those that stand
@@ -61,10 +69,30 @@ stood : (back : ℕ) (answer : Result (Unit {0}) NotifyFault) (x : Source) → (
 stood back (Ok done) x = refl
 stood back (Err fault) x = refl
 
+stepped_fence : (b : Bool) (x : Source) (items : ℕ) → (cond b x (record x { fence = items })).applied ≡ x.applied
+stepped_fence true x items = refl
+stepped_fence false x items = refl
+
+said_word : (items : ℕ) (word : Word) (x : Source) → (said items word x).applied ≡ x.applied
+said_word items Stepped x = stepped_fence x.fenced x items
+said_word items (_) x = refl
+
+went : (cause : LetGoCause) (item : ℕ) (x : Source) → (let_go cause item x).applied ≡ x.applied
+went Full item x = refl
+went Obsolete item x = refl
+went Uncovered item x = refl
+
+was_offered : (item : Option ℕ) (x : Source) → (offer_item item x).applied ≡ x.applied
+was_offered None x = refl
+was_offered (Some item) x = refl
+
 no_later : (s : Start) (p : List Entry) → IsNoLater (source s p).applied (settings s p)
 no_later s [] = tt
 no_later s (Make back watcher follow answer ∷ p) = subst (λ (o : Option Config). IsNoLater o (settings s p)) (sym (stood back answer (source s p))) (no_later s p)
 no_later s (Applied revision ∷ p) = inl refl
+no_later s (Said word ∷ p) = subst (λ (o : Option Config). IsNoLater o (settings s p)) (sym (said_word (item_count p) word (source s p))) (no_later s p)
+no_later s (LetGo item cause ∷ p) = subst (λ (o : Option Config). IsNoLater o (settings s p)) (sym (went cause item (source s p))) (no_later s p)
+no_later s (Offer name item result event priority ∷ p) = subst (λ (o : Option Config). IsNoLater o (settings s p)) (sym (was_offered item (source s p))) (no_later s p)
 no_later s (Changed revision ∷ p) = later_by (pending p) (source s p).applied (settings s p) (no_later s p)
 no_later s (_ ∷ p) = no_later s p
 
@@ -108,7 +136,7 @@ in_more x (r ∷ rs) y (inr m) = cases (in_more x rs y m)
     cases (inl m) = inl (inr m)
     cases (inr same) = inr same
 
-in_kept : (b : Bool) (x : Root) (rs : List Root) (y : Root) → In x (cond b rs (rs ++ y ∷ [])) → In x rs ⊎ (y ≡ x)
+pub in_kept : (b : Bool) (x : Root) (rs : List Root) (y : Root) → In x (cond b rs (rs ++ y ∷ [])) → In x rs ⊎ (y ≡ x)
 in_kept true x rs y m = inl m
 in_kept false x rs y m = in_more x rs y m
 
@@ -173,21 +201,79 @@ files_watch s f w p h now is =
     let found = standing s.folder (source s p).applied (source s p).current (settings s p) w now (subst (StandsBy s.folder (source s p).applied (source s p).current) is h.source_kept) in
     record { applied_now = now; back = found.0; current = found.1; watches = found.2 }
 
-pub watch_files : {B : Type 0} {G : Ghosts B} (s : Start) (f : Files B G) (w : Watching B G) (p : List Entry) → IsWatching s w p → f.source ≡ Some w → f.applied ≡ Some (settings s p).change_signal → f.folder ≡ s.folder → is_absolute f.folder ≡ true → FilesStand s f p
-watch_files s f w p h is revision folder absolute = record {
+pub watch_files : {B : Type 0} {G : Ghosts B} (s : Start) (f : Files B G) (w : Watching B G) (p : List Entry) → IsWatching s w p → f.source ≡ Some w → f.applied ≡ Some (settings s p).change_signal → f.folder ≡ s.folder → is_absolute f.folder ≡ true → IntakeStands s f.intake p → FilesStand s f p
+watch_files s f w p h is revision folder absolute intake = record {
   absolute = absolute;
   folder_kept = folder;
   revision_kept = revision ∙ sym (ap revision_of h.applied_now);
   source_kept = rw (h.applied_now, h.current, is) h.watches;
+  intake_kept = intake;
 }
 
--- it stands for each journal that says the same of what is watched
+-- what waits stands for each journal that says the same of what is watched
+pub intake_still : (s : Start) (i : Intake) (p p' : List Entry) → source s p' ≡ source s p → IntakeStands s i p → IntakeStands s i p'
+intake_still s i p p' same h = record { lane_kept = rw same h.lane_kept; asks_kept = rw same h.asks_kept; since_kept = rw same h.since_kept; fence_kept = rw same h.fence_kept; fenced_kept = rw same h.fenced_kept }
+
+-- so it does where nothing was brought, and what waits is as it was
+pub intake_on : (s : Start) (i : Intake) (p p' : List Entry) → StaysBrought s p p' → IntakeStands s i p → IntakeStands s i p'
+intake_on s i p p' k h = record {
+  lane_kept = h.lane_kept ∙ ap (λ (items : List LaneItem). record { items = items; size = s.config.event_channel_size }) (sym k.lane_kept);
+  asks_kept = h.asks_kept ∙ sym k.asks_kept;
+  since_kept = h.since_kept ∙ sym k.since_kept;
+  fence_kept = h.fence_kept ∙ sym k.fence_kept;
+  fenced_kept = h.fenced_kept ∙ sym k.fenced_kept;
+}
+
+-- and where a step was done, behind which the name moves below which all is heard before it is told that all is watched
+record MovesFence (b : Bool) (n : ℕ) (i i' : Intake) : Type 0 where
+  lane_is : i'.lane ≡ i.lane
+  asks_is : i'.asks ≡ i.asks
+  since_is : i'.since ≡ i.since
+  fenced_is : i'.fenced ≡ i.fenced
+  fence_is : i'.fence ≡ cond b i.fence n
+
+moves : (b : Bool) (n : ℕ) (i : Intake) → MovesFence b n i (cond b i (record i { fence = n }))
+moves true n i = record { lane_is = refl; asks_is = refl; since_is = refl; fenced_is = refl; fence_is = refl }
+moves false n i = record { lane_is = refl; asks_is = refl; since_is = refl; fenced_is = refl; fence_is = refl }
+
+pub intake_stepped : (s : Start) (i i' : Intake) (p p' : List Entry) (items : ℕ) → IntakeStands s i p → KeepsBrought s p p' → items ≡ item_count p' → i' ≡ stepped items i → IntakeStands s i' p'
+intake_stepped s i i' p p' items h k counted new =
+    let m = moves i.fenced items i in
+    rw new (record {
+      lane_kept = m.lane_is ∙ h.lane_kept ∙ ap (λ (items : List LaneItem). record { items = items; size = s.config.event_channel_size }) (sym k.lane_kept);
+      asks_kept = m.asks_is ∙ h.asks_kept ∙ sym k.asks_kept;
+      since_kept = m.since_is ∙ h.since_kept ∙ sym k.since_kept;
+      fence_kept = m.fence_is ∙ (rw (h.fenced_kept, h.fence_kept, counted, k.items_kept) (sym k.fence_is));
+      fenced_kept = m.fenced_is ∙ h.fenced_kept ∙ sym k.fenced_kept;
+    })
+
+-- so does what is kept
 pub files_still : {B : Type 0} {G : Ghosts B} (s : Start) (f : Files B G) (p p' : List Entry) → source s p' ≡ source s p → FilesStand s f p → FilesStand s f p'
 files_still s f p p' same h = record {
   absolute = h.absolute;
   folder_kept = h.folder_kept;
   revision_kept = h.revision_kept ∙ sym (ap (λ (x : Source). revision_of x.applied) same);
   source_kept = rw same h.source_kept;
+  intake_kept = intake_still s f.intake p p' same h.intake_kept;
+}
+
+-- at the beginning
+intake_new : (s : Start) (i : Intake) (p : List Entry) (size : ℕ) → s.config.event_channel_size ≡ size → source s p ≡ unwatched → i ≡ nothing_brought size → IntakeStands s i p
+intake_new s i p size fits none new = rw new (record {
+  lane_kept = rw (none, fits) refl;
+  asks_kept = sym (ap (λ (x : Source). x.asks) none);
+  since_kept = sym (ap (λ (x : Source). x.since) none);
+  fence_kept = sym (ap (λ (x : Source). x.fence) none);
+  fenced_kept = sym (ap (λ (x : Source). x.fenced) none);
+})
+
+pub files_new : {B : Type 0} {G : Ghosts B} (s : Start) (f : Files B G) (p : List Entry) (size : ℕ) → is_absolute f.folder ≡ true → f.applied ≡ None → f.source ≡ None → f.intake ≡ nothing_brought size → s.folder ≡ f.folder → s.config.event_channel_size ≡ size → source s p ≡ unwatched → FilesStand s f p
+files_new s f p size absolute applied gone new folder fits none = record {
+  absolute = absolute;
+  folder_kept = sym folder;
+  revision_kept = applied ∙ sym (ap (λ (x : Source). revision_of x.applied) none);
+  source_kept = rw (none, gone) tt;
+  intake_kept = intake_new s f.intake p size fits none new;
 }
 
 -- where none stands no backend does

@@ -1,7 +1,8 @@
 -- What is due in a turn about what is watched.
 use Rattle.wx_scan.specs.declared.backend.Backend.{Ghosts}
-use Rattle.std.proofs.Common.{◌≡◌, ◌≤◌, ◌+◌, ℕ, Bool, true, false, List, ◌∷◌, inl, inr, arith, refl, ap, sym, ◌∙◌}
+use Rattle.std.proofs.Common.{◌≡◌, ◌≤◌, ◌+◌, ℕ, Bool, true, false, cond, List, ◌∷◌, inl, inr, arith, refl, ap, sym, ◌∙◌}
 use Rattle.std.specs.Prelude.{◌⊎◌, ◌^◌, ◌-◌, min, Some, Result, Ok, Err, OnOk}
+use Rattle.wx_watch.specs.declared.notify_fault.NotifyFault.{NotifyFault}
 use Rattle.wx_watch.specs.declared.watched.Watcher.{Watcher}
 use Rattle.wx_scan.specs.Looked.{Rose}
 use Rattle.wx_tree.specs.Places.{place}
@@ -10,14 +11,14 @@ use Rattle.wx_error.specs.declared.runtime.RuntimeError.{RuntimeError}
 use Rattle.wx_journal.specs.declared.entry.Entry.{Entry}
 use Rattle.wx_journal.specs.declared.entry.Entry.TheVariants.{Word as Said, Dir, Make, Applied}
 use Rattle.wx_journal.specs.declared.entry.Word.TheVariants.{Stepped, Quiet}
-use Rattle.wx_journal.specs.Names.{back_count}
+use Rattle.wx_journal.specs.Names.{back_count, item_count}
 use Rattle.wx_machine.specs.Start.{Start}
 use Rattle.wx_machine.specs.Seen.{Seen}
 use Rattle.wx_machine.specs.Settings.{settings, revision}
 use Rattle.wx_machine.specs.Steps.{step_count, work_count}
-use Rattle.wx_machine.specs.Files.{source, applied, may_be_judged, is_below_recursive}
+use Rattle.wx_machine.specs.Files.{Source, source, applied, may_be_judged, is_below_recursive}
 use Rattle.wx_machine.specs.Answer.{NoneIsToGo}
-use Rattle.wx_machine.specs.Due.{Open, Comes, Steps, Breaks, Makes, Applies, agenda, is_quitting, Due}
+use Rattle.wx_machine.specs.Due.{Open, Comes, Steps, Breaks, Makes, Applies, agenda, follow, is_quitting, rest_entry, settle, Due}
 use Rattle.wx_machine.proofs.SettleLaws.{settle_calm}
 use Rattle.wx_machine.proofs.Stepping.{judges_due, judges_on, errs_due, errs_on, remakes_due, remakes_on, remakes_break, makes_due, makes_then, applies_due, finishes_due, finishes_over, rests_due, rests_over}
 use Rattle.wx_action.specs.declared.worker_state.Worker.{Worker}
@@ -28,7 +29,7 @@ use Rattle.wx_file_turns.specs.Judged.{recursive_places, IsStepping, IsUpToDate}
 use Rattle.wx_file_turns.specs.Making.{IsToMake}
 use Rattle.wx_file_turns.specs.Serves.{CountsOnward, PaysOn}
 use Rattle.wx_file_turns.specs.Standing.{owed, works}
-use Rattle.wx_file_turns.specs.Stepping.{IsWatching, IsWorthwhile}
+use Rattle.wx_file_turns.specs.Stepping.{IsWatching, IsWorthwhile, KeepsBrought, StaysBrought}
 use Rattle.wx_file_turns.proofs.Standing.{applied_is, below_known}
 
 -- ---- of a step
@@ -88,17 +89,52 @@ made_up_to_date s p p' back kind follow now grown = rw grown now
 pub made_current : (s : Start) (p p' : List Entry) (back : ℕ) (kind : Watcher) (follow : Bool) → p' ≡ Make back kind follow (Ok tt) ∷ p → (source s p').current ≡ Some back
 made_current s p p' back kind follow grown = rw grown refl
 
+-- what waits stays
+pub brought_made : (s : Start) (p p' : List Entry) (back : ℕ) (kind : Watcher) (follow : Bool) (answer : Result (Unit {0}) NotifyFault) → p' ≡ Make back kind follow answer ∷ p → StaysBrought s p p'
+brought_made s p p' back kind follow (Ok done) grown = rw grown (record { lane_kept = refl; asks_kept = refl; since_kept = refl; fence_kept = refl; fenced_kept = refl; items_kept = refl })
+brought_made s p p' back kind follow (Err fault) grown = rw grown (record { lane_kept = refl; asks_kept = refl; since_kept = refl; fence_kept = refl; fenced_kept = refl; items_kept = refl })
+
 pub stepped_due : (s : Start) (p : List Entry) → IsStepping s p → Due s p (Said Stepped)
 stepped_due s p step = finishes_due s p Open (record { untouched = step.0; owes = step.1 })
 
 pub stepped_open : (s : Start) (p p' : List Entry) → IsStepping s p → is_quitting p ≡ false → p' ≡ Said Stepped ∷ p → agenda s p' ≡ Open
 stepped_open s p p' step going grown = rw grown (finishes_over s p Open (record { untouched = step.0; owes = step.1 }) ∙ settle_calm (Said Stepped ∷ p) Open going)
 
-pub quiet_due : (s : Start) (p : List Entry) → agenda s p ≡ Steps true Open → Due s p (Said Quiet)
-quiet_due s p owes = rests_due s p Open owes
+-- what waits stays, but for the fence
+record MovesFence (b : Bool) (n : ℕ) (x y : Source) : Type 0 where
+  lane_is : y.lane ≡ x.lane
+  asks_is : y.asks ≡ x.asks
+  since_is : y.since ≡ x.since
+  fenced_is : y.fenced ≡ x.fenced
+  fence_is : y.fence ≡ cond b x.fence n
 
-pub quiet_open : (s : Start) (p p' : List Entry) → agenda s p ≡ Steps true Open → is_quitting p ≡ false → p' ≡ Said Quiet ∷ p → agenda s p' ≡ Open
-quiet_open s p p' owes going grown = rw grown (rests_over s p Open owes ∙ settle_calm (Said Quiet ∷ p) Open going)
+moves : (b : Bool) (n : ℕ) (x : Source) → MovesFence b n x (cond b x (record x { fence = n }))
+moves true n x = record { lane_is = refl; asks_is = refl; since_is = refl; fenced_is = refl; fence_is = refl }
+moves false n x = record { lane_is = refl; asks_is = refl; since_is = refl; fenced_is = refl; fence_is = refl }
+
+pub brought_stepped : (s : Start) (p q p' : List Entry) → StaysBrought s p q → p' ≡ Said Stepped ∷ q → KeepsBrought s p p'
+brought_stepped s p q p' k grown =
+    let m = moves (source s q).fenced (item_count q) (source s q) in
+    rw grown (record {
+      lane_kept = m.lane_is ∙ k.lane_kept;
+      asks_kept = m.asks_is ∙ k.asks_kept;
+      since_kept = m.since_is ∙ k.since_kept;
+      fenced_kept = m.fenced_is ∙ k.fenced_kept;
+      items_kept = k.items_kept;
+      fence_is = m.fence_is ∙ (rw (k.fenced_kept, k.fence_kept, k.items_kept) refl);
+    })
+
+-- ---- where there is none to take
+
+-- what comes then is due, and leaves what follows it
+pub rest_due : (s : Start) (p : List Entry) (e : Entry) → agenda s p ≡ Steps true Open → rest_entry s p ≡ e → Due s p e
+rest_due s p e owes is = rests_due s p Open e owes is
+
+pub rest_follows : (s : Start) (p p' : List Entry) (e : Entry) → agenda s p ≡ Steps true Open → rest_entry s p ≡ e → p' ≡ e ∷ p → agenda s p' ≡ settle (e ∷ p) (follow s e p Open)
+rest_follows s p p' e owes is grown = rw grown (rests_over s p Open e owes is)
+
+pub quiet_due : (s : Start) (p : List Entry) → agenda s p ≡ Steps true Open → rest_entry s p ≡ Said Quiet → Due s p (Said Quiet)
+quiet_due s p owes is = rest_due s p (Said Quiet) owes is
 
 -- ---- of settings that are applied
 

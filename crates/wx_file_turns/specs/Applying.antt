@@ -1,31 +1,20 @@
 -- How settings are applied to what is watched.
 use Rattle.wx_scan.specs.declared.backend.Backend.{Ghosts}
-use Rattle.std.specs.Prelude.{◌≡◌, ℕ, Bool, true, false, not, ◌&&◌, ◌==◌, if◌then◌else◌, Option, None, Some, List, [], ◌∷◌}
+use Rattle.std.specs.Prelude.{◌≡◌, ℕ, Bool, true, false, not, ◌&&◌, ◌==◌, if◌then◌else◌, Option, None, Some, List}
 use Rattle.wx_config.specs.declared.config.Config.{Config}
-use Rattle.wx_tree.specs.declared.root.Root.{Root}
 use Rattle.wx_paths.specs.Paths.{is_absolute}
-use Rattle.wx_recursor.specs.Owners.{has_root}
 use Rattle.wx_recursor.specs.Calls.{needs_retry, reconciled}
 use Rattle.wx_holding.specs.Holding.{state_of}
 use Rattle.wx_fs.specs.Kept.{kept_roots}
 use Rattle.wx_journal.specs.declared.entry.Entry.{Entry}
 use Rattle.wx_machine.specs.Start.{Start}
 use Rattle.wx_machine.specs.Settings.{settings, revision}
-use Rattle.wx_machine.specs.Files.{source, serves, is_same_watcher, is_same_switch}
+use Rattle.wx_machine.specs.Files.{source, has_paths, are_same_roots, serves, is_same_watcher, is_same_switch}
 use Rattle.wx_machine.specs.Due.{Agenda, Comes, Makes, Open, agenda}
 use Rattle.wx_file_turns.specs.declared.files.Files.{Files}
 use Rattle.wx_file_turns.specs.declared.files.Watching.{Watching}
-use Rattle.wx_file_turns.specs.Standing.{StandsBy, WatchesBy}
+use Rattle.wx_file_turns.specs.Standing.{IntakeStands, StandsBy, WatchesBy}
 use Rattle.wx_file_turns.specs.Judged.{IsUpToDate}
-
--- each of these roots is one of those
-abbrev pub are_all_in : List Root → List Root → Bool
-are_all_in [] qs = true
-are_all_in (r ∷ rs) qs = has_root r qs && are_all_in rs qs
-
--- they are the same roots, in whatever order
-abbrev pub are_same_roots : List Root → List Root → Bool
-are_same_roots rs qs = are_all_in rs qs && are_all_in qs rs
 
 -- its backend was made in the way that these settings say: by the same watcher, and with links followed or not
 abbrev pub serves_by : {B : Type 0} {G : Ghosts B} → Config → Watching B G → Bool
@@ -54,6 +43,14 @@ pub record ServesStill {B : Type 0} {G : Ghosts B} (folder : List ℕ) (c : Conf
   pub watches : WatchesBy folder before back w
   pub serves : serves_by c w ≡ true
 
+-- it keeps watches as these settings say already: the same roots, by the same filter, watcher and links, and there is some path
+abbrev pub keeps_by : {B : Type 0} {G : Ghosts B} → Config → Watching B G → Bool
+keeps_by c w = has_paths c && (serves_by c w && has_same c w)
+
+abbrev pub any_keeps : {B : Type 0} {G : Ghosts B} → Config → Option (Watching B G) → Bool
+any_keeps c None = false
+any_keeps c (Some w) = keeps_by c w
+
 -- what is due where a backend is to be made, or isn't
 abbrev pub makes_unless : Bool → Agenda
 makes_unless serves = if serves then Open else Comes Makes Open
@@ -66,4 +63,5 @@ pub record IsBehind {B : Type 0} {G : Ghosts B} (s : Start) (f : Files B G) (p :
   pub revision_kept : f.applied ≡ Some (revision s p)
   pub before : Option Config
   pub source_kept : StandsBy s.folder before (source s p).current f.source
+  pub intake_kept : IntakeStands s f.intake p
   pub due : agenda s p ≡ makes_unless (serves (settings s p) before (source s p).current)

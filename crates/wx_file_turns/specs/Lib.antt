@@ -1,6 +1,9 @@
 pub mod Applying
+pub mod Hearing
+pub mod Intake
 pub mod Judged
 pub mod Making
+pub mod Resting
 pub mod Serves
 pub mod Standing
 pub mod Stepping

@@ -3,7 +3,7 @@ use Rattle.std.specs.Prelude.{◌≡◌, ◌≤◌, ◌+◌, ◌-◌, ◌^◌, �
 use Rattle.wx_scan.specs.Backings.{failed_by, is_memory}
 use Rattle.wx_journal.specs.declared.entry.Entry.{Entry}
 use Rattle.wx_journal.specs.declared.entry.Entry.TheVariants.{Make}
-use Rattle.wx_journal.specs.Names.{count}
+use Rattle.wx_journal.specs.Names.{count, item_count}
 use Rattle.wx_journal.specs.Written.{Written}
 use Rattle.wx_machine.specs.Start.{Start}
 use Rattle.wx_machine.specs.Seen.{Seen, Hooked}
@@ -17,8 +17,8 @@ use Rattle.wx_machine.specs.Steps.{step_count, work_count, IsPaid}
 use Rattle.wx_machine.specs.Files.{source}
 use Rattle.wx_machine.specs.Due.{is_quitting}
 use Rattle.wx_action.specs.declared.worker_state.Worker.{Worker}
-use Rattle.wx_action.specs.Stands.{Stands, HasEndRoom}
-use Rattle.wx_action.specs.Serves.{Grows}
+use Rattle.wx_action.specs.Stands.{Stands, HasEndRoom, end_room}
+use Rattle.wx_action.specs.Serves.{Grows, GrowsHand}
 
 -- a backend couldn't be made, but for want of memory
 abbrev pub is_unmade : Entry → Bool
@@ -40,7 +40,7 @@ pub record CountsUnmade (p : List Entry) (n : ℕ) (p' : List Entry) (n' : ℕ) 
   pub rose : min (n + (unmade_count p' - unmade_count p)) (2 ^ 64 - 1) ≤ n'
 
 -- What entries of a step leave of what a journal says, but those of backends: the settings that stand and that were applied, the
--- backend that stands, whether the end is due, and how many steps, and entries that bring work, there are.
+-- backend that stands, whether the end is due, and how many steps, entries that bring work, and items there are.
 pub record LeavesWatch (s : Start) (p p' : List Entry) : Type 0 where
   pub settings_kept : settings s p' ≡ settings s p
   pub source_kept : source s p' ≡ source s p
@@ -48,13 +48,14 @@ pub record LeavesWatch (s : Start) (p p' : List Entry) : Type 0 where
   pub steps_kept : step_count p' ≡ step_count p
   pub work_kept : work_count p' ≡ work_count p
   pub unmade_kept : unmade_count p' ≡ unmade_count p
+  pub items_kept : item_count p' ≡ item_count p
 
--- What is left of a world that was looked at and asked for backends: its plan, where it is in its turns, its count of faults of
--- children, and where the object lies that is lent to it. Looks never fall.
+-- What is left of a world that was looked at, asked for backends, or told that all is watched: its plan, where it is in its turns, and
+-- where the object lies that is lent to it. Neither looks nor its count of faults of children fall.
 pub record OnlyWatched {Plan : Type 0} (a b : Seen Plan) : Type 0 where
   pub plan_kept : b.plan ≡ a.plan
   pub progress_kept : b.progress ≡ record a.progress { maker_faults = b.progress.maker_faults }
-  pub host_faults : b.shown.faults ≡ a.shown.faults
+  pub host_faults : a.shown.faults ≤ b.shown.faults
   pub place_kept : b.place ≡ a.place
   pub looked_kept : StaysLooked a.looked b.looked
 
@@ -90,6 +91,17 @@ pub record GrowsAlone (s : Start) (w : Worker) (j j' : Written) : Type 0 where
   pub settings_kept : settings s j'.past ≡ settings s j.past
   pub quits_kept : is_quitting j'.past ≡ is_quitting j.past
   pub unmade_kept : unmade_count j'.past ≡ unmade_count j.past
+
+-- the same where the worker may change, and hooks may be called; no step was said to be taken
+pub record AttendsHand {K Fixed : Type 0} (seen : K → Hooked Fixed) (rule : Fixed → List Entry → Entry → Type 0) (holds : K → List Entry → Type 0) (s : Start) (w : Worker) (j : Written) (x : K) (w' : Worker) (j' : Written) (x' : K) : Type 0 where
+  pub grows : GrowsHand seen rule holds s j.past x w' j'.past x'
+  pub settings_kept : settings s j'.past ≡ settings s j.past
+  pub quits_kept : is_quitting j'.past ≡ is_quitting j.past
+  pub unmade_kept : unmade_count j'.past ≡ unmade_count j.past
+  pub steps_kept : step_count j'.past ≡ step_count j.past
+  pub work_more : work_count j.past ≤ work_count j'.past
+  pub end_kept : end_room w' ≡ end_room w
+  pub room : end_room w ≤ j.spare → end_room w' ≤ j'.spare
 
 -- so many steps that may come without a look are paid for still
 abbrev pub PaysOn : {Plan : Type 0} → List Entry → Seen Plan → ℕ → List Entry → Seen Plan → ℕ → Type 0

@@ -11,9 +11,10 @@ use Rattle.wx_holding.specs.Holding.{state_of}
 use Rattle.wx_fs.specs.Kept.{kept_roots}
 use Rattle.wx_journal.specs.declared.entry.Entry.{Entry}
 use Rattle.wx_machine.specs.Start.{Start}
-use Rattle.wx_machine.specs.Files.{source}
+use Rattle.wx_machine.specs.Files.{source, has_paths}
 use Rattle.wx_file_turns.specs.declared.files.Files.{Files}
 use Rattle.wx_file_turns.specs.declared.files.Watching.{Watching}
+use Rattle.wx_file_turns.specs.declared.intake.Intake.{Intake}
 
 -- these are the same roots, in whatever order
 pub record SameRoots (rs qs : List Root) : Type 0 where
@@ -32,12 +33,12 @@ pub record WatchesBy {B : Type 0} {G : Ghosts B} (folder : List ℕ) (c : Config
   pub roots_kept : SameRoots (state_of w.recursor.held).roots (kept_roots folder c.pathset)
   pub filter_kept : (state_of w.recursor.held).filter ≡ c.filterer
 
--- it does so exactly where settings were applied and a backend stands
+-- it does so exactly where settings were applied and a backend stands; else those that were applied name no path
 abbrev pub StandsBy : {B : Type 0} {G : Ghosts B} → List ℕ → Option Config → Option ℕ → Option (Watching B G) → Type 0
 StandsBy folder None None None = Unit {0}
 StandsBy folder None None (Some w) = ⊥
 StandsBy folder None (Some back) w = ⊥
-StandsBy folder (Some c) None None = Unit {0}
+StandsBy folder (Some c) None None = has_paths c ≡ false
 StandsBy folder (Some c) None (Some w) = ⊥
 StandsBy folder (Some c) (Some back) None = ⊥
 StandsBy folder (Some c) (Some back) (Some w) = WatchesBy folder c back w
@@ -50,12 +51,21 @@ abbrev pub revision_of : Option Config → Option ℕ
 revision_of None = None
 revision_of (Some c) = Some c.change_signal
 
--- It keeps what the journal says, for this start: which revision was applied last, and what keeps watches by it.
+-- What waits stands for a journal: the lane, in which so many events may wait, and what is known of it.
+pub record IntakeStands (s : Start) (i : Intake) (p : List Entry) : Type 0 where
+  pub lane_kept : i.lane ≡ record { items = (source s p).lane; size = s.config.event_channel_size }
+  pub asks_kept : i.asks ≡ (source s p).asks
+  pub since_kept : i.since ≡ (source s p).since
+  pub fence_kept : i.fence ≡ (source s p).fence
+  pub fenced_kept : i.fenced ≡ (source s p).fenced
+
+-- It keeps what the journal says, for this start: which revision was applied last, what keeps watches by it, and what waits.
 pub record FilesStand {B : Type 0} {G : Ghosts B} (s : Start) (f : Files B G) (p : List Entry) : Type 0 where
   pub absolute : is_absolute f.folder ≡ true
   pub folder_kept : f.folder ≡ s.folder
   pub revision_kept : f.applied ≡ revision_of (source s p).applied
   pub source_kept : StandsBy s.folder (source s p).applied (source s p).current f.source
+  pub intake_kept : IntakeStands s f.intake p
 
 -- what keeps watches has work
 abbrev pub works : {B : Type 0} {G : Ghosts B} → Watching B G → Bool

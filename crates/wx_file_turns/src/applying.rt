@@ -2,17 +2,17 @@
 ghost use Rattle.std.specs.Prelude.{◌≡◌, List, ℕ, true, false, IfErr, IfOk, OnOk};
 ghost use Rattle.wx_machine.specs.Answer.{BreaksHere};
 ghost use Rattle.wx_machine.specs.Due.{Applies, Comes, Makes, Open, agenda, is_quitting};
-ghost use Rattle.wx_machine.specs.Files.{is_same_switch, is_same_watcher};
+ghost use Rattle.wx_machine.specs.Files.{are_all_in, are_same_roots, is_same_switch, is_same_watcher};
 ghost use Rattle.wx_journal.specs.declared.entry.Entry.{Entry as AnEntry};
 ghost use Rattle.wx_machine.specs.Settings.{settings};
 ghost use Rattle.wx_machine.specs.Start.{Start};
 ghost use Rattle.wx_paths.specs.Paths.{is_absolute};
 ghost use Rattle.wx_action.specs.Stands.{Owes, Stands};
-ghost use Rattle.wx_file_turns.specs.Applying.{IsBehind, Refreshes, ServesStill, any_serves, are_all_in, are_same_roots, has_same, is_settled, serves_by};
+ghost use Rattle.wx_file_turns.specs.Applying.{IsBehind, Refreshes, ServesStill, any_keeps, any_serves, has_same, is_settled, keeps_by, serves_by};
 ghost use Rattle.wx_file_turns.specs.Judged.{IsUpToDate};
 ghost use Rattle.wx_file_turns.specs.Serves.{AttendsAlone, CountsOnward, PaysOn};
 ghost use Rattle.wx_file_turns.specs.Standing.{FilesStand, WatchesBy, owing};
-ghost use Rattle.wx_file_turns.specs.Stepping.{IsWatching};
+ghost use Rattle.wx_file_turns.specs.Stepping.{IsWatching, StaysBrought};
 
 use crate::files::{Files, Watching};
 use crate::making::make_backend;
@@ -110,7 +110,29 @@ impl<B: Backend + Drop> Watching<B> {
     }
 }
 
+impl<B: Backend + Drop> Watching<B> {
+    /// Whether it keeps watches as these settings say already. It fails only for want of memory.
+    fn keeps(&self, alloc: Global, config: &Config) -> Result<bool, Memory>
+        ensures { IfOk result (λ keeps. keeps ≡ keeps_by config.now self.now) }
+    {
+        if config.pathset.get().is_empty() || !self.serves(config) {
+            return Ok(false);
+        }
+        self.has_same(alloc, config)
+    }
+}
+
 impl<B: Backend + Drop> Files<B> {
+    /// Whether the same is watched in the same way by these settings as it was before. It fails only for want of memory.
+    fn keeps(&self, config: &Config) -> Result<bool, Memory>
+        ensures { IfOk result (λ keeps. keeps ≡ any_keeps config.now self.now.source) }
+    {
+        match &self.source {
+            None => Ok(false),
+            Some(watching) => watching.keeps(self.alloc, config),
+        }
+    }
+
     /// Whether a backend stands that was made in the way that these settings say.
     fn serves(&self, config: &Config) -> bool
         ensures { result ≡ any_serves config.now self.now.source }
@@ -153,6 +175,7 @@ fn begin<W: World>(
     ensures onward { CountsOnward journal.old.past (W.seen world.old) journal.new.past (W.seen world.new) }
     ensures served { OnOk result (agenda start journal.new.past ≡ Open) }
     ensures watching { IfOk result (λ watching. IsWatching start watching journal.new.past) }
+    ensures brought { StaysBrought start journal.old.past journal.new.past }
     ensures breaks { IfErr result (λ error. BreaksHere start journal.new.past error) }
 {
     let cwd = folder.copy(alloc)?;
@@ -211,9 +234,13 @@ pub(crate) fn apply<W: World>(
     ensures paid { PaysOn journal.old.past (W.seen world.old) (owing files.old) journal.new.past (W.seen world.new) (owing files.new) }
 {
     worker.reserve(1, journal)?;
+    let same = files.keeps(&worker.config)?;
     let revision = worker.config.change_signal;
+    let backs = journal.backs();
+    let items = journal.items();
     journal.push(Entry::Applied(revision));
     files.applied = Some(revision);
+    files.intake.begin(revision, same, backs, items);
     if worker.config.pathset.get().is_empty() {
         files.source = None;
         return Ok(());

@@ -1,14 +1,17 @@
 // What an engine keeps of what is watched.
-ghost use Rattle.std.specs.Prelude.{◌≡◌, None, true, List};
+ghost use Rattle.std.specs.Prelude.{◌≡◌, IfOk, None, true, List};
 ghost use Rattle.wx_journal.specs.declared.entry.Entry.{Entry};
 ghost use Rattle.wx_machine.specs.Files.{source, unwatched};
 ghost use Rattle.wx_machine.specs.Start.{Start};
 ghost use Rattle.wx_paths.specs.Paths.{is_absolute};
+ghost use Rattle.wx_file_turns.specs.Intake.{is_live_by, nothing_brought};
 ghost use Rattle.wx_file_turns.specs.Standing.{FilesStand, is_revision, owing, works};
 
+use crate::intake::Intake;
 use std::alloc::Global;
 use wx_fs::Recursor;
 use wx_scan::Backend;
+use wx_text::Memory;
 use wx_words::TextPath;
 
 /// What keeps watches, over a backend of this name.
@@ -19,29 +22,33 @@ pub struct Watching<B: Backend + Drop> {
 }
 
 /// What an engine keeps of what is watched: the folder from which paths are taken, the revision of the settings that were applied
-/// last, and what keeps watches, where some path is to be watched.
+/// last, what keeps watches, where some path is to be watched, and what backends brought.
 #[derive(Drop)]
 pub struct Files<B: Backend + Drop> {
     pub alloc: Global,
     pub folder: TextPath,
     pub applied: Option<u64>,
     pub source: Option<Watching<B>>,
+    pub intake: Intake,
 }
 
 impl<B: Backend + Drop> Files<B> {
-    /// Nothing was applied yet, and nothing is watched.
-    pub fn new(alloc: Global, folder: TextPath) -> Files<B>
+    /// Nothing was applied yet, nothing is watched, and nothing was brought. So many events that are brought may wait. It fails only
+    /// for want of memory.
+    pub fn new(alloc: Global, folder: TextPath, size: u32) -> Result<Files<B>, Memory>
         requires { is_absolute folder ≡ true }
-        ensures given { (result.folder ≡ folder) × (result.applied ≡ None) × (result.source ≡ None) }
-        ensures stands { (s : Start) (p : List Entry) → s.folder ≡ folder → source s p ≡ unwatched → FilesStand s result p }
-        ensures owing { owing result ≡ 0 }
+        ensures given { IfOk result (λ files. (files.folder ≡ folder) × (files.applied ≡ None) × (files.source ≡ None) × (files.intake ≡ nothing_brought size)) }
+        ensures stands { IfOk result (λ files. (s : Start) (p : List Entry) → s.folder ≡ folder → s.config.event_channel_size ≡ size → source s p ≡ unwatched → FilesStand s files p) }
+        ensures owing { IfOk result (λ files. owing files ≡ 0) }
     {
-        Files {
+        let intake = Intake::new(alloc, size)?;
+        Ok(Files {
             alloc,
             folder,
             applied: None,
             source: None,
-        }
+            intake,
+        })
     }
 
     /// Whether the settings of this revision were applied last.
@@ -61,5 +68,12 @@ impl<B: Backend + Drop> Watching<B> {
         ensures { result ≡ works self.now }
     {
         self.recursor.has_work()
+    }
+
+    /// Whether the backend of this name is live: it is the one that stands, or none before this other name.
+    pub(crate) fn is_live(&self, since: u64, back: u64) -> bool
+        ensures { result ≡ is_live_by self.now since back }
+    {
+        self.back == back || since <= back
     }
 }

@@ -3,12 +3,18 @@
 
 mod applying;
 mod files;
+mod hearing;
+mod intake;
 mod judging;
+mod listening;
 mod making;
 mod rebuilding;
+mod resting;
 mod showing;
 mod stepping;
 mod turning;
 
 pub use files::{Files, Watching};
+pub use intake::Intake;
+pub use listening::listen_turn;
 pub use turning::file_turn;

@@ -7,6 +7,7 @@ ghost use Rattle.wx_machine.specs.Start.{Start};
 ghost use Rattle.wx_action.specs.Stands.{Stands};
 ghost use Rattle.wx_file_turns.specs.Making.{EndsUnmade, IsToMake};
 ghost use Rattle.wx_file_turns.specs.Serves.{AttendsAlone, CountsOnward};
+ghost use Rattle.wx_file_turns.specs.Stepping.{StaysBrought};
 
 use std::alloc::Global;
 use wx_action::{Worker, World};
@@ -61,6 +62,7 @@ pub(crate) fn make_backend<W: World>(
     requires due { IsToMake start kind follow journal.old.past }
     ensures alone { AttendsAlone start worker.now journal.old (W.seen world.old) journal.new (W.seen world.new) }
     ensures onward { CountsOnward journal.old.past (W.seen world.old) journal.new.past (W.seen world.new) }
+    ensures brought { StaysBrought start journal.old.past journal.new.past }
     ensures made { IfOk result (λ made. journal.new.past ≡ Make made.0 kind follow (Ok tt) ∷ journal.old.past) }
     ensures empty { IfOk result (λ made. (W.Back.backing made.1).registrations ≡ []) }
     ensures breaks { IfErr result (λ error. BreaksHere start journal.new.past error) }

@@ -1,6 +1,7 @@
 // How errors of what keeps watches are shown, and words said.
-ghost use Rattle.std.specs.Prelude.{◌≡◌, ◌∷◌, IfErr, OnErr, OnOk};
+ghost use Rattle.std.specs.Prelude.{◌≡◌, ◌∷◌, false, IfErr, OnErr, OnOk};
 ghost use Rattle.wx_journal.specs.declared.entry.Entry.TheVariants.{Word as Said};
+ghost use Rattle.wx_journal.specs.Told.{is_world};
 ghost use Rattle.wx_machine.specs.Answer.{BreaksHere};
 ghost use Rattle.wx_machine.specs.Due.{Due};
 ghost use Rattle.wx_machine.specs.Start.{Start};
@@ -14,11 +15,12 @@ use wx_error::{CriticalError, RuntimeError};
 use wx_journal::{Journal, Word};
 use wx_text::{List, Memory};
 
-/// Says this of a turn. It fails only for want of memory, and adds no entry then.
+/// Says this of a turn, which is no call on the world. It fails only for want of memory, and adds no entry then.
 pub(crate) fn say(worker: &Worker, word: Word, journal: &mut Journal) -> Result<(), Memory>
     ghost start: { Start }
     requires stands { Stands start worker.now journal.old.past }
     requires due { Due start journal.old.past (Said word) }
+    requires alone { is_world journal.old.past (Said word) ≡ false }
     ensures grows { GrowsAlone start worker.now journal.old journal.new }
     ensures said { OnOk result (journal.new.past ≡ Said word ∷ journal.old.past) }
     ensures err { OnErr result (journal.new.past ≡ journal.old.past) }

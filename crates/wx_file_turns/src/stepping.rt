@@ -6,12 +6,14 @@ ghost use Rattle.wx_machine.specs.Start.{Start};
 ghost use Rattle.wx_machine.specs.Steps.{work_count};
 ghost use Rattle.wx_action.specs.Stands.{Owes, Stands};
 ghost use Rattle.wx_file_turns.specs.Serves.{Attends, PaysOn};
-ghost use Rattle.wx_file_turns.specs.Standing.{owed, works};
-ghost use Rattle.wx_file_turns.specs.Stepping.{IsAtStep, IsWatching, IsWorthwhile, StepsOn};
+ghost use Rattle.wx_file_turns.specs.Standing.{IntakeStands, owed, works};
+ghost use Rattle.wx_file_turns.specs.Stepping.{IsAtStep, IsWatching, IsWorthwhile, KeepsBrought, StepsOn};
 
 use crate::files::Watching;
+use crate::intake::Intake;
 use crate::judging::take_step;
 use crate::rebuilding::rebuild;
+use crate::resting::rest;
 use crate::showing::{say, show_errors};
 use std::alloc::Global;
 use wx_action::{Hooks, Worker, World};
@@ -91,6 +93,7 @@ pub(crate) fn step<W: World, H: Hooks>(
     ensures attends { Attends H.seen H.rule H.stands start worker.old journal.old (W.seen world.old) hooks.old worker.new journal.new (W.seen world.new) hooks.new }
     ensures served { OnOk result (agenda start journal.new.past ≡ Open) }
     ensures watching { OnOk result (IsWatching start watching.new journal.new.past) }
+    ensures brought { OnOk result (KeepsBrought start journal.old.past journal.new.past) }
     ensures breaks { IfErr result (λ error. BreaksHere start journal.new.past error) }
     ensures paid { PaysOn journal.old.past (W.seen world.old) 1 journal.new.past (W.seen world.new) (owed (works watching.new)) }
 {
@@ -99,11 +102,14 @@ pub(crate) fn step<W: World, H: Hooks>(
     Ok(())
 }
 
-/// A turn where a backend stands: a step, where there is work, else the turn says that there is none. It fails as a step does.
+/// A turn where a backend stands: a step, where there is work. Else it is told that all is watched where it is to be, or what was
+/// brought is heard, let go or offered, or the turn says that there is nothing to do. It fails as a step does, and where the error
+/// handler wished it about a fault that was brought.
 pub(crate) fn attend<W: World, H: Hooks>(
     alloc: Global,
     folder: &TextPath,
     watching: &mut Watching<W::Back>,
+    intake: &mut Intake,
     worker: &mut Worker,
     world: &mut W,
     hooks: &mut H,
@@ -112,16 +118,20 @@ pub(crate) fn attend<W: World, H: Hooks>(
     ghost start: { Start }
     requires owes { Owes start worker.old journal.old.past (Steps true Open) }
     requires watching { IsWatching start watching.old journal.old.past }
+    requires intake { IntakeStands start intake.old journal.old.past }
     requires going { is_quitting journal.old.past ≡ false }
     requires folder { folder.now ≡ start.folder }
     ensures attends { Attends H.seen H.rule H.stands start worker.old journal.old (W.seen world.old) hooks.old worker.new journal.new (W.seen world.new) hooks.new }
     ensures served { OnOk result (agenda start journal.new.past ≡ Open) }
     ensures watching { OnOk result (IsWatching start watching.new journal.new.past) }
+    ensures intake { OnOk result (IntakeStands start intake.new journal.new.past) }
     ensures breaks { IfErr result (λ error. BreaksHere start journal.new.past error) }
     ensures paid { PaysOn journal.old.past (W.seen world.old) (owed (works watching.old)) journal.new.past (W.seen world.new) (owed (works watching.new)) }
 {
     if watching.has_work() {
-        return step(alloc, folder, watching, worker, world, hooks, journal);
+        step(alloc, folder, watching, worker, world, hooks, journal)?;
+        intake.step(journal.items());
+        return Ok(());
     }
-    Ok(say(worker, Word::Quiet, journal)?)
+    rest(alloc, watching, intake, worker, world, hooks, journal)
 }

@@ -20,9 +20,10 @@ use wx_journal::{Journal, Word};
 
 /// A turn about what is watched. Settings that weren't applied yet are: where no path is to be watched any more the backend goes,
 /// else one is made where none stands that serves them, and then the roots are set where they or the filter changed, or something
-/// is to be tried again. Else the turn is ignored where no backend stands, a step is taken where there is work, and the turn says
-/// that there is none. It fails where a backend can't be made, where the error handler wished that the run ends with an error, and
-/// for want of memory.
+/// is to be tried again. Else the turn is ignored where no backend stands, and a step is taken where there is work. Else, where it is to
+/// be told that all is watched, what was brought before is heard, one in a turn, and then that is told. Else what was brought first is
+/// heard, or let go, or offered to the queue, or the turn says that there is nothing to do. It fails where a backend can't be made, where
+/// the error handler wished that the run ends with an error, and for want of memory.
 pub fn file_turn<W: World, H: Hooks>(
     files: &mut Files<W::Back>,
     worker: &mut Worker,
@@ -51,6 +52,7 @@ pub fn file_turn<W: World, H: Hooks>(
                 files.alloc,
                 &files.folder,
                 watching,
+                &mut files.intake,
                 worker,
                 world,
                 hooks,

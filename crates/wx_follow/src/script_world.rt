@@ -1,5 +1,5 @@
 // A world in memory, which follows a script.
-ghost use Rattle.std.specs.Prelude.{◌≡◌, [], true, false, not, min, Some, Ok, Err, IfOk, IfErr, OnOk, length, drop};
+ghost use Rattle.std.specs.Prelude.{◌≡◌, ◌⊎◌, [], true, false, not, min, Some, Ok, Err, IfOk, IfErr, OnOk, length, drop};
 ghost use Rattle.std.specs.List.{list_all};
 ghost use Rattle.wx_watch.specs.declared.notify_fault.NotifyFaultKind.TheVariants.{Memory as OutOfMemory};
 ghost use Rattle.wx_journal.specs.declared.entry.Entry.TheVariants.{Make};
@@ -11,6 +11,7 @@ ghost use Rattle.wx_mem_tree.specs.Entries.{looked_of};
 ghost use Rattle.wx_machine.specs.Seen.{Seen};
 ghost use Rattle.wx_poller.specs.Polled.{backing_of};
 ghost use Rattle.wx_scan.specs.Backings.{failed_by, is_memory};
+ghost use Rattle.wx_hooks.specs.Given.{unheard};
 ghost use Rattle.wx_follow.specs.Edits.{FollowsEdits, edits_prop};
 ghost use Rattle.wx_follow.specs.Unseen.{same_unseen, unseen};
 ghost use Rattle.wx_script.specs.Turns.{comes, risen, Rises, entry_of, Given, turns_of, FollowsGiven};
@@ -25,9 +26,10 @@ use wx_control::{Flag, Id};
 use wx_events::ProcessEnd;
 use wx_hooks::{TurnFault, Turned, World};
 use wx_job::{Host, Outside};
-use wx_journal::{Entry, HostFault, Journal, SpawnTag, Turn, TurnKind};
+use wx_journal::{Entry, HostFault, Journal, SpawnTag, Turn, TurnKind, Word};
 use wx_mem_tree::MemTree;
-use wx_scan::{EntryKind, Looks, ScanError, Scanner};
+use wx_notify::Notify;
+use wx_scan::{Backend, EntryKind, Looks, ScanError, Scanner};
 use wx_script::{Answers, FailingCall, Script, ScriptTurn, TreeEdit, Used};
 use wx_text::{Copies, List, Memory, copy_twice};
 use wx_watch::{NotifyFault, NotifyFaultKind, Watcher};
@@ -39,7 +41,7 @@ use wx_words::TextPath;
 /// tree in memory, which it changes when a turn is asked for as the script says before this turn. A look fails where the script says
 /// so. It makes backends that poll, where the script doesn't say that there is none, of which those calls fail that the script says.
 /// Where memory is wanted for a change of the tree it is short, and leaves out the others that are made with it. Where it is wanted
-/// for a backend, or to say why there is none, it is short, and answers `Memory`.
+/// for a backend, to say why there is none, or to say what a backend brought, it is short, and answers `Memory`.
 #[derive(Drop, Debug)]
 pub struct ScriptWorld {
     alloc: Global,
@@ -108,7 +110,7 @@ impl ScriptWorld {
         })
     }
 
-    /// Whether a change of the tree was left out, or a backend, for want of memory.
+    /// Whether a change of the tree was left out, or a backend, or what one brought, for want of memory.
     pub fn short(&self) -> bool
         ensures { result ≡ self.now.is_short }
     {
@@ -278,6 +280,52 @@ impl World for ScriptWorld {
                 self.told.push(made_entry(back, kind, follow, Err(told)));
                 Err(fault)
             }
+        }
+    }
+
+    fn listen(
+        &mut self,
+        item: u64,
+        name: u64,
+        back: &mut ScriptBackend,
+    ) -> Option<Result<Notify, NotifyFault>> {
+        let Some(next) = back.next(&mut self.tree) else {
+            self.told.push(Entry::Word(Word::Quiet));
+            return None;
+        };
+        let (given, told, short) = given_and_told(self.alloc, next);
+        self.is_short = either(self.is_short, short);
+        self.told.push(Entry::Brought {
+            item,
+            back: name,
+            answer: told,
+        });
+        Some(given)
+    }
+
+    fn ready(&mut self, revision: u64, flag: &Flag) {
+        flag.raise();
+        self.told.push(Entry::Ready(revision));
+    }
+}
+
+/// What a backend brought, to be given and to be told, or in both places that there was no memory; and whether it is that.
+fn given_and_told(
+    alloc: Global,
+    next: Result<Notify, NotifyFault>,
+) -> (
+    Result<Notify, NotifyFault>,
+    Result<Notify, NotifyFault>,
+    bool,
+)
+    ensures twice { result.1 ≡ result.0 }
+    ensures given { (result.0 ≡ next) ⊎ (result.0 ≡ unheard) }
+{
+    match next.copy(alloc) {
+        Ok(told) => (next, told, false),
+        Err(Memory) => {
+            drop(next);
+            (Err(no_memory(alloc)), Err(no_memory(alloc)), true)
         }
     }
 }

@@ -1,15 +1,18 @@
--- What the world answers that is asked for a turn, or for a backend.
-use Rattle.std.specs.Prelude.{◌≡◌, ◌≤◌, ◌+◌, ℕ, Bool, true, false, not, is_err, Result, Ok, Err, IfOk, Some, []}
+-- What the world answers that is asked for a turn, for a backend, or for what a backend brings.
+use Rattle.std.specs.Prelude.{◌≡◌, ◌≤◌, ◌+◌, ◌⊎◌, ℕ, Bool, true, false, not, is_err, Option, None, Some, Result, Ok, Err, IfOk, []}
+use Rattle.wx_notify.specs.declared.notify.Notify.{Notify}
 use Rattle.wx_watch.specs.declared.notify_fault.NotifyFault.{NotifyFault}
+use Rattle.wx_watch.specs.declared.notify_fault.NotifyFaultKind.TheVariants.{Memory as NoMemory}
 use Rattle.wx_watch.specs.declared.watched.Watcher.{Watcher}
 use Rattle.wx_tree.specs.Trees.{Tree}
-use Rattle.wx_scan.specs.Backings.{Backing, failed_by, is_memory}
-use Rattle.wx_scan.specs.Looked.{Looked}
+use Rattle.wx_scan.specs.Backings.{AllSpellPaths, Backing, Brings, BringsNoChange, IsExact, failed_by, is_memory}
+use Rattle.wx_scan.specs.Looked.{Looked, OnlyLooks}
 use Rattle.wx_scan.specs.Told.{IsNamed}
 use Rattle.wx_journal.specs.declared.entry.Entry.{Entry}
 use Rattle.wx_journal.specs.declared.entry.Entry.TheVariants.{Turn as Turned, TurnFault, Make}
 use Rattle.wx_journal.specs.Told.{tell, Counts}
 use Rattle.wx_machine.specs.Seen.{Seen}
+use Rattle.wx_machine.specs.Due.{listened}
 use Rattle.wx_machine.specs.Steady.{StaysLooked}
 use Rattle.wx_machine.specs.Told.{is_last}
 use Rattle.wx_hooks.specs.declared.outside.Turned.{Turned as Given}
@@ -71,3 +74,27 @@ pub record GivesBackend {Plan B : Type 0} (backing : B → Backing) (fits : B �
   pub looked : StaysLooked a.looked b.looked
   pub empty : IfOk result (λ x. (backing x).registrations ≡ [])
   pub exact : a.looked.exact ≡ true → follow ≡ false → IfOk result (λ x. ((backing x).exact ≡ true) × ((t : Tree) → IsNamed t → fits x t))
+
+-- want of memory, in place of what was brought
+abbrev pub unheard : Result Notify NotifyFault
+unheard = Err (record { kind = NoMemory; paths = [] })
+
+-- What a backend brought is answered, or want of memory in its place. That it brought nothing is answered always.
+abbrev pub IsAnswered : Option (Result Notify NotifyFault) → Option (Result Notify NotifyFault) → Type 0
+IsAnswered None result = result ≡ None
+IsAnswered (Some next) result = (result ≡ Some next) ⊎ (result ≡ Some unheard)
+
+-- A backend was asked what it brings next, and may have looked at files for it. This was told as its entry, in room that was taken before.
+-- What is registered stays. Where the backend is exact, and over a tree that it has seen, it still has, and brings no changes.
+pub record GivesNext {Plan B : Type 0} (backing : B → Backing) (fits : B → Tree → Type 0) (item back : ℕ) (result : Option (Result Notify NotifyFault)) (old new : B) (a b : Seen Plan) : Type 0 where
+  pub next : Option (Result Notify NotifyFault)
+  pub answered : IsAnswered next result
+  pub brings : Brings next (backing old) (backing new)
+  pub told : b.shown.told ≡ tell (listened item back result) a.shown.told
+  pub host_faults : b.shown.faults ≡ a.shown.faults
+  pub progress_kept : b.progress ≡ a.progress
+  pub room : a.spare ≤ b.spare + 1
+  pub plan_kept : b.plan ≡ a.plan
+  pub place_kept : b.place ≡ a.place
+  pub looked : OnlyLooks a.looked b.looked
+  pub fits_still : (t : Tree) → IsExact (backing old) a.looked b.looked t → AllSpellPaths t (backing old).registrations → fits old t → fits new t × BringsNoChange next

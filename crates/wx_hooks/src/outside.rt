@@ -5,7 +5,8 @@ ghost use Rattle.wx_machine.specs.Kept.{TellsHooks, Keeps};
 ghost use Rattle.wx_machine.specs.Journal.{listed};
 ghost use Rattle.wx_hooks.specs.ErrorHooks.{IsNewHook};
 ghost use Rattle.wx_hooks.specs.Handled.{IsNewHandler};
-ghost use Rattle.wx_hooks.specs.Given.{gives_last, GivesBackend, GivesTurn};
+ghost use Rattle.wx_hooks.specs.Given.{gives_last, GivesBackend, GivesNext, GivesTurn};
+ghost use Rattle.wx_machine.specs.Steady.{Tells};
 
 use crate::error_hook::ErrorHook;
 use crate::handler::ActionHandler;
@@ -14,6 +15,7 @@ use wx_error::RuntimeError;
 use wx_events::{Event, Priority};
 use wx_job::{Host, JobHooks};
 use wx_journal::{Entry, Turn};
+use wx_notify::Notify;
 use wx_scan::{Backend, Scanner};
 use wx_watch::{NotifyFault, Watcher};
 use wx_words::TextPath;
@@ -55,6 +57,22 @@ pub trait World: Host + Scanner {
     ) -> Result<Self::Back, NotifyFault>
         requires { 1 ≤ (Self.seen self.old).spare }
         ensures { GivesBackend Self.Back.backing Self.Back.fits back kind follow result (Self.seen self.old) (Self.seen self.new) };
+
+    /// Asks the backend of this name what it brings next, which gets this name of an item. It may look at files for it. There is
+    /// nothing exactly where the backend brought nothing. Where there is no memory to tell what it brought, that is said in its place.
+    fn listen(
+        &mut self,
+        item: u64,
+        name: u64,
+        back: &mut Self::Back,
+    ) -> Option<Result<Notify, NotifyFault>>
+        requires { 1 ≤ (Self.seen self.old).spare }
+        ensures { GivesNext Self.Back.backing Self.Back.fits item name result back.old back.new (Self.seen self.old) (Self.seen self.new) };
+
+    /// All that the settings of this revision say is watched, and what was brought before is heard. Raises the flag of that.
+    fn ready(&mut self, revision: u64, flag: &Flag)
+        requires { 1 ≤ (Self.seen self.old).spare }
+        ensures { Tells (Entry.Ready revision) false (Self.seen self.old) (Self.seen self.new) };
 
     /// What no look changes is all but what was seen of files.
     ghost only_looks: { (x y : Self) → Self.Looks.rest y ≡ Self.Looks.rest x → Self.Outside.seen y ≡ record (Self.Outside.seen x) { looked = Self.Looks.looked y } };

@@ -9,7 +9,7 @@ use Rattle.std.proofs.lemmas.List.Folds.{list_any-append}
 use Rattle.wx_control.specs.declared.id.Id.{Id}
 use Rattle.wx_journal.specs.declared.entry.Entry.TheVariants.{Made}
 use Rattle.wx_journal.specs.declared.entry.Entry.{Entry}
-use Rattle.wx_journal.specs.Names.{count, names_ticket, names_child, names_back, ticket_count, child_count, back_count, above, next_job, was_made}
+use Rattle.wx_journal.specs.Names.{count, names_ticket, names_child, names_back, names_item, ticket_count, child_count, back_count, item_count, above, next_job, was_made}
 use Rattle.wx_journal.specs.Counted.{AreAllMade, AreCounted}
 
 one_more : (b : Bool) (m n : ℕ) → m ≤ n → cond b (m + 1) m ≤ suc n
@@ -20,14 +20,17 @@ count_few : (kind : Entry → Bool) (p : List Entry) → count kind p ≤ length
 count_few kind [] = omega arith
 count_few kind (e ∷ p) = one_more (kind e) (count kind p) (length p) (count_few kind p)
 
-pub few_tickets : (tickets children backs job : ℕ) (gaps : Bool) (entries : List Entry) → AreCounted tickets children backs job gaps (reverse entries) → tickets ≤ length entries
-few_tickets tickets children backs job gaps entries a = let few : ticket_count (reverse entries) ≤ length (reverse entries) = count_few names_ticket (reverse entries) in let same = length-reverse entries in let is = a.tickets_kept in omega arith
+pub few_tickets : (tickets children backs items job : ℕ) (gaps : Bool) (entries : List Entry) → AreCounted tickets children backs items job gaps (reverse entries) → tickets ≤ length entries
+few_tickets tickets children backs items job gaps entries a = let few : ticket_count (reverse entries) ≤ length (reverse entries) = count_few names_ticket (reverse entries) in let same = length-reverse entries in let is = a.tickets_kept in omega arith
 
-pub few_children : (tickets children backs job : ℕ) (gaps : Bool) (entries : List Entry) → AreCounted tickets children backs job gaps (reverse entries) → children ≤ length entries
-few_children tickets children backs job gaps entries a = let few : child_count (reverse entries) ≤ length (reverse entries) = count_few names_child (reverse entries) in let same = length-reverse entries in let is = a.children_kept in omega arith
+pub few_children : (tickets children backs items job : ℕ) (gaps : Bool) (entries : List Entry) → AreCounted tickets children backs items job gaps (reverse entries) → children ≤ length entries
+few_children tickets children backs items job gaps entries a = let few : child_count (reverse entries) ≤ length (reverse entries) = count_few names_child (reverse entries) in let same = length-reverse entries in let is = a.children_kept in omega arith
 
-pub few_backs : (tickets children backs job : ℕ) (gaps : Bool) (entries : List Entry) → AreCounted tickets children backs job gaps (reverse entries) → backs ≤ length entries
-few_backs tickets children backs job gaps entries a = let few : back_count (reverse entries) ≤ length (reverse entries) = count_few names_back (reverse entries) in let same = length-reverse entries in let is = a.backs_kept in omega arith
+pub few_backs : (tickets children backs items job : ℕ) (gaps : Bool) (entries : List Entry) → AreCounted tickets children backs items job gaps (reverse entries) → backs ≤ length entries
+few_backs tickets children backs items job gaps entries a = let few : back_count (reverse entries) ≤ length (reverse entries) = count_few names_back (reverse entries) in let same = length-reverse entries in let is = a.backs_kept in omega arith
+
+pub few_items : (tickets children backs items job : ℕ) (gaps : Bool) (entries : List Entry) → AreCounted tickets children backs items job gaps (reverse entries) → items ≤ length entries
+few_items tickets children backs items job gaps entries a = let few : item_count (reverse entries) ≤ length (reverse entries) = count_few names_item (reverse entries) in let same = length-reverse entries in let is = a.items_kept in omega arith
 
 -- ---- ids
 

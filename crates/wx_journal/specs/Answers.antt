@@ -1,4 +1,4 @@
--- What a call on a child answers, and what a filter, a spawn hook and a maker of backends do, as words.
+-- What a call on a child answers, and what a filter, a spawn hook, a maker of backends and a backend do, as words.
 use Rattle.std.proofs.Common.{ℕ, Result, refl}
 use Rattle.std.specs.Prelude.{Bool, true, false, Ok, Err, List, [], ◌∷◌, codes}
 use Rattle.wx_words.specs.Clean.{AllClean}
@@ -16,6 +16,8 @@ use Rattle.wx_events.specs.declared.process.ProcessEnd.{ProcessEnd}
 use Rattle.wx_command.specs.Commands.{spawnable}
 use Rattle.wx_command.specs.OptionsLaws.{options}
 use Rattle.wx_command.specs.declared.spawnable.Spawnable.{Spawnable}
+use Rattle.wx_notify.specs.Notifies.{notify}
+use Rattle.wx_notify.specs.declared.notify.Notify.{Notify}
 use Rattle.wx_watch.specs.NotifyFaults.{notify_fault}
 use Rattle.wx_watch.specs.declared.notify_fault.NotifyFault.{NotifyFault}
 use Rattle.wx_error.specs.Runtime.{runtime}
@@ -105,6 +107,32 @@ backed_so = search
 
 unfoldable pub backed : Spelling line Backed
 backed = choice backed_rows backed_word backed_behind backed_made backed_so refl
+
+-- ---- what a backend brings: what happened to files, or why that isn't known
+
+abbrev pub News : Type 0
+News = Result Notify NotifyFault
+
+abbrev pub news_rows : List (Row line News)
+news_rows = row (codes "ok") notify Ok ∷ row (codes "fail") notify_fault Err ∷ []
+
+abbrev pub news_word : News → List ℕ
+news_word (Ok event) = codes "ok"
+news_word (Err error) = codes "fail"
+
+abbrev pub news_behind : News → Behind line
+news_behind (Ok event) = fields notify event
+news_behind (Err error) = fields notify_fault error
+
+pub news_made : MadeAgain news_rows news_word news_behind
+news_made (Ok event) = (_, refl, refl)
+news_made (Err error) = (_, refl, refl)
+
+pub news_so : SpeltSo news_rows news_word news_behind
+news_so = search
+
+unfoldable pub news : Spelling line News
+news = choice news_rows news_word news_behind news_made news_so refl
 
 -- ---- the answer of the poll of a begun function: whether it is ready
 

@@ -29,17 +29,18 @@ use Rattle.wx_control.specs.declared.control.Control.{Control}
 use Rattle.wx_journal.specs.Acts.{JournalAct, act}
 use Rattle.wx_journal.specs.AtFront.{read_front}
 use Rattle.wx_journal.specs.Beginnings.{beginning}
-use Rattle.wx_journal.specs.Answers.{done, waited, verdict, readied, hooked, Backed, backed}
+use Rattle.wx_journal.specs.Answers.{done, waited, verdict, readied, hooked, Backed, backed, News, news}
 use Rattle.wx_journal.specs.Kinds.{ranked, turn}
 use Rattle.wx_journal.specs.Wishes.{wish}
 use Rattle.wx_journal.specs.Tags.{tag}
-use Rattle.wx_journal.specs.Words.{offered, said}
+use Rattle.wx_journal.specs.Words.{offered, said, cause}
 use Rattle.wx_journal.specs.declared.child.SpawnTag.{SpawnTag}
 use Rattle.wx_journal.specs.declared.child.HostFault.{HostFault}
 use Rattle.wx_journal.specs.declared.wish.Wish.{Wish}
 use Rattle.wx_journal.specs.declared.entry.Offered.{Offered}
+use Rattle.wx_journal.specs.declared.entry.LetGoCause.{LetGoCause}
 use Rattle.wx_journal.specs.declared.entry.Entry.{Entry}
-use Rattle.wx_journal.specs.declared.entry.Entry.TheVariants.{Begin, Sent, Turn as Turned, TurnFault, Offer, Word as Said, Take, Filter, Show, Hand, Made, Asked, Changed, Pick, GraceOver, Spawn, Signal, Kill, Wait, Dropped, Raise, Gone, Run, Begun, Poll, Hook, JobError, Dir, Make, Applied}
+use Rattle.wx_journal.specs.declared.entry.Entry.TheVariants.{Begin, Sent, Turn as Turned, TurnFault, Offer, Word as Said, Take, Filter, Show, Hand, Made, Asked, Changed, Pick, GraceOver, Spawn, Signal, Kill, Wait, Dropped, Raise, Gone, Run, Begun, Poll, Hook, JobError, Dir, Make, Applied, Heard, Brought, LetGo, Ready}
 
 -- ---- what stands behind the first word of an entry
 
@@ -91,6 +92,12 @@ dir = both u32 (both text verdict)
 abbrev pub make : Spelling line (ℕ × (Watcher × (Bool × Backed)))
 make = both (as_line number) (both watcher (both switch backed))
 
+abbrev pub brought : Spelling line (ℕ × (ℕ × News))
+brought = both (as_line number) (both (as_line number) news)
+
+abbrev pub let_go : Spelling line (ℕ × LetGoCause)
+let_go = both (as_line number) cause
+
 abbrev pub unread : Spelling line (ℕ × (List ℕ × List JournalAct))
 unread = never
 
@@ -127,6 +134,10 @@ file_rows =
     row (codes "dir") dir (λ p. Dir p.0 p.1.0 p.1.1)
     ∷ row (codes "make") make (λ p. Make p.0 p.1.0 p.1.1.0 p.1.1.1)
     ∷ row (codes "applied") (as_line number) Applied
+    ∷ row (codes "heard") (as_line number) Heard
+    ∷ row (codes "brought") brought (λ p. Brought p.0 p.1.0 p.1.1)
+    ∷ row (codes "letgo") let_go (λ p. LetGo p.0 p.1)
+    ∷ row (codes "ready") (as_line number) Ready
     ∷ job_rows
 
 -- all
@@ -176,6 +187,10 @@ entry_word (JobError _ _ _) = codes "joberror"
 entry_word (Dir _ _ _) = codes "dir"
 entry_word (Make _ _ _ _) = codes "make"
 entry_word (Applied _) = codes "applied"
+entry_word (Heard _) = codes "heard"
+entry_word (Brought _ _ _) = codes "brought"
+entry_word (LetGo _ _) = codes "letgo"
+entry_word (Ready _) = codes "ready"
 
 abbrev pub entry_behind : Entry → Behind line
 entry_behind (Begin b) = fields beginning b
@@ -208,6 +223,10 @@ entry_behind (JobError job n code) = fields job_error (job, (n, code))
 entry_behind (Dir n path answer) = fields dir (n, (path, answer))
 entry_behind (Make back by follow answer) = fields make (back, (by, (follow, answer)))
 entry_behind (Applied revision) = fields (as_line number) revision
+entry_behind (Heard item) = fields (as_line number) item
+entry_behind (Brought item back answer) = fields brought (item, (back, answer))
+entry_behind (LetGo item why) = fields let_go (item, why)
+entry_behind (Ready revision) = fields (as_line number) revision
 
 pub entry_made : MadeAgain entry_rows entry_word entry_behind
 entry_made (Begin b) = (_, refl, refl)

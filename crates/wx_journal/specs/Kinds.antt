@@ -17,7 +17,7 @@ use Rattle.wx_config.specs.ChangeWords.{change}
 use Rattle.wx_journal.specs.Bytes.{bytes}
 use Rattle.wx_journal.specs.declared.entry.Turn.{Turn}
 use Rattle.wx_journal.specs.declared.entry.TurnKind.{TurnKind}
-use Rattle.wx_journal.specs.declared.entry.TurnKind.TheVariants.{Arrive, Signal, Keys, Work, Job, Ended, Ask, Change, File, Last}
+use Rattle.wx_journal.specs.declared.entry.TurnKind.TheVariants.{Arrive, Signal, Keys, Work, Job, Ended, Ask, Change, Listen, File, Last}
 
 -- an event with its priority, which stands before it
 abbrev pub ranked : Spelling line (Priority × Event)
@@ -40,6 +40,7 @@ kind_rows =
     ∷ row (codes "ended") (as_line number) Ended
     ∷ row (codes "ask") (both id ask) make_ask_turn
     ∷ row (codes "change") change Change
+    ∷ row (codes "listen") nothing (λ u. Listen)
     ∷ row (codes "file") nothing (λ u. File)
     ∷ row (codes "last") nothing (λ u. Last)
     ∷ []
@@ -53,6 +54,7 @@ kind_word (Job _) = codes "job"
 kind_word (Ended _) = codes "ended"
 kind_word (Ask _ _) = codes "ask"
 kind_word (Change _) = codes "change"
+kind_word Listen = codes "listen"
 kind_word File = codes "file"
 kind_word Last = codes "last"
 

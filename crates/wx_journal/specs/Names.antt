@@ -5,8 +5,8 @@ use Rattle.wx_control.specs.declared.id.Id.{Id}
 use Rattle.wx_journal.specs.Acts.{JournalAct as Act}
 use Rattle.wx_journal.specs.declared.entry.Act.TheVariants.{Create, Ask, Change, Quit, QuitGracefully}
 use Rattle.wx_journal.specs.declared.entry.Entry.{Entry}
-use Rattle.wx_journal.specs.declared.entry.Entry.TheVariants.{Turn as Turned, Offer, Take, Filter, Hand, Made, Pick}
-use Rattle.wx_journal.specs.Sorts.{Naming, NoName, NewEvent, NewTicket, NewChild, NewBack, Subject, OfChild, OfTicket, sort}
+use Rattle.wx_journal.specs.declared.entry.Entry.TheVariants.{Turn as Turned, Offer, Take, Filter, Hand, Made, Pick, Heard, Brought, LetGo}
+use Rattle.wx_journal.specs.Sorts.{Naming, NoName, NewEvent, NewTicket, NewChild, NewBack, NewItem, Subject, OfChild, OfTicket, sort}
 
 -- the moment of the last turn, 0 before the first
 abbrev pub moment : List Entry → ℕ
@@ -30,7 +30,11 @@ abbrev pub is_new_back : Naming → Bool
 is_new_back (NewBack back) = true
 is_new_back (_) = false
 
--- the entries that name an event, a ticket, a child or a backend
+abbrev pub is_new_item : Naming → Bool
+is_new_item (NewItem item) = true
+is_new_item (_) = false
+
+-- the entries that name an event, a ticket, a child, a backend or a brought item
 abbrev pub names_event : Entry → Bool
 names_event e = is_new_event (sort e).naming
 
@@ -43,12 +47,15 @@ names_child e = is_new_child (sort e).naming
 abbrev pub names_back : Entry → Bool
 names_back e = is_new_back (sort e).naming
 
+abbrev pub names_item : Entry → Bool
+names_item e = is_new_item (sort e).naming
+
 -- how many entries are of a kind
 abbrev pub count : (Entry → Bool) → List Entry → ℕ
 count kind [] = 0
 count kind (e ∷ p) = if kind e then count kind p + 1 else count kind p
 
--- how many events, tickets, children and backends have a name: names are given in order, from 0
+-- how many events, tickets, children, backends and brought items have a name: names are given in order, from 0
 abbrev pub event_count : List Entry → ℕ
 event_count p = count names_event p
 
@@ -60,6 +67,9 @@ child_count p = count names_child p
 
 abbrev pub back_count : List Entry → ℕ
 back_count p = count names_back p
+
+abbrev pub item_count : List Entry → ℕ
+item_count p = count names_item p
 
 -- the least number that is above one and above that of a job
 abbrev pub above : ℕ → Id → ℕ
@@ -97,10 +107,10 @@ is_created id [] = false
 is_created id (Hand n names acts ∷ p) = creates id acts || is_created id p
 is_created id (_ ∷ p) = is_created id p
 
--- an offer names no item: none has a name yet
-abbrev pub NamesItem : Option ℕ → Type 0
-NamesItem None = Unit {0}
-NamesItem (Some item) = ⊥
+-- an item that an offer names has a name
+abbrev pub NamesItem : List Entry → Option ℕ → Type 0
+NamesItem p None = Unit {0}
+NamesItem p (Some item) = item < item_count p
 
 -- a name that is given is the next, and a child or a ticket that is spoken of has one
 abbrev pub IsNamed : List Entry → Naming → Subject → Type 0
@@ -108,18 +118,22 @@ IsNamed p (NewEvent name) subject = name ≡ event_count p
 IsNamed p (NewTicket ticket) subject = ticket ≡ ticket_count p
 IsNamed p (NewChild child) subject = child ≡ child_count p
 IsNamed p (NewBack back) subject = back ≡ back_count p
+IsNamed p (NewItem item) subject = item ≡ item_count p
 IsNamed p NoName (OfChild child) = child < child_count p
 IsNamed p NoName (OfTicket ticket) = ticket < ticket_count p
 IsNamed p NoName (_) = Unit {0}
 
 -- what an entry behind these may name: the next name where it names something, and else only what has a name
 abbrev pub Names : List Entry → Entry → Type 0
-Names p (Offer name item result event priority) = (name ≡ event_count p) × NamesItem item
+Names p (Offer name item result event priority) = (name ≡ event_count p) × NamesItem p item
 Names p (Take name) = name < event_count p
 Names p (Filter n name answer) = name < event_count p
 Names p (Hand n names acts) = AllByRecursion (λ name. name < event_count p) names
 Names p (Made job) = is_created job p ≡ true
 Names p (Pick job ticket) = ticket < ticket_count p
+Names p (Heard item) = item < item_count p
+Names p (Brought item back answer) = (item ≡ item_count p) × (back < back_count p)
+Names p (LetGo item cause) = item < item_count p
 Names p e = IsNamed p (sort e).naming (sort e).subject
 
 -- a journal names only what its own entries made

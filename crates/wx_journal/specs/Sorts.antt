@@ -3,9 +3,9 @@
 use Rattle.std.specs.Prelude.{ℕ, Bool, true, false, is_err}
 use Rattle.wx_control.specs.declared.id.Id.{Id}
 use Rattle.wx_journal.specs.declared.entry.Entry.{Entry}
-use Rattle.wx_journal.specs.declared.entry.Entry.TheVariants.{Begin, Sent, Turn as Turned, TurnFault, Offer, Word as Said, Take, Filter, Show, Hand, Made, Asked, Changed, Pick, GraceOver, Spawn, Signal, Kill, Wait, Dropped, Raise, Gone, Run, Begun, Poll, Hook, JobError, Dir, Make, Applied}
+use Rattle.wx_journal.specs.declared.entry.Entry.TheVariants.{Begin, Sent, Turn as Turned, TurnFault, Offer, Word as Said, Take, Filter, Show, Hand, Made, Asked, Changed, Pick, GraceOver, Spawn, Signal, Kill, Wait, Dropped, Raise, Gone, Run, Begun, Poll, Hook, JobError, Dir, Make, Applied, Heard, Brought, LetGo, Ready}
 
--- whom an entry is a call on
+-- whom an entry is a call on. One word is a call on the world in some turns: `is_world` in Told says in which
 pub data Callee : Type 0 where
   OnNobody : Callee
   OnWorld : Callee
@@ -18,6 +18,7 @@ pub data Naming : Type 0 where
   NewTicket : ℕ → Naming
   NewChild : ℕ → Naming
   NewBack : ℕ → Naming
+  NewItem : ℕ → Naming
 
 -- What it is about. One that names a job and a child or a ticket of it is about the job.
 pub data Subject : Type 0 where
@@ -71,6 +72,10 @@ sort (JobError job n code) = columns OnHooks NoName (OfJob job) false
 sort (Dir n path answer) = columns OnHooks NoName OfFiles false
 sort (Make back watcher follow answer) = columns OnWorld (NewBack back) OfFiles false
 sort (Applied revision) = columns OnNobody NoName OfFiles false
+sort (Heard item) = columns OnNobody NoName OfFiles false
+sort (Brought item back answer) = columns OnWorld (NewItem item) OfFiles false
+sort (LetGo item cause) = columns OnNobody NoName OfFiles false
+sort (Ready revision) = columns OnWorld NoName OfFiles false
 
 -- what is watched
 abbrev pub is_files : Subject → Bool

@@ -1,7 +1,10 @@
 -- What the outside is told, and what its counts and rules mean.
 use Rattle.std.specs.Prelude.{◌≡◌, ℕ, ◌≤◌, ◌+◌, ◌-◌, ◌^◌, min, Bool, true, false, if◌then◌else◌, Option, None, Some, List, [], ◌∷◌}
 use Rattle.wx_journal.specs.declared.entry.Entry.{Entry}
-use Rattle.wx_journal.specs.declared.entry.Entry.TheVariants.{Hand}
+use Rattle.wx_journal.specs.declared.entry.Entry.TheVariants.{Turn as Turned, Word as Said, Hand}
+use Rattle.wx_journal.specs.declared.entry.TurnKind.{TurnKind}
+use Rattle.wx_journal.specs.declared.entry.TurnKind.TheVariants.{Listen}
+use Rattle.wx_journal.specs.declared.entry.Word.TheVariants.{Quiet}
 use Rattle.wx_journal.specs.Sorts.{Callee, OnWorld, OnHooks, Subject, OfTurn, sort}
 
 -- what is told after one entry more, where anything is told
@@ -33,9 +36,21 @@ abbrev pub is_of_turn : Subject → Bool
 is_of_turn OfTurn = true
 is_of_turn (_) = false
 
--- the entries that are calls on the world, by those before them
+-- a turn in which what watches files is asked what happened
+abbrev pub is_listen_turn : TurnKind → Bool
+is_listen_turn Listen = true
+is_listen_turn (_) = false
+
+-- the newest entry is such a turn
+abbrev pub begins_listening : List Entry → Bool
+begins_listening (Turned t ∷ p) = is_listen_turn t.kind
+begins_listening (_) = false
+
+-- The entries that are calls on the world, by those before them. The word Quiet is one where nothing was brought: directly behind
+-- a turn that asks for it.
 abbrev pub is_world : List Entry → Entry → Bool
-is_world p e = is_on_world (sort e).callee
+is_world p (Said Quiet) = begins_listening p
+is_world p (e) = is_on_world (sort e).callee
 
 -- the entries that are calls on the hooks
 abbrev pub is_hooks : Entry → Bool

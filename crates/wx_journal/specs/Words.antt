@@ -5,6 +5,8 @@ use Rattle.wx_words.specs.Spellings.{Spelling}
 use Rattle.wx_words.specs.Parts.{line, HasWords, keyword}
 use Rattle.wx_journal.specs.declared.entry.Offered.{Offered}
 use Rattle.wx_journal.specs.declared.entry.Offered.TheVariants.{Queued, Full, Closed}
+use Rattle.wx_journal.specs.declared.entry.LetGoCause.{LetGoCause}
+use Rattle.wx_journal.specs.declared.entry.LetGoCause.TheVariants as causes
 use Rattle.wx_journal.specs.declared.entry.Word.{Word}
 use Rattle.wx_journal.specs.declared.entry.Word.TheVariants.{Idle, Ignored, Quitting, Later, Quiet, Stepped}
 
@@ -45,3 +47,19 @@ said_found Stepped = refl
 
 unfoldable pub said : Spelling line Word
 said = keyword said_word said_all said_found refl
+
+abbrev pub cause_word : LetGoCause → List ℕ
+cause_word causes.Full = codes "full"
+cause_word causes.Obsolete = codes "obsolete"
+cause_word causes.Uncovered = codes "uncovered"
+
+abbrev pub cause_all : List LetGoCause
+cause_all = causes.Full ∷ causes.Obsolete ∷ causes.Uncovered ∷ []
+
+pub cause_found : HasWords cause_word cause_all
+cause_found causes.Full = refl
+cause_found causes.Obsolete = refl
+cause_found causes.Uncovered = refl
+
+unfoldable pub cause : Spelling line LetGoCause
+cause = keyword cause_word cause_all cause_found refl

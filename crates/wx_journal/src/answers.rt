@@ -1,12 +1,13 @@
-// What a call on a child answers, and what a filter, a spawn hook and a maker of backends do, as words.
+// What a call on a child answers, and what a filter, a spawn hook, a maker of backends and a backend do, as words.
 ghost use Rattle.std.specs.Prelude.{IfOk};
 ghost use Rattle.wx_words.specs.Line.{Reads};
-ghost use Rattle.wx_journal.specs.Answers.{AreReadAgain, done, waited, verdict, backed, readied, memory, hooked};
+ghost use Rattle.wx_journal.specs.Answers.{AreReadAgain, done, waited, verdict, backed, news, readied, memory, hooked};
 
 use crate::child::HostFault;
 use std::alloc::Global;
 use wx_command::Spawnable;
 use wx_error::RuntimeError;
+use wx_notify::Notify;
 use wx_text::{Memory, Text};
 use wx_watch::NotifyFault;
 use wx_words::{Fields, Spelled, Words, put_row, put_word, read_rows};
@@ -102,6 +103,42 @@ pub fn read_backed(
     )
 }
 
+/// What a backend brought, lent to be written.
+#[derive(Clone, Copy)]
+pub struct NewsRef<'a> {
+    pub answer: &'a Result<Notify, NotifyFault>,
+}
+
+#[tactic(auto, unfolding(crate::specs::Answers::news))]
+impl<'a> Fields for NewsRef<'a> {
+    ghost use Rattle.wx_journal.specs.Answers.{news};
+
+    ghost fits = { λ lent. news.fits lent.answer.now };
+
+    ghost words = { λ lent. news.words lent.answer.now };
+
+    fn put_fields(&self, out: &mut Text) -> Result<(), Memory> {
+        match self.answer {
+            Ok(event) => put_row(b"ok", &event, out),
+            Err(fault) => put_row(b"fail", &fault, out),
+        }
+    }
+}
+
+/// Takes what a backend brought at the front, or loses the place.
+#[tactic(auto, unfolding(crate::specs::Answers::news))]
+pub fn read_news(
+    alloc: Global,
+    line: &mut Words,
+) -> Result<Option<Result<Notify, NotifyFault>>, Memory>
+    ensures { IfOk result (λ x. Reads line.new x (news.read line.old)) }
+{
+    read_rows!(alloc, line;
+        b"ok" (event) => Ok(event),
+        b"fail" (error) => Err(error),
+    )
+}
+
 /// Whether a begun function is ready, lent to be written.
 #[derive(Clone, Copy)]
 pub struct ReadyRef<'a> {
@@ -191,6 +228,7 @@ pub fn answers_are_read_again()
     ensures waited { AreReadAgain waited }
     ensures verdict { AreReadAgain verdict }
     ensures backed { AreReadAgain backed }
+    ensures news { AreReadAgain news }
     ensures readied { AreReadAgain readied }
     ensures hooked { AreReadAgain hooked }
 {}

@@ -11,6 +11,7 @@ use wx_config::Change;
 use wx_control::{Ask, Control, Id, Level};
 use wx_error::RuntimeError;
 use wx_events::{Event, Priority, ProcessEnd, Signal};
+use wx_notify::Notify;
 use wx_text::{Copies, List, Memory};
 use wx_watch::{NotifyFault, Watcher};
 use wx_words::TextPath;
@@ -34,6 +35,8 @@ pub enum TurnKind {
     Ask(Id, Ask),
     /// The settings are changed.
     Change(Change),
+    /// What watches files is asked what happened.
+    Listen,
     /// What keeps watches on files acts.
     File,
     /// There is no further turn.
@@ -66,10 +69,21 @@ pub enum Word {
     Quitting,
     /// The begun function isn't ready.
     Later,
-    /// There was nothing to do about files.
+    /// There was nothing to do about files, or what watches them brought nothing.
     Quiet,
     /// A step was done of what keeps watches on files.
     Stepped,
+}
+
+/// Why an event that a backend brought isn't offered.
+#[derive(Clone, Copy, Debug, PartialEq, Eq)]
+pub enum LetGoCause {
+    /// As many events waited as may.
+    Full,
+    /// Its backend was replaced since, for other settings.
+    Obsolete,
+    /// No path that is watched covers it.
+    Uncovered,
 }
 
 /// What a handler asks of the engine. A `J` says which job is to be created: in a journal that is its name.
@@ -110,7 +124,7 @@ pub enum Entry {
     Turn(Turn),
     /// The world had no turn to give, and this is the code of its fault.
     TurnFault(u32),
-    /// An event was offered to the queue. The item is that of a file event.
+    /// An event was offered to the queue. The item is what a backend brought, where the event was made of that.
     Offer {
         name: u64,
         item: Option<u64>,
@@ -232,6 +246,21 @@ pub enum Entry {
     },
     /// The settings of this revision were applied to what is watched.
     Applied(u64),
+    /// What the item of this name says of the tree of files was heard, or its fault.
+    Heard(u64),
+    /// A backend brought an item, which has this name: what happened to files, or why that isn't known.
+    Brought {
+        item: u64,
+        back: u64,
+        answer: Result<Notify, NotifyFault>,
+    },
+    /// The event of the item of this name isn't offered, for this cause.
+    LetGo {
+        item: u64,
+        cause: LetGoCause,
+    },
+    /// The world was told that what the settings of this revision ask for is watched.
+    Ready(u64),
 }
 
 impl Copies for TurnKind {
@@ -247,6 +276,7 @@ impl Copies for TurnKind {
             TurnKind::Ended(child) => Ok(TurnKind::Ended(*child)),
             TurnKind::Ask(job, ask) => Ok(TurnKind::Ask(*job, ask.copy(alloc)?)),
             TurnKind::Change(change) => Ok(TurnKind::Change(change.copy(alloc)?)),
+            TurnKind::Listen => Ok(TurnKind::Listen),
             TurnKind::File => Ok(TurnKind::File),
             TurnKind::Last => Ok(TurnKind::Last),
         }

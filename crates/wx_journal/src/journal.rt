@@ -3,7 +3,7 @@ ghost use Rattle.std.specs.Prelude.{◌≡◌, ◌+◌, ◌<◌, ◌≤◌, ◌^
 ghost use Rattle.std.specs.List.{list_any};
 ghost use Rattle.wx_journal.specs.declared.entry.Entry.{Entry as AnEntry};
 ghost use Rattle.std.specs.Slice.Iter.{iter_rest};
-ghost use Rattle.wx_journal.specs.Names.{names_ticket, names_child, names_back, ticket_count, child_count, back_count, next_job, was_made, makes};
+ghost use Rattle.wx_journal.specs.Names.{names_ticket, names_child, names_back, names_item, ticket_count, child_count, back_count, item_count, next_job, was_made, makes};
 ghost use Rattle.wx_journal.specs.Counted.{AreAllMade};
 
 use crate::entry::Entry;
@@ -23,6 +23,7 @@ pub struct Journal {
     tickets: u64,
     children: u64,
     backs: u64,
+    items: u64,
     next_job: u64,
     gaps: bool,
 }
@@ -36,7 +37,7 @@ impl Model for Journal {
 
     ghost view = { λ j. record { past = reverse j.entries.items; spare = vec_capacity j.entries - vec_len j.entries } };
 
-    ghost invariant = { λ j. AreCounted j.tickets j.children j.backs j.next_job j.gaps (reverse j.entries.items) };
+    ghost invariant = { λ j. AreCounted j.tickets j.children j.backs j.items j.next_job j.gaps (reverse j.entries.items) };
 }
 
 impl Journal {
@@ -49,6 +50,7 @@ impl Journal {
             tickets: 0,
             children: 0,
             backs: 0,
+            items: 0,
             next_job: 0,
             gaps: false,
         })
@@ -75,6 +77,7 @@ impl Journal {
         self.tickets = counted(self.entries.as_slice(), self.tickets, names_ticket(&entry));
         self.children = counted(self.entries.as_slice(), self.children, names_child(&entry));
         self.backs = counted(self.entries.as_slice(), self.backs, names_back(&entry));
+        self.items = counted(self.entries.as_slice(), self.items, names_item(&entry));
         self.gaps = has_gaps(self.gaps, self.next_job, &entry);
         self.next_job = next_job(self.next_job, &entry);
         self.entries.push_reserved(entry);
@@ -107,6 +110,13 @@ impl Journal {
         ensures { result ≡ back_count self.now.past }
     {
         self.backs
+    }
+
+    /// How many brought items have a name: the next one has this name.
+    pub fn items(&self) -> u64
+        ensures { result ≡ item_count self.now.past }
+    {
+        self.items
     }
 
     /// The id of the next new job, which is above each that was made.
@@ -175,6 +185,13 @@ fn names_back(entry: &Entry) -> bool
     ensures { result ≡ names_back entry.now }
 {
     matches!(entry, Entry::Make { .. })
+}
+
+/// Whether this entry names a brought item.
+fn names_item(entry: &Entry) -> bool
+    ensures { result ≡ names_item entry.now }
+{
+    matches!(entry, Entry::Brought { .. })
 }
 
 /// Whether this entry tells that a job of this id was made.

@@ -21,6 +21,7 @@ impl Spelled for TurnKind {
             TurnKind::Ended(child) => put_row(b"ended", &child, out),
             TurnKind::Ask(job, ask) => put_row(b"ask", &(job, ask), out),
             TurnKind::Change(change) => put_row(b"change", &change, out),
+            TurnKind::Listen => put_word(b"listen", out),
             TurnKind::File => put_word(b"file", out),
             TurnKind::Last => put_word(b"last", out),
         }
@@ -36,6 +37,7 @@ impl Spelled for TurnKind {
             b"ended" (child) => TurnKind::Ended(child),
             b"ask" (job, ask) => TurnKind::Ask(job, ask),
             b"change" (change) => TurnKind::Change(change),
+            b"listen" => TurnKind::Listen,
             b"file" => TurnKind::File,
             b"last" => TurnKind::Last,
         )

@@ -21,7 +21,7 @@ pub use answers::{
 pub use beginning::Beginning;
 pub use bytes::copy_bytes;
 pub use child::{HostFault, SpawnTag};
-pub use entry::{Act, Entry, Named, Offered, Turn, TurnKind, Word};
+pub use entry::{Act, Entry, LetGoCause, Named, Offered, Turn, TurnKind, Word};
 pub use journal::{Entries, Journal};
 pub use lines::{put_end, put_lines};
 pub use wish::Wish;

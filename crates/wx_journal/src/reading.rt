@@ -7,15 +7,16 @@ ghost use Rattle.wx_words.specs.ToEnd.{HasWord};
 ghost use Rattle.wx_journal.specs.AtFront.{read_front};
 ghost use Rattle.wx_journal.specs.Answers.{fault};
 ghost use Rattle.wx_words.specs.Choices.{read_at};
-ghost use Rattle.wx_journal.specs.Entries.{entry, file_rows, job_rows, dir, make, filtered, hook, poll, signal, spawn, hand, unread, read_hand, read_entry};
+ghost use Rattle.wx_journal.specs.Entries.{entry, file_rows, job_rows, brought, dir, make, filtered, hook, poll, signal, spawn, hand, unread, read_hand, read_entry};
 
-use crate::answers::{read_backed, read_hooked, read_ready, read_verdict};
+use crate::answers::{read_backed, read_hooked, read_news, read_ready, read_verdict};
 use crate::child::{HostFault, SpawnTag};
 use crate::entry::{Act, Entry};
 use std::alloc::Global;
 use wx_command::Spawnable;
 use wx_control::Id;
 use wx_error::RuntimeError;
+use wx_notify::Notify;
 use wx_text::{List, Memory};
 use wx_watch::{NotifyFault, Watcher};
 use wx_words::{Spelled, TextPath, Words, is_word, read_result, read_row, take_literal};
@@ -155,6 +156,26 @@ fn read_make(alloc: Global, line: &mut Words) -> Result<Option<MadeBackend>, Mem
     Ok(Some((back, (watcher, (follow, answer)))))
 }
 
+/// The name of an item, that of the backend, and what this brought.
+type BroughtItem = (u64, (u64, Result<Notify, NotifyFault>));
+
+/// Takes what stands behind the first word of an item that was brought, or loses the place.
+#[tactic(auto, unfolding(wx_words::specs::Parts::both))]
+fn read_brought(alloc: Global, line: &mut Words) -> Result<Option<BroughtItem>, Memory>
+    ensures { IfOk result (λ x. Reads line.new x (brought.read line.old)) }
+{
+    let Some(item) = u64::read(alloc, line)? else {
+        return Ok(None);
+    };
+    let Some(back) = u64::read(alloc, line)? else {
+        return Ok(None);
+    };
+    let Some(answer) = read_news(alloc, line)? else {
+        return Ok(None);
+    };
+    Ok(Some((item, (back, answer))))
+}
+
 /// Takes what stands behind the first word of a poll, or loses the place.
 #[tactic(auto, unfolding(wx_words::specs::Parts::both))]
 fn read_poll(alloc: Global, line: &mut Words) -> Result<Option<(Id, (u32, bool))>, Memory>
@@ -249,6 +270,10 @@ fn read_of_files(alloc: Global, first: &[u8], line: &mut Words) -> Result<Option
         b"dir" (n, (path, answer) = read_dir) => Entry::Dir { n, path, answer },
         b"make" (back, (watcher, (follow, answer)) = read_make) => Entry::Make { back, watcher, follow, answer },
         b"applied" (revision) => Entry::Applied(revision),
+        b"heard" (item) => Entry::Heard(item),
+        b"brought" (item, (back, answer) = read_brought) => Entry::Brought { item, back, answer },
+        b"letgo" (item, cause) => Entry::LetGo { item, cause },
+        b"ready" (revision) => Entry::Ready(revision),
         ; read_of_job(alloc, first, line)
     )
 }

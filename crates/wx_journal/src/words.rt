@@ -8,8 +8,8 @@ ghost use Rattle.wx_journal.specs.Sorts.{is_of_files, is_of_job};
 ghost use Rattle.wx_journal.specs.declared.entry.Entry.{Entry as AnEntry};
 ghost use Rattle.wx_journal.specs.declared.entry.Entry.TheVariants.{Hand};
 
-use crate::answers::{BackedRef, HookedRef, ReadyRef, VerdictRef};
-use crate::entry::{Act, Entry, Offered, Word};
+use crate::answers::{BackedRef, HookedRef, NewsRef, ReadyRef, VerdictRef};
+use crate::entry::{Act, Entry, LetGoCause, Offered, Word};
 use crate::reading::read_entry;
 use std::alloc::Global;
 use wx_text::{List, Memory, Text};
@@ -63,6 +63,29 @@ impl Spelled for Word {
             b"later" => Word::Later,
             b"quiet" => Word::Quiet,
             b"stepped" => Word::Stepped,
+        )
+    }
+}
+
+#[tactic(auto, unfolding(crate::specs::Words::cause))]
+impl Spelled for LetGoCause {
+    ghost use Rattle.wx_journal.specs.Words.{cause};
+
+    ghost spelling = { cause };
+
+    fn put_after(&self, out: &mut Text) -> Result<(), Memory> {
+        match self {
+            LetGoCause::Full => put_word(b"full", out),
+            LetGoCause::Obsolete => put_word(b"obsolete", out),
+            LetGoCause::Uncovered => put_word(b"uncovered", out),
+        }
+    }
+
+    fn read(_alloc: Global, line: &mut Words) -> Result<Option<LetGoCause>, Memory> {
+        read_rows!(_alloc, line;
+            b"full" => LetGoCause::Full,
+            b"obsolete" => LetGoCause::Obsolete,
+            b"uncovered" => LetGoCause::Uncovered,
         )
     }
 }
@@ -156,6 +179,12 @@ fn put_file_entry(entry: &Entry, out: &mut Text) -> Result<(), Memory>
             out,
         ),
         Entry::Applied(revision) => begin_row(b"applied", &revision, out),
+        Entry::Heard(item) => begin_row(b"heard", &item, out),
+        Entry::Brought { item, back, answer } => {
+            begin_row(b"brought", &(item, (back, NewsRef { answer })), out)
+        }
+        Entry::LetGo { item, cause } => begin_row(b"letgo", &(item, cause), out),
+        Entry::Ready(revision) => begin_row(b"ready", &revision, out),
         _ => Ok(()),
     }
 }
@@ -190,7 +219,13 @@ pub fn append_entry(entry: &Entry, out: &mut Text) -> Result<(), Memory>
         Entry::Show { n, error, wish } => begin_row(b"show", &(n, (error, wish)), out),
         Entry::Hand { n, names, acts } => put_hand(*n, names, acts, out),
         Entry::Changed(revision) => begin_row(b"changed", &revision, out),
-        Entry::Dir { .. } | Entry::Make { .. } | Entry::Applied(_) => put_file_entry(entry, out),
+        Entry::Dir { .. }
+        | Entry::Make { .. }
+        | Entry::Applied(_)
+        | Entry::Heard(_)
+        | Entry::Brought { .. }
+        | Entry::LetGo { .. }
+        | Entry::Ready(_) => put_file_entry(entry, out),
         Entry::Made(_)
         | Entry::Asked { .. }
         | Entry::Pick { .. }

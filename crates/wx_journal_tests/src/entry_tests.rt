@@ -45,10 +45,13 @@ begin throttle 0 size 1 errors 2 keyboard on follow off jobsignals on watcher na
 sent 0 urgent 0
 turn 7 ask 3 start
 turn 7 change paths 2 r /a n /b%20c
+turn 7 listen
 turn 7 file
 turnfault 5
 offer 1 - full low 0
 offer 2 7 queued high 0
+offer 3 0 full normal 3 source filesystem kind modify.data.any path /w/a file
+offer 4 18446744073709551615 closed normal 0
 word later
 word quiet
 word stepped
@@ -94,6 +97,23 @@ make 1 poll 18446744073709551615 off fail maxwatches 0
 make 1 native on fail memory 0
 applied 0
 applied 18446744073709551615
+heard 0
+heard 18446744073709551615
+brought 0 0 ok modify.data.any 1 /w/a file - -
+brought 1 0 ok any 0 rescan 4294967295
+brought 18446744073709551615 18446744073709551615 ok modify.name.both 2 /w/a%20b none /v dir - 7
+brought 2 1 fail generic no%20luck 1 /w
+brought 2 1 fail io 28 0
+brought 2 1 fail nopath 1 /w/a%20b
+brought 2 1 fail nowatch 0
+brought 2 1 fail badconfig 0
+brought 2 1 fail maxwatches 2 /w /v
+brought 2 1 fail memory 0
+letgo 0 full
+letgo 1 obsolete
+letgo 18446744073709551615 uncovered
+ready 0
+ready 18446744073709551615
 ";
 
 const NO_ENTRIES: &str = "
@@ -104,9 +124,14 @@ sent 0 0 urgent
 turn work
 turn file
 turn 7 files
+turn listen
+turn 7 listens
 turn 7 change
 turnfault 4294967296
 offer 1 full low 0
+offer 1 -1 full low 0
+offer - 1 full low 0
+offer 1 18446744073709551616 full low 0
 word done
 word step
 word Stepped
@@ -161,6 +186,36 @@ make 0 native on fail nopath 2 /w
 applied
 applied -1
 applied 18446744073709551616
+heard
+heard -
+heard 18446744073709551616
+brought
+brought 0
+brought 0 0
+brought 0 ok any 0 - -
+brought 0 0 any 0 - -
+brought 0 0 ok
+brought 0 0 ok any 0 -
+brought 0 0 ok any 1 /w - -
+brought 0 0 ok io 28 0
+brought 0 0 ok any 0 - 4294967296
+brought 0 0 fail
+brought 0 0 fail any 0 - -
+brought 0 0 fault 3
+brought 0 0 pass
+brought - 0 fail memory 0
+brought 18446744073709551616 0 fail memory 0
+brought 0 18446744073709551616 fail memory 0
+letgo
+letgo 0
+letgo full 0
+letgo 0 queued
+letgo 0 Full
+letgo -1 full
+letgo 18446744073709551616 full
+ready
+ready -1
+ready 18446744073709551616
 end ok lost 0
 Made 3
 ";

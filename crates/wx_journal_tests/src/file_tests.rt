@@ -165,6 +165,6 @@ fn a_journal_counts_backends(rt: HostRuntime) {
     let paths = List::new(alloc);
     let kind = NotifyFaultKind::MaxFilesWatch;
     list_three(&rt, &mut journal, make(Err(NotifyFault { kind, paths })));
-    assert!(rt; counts(&journal) == (3, 0, 0, 2, 0));
+    assert!(rt; counts(&journal) == (3, 0, 0, 2, 0, 0));
     drop(journal);
 }

@@ -6,4 +6,6 @@ mod entry_tests;
 #[cfg(test)]
 mod file_tests;
 #[cfg(test)]
+mod item_tests;
+#[cfg(test)]
 mod tests;

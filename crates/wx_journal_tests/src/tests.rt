@@ -337,7 +337,7 @@ fn entries_of_batches(rt: HostRuntime) {
 }
 
 /// Holds the first lines to be values of a type that are written so again, and the others to be none.
-fn expect_words<T: Spelled>(rt: &impl Abort, alloc: Global, lines: &str, others: &str) {
+pub(crate) fn expect_words<T: Spelled>(rt: &impl Abort, alloc: Global, lines: &str, others: &str) {
     for line in lines.lines() {
         expect_yes(rt, is_read_again::<T>(alloc, line), line);
     }
@@ -408,6 +408,7 @@ fn entries_of_turns(rt: HostRuntime) {
     expect_turn(&rt, alloc, ask, b"turn 7 ask 3 start");
     let change = TurnKind::Change(Change::Throttle(5));
     expect_turn(&rt, alloc, change, b"turn 7 change throttle 5");
+    expect_turn(&rt, alloc, TurnKind::Listen, b"turn 7 listen");
     expect_turn(&rt, alloc, TurnKind::File, b"turn 7 file");
     expect_turn(&rt, alloc, TurnKind::Last, b"turn 7 last");
 }
@@ -539,6 +540,8 @@ ask 1 signal quit
 ask 1 restartsignal user2 5000000
 change onaction 4294967295
 change watcher poll 7
+listen
+file
 last
 ";
 
@@ -567,6 +570,9 @@ ask start 0
 change
 change throttle
 change 0 throttle
+listen 0
+listens
+file 0
 rest
 ";
 
@@ -674,13 +680,14 @@ fn text_of(alloc: Global, journal: &Journal) -> Result<Text, Memory> {
     Ok(text)
 }
 
-/// How many entries, tickets, children and backends a journal has, and the number of the next job.
-pub(crate) fn counts(journal: &Journal) -> (u64, u64, u64, u64, u64) {
+/// How many entries, tickets, children, backends and brought items a journal has, and the number of the next job.
+pub(crate) fn counts(journal: &Journal) -> (u64, u64, u64, u64, u64, u64) {
     (
         journal.len(),
         journal.tickets(),
         journal.children(),
         journal.backs(),
+        journal.items(),
         journal.next_job(),
     )
 }
@@ -708,7 +715,7 @@ fn a_journal_and_its_counts(rt: HostRuntime) {
     assert!(rt; journal.is_empty());
     list_four(&rt, alloc, &mut journal);
     assert!(rt; !journal.is_empty() && journal.as_slice().len() == 4);
-    assert!(rt; counts(&journal) == (4, 2, 1, 0, 4));
+    assert!(rt; counts(&journal) == (4, 2, 1, 0, 0, 4));
     let text = text_of(alloc, &journal).expect(&rt, "lines");
     drop(journal);
     assert!(rt; text.as_slice() == FOUR.as_bytes());

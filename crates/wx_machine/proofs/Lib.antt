@@ -14,6 +14,7 @@ pub mod Holders
 pub mod JobSets
 pub mod AllJobs
 pub mod KeptLemmas
+pub mod LaneLaws
 pub mod Lawful
 pub mod LifeLaws
 pub mod MadeLaws
@@ -28,6 +29,7 @@ pub mod Places
 pub mod Placing
 pub mod PlanLaws
 pub mod ReapLaws
+pub mod RestLaws
 pub mod QuitActs
 mod Rejects
 pub mod RunLaws
@@ -39,3 +41,4 @@ pub mod Stepping
 pub mod Tickets
 pub mod Times
 pub mod Watching
+pub mod WordLaws

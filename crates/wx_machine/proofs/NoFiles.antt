@@ -12,12 +12,12 @@ use Rattle.wx_command.specs.declared.command.Command.{Command}
 use Rattle.wx_control.specs.declared.id.Id.{Id}
 use Rattle.wx_control.specs.Asks.{sends_of}
 use Rattle.wx_journal.specs.declared.entry.Entry.{Entry}
-use Rattle.wx_journal.specs.declared.entry.Entry.TheVariants.{Turn as Turned, TurnFault, Word as Said, Take, Filter, Show, Hand, Dir, Make, Applied}
+use Rattle.wx_journal.specs.declared.entry.Entry.TheVariants.{Turn as Turned, TurnFault, Take, Filter, Show, Hand, Make, Applied, Heard, Brought}
 use Rattle.wx_journal.specs.declared.entry.Turn.{Turn}
 use Rattle.wx_journal.specs.declared.entry.TurnKind.{TurnKind}
-use Rattle.wx_journal.specs.declared.entry.TurnKind.TheVariants.{Arrive, Signal, Keys, Work, Job, Ended, Ask, Change, File, Last}
+use Rattle.wx_journal.specs.declared.entry.TurnKind.TheVariants.{Arrive, Signal, Keys, Work, Job, Ended, Ask, Change, Listen, File, Last}
 use Rattle.wx_journal.specs.declared.entry.Word.{Word}
-use Rattle.wx_journal.specs.declared.entry.Word.TheVariants.{Idle, Ignored, Quitting, Later, Quiet, Stepped}
+use Rattle.wx_journal.specs.declared.entry.Word.TheVariants.{Idle, Ignored, Quitting}
 use Rattle.wx_journal.specs.Names.{moment}
 use Rattle.wx_journal.specs.Told.{is_turn}
 use Rattle.wx_machine.specs.History.{lives}
@@ -36,38 +36,17 @@ use Rattle.wx_machine.specs.Turns.{StaysInTurn}
 use Rattle.wx_machine.specs.Added.{Same, More}
 use Rattle.wx_machine.specs.Answer.{Dying, Alive, Dies}
 use Rattle.wx_machine.proofs.Owners.{either}
-use Rattle.wx_machine.proofs.Lawful.{IsOfPlan}
 use Rattle.wx_machine.proofs.PlanLaws.{lawful_now, of_end, end_is_plan}
 use Rattle.wx_machine.proofs.Orderly.{IsQuiet, IsFit, IsOrderly}
 use Rattle.wx_machine.proofs.AllJobs.{same_turns}
 use Rattle.wx_machine.proofs.RunLaws.{orderly, orderly_more}
+use Rattle.wx_machine.proofs.LaneLaws.{source_over, planned_none}
 
 -- what is owed brings no entry about what is watched
 abbrev pub NoFiles : Start → Agenda → Type 0
 NoFiles s (Comes x more) = ((p : List Entry) (a : PointAnswer s p x) → is_about_files (brings s p x a) ≡ false) × NoFiles s more
 NoFiles s (Steps untouched more) = ⊥
 NoFiles s (_) = Unit {0}
-
--- any other entry leaves what is said of what is watched
-pub source_over : (s : Start) (e : Entry) (p : List Entry) → is_about_files e ≡ false → source s (e ∷ p) ≡ source s p
-source_over s (Make back watcher links answer) p other = absurd cc
-source_over s (Applied named) p other = absurd cc
-source_over s (_) p other = refl
-
-pub no_file_word : (word : Word) → IsOfPlan (Said word) → is_file_word word ≡ false
-no_file_word Idle o = refl
-no_file_word Ignored o = refl
-no_file_word Quitting o = absurd o
-no_file_word Later o = refl
-no_file_word Quiet o = absurd o
-no_file_word Stepped o = absurd o
-
-planned_none : (e : Entry) → IsOfPlan e → is_about_files e ≡ false
-planned_none (Dir n path answer) o = absurd o
-planned_none (Make back watcher links answer) o = absurd o
-planned_none (Applied named) o = absurd o
-planned_none (Said word) o = no_file_word word o
-planned_none (_) o = refl
 
 -- an entry that comes
 entry_none : (s : Start) (p : List Entry) (k : Agenda) (e : Entry) → Admits s p k e → IsFit s p k → NoFiles s k → (IsTurn e → ⊥) → is_about_files e ≡ false
@@ -125,6 +104,8 @@ none_follow s p (Show m error wish) more turn other n = none_show s (ending erro
 none_follow s p (Hand m names acts) more turn other n = none_plans s (act_plan (λ id. lives id p) (revision s p) (with_quit_asks p acts)) Open tt
 none_follow s p (Make back watcher links answer) more turn other n = absurd cc
 none_follow s p (Applied named) more turn other n = absurd cc
+none_follow s p (Brought item back answer) more turn other n = absurd cc
+none_follow s p (Heard item) more turn other n = absurd cc
 none_follow s p (_) more turn other n = n
 
 pub none_settle : (s : Start) (p : List Entry) (k : Agenda) → NoFiles s k → NoFiles s (settle p k)
@@ -167,6 +148,7 @@ none_turn s p (Job id) at other = none_job s id (living id p) p
 none_turn s p (Ended c) at other = none_ended s (parent c p) p
 none_turn s p (Ask id ask) at other = either (NoFiles s) (lives id p) (plans (ask_plan id (sends_of ask) Done) Open) (says Ignored) (none_plans s (ask_plan id (sends_of ask) Done) Open tt) (none_says s Ignored refl)
 none_turn s p (Change change) at other = either (NoFiles s) (revision s p == last_revision) (says Ignored) (plans (change_plan (revision s p) Done) Open) (none_says s Ignored refl) (none_plans s (change_plan (revision s p) Done) Open tt)
+none_turn s p Listen at other = absurd cc
 none_turn s p File at other = absurd cc
 none_turn s p Last at other = tt
 

@@ -3,7 +3,7 @@ use Rattle.std.proofs.Common.{◌≡◌, ◌≤◌, ◌+◌, ◌-◌, ℕ, Bool,
 use Rattle.std.specs.Prelude.{◌^◌, min}
 use Rattle.wx_scan.specs.Looked.{Rose}
 use Rattle.wx_journal.specs.declared.entry.Entry.{Entry}
-use Rattle.wx_journal.specs.declared.entry.Entry.TheVariants.{Word as Said, Make, Applied}
+use Rattle.wx_journal.specs.declared.entry.Entry.TheVariants.{Word as Said, Make, Applied, Heard}
 use Rattle.wx_journal.specs.declared.entry.Word.{Word}
 use Rattle.wx_journal.specs.declared.entry.Word.TheVariants.{Idle, Ignored, Quitting, Later, Quiet, Stepped}
 use Rattle.wx_machine.specs.Added.{Added, Same, More}
@@ -32,13 +32,14 @@ by_kind false false before steps works looks owing other h = h
 pub paid_entry : (before : ℕ) (e : Entry) (p : List Entry) (looks owing : ℕ) → is_step e ≡ false → IsPaid before p looks owing → IsPaid before (e ∷ p) looks owing
 paid_entry before e p looks owing other h = by_kind (is_step e) (brings_work e) before (step_count p) (work_count p) looks owing other h
 
--- settings that were applied, and an answer about a backend: one step more may come
+-- settings that were applied, an answer about a backend, and what was heard: one step more may come
 pub paid_applied : (before revision : ℕ) (p : List Entry) (looks owing : ℕ) → IsPaid before p looks owing → IsPaid before (Applied revision ∷ p) looks (owing + 1)
 paid_applied before revision p looks owing h = omega (arith, h)
 
 pub paid_work : (before : ℕ) (e : Entry) (p : List Entry) (looks owing : ℕ) → brings_work e ≡ true → IsPaid before p looks owing → IsPaid before (e ∷ p) looks (owing + 1)
 paid_work before (Applied revision) p looks owing is h = omega (arith, h)
 paid_work before (Make back watcher follow answer) p looks owing is h = omega (arith, h)
+paid_work before (Heard item) p looks owing is h = omega (arith, h)
 paid_work before (_) p looks owing is h = absurd cc
 
 -- a step with a look

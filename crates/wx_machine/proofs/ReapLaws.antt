@@ -70,7 +70,7 @@ end_next p (job ∷ ids) c id e own its dropped d =
 next_dropped : (s : Start) (p : List Entry) (k : Agenda) (c : ℕ) (id : Id) (e : Entry) → NamesItsOwn p → IsFit s p k → child id p ≡ Some c → Admits s p k (Dropped c) → Admits s (Dropped c ∷ p) (settle (Dropped c ∷ p) (rest (Dropped c) k)) e → e ≡ Gone id
 next_dropped s p Open c id e own fit its dropped d = absurd dropped
 next_dropped s p (Comes x more) c id e own fit its dropped d = absurd (brought s p x more (Dropped c) dropped fit)
-next_dropped s p (Steps untouched more) c id e own fit its dropped d = absurd (came s p untouched more (Dropped c) dropped)
+next_dropped s p (Steps untouched more) c id e own fit its dropped d = absurd (came s p untouched more (Dropped c) dropped fit)
 next_dropped s p (Plans k more) c id e own fit its dropped d =
     let go = (lawful_now p k (Dropped c) dropped fit.0).lets_go in
     let mine : go.0 ≡ id = one_parent c id go.0 p own its go.1 in

@@ -1,15 +1,20 @@
 -- What is refused after faults, while a function is begun, and of what is watched.
-use Rattle.std.proofs.Common.{◌≡◌, ℕ, Bool, List, [], ◌∷◌, Ok, Err, true, false, refl, arith}
+use Rattle.std.proofs.Common.{◌≡◌, ℕ, Bool, List, [], ◌∷◌, Ok, Err, true, false, refl, ap, sym, arith}
 use Rattle.std.specs.Prelude.{pos, codes, Result, Some, None}
+use Rattle.wx_events.specs.declared.event.Event.{Event}
+use Rattle.wx_events.specs.declared.priority.Priority.{Priority}
+use Rattle.wx_journal.specs.declared.entry.Offered.{Offered}
+use Rattle.wx_notify.specs.declared.notify.Notify.{Notify}
+use Rattle.wx_file_events.specs.FileEvents.{event_of}
 use Rattle.wx_command.specs.declared.spawnable.Spawnable.{Spawnable}
 use Rattle.wx_events.specs.declared.process.ProcessEnd.{ProcessEnd}
 use Rattle.wx_control.specs.declared.control.Control.TheVariants.{Start, GracefulStop, AsyncFunc}
 use Rattle.wx_control.specs.declared.level.Level.TheVariants.{Normal}
 use Rattle.wx_events.specs.declared.process.Signal.{Signal as ASignal}
 use Rattle.wx_journal.specs.declared.child.SpawnTag.TheVariants.{Default}
-use Rattle.wx_journal.specs.declared.entry.Entry.TheVariants.{Turn as Turned, Word as Said, Made, Asked, Pick, GraceOver, Spawn, Signal, Kill, Wait, Raise, Gone, Run, Begun, Poll, Dir, Make, Applied}
-use Rattle.wx_journal.specs.declared.entry.TurnKind.TheVariants.{Job, File}
-use Rattle.wx_journal.specs.declared.entry.Word.TheVariants.{Idle, Stepped}
+use Rattle.wx_journal.specs.declared.entry.Entry.TheVariants.{Turn as Turned, Offer, Word as Said, Made, Asked, Pick, GraceOver, Spawn, Signal, Kill, Wait, Raise, Gone, Run, Begun, Poll, Dir, Make, Applied, Heard, Brought, Ready}
+use Rattle.wx_journal.specs.declared.entry.TurnKind.TheVariants.{Job, Listen, File}
+use Rattle.wx_journal.specs.declared.entry.Word.TheVariants.{Idle, Ignored, Stepped}
 use Rattle.wx_journal.specs.declared.entry.Turn.{Turn}
 use Rattle.wx_watch.specs.declared.notify_fault.NotifyFault.{NotifyFault}
 use Rattle.wx_watch.specs.declared.watched.Watcher.{Watcher}
@@ -19,9 +24,9 @@ use Rattle.wx_error.specs.declared.runtime.RuntimeError.{RuntimeError}
 use Rattle.wx_tree.specs.Places.{place}
 use Rattle.wx_machine.specs.Start.{Start as AStart}
 use Rattle.wx_machine.specs.Steps.{IsPaid}
-use Rattle.wx_machine.specs.Due.{Applies, Open, Comes, turn_agenda}
-use Rattle.wx_machine.specs.Files.{has_paths, is_to_make, is_below_recursive}
-use Rattle.wx_machine.specs.FileLaws.{AreWatchedByRule, UnmadeEnds}
+use Rattle.wx_machine.specs.Due.{Applies, Open, Comes, turn_agenda, says}
+use Rattle.wx_machine.specs.Files.{unwatched, asked, are_same_roots, has_paths, is_deaf, is_live, is_to_make, is_below_recursive, roots, step_on}
+use Rattle.wx_machine.specs.FileLaws.{AreFromFiles, AreWatchedByRule, UnmadeEnds}
 use Rattle.wx_machine.specs.TicketLaws.{WaitForFunctions}
 use Rattle.wx_machine.specs.Afterwards.{GoesOnAfterFaults, AreOverOnce}
 
@@ -84,7 +89,7 @@ flat_refused : is_below_recursive (codes "/w") (record { path = codes "src"; rec
 flat_refused = refl
 
 -- where no backend stands one is to be made, if a path is to be watched
-none_stands : (c d : Config) → has_paths c ≡ true → is_to_make c (record { applied = Some d; current = None }) ≡ true
+none_stands : (c d : Config) → has_paths c ≡ true → is_to_make c (record unwatched { applied = Some d }) ≡ true
 none_stands c d some = rw some refl
 
 -- the first turn about files applies the settings
@@ -101,3 +106,80 @@ twice_refused h = omega (arith, h)
 -- a look brings the second
 looked_taken : IsPaid 5 (Said Stepped ∷ Said Stepped ∷ Applied 0 ∷ []) 6 0
 looked_taken = omega arith
+
+-- and so does what was heard
+heard_taken : IsPaid 5 (Said Stepped ∷ Heard 0 ∷ []) 5 0
+heard_taken = omega arith
+
+-- ---- what was brought
+
+-- nothing is offered that wasn't brought
+invented_refused : (s : AStart) (result : Offered) (event : Event) (priority : Priority) → AreFromFiles s (Offer 0 (Some 0) result event priority ∷ []) → ⊥
+invented_refused s result event priority h = let is = h.0.was_brought in absurd cc
+
+-- nor another event, and nothing twice
+has_tags : (n : Notify) → (event_of n).tags ≡ [] → ⊥
+has_tags n e = absurd cc
+
+other_event_refused : (s : AStart) (n : Notify) (result : Offered) (priority : Priority) → AreFromFiles s (Offer 0 (Some 0) result (record { tags = [] }) priority ∷ Brought 0 0 (Ok n) ∷ []) → ⊥
+other_event_refused s n result priority h = has_tags h.0.notify (ap (λ (event : Event). event.tags) (sym h.0.becomes))
+
+twice_offered_refused : (s : AStart) (answer : Result Notify NotifyFault) (result : Offered) (event : Event) (priority : Priority) → AreFromFiles s (Offer 1 (Some 0) result event priority ∷ Offer 0 (Some 0) result event priority ∷ Brought 0 0 answer ∷ []) → ⊥
+twice_offered_refused s answer result event priority h = let later = h.0.later in omega (arith, later)
+
+-- nor an earlier one behind a later one
+earlier_refused : (s : AStart) (result : Offered) (event : Event) (priority : Priority) → AreFromFiles s (Offer 1 (Some 3) result event priority ∷ Offer 0 (Some 4) result event priority ∷ []) → ⊥
+earlier_refused s result event priority h = let later = h.0.later in omega (arith, later)
+
+-- an event names no item, and is of none
+arrived_taken : (s : AStart) (result : Offered) (event : Event) (priority : Priority) → AreFromFiles s (Offer 0 None result event priority ∷ [])
+arrived_taken s result event priority = tt
+
+-- where no backend stands nothing is brought, and it isn't told that all is watched where nobody asked
+unasked_refused : (s : AStart) (named : ℕ) → AreWatchedByRule s (Ready named ∷ []) → ⊥
+unasked_refused s named h = let is = h.0.asked in absurd cc
+
+unbacked_refused : (s : AStart) (answer : Result Notify NotifyFault) → AreWatchedByRule s (Brought 0 0 answer ∷ []) → ⊥
+unbacked_refused s answer h = let is = h.0.stands in absurd cc
+
+none_listens : (s : AStart) → turn_agenda s Listen 7 [] ≡ says Ignored
+none_listens s = refl
+
+-- it isn't told of the first settings
+first_unasked : asked 0 ≡ None
+first_unasked = refl
+
+third_asked : asked 3 ≡ Some 3
+third_asked = refl
+
+-- a backend that was made before other settings is live only where it stands
+old_refused : is_live (record unwatched { current = Some 1; since = 1 }) 0 ≡ false
+old_refused = refl
+
+standing_taken : is_live (record unwatched { current = Some 0; since = 1 }) 0 ≡ true
+standing_taken = refl
+
+-- and one that was made again for the same settings leaves those before live
+replaced_taken : is_live (record unwatched { current = Some 4; since = 2 }) 3 ≡ true
+replaced_taken = refl
+
+-- roots in another order are the same, and one that is watched whole isn't one that is watched flat
+turned_taken : are_same_roots (roots (codes "/w") (record { path = codes "a"; recursive = true } ∷ record { path = codes "/b"; recursive = false } ∷ [])) (roots (codes "/w") (record { path = codes "/c/../b"; recursive = false } ∷ record { path = codes "/w/a"; recursive = true } ∷ [])) ≡ true
+turned_taken = refl
+
+flat_is_other : are_same_roots (roots (codes "/w") (record { path = codes "a"; recursive = true } ∷ [])) (roots (codes "/w") (record { path = codes "a"; recursive = false } ∷ [])) ≡ false
+flat_is_other = refl
+
+fewer_is_other : are_same_roots (roots (codes "/w") (record { path = codes "a"; recursive = true } ∷ [])) (roots (codes "/w") (record { path = codes "a"; recursive = true } ∷ record { path = codes "b"; recursive = true } ∷ [])) ≡ false
+fewer_is_other = refl
+
+-- a fault is to be heard, also where it was marked
+marked_fault : (fault : NotifyFault) → is_deaf (record { name = 0; back = 0; item = Err fault; heard = true; full = false }) ≡ true
+marked_fault fault = refl
+
+-- the fence rises with each step until it stands
+fence_rises : (step_on 3 (record unwatched { fence = 1 })).fence ≡ 3
+fence_rises = refl
+
+fence_stands : (step_on 3 (record unwatched { fence = 1; fenced = true })).fence ≡ 1
+fence_stands = refl

@@ -11,7 +11,9 @@ use Rattle.wx_events.specs.declared.priority.Priority.{Priority}
 use Rattle.wx_command.specs.declared.command.Command.{Command}
 use Rattle.wx_config.specs.Changes.{last_revision}
 use Rattle.wx_config.specs.declared.change.Change.{Change as AChange}
+use Rattle.wx_notify.specs.declared.notify.Notify.{Notify}
 use Rattle.wx_watch.specs.declared.notify_fault.NotifyFault.{NotifyFault}
+use Rattle.wx_watch.specs.declared.watched.Watcher.{Watcher}
 use Rattle.wx_error.specs.declared.runtime.RuntimeError.{RuntimeError}
 use Rattle.wx_error.specs.declared.runtime.RuntimeError.TheVariants.{Exit}
 use Rattle.wx_error.specs.declared.error.CriticalError.{CriticalError}
@@ -19,15 +21,15 @@ use Rattle.wx_control.specs.declared.id.Id.{Id}
 use Rattle.wx_control.specs.declared.ask.Ask.{Ask as AnAsk}
 use Rattle.wx_control.specs.Asks.{sends_of}
 use Rattle.wx_journal.specs.declared.entry.Entry.{Entry}
-use Rattle.wx_journal.specs.declared.entry.Entry.TheVariants.{Begin, Sent, Turn as Turned, TurnFault, Offer, Word as Said, Take, Filter, Show, Hand, Made, Changed, Spawn, Gone, Dir, Make, Applied}
+use Rattle.wx_journal.specs.declared.entry.Entry.TheVariants.{Begin, Sent, Turn as Turned, TurnFault, Offer, Word as Said, Take, Filter, Show, Hand, Made, Changed, Spawn, Gone, Dir, Make, Applied, Heard, Brought, LetGo, Ready}
 use Rattle.wx_journal.specs.Acts.{JournalAct as Act}
 use Rattle.wx_journal.specs.declared.entry.Named.{Named}
 use Rattle.wx_journal.specs.declared.entry.Turn.{Turn}
 use Rattle.wx_journal.specs.declared.entry.TurnKind.{TurnKind}
-use Rattle.wx_journal.specs.declared.entry.TurnKind.TheVariants.{Arrive, Signal, Keys, Work, Job, Ended, Ask, Change, File, Last}
+use Rattle.wx_journal.specs.declared.entry.TurnKind.TheVariants.{Arrive, Signal, Keys, Work, Job, Ended, Ask, Change, Listen, File, Last}
 use Rattle.wx_journal.specs.declared.entry.Word.{Word}
 use Rattle.wx_journal.specs.declared.entry.Word.TheVariants.{Idle, Ignored, Quitting}
-use Rattle.wx_journal.specs.Names.{moment, event_count, creates, is_created, next_job, Names, NamesItsOwn}
+use Rattle.wx_journal.specs.Names.{moment, event_count, item_count, creates, is_created, next_job, Names, NamesItsOwn}
 use Rattle.wx_journal.specs.Told.{is_hand}
 use Rattle.wx_machine.specs.History.{same, lives, child, unless, ended_child, still_running}
 use Rattle.wx_machine.specs.TicketLaws.{IsPlaced}
@@ -44,11 +46,13 @@ use Rattle.wx_machine.proofs.JobSets.{lawful_hand}
 use Rattle.wx_machine.proofs.QuitActs.{creates_quit_asks, lawful_quit_asks, changes_quit_asks}
 use Rattle.wx_machine.specs.Settings.{turn_changes, pending, settings, revision, change_count}
 use Rattle.wx_machine.specs.Journal.{listed, passes_unseen, lets_pass, closed, ending, named, bag, one_if, and_one, is_among, unhanded, passed, window, batches, is_over, is_urgent_named, is_urgent_in}
-use Rattle.wx_machine.specs.Files.{source, is_applied, is_to_make}
-use Rattle.wx_machine.specs.Due.{IsGreatest, Point, Takes, Filters, Hands, Applies, Makes, Step, Judges, Errs, Remakes, Finishes, Rests, step_entry, Agenda, Open, Comes, Steps, Plans, Ends, Breaks, IsTurn, Admits, sends, plans, says, stays, goes_on, rest, job_turn, ended_turn, work_going, watch_turn, file_turn, turn_agenda, after_pass, after_drop, after_show, after_make, after_hand, follow, is_quitting, settle, agenda, Due, IsRun, offers, keys_open, before}
+use Rattle.wx_machine.specs.Files.{source, applied, is_applied, is_to_make, finds_full, item_fault, item_named}
+use Rattle.wx_machine.specs.Due.{IsGreatest, Point, Takes, Filters, Hands, Applies, Makes, Listens, Step, Judges, Errs, Remakes, Finishes, Rests, step_entry, Agenda, Open, Comes, Steps, Plans, Ends, Breaks, IsTurn, Admits, sends, plans, says, stays, goes_on, rest, job_turn, ended_turn, work_going, watch_turn, file_turn, listen_turn, rest_entry, turn_agenda, after_pass, after_drop, after_show, after_make, after_brought, after_fault, after_hand, follow, is_quitting, settle, agenda, Due, IsRun, offers, keys_open, before}
 use Rattle.wx_machine.proofs.BagLaws.{NamesBelow, bag_facts}
 use Rattle.wx_machine.specs.Leads.{Leads, Here, Then, Follows}
-use Rattle.wx_machine.proofs.Orderly.{IsQuiet, IsBrought, IsLasting, IsFit, IsGoing, GoneRunNone, IsOrderly}
+use Rattle.wx_machine.proofs.Orderly.{IsQuiet, IsBrought, IsLasting, IsFit, IsGoing, IsSourced, GoneRunNone, IsOrderly}
+use Rattle.wx_machine.proofs.LaneLaws.{planned_none, sourced_brought, sourced_none, sourced_other}
+use Rattle.wx_machine.proofs.RestLaws.{IsListened, listened_is, listen_brought, rest_brought, rest_hands, rest_is}
 use Rattle.wx_machine.proofs.SettleLaws.{right_false, fit_settle, going_calm, going_plans}
 use Rattle.wx_machine.proofs.PlanLaws.{lawful_now, placed_now, lawful_next, lawful_step, lawful_ask, lawful_acts, lawful_change, revised_step, revised_ask, revised_change, revised_acts, of_end, end_is_plan, end_placed, end_in_order, names_end}
 use Rattle.wx_machine.proofs.Always.{Always, always_now, always_next}
@@ -72,22 +76,22 @@ no_plan_turns (_) o i = i
 pub brought : (s : Start) (p : List Entry) (x : Point) (more : Agenda) (e : Entry) → Admits s p (Comes x more) e → IsFit s p (Comes x more) → IsBrought s p e
 brought s p x more e d f = subst (IsBrought s p) (sym d.1) (f.0 d.0)
 
--- what a step brings
-pub step_brought : (s : Start) (p : List Entry) (untouched : Bool) (a : Step s p untouched) → IsBrought s p (step_entry s p untouched a)
-step_brought s p untouched (Judges path below answer) = (refl, below)
-step_brought s p untouched (Errs error wish is_open) = is_open
-step_brought s p untouched (Remakes answer) = (refl, refl, refl)
-step_brought s p untouched Finishes = tt
-step_brought s p untouched (Rests is_untouched) = tt
+-- what a step brings, or what comes in its place
+pub step_brought : (s : Start) (p : List Entry) (untouched : Bool) (a : Step s p untouched) → (untouched ≡ true → IsBrought s p (rest_entry s p)) → IsBrought s p (step_entry s p untouched a)
+step_brought s p untouched (Judges path below answer) f = (refl, below)
+step_brought s p untouched (Errs error wish is_open) f = is_open
+step_brought s p untouched (Remakes answer) f = (refl, refl, refl)
+step_brought s p untouched Finishes f = tt
+step_brought s p untouched (Rests is_untouched) f = f is_untouched
 
-pub came : (s : Start) (p : List Entry) (untouched : Bool) (more : Agenda) (e : Entry) → Admits s p (Steps untouched more) e → IsBrought s p e
-came s p untouched more e d = subst (IsBrought s p) (sym d.1) (step_brought s p untouched d.0)
+pub came : (s : Start) (p : List Entry) (untouched : Bool) (more : Agenda) (e : Entry) → Admits s p (Steps untouched more) e → IsFit s p (Steps untouched more) → IsBrought s p e
+came s p untouched more e d f = subst (IsBrought s p) (sym d.1) (step_brought s p untouched d.0 f.0)
 
 -- any other is one that a point brought, or a step
 pub admitted : (s : Start) (p : List Entry) (k : Agenda) (e : Entry) → (IsTurn e → ⊥) → (IsOfPlan e → ⊥) → Admits s p k e → IsFit s p k → IsBrought s p e
 admitted s p Open e turn plan d f = absurd (turn d)
 admitted s p (Comes x more) e turn plan d f = brought s p x more e d f
-admitted s p (Steps untouched more) e turn plan d f = came s p untouched more e d
+admitted s p (Steps untouched more) e turn plan d f = came s p untouched more e d f
 admitted s p (Plans k more) e turn plan d f = absurd (plan (lawful_now p k e d f.0).of_plan)
 admitted s p Ends e turn plan d f = absurd (plan (end_is_plan e (of_end p e d)))
 admitted s p Breaks e turn plan d f = absurd d
@@ -156,7 +160,7 @@ fit_quiet s p (_) q = absurd q
 
 fit_lasting : (s : Start) (p : List Entry) (more : Agenda) → IsLasting s more → IsFit s p more
 fit_lasting s p (Comes x more) l = (l.0 p, l.1)
-fit_lasting s p (Steps untouched more) l = l
+fit_lasting s p (Steps untouched more) l = (λ is. (let both : true ≡ false = sym is ∙ l.0 in absurd cc), l.1)
 fit_lasting s p (Plans k more) l = absurd l
 fit_lasting s p (_) l = tt
 
@@ -174,7 +178,7 @@ lasting_stays s x e more l = l
 
 -- what stands behind an entry of a step lasts: the step, or what stands behind it
 lasting_step : (s : Start) (e : Entry) (more : Agenda) → IsLasting s more → IsLasting s (rest e (Steps true more))
-lasting_step s e more l = either (IsLasting s) (goes_on e) (Steps false more) more l l
+lasting_step s e more l = either (IsLasting s) (goes_on e) (Steps false more) more (refl, l) l
 
 fit_says : (s : Start) (p : List Entry) (word : Word) → IsFit s p (says word)
 fit_says s p word = (λ a. tt, tt)
@@ -182,11 +186,11 @@ fit_says s p word = (λ a. tt, tt)
 -- so does what the keys of a read owe
 lasting_offers : (s : Start) (events : List Event) → IsLasting s (offers events)
 lasting_offers s [] = tt
-lasting_offers s (event ∷ events) = (λ p a. (refl, tt, refl), lasting_offers s events)
+lasting_offers s (event ∷ events) = (λ p a. (refl, (tt, tt), refl), lasting_offers s events)
 
 fit_keys : (s : Start) (p : List Entry) (events : List Event) → IsFit s p (keys_open events)
 fit_keys s p [] = fit_says s p Idle
-fit_keys s p (event ∷ events) = (λ a. (refl, tt, refl), lasting_offers s events)
+fit_keys s p (event ∷ events) = (λ a. (refl, (tt, tt), refl), lasting_offers s events)
 
 fit_job : (s : Start) (p : List Entry) (id : Id) (command : Option Command) → NamesItsOwn p → IsPlaced p → IsFit s p (job_turn id command p)
 fit_job s p id None own h = fit_says s p Ignored
@@ -220,25 +224,31 @@ fit_change s p change true wait h = fit_says s p Ignored
 fit_change s p change false wait h = fit_plans s p (change_plan (revision s p) Done) Open (lawful_change (revision s p) p h) tt (revised_change s p change wait)
 
 -- what a turn about what is watched owes
-fit_watch : (s : Start) (p : List Entry) (current : Option ℕ) → IsFit s p (watch_turn current)
-fit_watch s p None = fit_says s p Ignored
-fit_watch s p (Some back) = tt
+fit_watch : (s : Start) (p : List Entry) (current : Option ℕ) → IsSourced s p → IsFit s p (watch_turn current)
+fit_watch s p None h = fit_says s p Ignored
+fit_watch s p (Some back) h = (λ is. rest_brought s p h, tt)
 
-pub fit_file : (s : Start) (p : List Entry) (is : Bool) → is_applied (settings s p) (source s p).applied ≡ is → IsFit s p (cond is (watch_turn (source s p).current) (Comes Applies Open))
-fit_file s p true e = fit_watch s p (source s p).current
-fit_file s p false e = (λ a. (refl, e), tt)
+pub fit_file : (s : Start) (p : List Entry) (is : Bool) → is_applied (settings s p) (source s p).applied ≡ is → IsSourced s p → IsFit s p (cond is (watch_turn (source s p).current) (Comes Applies Open))
+fit_file s p true e h = fit_watch s p (source s p).current h
+fit_file s p false e h = (λ a. (refl, e), tt)
 
-fit_turn : (s : Start) (p : List Entry) (kind : TurnKind) (at : ℕ) → pending p ≡ turn_changes kind → NamesItsOwn p → IsPlaced p → IsFit s p (turn_agenda s kind at p)
-fit_turn s p (Arrive event priority) at wait own h = (λ a. (refl, tt, refl), tt)
-fit_turn s p (Signal signal) at wait own h = either (IsFit s p) (hears_signal (settings s p).signal_job_control signal) _ _ (λ a. (refl, tt, refl), tt) (fit_says s p Ignored)
-fit_turn s p (Keys bytes) at wait own h = either (IsFit s p) (hears_keys s (before p)) _ _ (fit_keys s p (key_events bytes)) (fit_says s p Ignored)
-fit_turn s p Work at wait own h = either (IsFit s p) (graceful p) (says Quitting) (work_going s p at) (fit_says s p Quitting) (fit_work s p at (closed p) (is_over s p at) (length (bag p) == 0) refl refl)
-fit_turn s p (Job id) at wait own h = fit_job s p id (living id p) own h
-fit_turn s p (Ended c) at wait own h = fit_ended s p (parent c p) own h
-fit_turn s p (Ask id ask) at wait own h = fit_ask s p id ask (lives id p) refl own h
-fit_turn s p (Change change) at wait own h = fit_change s p change (revision s p == last_revision) wait h
-fit_turn s p File at wait own h = fit_file s p (is_applied (settings s p) (source s p).applied) refl
-fit_turn s p Last at wait own h = tt
+-- what one owes that asks what was brought
+fit_listen : (s : Start) (p : List Entry) (current : Option ℕ) → (source s p).current ≡ current → IsSourced s p → IsFit s p (listen_turn current)
+fit_listen s p None is h = fit_says s p Ignored
+fit_listen s p (Some back) is h = (λ a. listen_brought s p back a is h, tt)
+
+fit_turn : (s : Start) (p : List Entry) (kind : TurnKind) (at : ℕ) → pending p ≡ turn_changes kind → NamesItsOwn p → IsPlaced p → IsSourced s p → IsFit s p (turn_agenda s kind at p)
+fit_turn s p (Arrive event priority) at wait own h x = (λ a. (refl, (tt, tt), refl), tt)
+fit_turn s p (Signal signal) at wait own h x = either (IsFit s p) (hears_signal (settings s p).signal_job_control signal) _ _ (λ a. (refl, (tt, tt), refl), tt) (fit_says s p Ignored)
+fit_turn s p (Keys bytes) at wait own h x = either (IsFit s p) (hears_keys s (before p)) _ _ (fit_keys s p (key_events bytes)) (fit_says s p Ignored)
+fit_turn s p Work at wait own h x = either (IsFit s p) (graceful p) (says Quitting) (work_going s p at) (fit_says s p Quitting) (fit_work s p at (closed p) (is_over s p at) (length (bag p) == 0) refl refl)
+fit_turn s p (Job id) at wait own h x = fit_job s p id (living id p) own h
+fit_turn s p (Ended c) at wait own h x = fit_ended s p (parent c p) own h
+fit_turn s p (Ask id ask) at wait own h x = fit_ask s p id ask (lives id p) refl own h
+fit_turn s p (Change change) at wait own h x = fit_change s p change (revision s p == last_revision) wait h
+fit_turn s p File at wait own h x = fit_file s p (is_applied (settings s p) (source s p).applied) refl x
+fit_turn s p Listen at wait own h x = fit_listen s p (source s p).current refl x
+fit_turn s p Last at wait own h x = tt
 
 fit_hand : (s : Start) (p : List Entry) (n : ℕ) (names : List ℕ) (acts : List Act) → AreLawful p acts → IsPlaced (Hand n names acts ∷ p) → IsFit s (Hand n names acts ∷ p) (after_hand s acts p)
 fit_hand s p n names acts lawful h =
@@ -289,6 +299,16 @@ fit_make : (s : Start) (p : List Entry) (answer : Result (Unit {0}) NotifyFault)
 fit_make s p (Ok done) more l = fit_lasting s p more l
 fit_make s p (Err fault) more l = tt
 
+-- after what was brought, or heard
+fit_room : (s : Start) (p : List Entry) (item back : ℕ) (answer : Result Notify NotifyFault) (full : Bool) (more : Agenda) → finds_full s p answer ≡ full → IsLasting s more → item ≡ item_count p → IsFit s (Brought item back answer ∷ p) (after_brought full item more)
+fit_room s p item back answer true more is l next = (λ a. (omega (arith, next), (refl, is)), l)
+fit_room s p item back answer false more is l next = fit_lasting s (Brought item back answer ∷ p) more l
+
+fit_fault : (s : Start) (p : List Entry) (item : ℕ) (shut : Bool) (watcher : Watcher) (fault : Option NotifyFault) (more : Agenda) → closed p ≡ shut → IsLasting s more → IsFit s (Heard item ∷ p) (after_fault shut watcher fault more)
+fit_fault s p item shut watcher None more is l = fit_lasting s (Heard item ∷ p) more l
+fit_fault s p item true watcher (Some fault) more is l = fit_lasting s (Heard item ∷ p) more l
+fit_fault s p item false watcher (Some fault) more is l = (λ a. is, l)
+
 -- after what a point brought, or a step, where this stands behind it
 fit_brought : (s : Start) (p : List Entry) (e : Entry) (more : Agenda) → IsBrought s p e → IsLasting s more → NamesItsOwn p → IsPlaced p → IsFit s (e ∷ p) (follow s e p more)
 fit_brought s p (Turned t) more b l own placed = absurd b
@@ -299,13 +319,15 @@ fit_brought s p (Show n error wish) more b l own placed = fit_show s (Show n err
 fit_brought s p (Hand n names acts) more b l own placed = fit_hand s p n names acts b.1 (placed_silent (Hand n names acts) p tt placed)
 fit_brought s p (Applied named) more b l own placed = fit_applied s (Applied named ∷ p) (is_to_make (settings s p) (source s p)) more l
 fit_brought s p (Make back watcher links answer) more b l own placed = fit_make s (Make back watcher links answer ∷ p) answer more l
+fit_brought s p (Brought item back answer) more b l own placed = fit_room s p item back answer (finds_full s p answer) more refl l b.0.next
+fit_brought s p (Heard item) more b l own placed = fit_fault s p item (closed p) (applied s p).file_watcher (item_fault (item_named item (source s p).lane)) more refl l
 fit_brought s p (e) more b l own placed = fit_lasting s (e ∷ p) more l
 
 -- after a turn
-fit_turned : (s : Start) (p : List Entry) (e : Entry) → IsTurn e → NamesItsOwn p → IsPlaced p → IsFit s (e ∷ p) (follow s e p Open)
-fit_turned s p (Turned t) i own placed = fit_turn s (Turned t ∷ p) t.kind t.at refl (tt, own) (placed_silent (Turned t) p tt placed)
-fit_turned s p (TurnFault code) i own placed = tt
-fit_turned s p (_) i own placed = absurd i
+fit_turned : (s : Start) (p : List Entry) (e : Entry) → IsTurn e → NamesItsOwn p → IsPlaced p → IsSourced s p → IsFit s (e ∷ p) (follow s e p Open)
+fit_turned s p (Turned t) i own placed x = fit_turn s (Turned t ∷ p) t.kind t.at refl (tt, own) (placed_silent (Turned t) p tt placed) (sourced_other s (Turned t) p refl x)
+fit_turned s p (TurnFault code) i own placed x = tt
+fit_turned s p (_) i own placed x = absurd i
 
 -- an entry of a plan leaves what stands behind it
 pub follow_plan : (s : Start) (p : List Entry) (e : Entry) (more : Agenda) → IsOfPlan e → follow s e p more ≡ more
@@ -317,16 +339,19 @@ follow_plan s p (Show n error wish) more o = absurd o
 follow_plan s p (Hand n names acts) more o = absurd o
 follow_plan s p (Applied named) more o = absurd o
 follow_plan s p (Make back watcher links answer) more o = absurd o
+follow_plan s p (Brought item back answer) more o = absurd o
+follow_plan s p (Heard item) more o = absurd o
 follow_plan s p (_) more o = refl
 
 -- after any entry that is admitted
-fit_follow : (s : Start) (p : List Entry) (k : Agenda) (e : Entry) → Admits s p k e → IsFit s p k → NamesItsOwn p → IsPlaced p → IsFit s (e ∷ p) (follow s e p (rest e k))
-fit_follow s p Open e d f own placed = fit_turned s p e d own placed
-fit_follow s p (Comes x more) e d f own placed = fit_brought s p e (stays x e more) (brought s p x more e d f) (lasting_stays s x e more f.1) own placed
-fit_follow s p (Steps untouched more) e d f own placed = fit_brought s p e (rest e (Steps untouched more)) (came s p untouched more e d) (lasting_step s e more f) own placed
-fit_follow s p (Plans k more) e d f own placed = subst (IsFit s (e ∷ p)) (sym (follow_plan s p e (plans (next k e) more) (lawful_now p k e d f.0).of_plan)) (fit_plans s (e ∷ p) (next k e) more (lawful_next p k e d f.0) f.1 (always_next (Revises s) p k e d f.2))
-fit_follow s p Ends e d f own placed = subst (IsFit s (e ∷ p)) (sym (follow_plan s p e Ends (end_is_plan e (of_end p e d)))) tt
-fit_follow s p Breaks e d f own placed = absurd d
+fit_follow : (s : Start) (p : List Entry) (k : Agenda) (e : Entry) → Admits s p k e → IsFit s p k → NamesItsOwn p → IsPlaced p → IsSourced s p → IsFit s (e ∷ p) (follow s e p (rest e k))
+fit_follow s p Open e d f own placed h = fit_turned s p e d own placed h
+fit_follow s p (Comes x more) e d f own placed h = fit_brought s p e (stays x e more) (brought s p x more e d f) (lasting_stays s x e more f.1) own placed
+fit_follow s p (Steps untouched more) e d f own placed h = fit_brought s p e (rest e (Steps untouched more)) (came s p untouched more e d f) (lasting_step s e more f.1) own placed
+fit_follow s p (Plans k more) e d f own placed h =
+    subst (IsFit s (e ∷ p)) (sym (follow_plan s p e (plans (next k e) more) (lawful_now p k e d f.0).of_plan)) (fit_plans s (e ∷ p) (next k e) more (lawful_next p k e d f.0) f.1 (always_next (Revises s) p k e d f.2))
+fit_follow s p Ends e d f own placed h = subst (IsFit s (e ∷ p)) (sym (follow_plan s p e Ends (end_is_plan e (of_end p e d)))) tt
+fit_follow s p Breaks e d f own placed h = absurd d
 
 -- ---- no child runs whose job is gone
 
@@ -343,41 +368,46 @@ pub free_end : (p : List Entry) (e : Entry) → PlanAdmits p (end p) e → IsFre
 free_end p e d = free_by_end p (jobs p) e d
 
 -- what is known of every entry that may come
-record IsNext (p : List Entry) (e : Entry) : Type 0 where
+record IsNext (s : Start) (p : List Entry) (e : Entry) : Type 0 where
   names : Names p e
   in_order : InOrder p e
   free : IsFree p e
   placed : IsPlaced p → IsPlaced (e ∷ p)
+  sourced : IsSourced s p → IsSourced s (e ∷ p)
 
 -- what is known of one that is of no job
-silent : (p : List Entry) (e : Entry) → IsSilent e → Names p e → InOrder p e → IsFree p e → IsNext p e
-silent p e s names in_order free = record { names = names; in_order = in_order; free = free; placed = placed_silent e p s }
+silent : (s : Start) (p : List Entry) (e : Entry) → IsSilent e → Names p e → InOrder p e → IsFree p e → (IsSourced s p → IsSourced s (e ∷ p)) → IsNext s p e
+silent s p e silence names in_order free sourced = record { names = names; in_order = in_order; free = free; placed = placed_silent e p silence; sourced = sourced }
 
-next_turn : (p : List Entry) (e : Entry) → IsTurn e → IsNext p e
-next_turn p (Turned t) i = silent p (Turned t) tt tt tt tt
-next_turn p (TurnFault code) i = silent p (TurnFault code) tt tt tt tt
-next_turn p (_) i = absurd i
+next_turn : (s : Start) (p : List Entry) (e : Entry) → IsTurn e → IsNext s p e
+next_turn s p (Turned t) i = silent s p (Turned t) tt tt tt tt (sourced_other s (Turned t) p refl)
+next_turn s p (TurnFault code) i = silent s p (TurnFault code) tt tt tt tt (sourced_other s (TurnFault code) p refl)
+next_turn s p (_) i = absurd i
 
-next_brought : (s : Start) (p : List Entry) (e : Entry) → IsBrought s p e → NamesItsOwn p → IsNext p e
-next_brought s p (Begin beginning) b own = silent p (Begin beginning) tt tt tt tt
-next_brought s p (Sent name event priority) b own = silent p (Sent name event priority) tt b tt tt
-next_brought s p (Offer name item result event priority) b own = silent p (Offer name item result event priority) tt (b.0, b.1) tt tt
-next_brought s p (Said word) b own = silent p (Said word) tt tt tt tt
-next_brought s p (Take name) b own = silent p (Take name) tt (below_taken p name b.0 own) tt tt
-next_brought s p (Filter n name answer) b own = silent p (Filter n name answer) tt b.0 tt tt
-next_brought s p (Show n error wish) b own = silent p (Show n error wish) tt tt tt tt
-next_brought s p (Hand n names acts) b own = silent p (Hand n names acts) tt (subst (AllByRecursion (λ name. name < event_count p)) (sym b.0) (window_below p own)) tt tt
-next_brought s p (Dir n path answer) b own = silent p (Dir n path answer) tt tt tt tt
-next_brought s p (Make back watcher links answer) b own = silent p (Make back watcher links answer) tt b.0 tt tt
-next_brought s p (Applied named) b own = silent p (Applied named) tt tt tt tt
+next_brought : (s : Start) (p : List Entry) (e : Entry) → IsBrought s p e → NamesItsOwn p → IsNext s p e
+next_brought s p (Begin beginning) b own = silent s p (Begin beginning) tt tt tt tt (sourced_brought s (Begin beginning) p b)
+next_brought s p (Sent name event priority) b own = silent s p (Sent name event priority) tt b tt tt (sourced_brought s (Sent name event priority) p b)
+next_brought s p (Offer name item result event priority) b own = silent s p (Offer name item result event priority) tt (b.0, b.1.0) tt tt (sourced_brought s (Offer name item result event priority) p b)
+next_brought s p (Said word) b own = silent s p (Said word) tt tt tt tt (sourced_brought s (Said word) p b)
+next_brought s p (Take name) b own = silent s p (Take name) tt (below_taken p name b.0 own) tt tt (sourced_brought s (Take name) p b)
+next_brought s p (Filter n name answer) b own = silent s p (Filter n name answer) tt b.0 tt tt (sourced_brought s (Filter n name answer) p b)
+next_brought s p (Show n error wish) b own = silent s p (Show n error wish) tt tt tt tt (sourced_brought s (Show n error wish) p b)
+next_brought s p (Hand n names acts) b own = silent s p (Hand n names acts) tt (subst (AllByRecursion (λ name. name < event_count p)) (sym b.0) (window_below p own)) tt tt (sourced_brought s (Hand n names acts) p b)
+next_brought s p (Dir n path answer) b own = silent s p (Dir n path answer) tt tt tt tt (sourced_brought s (Dir n path answer) p b)
+next_brought s p (Make back watcher links answer) b own = silent s p (Make back watcher links answer) tt b.0 tt tt (sourced_brought s (Make back watcher links answer) p b)
+next_brought s p (Applied named) b own = silent s p (Applied named) tt tt tt tt (sourced_brought s (Applied named) p b)
+next_brought s p (Brought item back answer) b own = silent s p (Brought item back answer) tt (b.0.next, b.1) tt tt (sourced_brought s (Brought item back answer) p b)
+next_brought s p (LetGo item cause) b own = silent s p (LetGo item cause) tt b.0 tt tt (sourced_brought s (LetGo item cause) p b)
+next_brought s p (Heard item) b own = silent s p (Heard item) tt b.0 tt tt (sourced_brought s (Heard item) p b)
+next_brought s p (Ready named) b own = silent s p (Ready named) tt tt tt tt (sourced_brought s (Ready named) p b)
 next_brought s p (_) b own = absurd b
 
-next_is : (s : Start) (p : List Entry) (k : Agenda) (e : Entry) → Admits s p k e → IsFit s p k → NamesItsOwn p → IsNext p e
-next_is s p Open e d f own = next_turn p e d
+next_is : (s : Start) (p : List Entry) (k : Agenda) (e : Entry) → Admits s p k e → IsFit s p k → NamesItsOwn p → IsNext s p e
+next_is s p Open e d f own = next_turn s p e d
 next_is s p (Comes x more) e d f own = next_brought s p e (brought s p x more e d f) own
-next_is s p (Steps untouched more) e d f own = next_brought s p e (came s p untouched more e d) own
-next_is s p (Plans k more) e d f own = let h = lawful_now p k e d f.0 in record { names = h.names; in_order = h.in_order; free = h.free; placed = λ _. placed_now p k e d f.0 }
-next_is s p Ends e d f own = record { names = names_end p e own d; in_order = end_in_order e p (of_end p e d); free = free_end p e d; placed = end_placed e p (of_end p e d) }
+next_is s p (Steps untouched more) e d f own = next_brought s p e (came s p untouched more e d f) own
+next_is s p (Plans k more) e d f own = let h = lawful_now p k e d f.0 in record { names = h.names; in_order = h.in_order; free = h.free; placed = λ _. placed_now p k e d f.0; sourced = sourced_other s e p (planned_none e h.of_plan) }
+next_is s p Ends e d f own = record { names = names_end p e own d; in_order = end_in_order e p (of_end p e d); free = free_end p e d; placed = end_placed e p (of_end p e d); sourced = sourced_other s e p (planned_none e (end_is_plan e (of_end p e d))) }
 next_is s p Breaks e d f own = absurd d
 
 pub free : (s : Start) (p : List Entry) (k : Agenda) (e : Entry) → Admits s p k e → IsFit s p k → NamesItsOwn p → IsFree p e
@@ -426,7 +456,7 @@ going_brought s p (e) more b g = going_calm (e ∷ p) (settle (e ∷ p) (follow 
 going_more : (s : Start) (p : List Entry) (k : Agenda) (e : Entry) → Admits s p k e → IsFit s p k → IsGoing p k → IsGoing (e ∷ p) (settle (e ∷ p) (follow s e p (rest e k)))
 going_more s p Open e d f g = going_turned s p e d g
 going_more s p (Comes x more) e d f g = going_brought s p e (stays x e more) (brought s p x more e d f) g
-going_more s p (Steps untouched more) e d f g = going_brought s p e (rest e (Steps untouched more)) (came s p untouched more e d) g
+going_more s p (Steps untouched more) e d f g = going_brought s p e (rest e (Steps untouched more)) (came s p untouched more e d f) g
 going_more s p (Plans k more) e d f g = subst (λ (j : Agenda). IsGoing (e ∷ p) (settle (e ∷ p) j)) (sym (follow_plan s p e (plans (next k e) more) (lawful_now p k e d f.0).of_plan)) (going_plans (e ∷ p) (next k e) more f.1)
 going_more s p Ends e d f g = subst (λ (j : Agenda). IsGoing (e ∷ p) (settle (e ∷ p) j)) (sym (follow_plan s p e Ends (end_is_plan e (of_end p e d)))) tt
 going_more s p Breaks e d f g = absurd d
@@ -435,7 +465,7 @@ going_more s p Breaks e d f g = absurd d
 pub open_at_turn : (s : Start) (p : List Entry) (k : Agenda) (e : Entry) → IsTurn e → Admits s p k e → IsFit s p k → k ≡ Open
 open_at_turn s p Open e i d f = refl
 open_at_turn s p (Comes x more) e i d f = absurd (no_turn s p e (brought s p x more e d f) i)
-open_at_turn s p (Steps untouched more) e i d f = absurd (no_turn s p e (came s p untouched more e d) i)
+open_at_turn s p (Steps untouched more) e i d f = absurd (no_turn s p e (came s p untouched more e d f) i)
 open_at_turn s p (Plans k more) e i d f = absurd (no_plan_turns e (lawful_now p k e d f.0).of_plan i)
 open_at_turn s p Ends e i d f = absurd (no_plan_turns e (end_is_plan e (of_end p e d)) i)
 open_at_turn s p Breaks e i d f = absurd d
@@ -443,16 +473,18 @@ open_at_turn s p Breaks e i d f = absurd d
 -- ---- a journal is orderly, and stays so
 
 pub orderly_none : (s : Start) → IsOrderly s []
-orderly_none s = record { own = tt; in_order = tt; idle = λ id e. refl; placed = placed_none; fit = (λ a. tt, lasting_sends s s.events); going = refl }
+orderly_none s = record { own = tt; in_order = tt; idle = λ id e. refl; placed = placed_none; sourced = sourced_none s; fit = (λ a. tt, lasting_sends s s.events); going = refl }
 
 pub orderly_turn : (s : Start) (t : Turn) (p : List Entry) → agenda s p ≡ Open → IsOrderly s p → IsOrderly s (Turned t ∷ p)
 orderly_turn s t p open_is h =
-    let placed = placed_silent (Turned t) p tt h.placed in record {
+    let placed = placed_silent (Turned t) p tt h.placed in
+    let sourced = sourced_other s (Turned t) p refl h.sourced in record {
       own = (tt, h.own);
       in_order = (tt, h.in_order);
       idle = h.idle;
       placed = placed;
-      fit = fit_settle s (Turned t ∷ p) (turn_agenda s t.kind t.at (Turned t ∷ p)) (fit_turn s (Turned t ∷ p) t.kind t.at refl (tt, h.own) placed);
+      sourced = sourced;
+      fit = fit_settle s (Turned t ∷ p) (turn_agenda s t.kind t.at (Turned t ∷ p)) (fit_turn s (Turned t ∷ p) t.kind t.at refl (tt, h.own) placed sourced);
       going = going_turned s p (Turned t) tt (subst (IsGoing p) open_is h.going);
     }
 
@@ -463,7 +495,8 @@ orderly_more s e p d h =
       in_order = (n.in_order, h.in_order);
       idle = idle_more p e n.free h.idle;
       placed = n.placed h.placed;
-      fit = fit_settle s (e ∷ p) (follow s e p (rest e (agenda s p))) (fit_follow s p (agenda s p) e d h.fit h.own h.placed);
+      sourced = n.sourced h.sourced;
+      fit = fit_settle s (e ∷ p) (follow s e p (rest e (agenda s p))) (fit_follow s p (agenda s p) e d h.fit h.own h.placed h.sourced);
       going = going_more s p (agenda s p) e d h.fit h.going;
     }
 
@@ -561,12 +594,13 @@ no_hand_step s p untouched (Judges path below answer) n names acts e = cc
 no_hand_step s p untouched (Errs error wish is_open) n names acts e = cc
 no_hand_step s p untouched (Remakes answer) n names acts e = cc
 no_hand_step s p untouched Finishes n names acts e = cc
-no_hand_step s p untouched (Rests is_untouched) n names acts e = cc
+no_hand_step s p untouched (Rests is_untouched) n names acts e = let both : true ≡ false = ap is_hand e ∙ rest_hands (rest_entry s p) (rest_is s p) in cc
 
 -- one that admits a batch owes it
 batch_at : (s : Start) (p : List Entry) (k : Agenda) (n : ℕ) (names : List ℕ) (acts : List Act) → Admits s p k (Hand n names acts) → IsFit s p k → Waits s p k → IsBatch s p (window p)
 batch_at s p Open n names acts d f w = absurd d
 batch_at s p (Comes Hands more) n names acts d f w = w
+batch_at s p (Comes (Listens back) more) n names acts d f w = absurd (subst IsListened (sym d.1) (listened_is (item_count p) back d.0))
 batch_at s p (Comes x more) n names acts d f w = let h = d.1 in absurd cc
 batch_at s p (Steps untouched more) n names acts d f w = absurd (no_hand_step s p untouched d.0 n names acts d.1)
 batch_at s p (Plans k more) n names acts d f w = absurd (lawful_now p k (Hand n names acts) d f.0).of_plan
@@ -576,7 +610,7 @@ batch_at s p Breaks n names acts d f w = absurd d
 -- what stands behind an entry
 waits_rest : (s : Start) (p p' : List Entry) (k : Agenda) (e : Entry) → IsFit s p k → NoneUrgentWaits p' → Waits s p' (rest e k)
 waits_rest s p p' (Comes x more) e f h = waits_lasting s p' (stays x e more) (lasting_stays s x e more f.1) h
-waits_rest s p p' (Steps untouched more) e f h = either (Waits s p') (goes_on e) (Steps false more) more h (waits_lasting s p' more f h)
+waits_rest s p p' (Steps untouched more) e f h = either (Waits s p') (goes_on e) (Steps false more) more h (waits_lasting s p' more f.1 h)
 waits_rest s p p' (Plans k more) e f h = waits_plans s p' (next k e) more f.1 h
 waits_rest s p p' (_) e f h = h
 
@@ -609,6 +643,10 @@ waits_watch s p (Some back) h = h
 pub waits_file : (s : Start) (p : List Entry) → NoneUrgentWaits p → Waits s p (file_turn (settings s p) (source s p))
 waits_file s p h = either (Waits s p) (is_applied (settings s p) (source s p).applied) (watch_turn (source s p).current) (Comes Applies Open) (waits_watch s p (source s p).current h) h
 
+waits_listen : (s : Start) (p : List Entry) (current : Option ℕ) → NoneUrgentWaits p → Waits s p (listen_turn current)
+waits_listen s p None h = h
+waits_listen s p (Some back) h = h
+
 waits_turn : (s : Start) (p : List Entry) (kind : TurnKind) (at : ℕ) → moment p ≡ at → NoneUrgentWaits p → Waits s p (turn_agenda s kind at p)
 waits_turn s p (Arrive event priority) at now h = h
 waits_turn s p (Signal signal) at now h = either (Waits s p) (hears_signal (settings s p).signal_job_control signal) _ (says Ignored) h h
@@ -619,6 +657,7 @@ waits_turn s p (Ended c) at now h = waits_ended s p (parent c p) h
 waits_turn s p (Ask id ask) at now h = either (Waits s p) (lives id p) _ _ (waits_plans s p (ask_plan id (sends_of ask) Done) Open tt h) h
 waits_turn s p (Change change) at now h = either (Waits s p) (revision s p == last_revision) (says Ignored) (plans (change_plan (revision s p) Done) Open) h h
 waits_turn s p File at now h = waits_file s p h
+waits_turn s p Listen at now h = waits_listen s p (source s p).current h
 waits_turn s p Last at now h = h
 
 -- an event that passed is a batch with the window, or waits there and isn't urgent
@@ -663,6 +702,15 @@ waits_make : (s : Start) (p : List Entry) (answer : Result (Unit {0}) NotifyFaul
 waits_make s p (Ok done) more then h = then h
 waits_make s p (Err fault) more then h = h
 
+waits_brought : (s : Start) (p : List Entry) (full : Bool) (item : ℕ) (more : Agenda) → (NoneUrgentWaits p → Waits s p more) → NoneUrgentWaits p → Waits s p (after_brought full item more)
+waits_brought s p true item more then h = h
+waits_brought s p false item more then h = then h
+
+waits_heard : (s : Start) (p : List Entry) (shut : Bool) (watcher : Watcher) (fault : Option NotifyFault) (more : Agenda) → (NoneUrgentWaits p → Waits s p more) → NoneUrgentWaits p → Waits s p (after_fault shut watcher fault more)
+waits_heard s p shut watcher None more then h = then h
+waits_heard s p true watcher (Some fault) more then h = then h
+waits_heard s p false watcher (Some fault) more then h = h
+
 waits_filter : (s : Start) (p : List Entry) (n name : ℕ) (answer : Result Bool RuntimeError) (passes : Bool) (more : Agenda) → lets_pass answer ≡ passes → (NoneUrgentWaits (Filter n name answer ∷ p) → Waits s (Filter n name answer ∷ p) more) → NoneUrgentWaits p → Waits s (Filter n name answer ∷ p) (cond passes (after_pass s name (Filter n name answer ∷ p) more) (after_drop answer more))
 waits_filter s p n name answer true more is then h = waits_pass s p (Filter n name answer ∷ p) name (is_urgent_named name p) (is_over s (Filter n name answer ∷ p) (moment p)) more (joined_if p name (lets_pass answer) is) refl refl refl then h
 waits_filter s p n name answer false more is then h = waits_drop s (Filter n name answer ∷ p) answer more then (stays_if p name (lets_pass answer) is h)
@@ -694,6 +742,10 @@ waits_follow s (Hand n names acts) p d o h =
 waits_follow s (Applied named) p d o h = waits_applied s (Applied named ∷ p) (is_to_make (settings s p) (source s p)) (rest (Applied named) (agenda s p)) (waits_rest s p (Applied named ∷ p) (agenda s p) (Applied named) o.fit) (calm_before s p (Applied named) h refl d)
 waits_follow s (Make back watcher links answer) p d o h =
     waits_make s (Make back watcher links answer ∷ p) answer (rest (Make back watcher links answer) (agenda s p)) (waits_rest s p (Make back watcher links answer ∷ p) (agenda s p) (Make back watcher links answer) o.fit) (calm_before s p (Make back watcher links answer) h refl d)
+waits_follow s (Brought item back answer) p d o h =
+    waits_brought s (Brought item back answer ∷ p) (finds_full s p answer) item (rest (Brought item back answer) (agenda s p)) (waits_rest s p (Brought item back answer ∷ p) (agenda s p) (Brought item back answer) o.fit) (calm_before s p (Brought item back answer) h refl d)
+waits_follow s (Heard item) p d o h =
+    waits_heard s (Heard item ∷ p) (closed p) (applied s p).file_watcher (item_fault (item_named item (source s p).lane)) (rest (Heard item) (agenda s p)) (waits_rest s p (Heard item ∷ p) (agenda s p) (Heard item) o.fit) (calm_before s p (Heard item) h refl d)
 waits_follow s (e) p d o h = waits_rest s p (e ∷ p) (agenda s p) e o.fit (calm_before s p e h refl d)
 
 waits_more : (s : Start) (e : Entry) (p : List Entry) → Due s p e → IsOrderly s p → Waits s p (agenda s p) → Waits s (e ∷ p) (agenda s (e ∷ p))
@@ -735,7 +787,7 @@ run_is_served s (_ ∷ p) r = run_is_served s p r.1
 revises : (s : Start) (p : List Entry) (k : Agenda) (named : ℕ) → Admits s p k (Changed named) → IsFit s p k → Revises s p (Changed named) Done
 revises s p Open named d f = absurd d
 revises s p (Comes x more) named d f = absurd (brought s p x more (Changed named) d f)
-revises s p (Steps untouched more) named d f = absurd (came s p untouched more (Changed named) d)
+revises s p (Steps untouched more) named d f = absurd (came s p untouched more (Changed named) d f)
 revises s p (Plans k more) named d f = always_now (Revises s) p k (Changed named) d f.2
 revises s p Ends named d f = absurd (of_end p (Changed named) d)
 revises s p Breaks named d f = absurd d

@@ -1,5 +1,5 @@
 -- The written machine: which entries may come next.
-use Rattle.std.specs.Prelude.{◌≡◌, ℕ, Bool, true, false, T, ◌||◌, ◌&&◌, ◌==◌, if◌then◌else◌, Option, None, Some, Result, Ok, Err, List, [], ◌∷◌, length}
+use Rattle.std.specs.Prelude.{◌≡◌, ℕ, Bool, true, false, not, T, ◌||◌, ◌&&◌, ◌==◌, if◌then◌else◌, Option, None, Some, Result, Ok, Err, List, [], ◌∷◌, length}
 use Rattle.std.specs.Option.{IsSomeAnd}
 use Rattle.wx_events.specs.declared.event.Event.{Event}
 use Rattle.wx_events.specs.declared.priority.Priority.{Priority}
@@ -8,21 +8,28 @@ use Rattle.wx_events.specs.declared.process.Signal.{Signal as ASignal}
 use Rattle.wx_keys.specs.Keys.{signal_event, hears_signal, key_events}
 use Rattle.prio_channel.specs.Channel.{AllAtMost}
 use Rattle.wx_journal.specs.declared.entry.Entry.{Entry}
-use Rattle.wx_journal.specs.declared.entry.Entry.TheVariants.{Begin, Sent, Turn as Turned, TurnFault, Offer, Word as Said, Take, Filter, Show, Hand, Dir, Make, Applied}
+use Rattle.wx_journal.specs.declared.entry.Entry.TheVariants.{Begin, Sent, Turn as Turned, TurnFault, Offer, Word as Said, Take, Filter, Show, Hand, Dir, Make, Applied, Heard, Brought, LetGo, Ready}
 use Rattle.wx_journal.specs.Acts.{JournalAct as Act}
 use Rattle.wx_journal.specs.declared.entry.Named.{Named}
 use Rattle.wx_journal.specs.declared.entry.TurnKind.{TurnKind}
-use Rattle.wx_journal.specs.declared.entry.TurnKind.TheVariants.{Arrive, Signal, Keys, Work, Job, Ended, Ask, Change, File, Last}
+use Rattle.wx_journal.specs.declared.entry.TurnKind.TheVariants.{Arrive, Signal, Keys, Work, Job, Ended, Ask, Change, Listen, File, Last}
 use Rattle.wx_journal.specs.declared.entry.Word.{Word}
 use Rattle.wx_journal.specs.declared.entry.Word.TheVariants.{Idle, Ignored, Quitting, Quiet, Stepped}
 use Rattle.wx_journal.specs.Told.{is_turn}
-use Rattle.wx_journal.specs.Names.{moment, event_count, back_count}
+use Rattle.wx_journal.specs.declared.entry.LetGoCause.TheVariants.{Full, Obsolete, Uncovered}
+use Rattle.wx_journal.specs.Names.{moment, event_count, back_count, item_count}
 use Rattle.wx_command.specs.declared.command.Command.{Command}
 use Rattle.wx_config.specs.Changes.{last_revision}
 use Rattle.wx_config.specs.declared.config.Config.{Config}
+use Rattle.wx_notify.specs.declared.notify.Notify.{Notify}
+use Rattle.wx_file_events.specs.FileEvents.{event_of}
+use Rattle.wx_lane.specs.declared.lane.LaneItem.{LaneItem}
+use Rattle.wx_lane.specs.Lanes.{fenced}
 use Rattle.wx_watch.specs.declared.notify_fault.NotifyFault.{NotifyFault}
+use Rattle.wx_watch.specs.declared.watched.Watcher.{Watcher}
+use Rattle.wx_watch.specs.declared.source_errors.FsWatcherError.TheVariants.{Event as EventFault}
 use Rattle.wx_error.specs.declared.runtime.RuntimeError.{RuntimeError}
-use Rattle.wx_error.specs.declared.runtime.RuntimeError.TheVariants.{Exit}
+use Rattle.wx_error.specs.declared.runtime.RuntimeError.TheVariants.{Exit, FsWatcher}
 use Rattle.wx_error.specs.declared.error.CriticalError.{CriticalError}
 use Rattle.wx_journal.specs.declared.wish.Wish.{Wish}
 use Rattle.wx_control.specs.declared.id.Id.{Id}
@@ -36,7 +43,7 @@ use Rattle.wx_machine.specs.Jobs.{living, parent, jobs, AreLawful, change_plan, 
 use Rattle.wx_machine.specs.Keyboard.{hears_keys}
 use Rattle.wx_machine.specs.Settings.{settings, revision, MayChange}
 use Rattle.wx_machine.specs.Quits.{is_aborting, graceful}
-use Rattle.wx_machine.specs.Files.{Source, source, applied, is_applied, is_to_make, may_be_judged}
+use Rattle.wx_machine.specs.Files.{Source, source, applied, is_applied, is_to_make, may_be_judged, first_item, is_deaf, is_live, is_public, item_fault, item_named, finds_full}
 use Rattle.wx_machine.specs.Journal.{is_urgent_named, passes_unseen, lets_pass, closed, ending, named, bag, offered, window, is_over}
 
 -- the first entry of a run
@@ -81,9 +88,13 @@ pub data Point : Type 0 where
   Applies : Point
   -- a backend is made by the settings that were applied
   Makes : Point
+  -- the backend of this name is asked what it brings next
+  Listens : ℕ → Point
+  -- the item of this name is let go, since as many wait as may
+  LetsGo : ℕ → Point
 
--- what may be answered behind these entries: which event is taken, what a filter, an error handler, an action or the maker of backends
--- answers
+-- what may be answered behind these entries: which event is taken, what a filter, an error handler, an action, the maker of backends or
+-- a backend answers
 abbrev pub PointAnswer : Start → List Entry → Point → Type 0
 PointAnswer s p Begins = Unit {0}
 PointAnswer s p (Sends event priority) = Unit {0}
@@ -95,6 +106,13 @@ PointAnswer s p (Shows error) = Wish
 PointAnswer s p Hands = (acts : List Act) × AreLawful p acts × MayChange (revision s p) acts
 PointAnswer s p Applies = Unit {0}
 PointAnswer s p Makes = Result (Unit {0}) NotifyFault
+PointAnswer s p (Listens back) = Option (Result Notify NotifyFault)
+PointAnswer s p (LetsGo item) = Unit {0}
+
+-- What a backend of this name brought is listed as this item. Where it brought nothing that is said.
+abbrev pub listened : ℕ → ℕ → Option (Result Notify NotifyFault) → Entry
+listened item back None = Said Quiet
+listened item back (Some answer) = Brought item back answer
 
 -- the entry behind these, with this answer
 abbrev pub brings : (s : Start) → (p : List Entry) → (x : Point) → PointAnswer s p x → Entry
@@ -108,8 +126,40 @@ brings s p (Shows error) a = Show (settings s p).error_handler error a
 brings s p Hands a = Hand (settings s p).action_handler (window p) a.0
 brings s p Applies a = Applied (revision s p)
 brings s p Makes a = Make (back_count p) (applied s p).file_watcher (applied s p).follow_symlinks a
+brings s p (Listens back) a = listened (item_count p) back a
+brings s p (LetsGo item) a = LetGo item Full
 
--- What may come next of a step of what keeps watches. Where nothing of it came yet there may be none.
+-- What comes of the first item of the lane: it is heard, where it is to be. Else its event is let go, where its backend isn't live or it
+-- is of no path that was applied, and else offered. A fault is never let go.
+abbrev pub event_entry : Start → List Entry → LaneItem → Result Notify NotifyFault → Entry
+event_entry s p i (Ok n) =
+    if not (is_live (source s p) i.back) then LetGo i.name Obsolete
+    else (if not (is_public s p n) then LetGo i.name Uncovered
+    else Offer (event_count p) (Some i.name) (offered s p) (event_of n) Normal)
+event_entry s p i (Err fault) = Heard i.name
+
+abbrev pub item_entry : Start → List Entry → LaneItem → Entry
+item_entry s p i = if is_deaf i then Heard i.name else event_entry s p i i.item
+
+-- where the lane is empty there is nothing to do
+abbrev pub lane_entry : Start → List Entry → Option LaneItem → Entry
+lane_entry s p None = Said Quiet
+lane_entry s p (Some i) = item_entry s p i
+
+-- Where it is to be told that all is watched, what was brought below the fence is heard first.
+abbrev pub fence_entry : ℕ → Option LaneItem → Entry
+fence_entry revision None = Ready revision
+fence_entry revision (Some i) = Heard i.name
+
+abbrev pub asks_entry : Start → List Entry → Option ℕ → Entry
+asks_entry s p None = lane_entry s p (first_item (source s p).lane)
+asks_entry s p (Some revision) = fence_entry revision (fenced (source s p).fence (source s p).lane)
+
+-- what comes where there is no step to take
+abbrev pub rest_entry : Start → List Entry → Entry
+rest_entry s p = asks_entry s p (source s p).asks
+
+-- What may come next of a step of what keeps watches. Where nothing of it came yet there may be none: then comes what was brought.
 pub data Step (s : Start) (p : List Entry) (untouched : Bool) : Type 0 where
   -- a directory is shown to the filter
   Judges : (path : List ℕ) → may_be_judged s p path ≡ true → Result Bool RuntimeError → Step s p untouched
@@ -128,7 +178,7 @@ step_entry s p untouched (Judges path below answer) = Dir (applied s p).filterer
 step_entry s p untouched (Errs error wish is_open) = Show (settings s p).error_handler error wish
 step_entry s p untouched (Remakes answer) = Make (back_count p) (applied s p).file_watcher (applied s p).follow_symlinks answer
 step_entry s p untouched Finishes = Said Stepped
-step_entry s p untouched (Rests is_untouched) = Said Quiet
+step_entry s p untouched (Rests is_untouched) = rest_entry s p
 
 -- What is still owed. An answer or an event that was taken decides how it goes on.
 pub data Agenda : Type 0 where
@@ -172,7 +222,7 @@ plans (k) more = Plans k more
 abbrev pub says : Word → Agenda
 says word = Comes (Says word) Open
 
--- what stands behind an entry of a point: each brings just one today
+-- what stands behind an entry of a point: each brings just one
 abbrev pub stays : Point → Entry → Agenda → Agenda
 stays x e more = more
 
@@ -250,6 +300,11 @@ watch_turn (Some back) = Steps true Open
 abbrev pub file_turn : Config → Source → Agenda
 file_turn c x = if is_applied c x.applied then watch_turn x.current else Comes Applies Open
 
+-- The backend that stands is asked what it brings. Where none stands the turn is ignored.
+abbrev pub listen_turn : Option ℕ → Agenda
+listen_turn None = says Ignored
+listen_turn (Some back) = Comes (Listens back) Open
+
 -- what a turn of this kind and moment owes, behind its entry
 abbrev pub turn_agenda : Start → TurnKind → ℕ → List Entry → Agenda
 turn_agenda s (Arrive event priority) at p = Comes (Offers event priority) Open
@@ -261,6 +316,7 @@ turn_agenda s (Ended c) at p = ended_turn (parent c p) p
 turn_agenda s (Ask id ask) at p = ask_turn id ask p
 turn_agenda s (Change change) at p = change_turn (revision s p)
 turn_agenda s File at p = file_turn (settings s p) (source s p)
+turn_agenda s Listen at p = listen_turn (source s p).current
 turn_agenda s Last at p = Ends
 
 -- An event that passed is handed at once, with the window, where it is urgent or the throttle is over.
@@ -294,6 +350,15 @@ abbrev pub after_make : Result (Unit {0}) NotifyFault → Agenda → Agenda
 after_make (Ok done) more = more
 after_make (Err fault) more = Breaks
 
+-- An event for which there is no room is let go.
+abbrev pub after_brought : Bool → ℕ → Agenda → Agenda
+after_brought full item more = if full then Comes (LetsGo item) more else more
+
+-- A fault that was heard is shown, while the queue isn't closed: it is one of the watcher that was applied.
+abbrev pub after_fault : Bool → Watcher → Option NotifyFault → Agenda → Agenda
+after_fault shut watcher None more = more
+after_fault shut watcher (Some fault) more = if shut then more else Comes (Shows (FsWatcher watcher (EventFault fault))) more
+
 -- what comes where nothing else is owed: the end, where it was asked for
 abbrev pub after_acts : Bool → Agenda
 after_acts ends = if ends then Ends else Open
@@ -312,6 +377,8 @@ follow s (Show n error wish) p more = after_show (ending error wish) more
 follow s (Hand n names acts) p more = after_hand s acts p
 follow s (Applied revision) p more = after_applied (settings s p) (source s p) more
 follow s (Make back watcher follows answer) p more = after_make answer more
+follow s (Brought item back answer) p more = after_brought (finds_full s p answer) item more
+follow s (Heard item) p more = after_fault (closed p) (applied s p).file_watcher (item_fault (item_named item (source s p).lane)) more
 follow s (_) p more = more
 
 -- the end was asked for gracefully, and no job lives

@@ -1,7 +1,7 @@
 -- How often what keeps watches may take a step.
 use Rattle.std.specs.Prelude.{ℕ, ◌≤◌, ◌+◌, ◌-◌, ◌^◌, min, Bool, true, false, List}
 use Rattle.wx_journal.specs.declared.entry.Entry.{Entry}
-use Rattle.wx_journal.specs.declared.entry.Entry.TheVariants.{Word as Said, Make, Applied}
+use Rattle.wx_journal.specs.declared.entry.Entry.TheVariants.{Word as Said, Make, Applied, Heard}
 use Rattle.wx_journal.specs.declared.entry.Word.{Word}
 use Rattle.wx_journal.specs.declared.entry.Word.TheVariants.{Idle, Ignored, Quitting, Later, Quiet, Stepped}
 use Rattle.wx_journal.specs.Names.{count}
@@ -19,10 +19,11 @@ abbrev pub is_step : Entry → Bool
 is_step (Said word) = is_step_word word
 is_step (_) = false
 
--- settings were applied, or a backend was made, or couldn't be: there is work again
+-- settings were applied, a backend was made, or couldn't be, or what was brought was heard: there is work again
 abbrev pub brings_work : Entry → Bool
 brings_work (Make back watcher follow answer) = true
 brings_work (Applied revision) = true
+brings_work (Heard item) = true
 brings_work (_) = false
 
 abbrev pub step_count : List Entry → ℕ

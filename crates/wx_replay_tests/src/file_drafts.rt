@@ -1,7 +1,7 @@
-// Random scripts with turns about files.
+// Random scripts with turns about files and turns that listen.
 ghost use Rattle.std.specs.Prelude.{◌<◌};
 
-use crate::file_rules::Said;
+use crate::file_words::Said;
 use rand_pcg::Pcg32;
 use rand_pcg::rand_core::Rng;
 use std::alloc::Global;
@@ -31,7 +31,7 @@ const HEADS: [(&[u8], &[u8], &[u8], &[u8]); 4] = [
 ];
 
 /// Changes of the tree.
-const EDITS: [&[u8]; 20] = [
+const EDITS: [&[u8]; 28] = [
     b"node dir /\n",
     b"node dir /w\n",
     b"node dir /w/a\n",
@@ -42,14 +42,22 @@ const EDITS: [&[u8]; 20] = [
     b"node dir /v/d\n",
     b"node file /w 1\n",
     b"node file /w/f 1\n",
+    b"node file /w/f 2\n",
+    b"node file /w/f 3\n",
+    b"node file /w/a/b/f 1\n",
+    b"node file /w/a/b/f 2\n",
     b"node file /w/a 2\n",
     b"node file /v/f 1\n",
+    b"node file /v/f 2\n",
     b"node link /l /w\n",
     b"node link /w/l /v\n",
     b"node link /v /w\n",
     b"node link /w/a/l /w\n",
     b"gone /w\n",
     b"gone /w/a\n",
+    b"gone /w/a/b\n",
+    b"gone /w/f\n",
+    b"gone /v/f\n",
     b"gone /v\n",
     b"gone /l\n",
 ];
@@ -112,6 +120,7 @@ pub(crate) struct FileDraft {
     rng: Pcg32,
     pub(crate) text: Text,
     head: usize,
+    size: u32,
     moment: u64,
     lacks: bool,
 }
@@ -124,6 +133,7 @@ impl FileDraft {
             rng: Pcg32::new(seed, 54),
             text: Text::new(alloc),
             head: 0,
+            size: 4096,
             moment: 0,
             lacks: false,
         };
@@ -131,7 +141,7 @@ impl FileDraft {
         for _ in 0..40 + draft.draw(80) {
             draft.put_line();
         }
-        for _ in 0..150 {
+        for _ in 0..200 {
             draft.put_turn(b" file\n");
         }
         draft
@@ -141,6 +151,11 @@ impl FileDraft {
     pub(crate) fn said(&self) -> Said<'static> {
         let (_, paths, watcher, follow) = HEADS[self.head % HEADS.len()];
         Said::new(paths, watcher, follow)
+    }
+
+    /// How many events the queue holds at most, and how many that are brought may wait.
+    pub(crate) fn size(&self) -> u64 {
+        u64::from(self.size)
     }
 
     /// Whether there was memory for all of it.
@@ -180,6 +195,12 @@ impl FileDraft {
     /// The settings, and a tree.
     fn put_head(&mut self) {
         self.put(b"set cwd /w\nset throttle 0\n");
+        if self.draw(2) == 0 {
+            self.size = 1 + self.draw(3);
+            self.put(b"set size ");
+            self.put_number(u64::from(self.size));
+            self.put(b"\n");
+        }
         self.head = self.draw(4) as usize;
         let (lines, _, _, _) = HEADS[self.head % HEADS.len()];
         self.put(lines);
@@ -201,15 +222,16 @@ impl FileDraft {
 
     /// A line of any form that may stand in the middle.
     fn put_line(&mut self) {
-        match self.draw(40) {
+        match self.draw(60) {
             0..=20 => self.put_turn(b" file\n"),
-            21..=24 => self.put_change(),
-            25 => self.put_turn(b" arrive low 1 unknown\n"),
-            26 => self.put_turn(b" work\n"),
-            27..=31 => self.put_one(&EDITS),
-            32..=37 => self.put_one(&ANSWERS),
-            38 => self.put_failing(b"fail scan ", 60),
-            _ => self.put_failing(b"fail watch ", 8),
+            21..=32 => self.put_turn(b" listen\n"),
+            33..=36 => self.put_change(),
+            37 => self.put_turn(b" arrive low 1 unknown\n"),
+            38 => self.put_turn(b" work\n"),
+            39..=50 => self.put_one(&EDITS),
+            51..=57 => self.put_one(&ANSWERS),
+            58 => self.put_failing(b"fail scan ", 200),
+            _ => self.put_failing(b"fail watch ", 12),
         }
     }
 

@@ -1,195 +1,30 @@
 // What the journal of a script with turns about files may hold, line by line, by the script and the lines before it.
-use wx_words::{cut, number_of};
-
-/// The paths of random scripts, as they are spelled and as they are, seen from the folder /w.
-const SPELLED: [(&[u8], &[u8]); 4] = [
-    (b"a", b"/w/a"),
-    (b"../v", b"/v"),
-    (b"/v/../w", b"/w"),
-    (b".", b"/w"),
-];
-
-/// The path that is spelled so.
-fn absolute(spelled: &[u8]) -> &[u8] {
-    for (other, path) in &SPELLED {
-        if spelled == *other {
-            return path;
-        }
-    }
-    spelled
-}
-
-/// Whether a path lies strictly below another.
-fn is_below(top: &[u8], path: &[u8]) -> bool {
-    if top == b"/".as_slice() {
-        return path.len() > 1;
-    }
-    match path.strip_prefix(top) {
-        Some(rest) => rest.starts_with(b"/"),
-        None => false,
-    }
-}
-
-/// The first word of these, and those behind it.
-fn split(words: &[u8]) -> (&[u8], &[u8]) {
-    match cut(words, 32) {
-        Some(parts) => parts,
-        None => (words, b"".as_slice()),
-    }
-}
-
-/// Whether these words are the same.
-fn is(words: &[u8], others: &[u8]) -> bool {
-    words == others
-}
-
-/// What stands behind these words and a space, or nothing where others stand there.
-fn behind<'a>(words: &'a [u8], front: &[u8]) -> &'a [u8] {
-    match words.strip_prefix(front) {
-        Some([32, rest @ ..]) => rest,
-        _ => b"".as_slice(),
-    }
-}
-
-/// What the script answers to a call: the line of this number among those that begin so, or what is usual.
-fn answer<'a>(script: &'a [u8], front: &[u8], number: u64, usual: &'a [u8]) -> &'a [u8] {
-    let mut left = number;
-    for line in script.split(|byte| *byte == 10) {
-        if let Some(rest) = line.strip_prefix(front) {
-            if left == 0 {
-                return rest;
-            }
-            left -= 1;
-        }
-    }
-    usual
-}
-
-/// The settings that say what is watched and what is called, in their words.
-#[derive(Clone, Copy)]
-pub(crate) struct Said<'a> {
-    pub(crate) paths: &'a [u8],
-    pub(crate) watcher: &'a [u8],
-    pub(crate) follow: &'a [u8],
-    filterer: &'a [u8],
-    onerror: &'a [u8],
-}
-
-impl<'a> Said<'a> {
-    /// These, with the filter and the error handler of number 0.
-    pub(crate) fn new(paths: &'a [u8], watcher: &'a [u8], follow: &'a [u8]) -> Said<'a> {
-        Said {
-            paths,
-            watcher,
-            follow,
-            filterer: b"0".as_slice(),
-            onerror: b"0".as_slice(),
-        }
-    }
-
-    /// A setting changes.
-    fn change(&mut self, words: &'a [u8]) {
-        let (name, value) = split(words);
-        if is(name, b"paths") {
-            self.paths = value;
-        } else if is(name, b"watcher") {
-            self.watcher = value;
-        } else if is(name, b"follow") {
-            self.follow = value;
-        } else if is(name, b"filterer") {
-            self.filterer = value;
-        } else if is(name, b"onerror") {
-            self.onerror = value;
-        }
-    }
-
-    /// Whether backends are made alike.
-    fn makes_as(&self, other: &Said<'a>) -> bool {
-        is(self.watcher, other.watcher) && is(self.follow, other.follow)
-    }
-
-    /// Whether a directory lies strictly below a path that is watched with all below it.
-    fn covers(&self, directory: &[u8]) -> bool {
-        let mut recursive = false;
-        for word in self.paths.split(|byte| *byte == 32) {
-            if recursive && is_below(absolute(word), directory) {
-                return true;
-            }
-            recursive = is(word, b"r");
-        }
-        false
-    }
-}
+use crate::file_tallies::{Line, Tally};
+use crate::file_words::{Said, answer, behind, is, split};
+use crate::item_rules::{Item, Items};
+use wx_words::number_of;
 
 /// What a line stands behind.
 #[derive(Clone, Copy, PartialEq, Eq)]
 enum Place {
     /// A turn that isn't about files, or none.
     Other,
+    /// A turn that listens alone.
+    Listening,
+    /// An event that was brought, for which there is no room.
+    Crowded,
     /// A turn about files alone.
     Begun,
     /// Settings were applied, which want a backend.
     ToMake,
     /// Entries of a step.
     Stepping,
-    /// All of a turn about files.
+    /// A fault that was heard, which is to be shown.
+    Faulty,
+    /// All of a turn about files, or of one that listens.
     Done,
     /// What ends the run with an error.
     Broken,
-}
-
-/// How many lines of some sorts there were.
-#[derive(Clone, Copy)]
-pub(crate) struct Tally {
-    pub(crate) applied: u64,
-    pub(crate) made: u64,
-    pub(crate) remade: u64,
-    pub(crate) stepped: u64,
-    pub(crate) quiet: u64,
-    pub(crate) ignored: u64,
-    pub(crate) dirs: u64,
-    pub(crate) shown: u64,
-    pub(crate) closed: u64,
-    pub(crate) broken: u64,
-}
-
-impl Tally {
-    /// None.
-    pub(crate) fn new() -> Tally {
-        Tally {
-            applied: 0,
-            made: 0,
-            remade: 0,
-            stepped: 0,
-            quiet: 0,
-            ignored: 0,
-            dirs: 0,
-            shown: 0,
-            closed: 0,
-            broken: 0,
-        }
-    }
-
-    /// Adds others.
-    pub(crate) fn add(&mut self, other: &Tally) {
-        self.applied = self.applied.saturating_add(other.applied);
-        self.made = self.made.saturating_add(other.made);
-        self.remade = self.remade.saturating_add(other.remade);
-        self.stepped = self.stepped.saturating_add(other.stepped);
-        self.quiet = self.quiet.saturating_add(other.quiet);
-        self.ignored = self.ignored.saturating_add(other.ignored);
-        self.dirs = self.dirs.saturating_add(other.dirs);
-        self.shown = self.shown.saturating_add(other.shown);
-        self.closed = self.closed.saturating_add(other.closed);
-        self.broken = self.broken.saturating_add(other.broken);
-    }
-
-    /// Whether there are some of each sort.
-    pub(crate) fn has_each(&self) -> bool {
-        let turns = self.applied > 0 && self.stepped > 0 && self.quiet > 0 && self.ignored > 0;
-        let makes = self.made > 0 && self.remade > 0;
-        turns && makes && self.dirs > 0 && self.shown > 0 && self.closed > 0 && self.broken > 0
-    }
 }
 
 /// A walk along the lines of a journal: what was said so far.
@@ -205,19 +40,32 @@ pub(crate) struct Walk<'a> {
     backend: Option<Said<'a>>,
     place: Place,
     is_closed: bool,
-    // a turn had nothing to do, and nothing was applied since
+    // a turn had nothing to do for what keeps watches, which was told of nothing since
     is_settled: bool,
-    // a backend was made or the filter changed where settings were applied, and no step was done since
+    // what keeps watches was told of something, and no step was done since
     is_stirred: bool,
     // the error that is to be shown next, or none
     owed: &'a [u8],
     filters: u64,
+    // how many events the queue holds at most, how many it holds, and how many were offered
+    size: u64,
+    queued: u64,
+    events: u64,
+    items: Items<'a>,
+    brought: u64,
+    // settings that watch something else were applied since the backend that stands was made
+    is_stale: bool,
+    // the revision of which it is to be told that all is watched
+    asks: Option<u64>,
+    // below which name all is heard before that, and whether this stands
+    fence: u64,
+    is_fenced: bool,
     pub(crate) tally: Tally,
 }
 
 impl<'a> Walk<'a> {
-    /// Before the first line of a run that begins with these settings.
-    pub(crate) fn new(script: &'a [u8], said: Said<'a>) -> Walk<'a> {
+    /// Before the first line of a run that begins with these settings, and whose queue holds so many events.
+    pub(crate) fn new(script: &'a [u8], said: Said<'a>, size: u64) -> Walk<'a> {
         Walk {
             script,
             now: said,
@@ -232,6 +80,15 @@ impl<'a> Walk<'a> {
             is_stirred: false,
             owed: b"".as_slice(),
             filters: 0,
+            size,
+            queued: 0,
+            events: 0,
+            items: Items::new(),
+            brought: 0,
+            is_stale: false,
+            asks: None,
+            fence: 0,
+            is_fenced: false,
             tally: Tally::new(),
         }
     }
@@ -255,10 +112,23 @@ impl<'a> Walk<'a> {
         begun && self.is_applied() && self.backend.is_some()
     }
 
+    /// The name of the backend that was made last.
+    fn current(&self) -> u64 {
+        self.tally.get(Line::Made).saturating_sub(1)
+    }
+
+    /// Whether what the backend of this item says still holds.
+    fn is_live(&self, item: &Item<'a>) -> bool {
+        item.back == self.current() || !item.is_stale
+    }
+
     /// The next line comes. It answers whether it may.
     pub(crate) fn takes(&mut self, line: &'a [u8]) -> bool {
         let (name, rest) = split(line);
         if !self.owed.is_empty() && !is(name, b"show") {
+            return false;
+        }
+        if self.place == Place::Crowded && !is(name, b"letgo") {
             return false;
         }
         if is(name, b"applied") {
@@ -271,6 +141,23 @@ impl<'a> Walk<'a> {
             self.show(rest)
         } else if is(name, b"word") {
             self.say(rest)
+        } else {
+            self.takes_item(name, rest)
+        }
+    }
+
+    /// The next line comes, which may be about what was brought.
+    fn takes_item(&mut self, name: &[u8], rest: &'a [u8]) -> bool {
+        if is(name, b"brought") {
+            self.bring(rest)
+        } else if is(name, b"heard") {
+            self.hear(rest)
+        } else if is(name, b"letgo") {
+            self.let_go(rest)
+        } else if is(name, b"ready") {
+            self.tell(rest)
+        } else if is(name, b"offer") {
+            self.offer(rest)
         } else {
             self.takes_other(name, rest)
         }
@@ -286,8 +173,8 @@ impl<'a> Walk<'a> {
             self.change(rest)
         } else if is(name, b"filter") {
             self.filter(rest)
-        } else if is(name, b"offer") {
-            self.offer(rest)
+        } else if is(name, b"take") {
+            self.take()
         } else {
             self.place == Place::Other
         }
@@ -299,6 +186,8 @@ impl<'a> Walk<'a> {
         let (kind, words) = split(split(rest).1);
         self.place = if is(kind, b"file") {
             Place::Begun
+        } else if is(kind, b"listen") {
+            Place::Listening
         } else {
             Place::Other
         };
@@ -318,24 +207,37 @@ impl<'a> Walk<'a> {
     /// The settings that stand are applied, which weren't.
     fn apply(&mut self, rest: &[u8]) -> bool {
         let due = self.place == Place::Begun && !self.is_applied();
+        self.tally.up(Line::Applied);
         self.applied_revision = Some(self.revision);
-        if !is(self.applied.filterer, self.now.filterer) {
-            self.is_stirred = true;
-        }
+        self.begin();
         self.applied = self.now;
-        self.is_settled = false;
-        self.tally.applied = self.tally.applied.saturating_add(1);
         if is(self.now.paths, b"0") {
             self.backend = None;
             self.place = Place::Done;
+        } else if self.serves() {
+            self.place = Place::Done;
         } else {
-            self.place = if self.serves() {
-                Place::Done
-            } else {
-                Place::ToMake
-            };
+            self.place = Place::ToMake;
         }
         due && number_of(rest) == Some(self.revision)
+    }
+
+    /// It begins anew what is heard before it is told that all is watched. Where something else is watched, what keeps watches is told
+    /// so, and backends that were made are no longer live, but for the one that stands.
+    fn begin(&mut self) {
+        self.is_settled = false;
+        self.is_fenced = false;
+        self.fence = self.brought;
+        self.asks = if self.revision > 0 {
+            Some(self.revision)
+        } else {
+            None
+        };
+        if is(self.now.paths, b"0") || !self.now.watches_as(&self.applied) {
+            self.is_stirred = true;
+            self.is_stale = true;
+            self.items.age();
+        }
     }
 
     /// A backend is made by the settings that were applied, as the script answers.
@@ -343,10 +245,12 @@ impl<'a> Walk<'a> {
         let due = self.place == Place::ToMake;
         let may = due || self.can_step();
         let (back, words) = split(rest);
-        let named = number_of(back) == Some(self.tally.made);
-        let given = answer(self.script, b"make ", self.tally.made, b"ok");
+        let made = self.tally.get(Line::Made);
+        let named = number_of(back) == Some(made);
+        let given = answer(self.script, b"make ", made, b"ok");
         let told = behind(behind(words, self.applied.watcher), self.applied.follow);
-        self.tally.made = self.tally.made.saturating_add(1);
+        self.tally.up(Line::Made);
+        self.is_stale = false;
         if !is(given, b"ok") {
             self.place = Place::Broken;
         } else if due {
@@ -354,7 +258,7 @@ impl<'a> Walk<'a> {
             self.is_stirred = true;
             self.place = Place::Done;
         } else {
-            self.tally.remade = self.tally.remade.saturating_add(1);
+            self.tally.up(Line::Remade);
             self.place = Place::Stepping;
         }
         may && named && is(told, given)
@@ -365,8 +269,8 @@ impl<'a> Walk<'a> {
         let may = self.can_step();
         let (number, words) = split(rest);
         let (directory, verdict) = split(words);
-        let given = answer(self.script, b"dir ", self.tally.dirs, b"pass");
-        self.tally.dirs = self.tally.dirs.saturating_add(1);
+        let given = answer(self.script, b"dir ", self.tally.get(Line::Dir), b"pass");
+        self.tally.up(Line::Dir);
         self.place = Place::Stepping;
         self.fail(verdict);
         let right = is(number, self.applied.filterer) && is(verdict, given);
@@ -377,7 +281,7 @@ impl<'a> Walk<'a> {
     fn fail(&mut self, verdict: &'a [u8]) {
         if is(verdict, b"fail exit") {
             self.is_closed = true;
-            self.tally.closed = self.tally.closed.saturating_add(1);
+            self.tally.up(Line::Closed);
         } else if let Some(error) = verdict.strip_prefix(b"fail ") {
             if !self.is_closed {
                 self.owed = error;
@@ -385,60 +289,252 @@ impl<'a> Walk<'a> {
         }
     }
 
-    /// An error is shown to the error handler that stands, while the queue isn't closed, and wishes what the script answers. One
-    /// of what keeps watches tells the watcher that was applied.
+    /// Whether these words begin with the error that is to be shown, where one is, and else are of what keeps watches. One of files
+    /// tells the watcher that was applied.
+    fn is_due(&self, words: &[u8]) -> bool {
+        let error = behind(behind(words, b"fswatcher"), self.applied.watcher);
+        if self.place == Place::Faulty {
+            return behind(error, b"event").starts_with(self.owed);
+        }
+        if !self.owed.is_empty() {
+            return words.starts_with(self.owed);
+        }
+        let is_told = !error.is_empty() && !error.starts_with(b"event ");
+        self.place != Place::Other && is_told
+    }
+
+    /// An error is shown to the error handler that stands, while the queue isn't closed, and wishes what the script answers.
     fn show(&mut self, rest: &[u8]) -> bool {
-        let may = !self.is_closed && (self.place == Place::Other || self.can_step());
+        let faulty = self.place == Place::Faulty;
+        let may = faulty || self.place == Place::Other || self.can_step();
         let (number, words) = split(rest);
-        let owed = words.starts_with(self.owed);
-        let of_files = match words.strip_prefix(b"fswatcher ") {
-            None => !self.owed.is_empty(),
-            Some(error) => { self.place != Place::Other && error.starts_with(self.applied.watcher) }
-        };
-        let wish = answer(self.script, b"error ", self.tally.shown, b"none");
-        self.tally.shown = self.tally.shown.saturating_add(1);
+        let due = self.is_due(words);
+        let wish = answer(self.script, b"error ", self.tally.get(Line::Shown), b"none");
+        let closed = self.is_closed;
+        self.tally.up(Line::Shown);
         self.owed = b"".as_slice();
         self.wish(wish);
-        may && owed && of_files && is(number, self.now.onerror) && words.ends_with(wish)
+        may && !closed && due && is(number, self.now.onerror) && words.ends_with(wish)
     }
 
     /// An error handler wishes this.
     fn wish(&mut self, wish: &[u8]) {
-        if self.place != Place::Other {
+        if self.place == Place::Faulty {
+            self.place = Place::Done;
+        } else if self.place != Place::Other {
             self.place = Place::Stepping;
         }
         if is(wish, b"critical exit") {
             self.is_closed = true;
-            self.tally.closed = self.tally.closed.saturating_add(1);
+            self.tally.up(Line::Closed);
         } else if !is(wish, b"none") {
             self.place = Place::Broken;
         }
     }
 
-    /// A word is said: a step is done, there is nothing to do about files, no backend stands, or there is no event.
-    fn say(&mut self, rest: &[u8]) -> bool {
+    /// Nothing is to be done by what keeps watches, where a backend stands. It answers whether this may be.
+    fn rest(&mut self) -> bool {
         let begun = self.place == Place::Begun && self.is_applied();
-        let steps = self.can_step();
-        let other = self.place == Place::Other;
-        let settled = self.is_settled;
-        let stirred = self.is_stirred;
-        if is(rest, b"idle") {
-            return other;
+        let may = begun && self.backend.is_some() && !self.is_stirred;
+        self.place = Place::Done;
+        self.is_settled = true;
+        self.is_fenced = true;
+        may
+    }
+
+    /// A word is said.
+    fn say(&mut self, rest: &[u8]) -> bool {
+        if is(rest, b"stepped") {
+            self.step()
+        } else if is(rest, b"quiet") {
+            self.quiet()
+        } else if is(rest, b"ignored") {
+            self.ignore()
+        } else {
+            is(rest, b"idle") && self.place == Place::Other
+        }
+    }
+
+    /// A step is done.
+    fn step(&mut self) -> bool {
+        let may = self.can_step() && !self.is_settled;
+        self.tally.up(Line::Stepped);
+        self.is_stirred = false;
+        if !self.is_fenced {
+            self.fence = self.brought;
         }
         self.place = Place::Done;
-        if is(rest, b"stepped") {
-            self.tally.stepped = self.tally.stepped.saturating_add(1);
-            self.is_stirred = false;
-            return steps && !settled;
+        may
+    }
+
+    /// The backend brought nothing; or nothing waits that was brought, and it was told that all is watched.
+    fn quiet(&mut self) -> bool {
+        if self.place == Place::Listening {
+            self.tally.up(Line::Unheard);
+            self.place = Place::Done;
+            return self.backend.is_some();
         }
-        if is(rest, b"quiet") {
-            self.tally.quiet = self.tally.quiet.saturating_add(1);
+        self.tally.up(Line::Quiet);
+        self.rest() && self.asks.is_none() && self.items.first().is_none()
+    }
+
+    /// No backend stands.
+    fn ignore(&mut self) -> bool {
+        let listens = self.place == Place::Listening;
+        let begun = self.place == Place::Begun && self.is_applied();
+        self.tally.up(if listens {
+            Line::Unasked
+        } else {
+            Line::Ignored
+        });
+        self.place = Place::Done;
+        if !listens {
             self.is_settled = true;
-            return begun && self.backend.is_some() && !stirred;
         }
-        self.tally.ignored = self.tally.ignored.saturating_add(1);
-        self.is_settled = true;
-        is(rest, b"ignored") && begun && self.backend.is_none()
+        (listens || begun) && self.backend.is_none()
+    }
+
+    /// The backend that stands brought something, which has the next name. For an event there is no room where as many wait as may.
+    fn bring(&mut self, rest: &'a [u8]) -> bool {
+        let may = self.place == Place::Listening && self.backend.is_some();
+        let (name, words) = split(rest);
+        let (back, news) = split(words);
+        let item = Item::new(self.brought, self.current(), self.is_stale, news);
+        let named = number_of(name) == Some(item.name) && number_of(back) == Some(item.back);
+        let crowded = !item.is_fault() && self.items.waiting() == self.size;
+        self.brought = self.brought.saturating_add(1);
+        self.place = if crowded { Place::Crowded } else { Place::Done };
+        self.tally.up(if item.is_fault() {
+            Line::Fault
+        } else {
+            Line::Brought
+        });
+        let is_kept = self.items.put(item);
+        may && named && item.is_right() && is_kept
+    }
+
+    /// An item is heard: the first below the fence that is to be, where it is to be told that all is watched, and else the first of all.
+    fn hear(&mut self, rest: &[u8]) -> bool {
+        let may = self.rest();
+        let due = match self.asks {
+            None => self.items.first(),
+            Some(_) => self.items.first_deaf(self.fence),
+        };
+        let Some(item) = due else {
+            return false;
+        };
+        self.items.hear(item.name);
+        self.tally.up(Line::Heard);
+        if item.is_fault() {
+            self.owe(&item);
+        } else if self.is_live(&item) {
+            self.is_stirred = true;
+            self.is_settled = false;
+        } else {
+            self.tally.up(Line::HeardInVain);
+        }
+        may && item.is_deaf() && number_of(rest) == Some(item.name)
+    }
+
+    /// The fault that an item is is to be shown, while the queue isn't closed.
+    fn owe(&mut self, item: &Item<'a>) {
+        if !self.is_closed {
+            self.owed = item.fault;
+            self.place = Place::Faulty;
+        }
+    }
+
+    /// It is told that all is watched, where that is to be, and nothing below the fence is to be heard.
+    fn tell(&mut self, rest: &[u8]) -> bool {
+        let may = self.rest();
+        let asked = self.asks;
+        let deaf = self.items.first_deaf(self.fence);
+        self.tally.up(Line::Ready);
+        self.asks = None;
+        may && asked.is_some() && deaf.is_none() && number_of(rest) == asked
+    }
+
+    /// An item is let go: the one for which there was no room, or the first, which isn't offered.
+    fn let_go(&mut self, rest: &[u8]) -> bool {
+        let (name, cause) = split(rest);
+        if is(cause, b"full") {
+            return self.fill(name);
+        }
+        let may = self.rest() && self.asks.is_none();
+        let Some(item) = self.items.first() else {
+            return false;
+        };
+        self.items.leave(item.name);
+        let obsolete = is(cause, b"obsolete");
+        self.tally.up(if obsolete {
+            Line::Obsolete
+        } else {
+            Line::Uncovered
+        });
+        let uncovered = is(cause, b"uncovered") && !self.applied.has_public(item.path);
+        let right = if self.is_live(&item) {
+            uncovered
+        } else {
+            obsolete
+        };
+        may && right && !item.is_deaf() && number_of(name) == Some(item.name)
+    }
+
+    /// There is no room for what was just brought.
+    fn fill(&mut self, name: &[u8]) -> bool {
+        let may = self.place == Place::Crowded;
+        let last = self.brought.saturating_sub(1);
+        self.tally.up(Line::Full);
+        self.items.fill(last);
+        self.place = Place::Done;
+        may && number_of(name) == Some(last)
+    }
+
+    /// What an offer says: whether the queue is closed, or as full as may be.
+    fn offered(&self) -> &'static [u8] {
+        if self.is_closed {
+            b"closed".as_slice()
+        } else if self.queued == self.size {
+            b"full"
+        } else {
+            b"queued"
+        }
+    }
+
+    /// An event is offered to the queue: one that arrived, or what is made of the first item.
+    fn offer(&mut self, rest: &[u8]) -> bool {
+        let (event, words) = split(rest);
+        let (item, words) = split(words);
+        let (how, words) = split(words);
+        let right = number_of(event) == Some(self.events) && is(how, self.offered());
+        self.events = self.events.saturating_add(1);
+        if is(how, b"queued") {
+            self.queued = self.queued.saturating_add(1);
+        }
+        if is(item, b"-") {
+            return right && self.place == Place::Other;
+        }
+        self.offer_first(item, words) && right
+    }
+
+    /// The first item is offered in these words, which is public, of a live backend, and was heard where it is to be.
+    fn offer_first(&mut self, name: &[u8], words: &[u8]) -> bool {
+        let may = self.rest() && self.asks.is_none();
+        let Some(item) = self.items.first() else {
+            return false;
+        };
+        self.items.leave(item.name);
+        self.tally.up(Line::Offered);
+        let public = self.applied.has_public(item.path) && self.is_live(&item);
+        let right = number_of(name) == Some(item.name) && item.tells(words);
+        may && public && right && !item.is_deaf()
+    }
+
+    /// An event is taken from the queue.
+    fn take(&mut self) -> bool {
+        let may = self.place == Place::Other && self.queued > 0;
+        self.queued = self.queued.saturating_sub(1);
+        may
     }
 
     /// An event is shown to the filter that stands, as the script answers.
@@ -452,21 +548,21 @@ impl<'a> Walk<'a> {
         may && is(number, self.now.filterer) && is(verdict, given)
     }
 
-    /// An event is offered to the queue, which is closed or isn't.
-    fn offer(&mut self, rest: &[u8]) -> bool {
-        let words = split(split(rest).1).1;
-        self.place == Place::Other && words.starts_with(b"closed ") == self.is_closed
+    /// Whether nothing is left to be done about files, but for what waits until a backend stands.
+    fn is_through(&self) -> bool {
+        let empty = self.items.first().is_none() && self.asks.is_none();
+        self.is_settled && (empty || self.backend.is_none())
     }
 
-    /// The run ends: with an error where one was wished or a backend couldn't be made. Else the last turn about files had nothing
-    /// to do, or a closed queue ends the run.
+    /// The run ends: with an error where one was wished or a backend couldn't be made. Else nothing is left to be done about files, or a
+    /// closed queue ends the run.
     fn end(&mut self, rest: &[u8]) -> bool {
         let broken = self.place == Place::Broken;
         let may = broken || self.place == Place::Other;
-        let rests = broken || self.is_closed || self.is_settled;
+        let rests = broken || self.is_closed || self.is_through();
         self.place = Place::Other;
         if broken {
-            self.tally.broken = self.tally.broken.saturating_add(1);
+            self.tally.up(Line::Broken);
         }
         may && rests && rest.starts_with(b"error ") == broken
     }

@@ -8,6 +8,12 @@ mod file_drafts;
 #[cfg(test)]
 mod file_rules;
 #[cfg(test)]
+mod file_tallies;
+#[cfg(test)]
+mod file_words;
+#[cfg(test)]
+mod item_rules;
+#[cfg(test)]
 mod random;
 #[cfg(test)]
 mod random_counts;

@@ -1,7 +1,8 @@
-// Runs of random scripts with turns about files: each line of their journals may stand behind those before it, and at the end there
-// is nothing to do.
+// Runs of random scripts with turns about files and turns that listen: each line of their journals may stand behind those before it, and
+// at the end there is nothing to do.
 use crate::file_drafts::FileDraft;
-use crate::file_rules::{Tally, Walk};
+use crate::file_rules::Walk;
+use crate::file_tallies::Tally;
 use std::alloc::Global;
 use std::process::Abort;
 use wx_bytes::{MemSink, MemSource};
@@ -9,7 +10,7 @@ use wx_replay::replay;
 
 /// Goes along the journal of this script, and answers how many lines it has of some sorts.
 fn walked(rt: &impl Abort, draft: &FileDraft, journal: &[u8], seed: u64) -> Tally {
-    let mut walk = Walk::new(draft.text.as_slice(), draft.said());
+    let mut walk = Walk::new(draft.text.as_slice(), draft.said(), draft.size());
     for (at, line) in journal.split(|byte| *byte == 10).enumerate() {
         let may = walk.takes(line);
         assert!(rt; may, "seed {seed}, line {at}");
@@ -35,7 +36,7 @@ fn ran(rt: &impl Abort, alloc: Global, seed: u64) -> Tally {
 fn random_scripts_with_turns_about_files(rt: HostRuntime) {
     let mut all = Tally::new();
     for seed in 0..200 {
-        all.add(&ran(&rt, rt.alloc(), seed));
+        all.add_all(&ran(&rt, rt.alloc(), seed));
     }
-    assert!(rt; all.has_each(), "each sort of line came");
+    assert!(rt; all.has_each(), "each sort of line came: {all:?}");
 }

@@ -29,79 +29,79 @@ const APPLIED: [(&[u8], &[u8], Status); 16] = [
     // no path: applied, and then ignored until there is one
     (
         b"set follow off\nnode dir /\nnode dir /w\nturn 0 file\nturn 1 file\nturn 2 change paths 1 n /w\nturn 3 file\nturn 4 file\nturn 5 file\nturn 6 file\n",
-        b"turn 0 file\napplied 0\nturn 1 file\nword ignored\nturn 2 change paths 1 n /w\nchanged 1\nturn 3 file\napplied 1\nmake 0 native off ok\nturn 4 file\nword stepped\nturn 5 file\nword stepped\nturn 6 file\nword quiet\nturn 6 last\nend ok lost 0\n",
+        b"turn 0 file\napplied 0\nturn 1 file\nword ignored\nturn 2 change paths 1 n /w\nchanged 1\nturn 3 file\napplied 1\nmake 0 native off ok\nturn 4 file\nword stepped\nturn 5 file\nword stepped\nturn 6 file\nready 1\nturn 6 last\nend ok lost 0\n",
         Status::Done,
     ),
     // the settings that stand are applied, not those before them
     (
         b"node dir /\nnode dir /w\nturn 0 change follow off\nturn 0 change paths 1 n /w\nturn 0 change watcher poll 9\nturn 0 file\nturn 0 file\nturn 0 file\nturn 0 file\n",
-        b"turn 0 change follow off\nchanged 1\nturn 0 change paths 1 n /w\nchanged 2\nturn 0 change watcher poll 9\nchanged 3\nturn 0 file\napplied 3\nmake 0 poll 9 off ok\nturn 0 file\nword stepped\nturn 0 file\nword stepped\nturn 0 file\nword quiet\nturn 0 last\nend ok lost 0\n",
+        b"turn 0 change follow off\nchanged 1\nturn 0 change paths 1 n /w\nchanged 2\nturn 0 change watcher poll 9\nchanged 3\nturn 0 file\napplied 3\nmake 0 poll 9 off ok\nturn 0 file\nword stepped\nturn 0 file\nword stepped\nturn 0 file\nready 3\nturn 0 last\nend ok lost 0\n",
         Status::Done,
     ),
     // without a path the backend goes; with one there is another
     (
         b"set follow off\nset path n /w\nnode dir /\nnode dir /w\nturn 0 file\nturn 0 file\nturn 0 file\nturn 0 file\nturn 0 change paths 0\nturn 0 file\nturn 0 file\nturn 0 file\nturn 0 change paths 1 n /w\nturn 0 file\nturn 0 file\nturn 0 file\nturn 0 file\n",
-        b"turn 0 file\napplied 0\nmake 0 native off ok\nturn 0 file\nword stepped\nturn 0 file\nword stepped\nturn 0 file\nword quiet\nturn 0 change paths 0\nchanged 1\nturn 0 file\napplied 1\nturn 0 file\nword ignored\nturn 0 file\nword ignored\nturn 0 change paths 1 n /w\nchanged 2\nturn 0 file\napplied 2\nmake 1 native off ok\nturn 0 file\nword stepped\nturn 0 file\nword stepped\nturn 0 file\nword quiet\nturn 0 last\nend ok lost 0\n",
+        b"turn 0 file\napplied 0\nmake 0 native off ok\nturn 0 file\nword stepped\nturn 0 file\nword stepped\nturn 0 file\nword quiet\nturn 0 change paths 0\nchanged 1\nturn 0 file\napplied 1\nturn 0 file\nword ignored\nturn 0 file\nword ignored\nturn 0 change paths 1 n /w\nchanged 2\nturn 0 file\napplied 2\nmake 1 native off ok\nturn 0 file\nword stepped\nturn 0 file\nword stepped\nturn 0 file\nready 2\nturn 0 last\nend ok lost 0\n",
         Status::Done,
     ),
     // another watcher, the same one, one of another interval, and the first one
     (
         b"set follow off\nset path n /w\nnode dir /\nnode dir /w\nturn 0 file\nturn 0 file\nturn 0 file\nturn 0 file\nturn 0 change watcher poll 5\nturn 0 file\nturn 0 file\nturn 0 file\nturn 0 file\nturn 0 change watcher poll 5\nturn 0 file\nturn 0 file\nturn 0 change watcher poll 6\nturn 0 file\nturn 0 file\nturn 0 change watcher native\nturn 0 file\nturn 0 file\nturn 0 file\nturn 0 file\n",
-        b"turn 0 file\napplied 0\nmake 0 native off ok\nturn 0 file\nword stepped\nturn 0 file\nword stepped\nturn 0 file\nword quiet\nturn 0 change watcher poll 5\nchanged 1\nturn 0 file\napplied 1\nmake 1 poll 5 off ok\nturn 0 file\nword stepped\nturn 0 file\nword stepped\nturn 0 file\nword quiet\nturn 0 change watcher poll 5\nchanged 2\nturn 0 file\napplied 2\nturn 0 file\nword quiet\nturn 0 change watcher poll 6\nchanged 3\nturn 0 file\napplied 3\nmake 2 poll 6 off ok\nturn 0 file\nword stepped\nturn 0 change watcher native\nchanged 4\nturn 0 file\napplied 4\nmake 3 native off ok\nturn 0 file\nword stepped\nturn 0 file\nword stepped\nturn 0 file\nword quiet\nturn 0 last\nend ok lost 0\n",
+        b"turn 0 file\napplied 0\nmake 0 native off ok\nturn 0 file\nword stepped\nturn 0 file\nword stepped\nturn 0 file\nword quiet\nturn 0 change watcher poll 5\nchanged 1\nturn 0 file\napplied 1\nmake 1 poll 5 off ok\nturn 0 file\nword stepped\nturn 0 file\nword stepped\nturn 0 file\nready 1\nturn 0 change watcher poll 5\nchanged 2\nturn 0 file\napplied 2\nturn 0 file\nready 2\nturn 0 change watcher poll 6\nchanged 3\nturn 0 file\napplied 3\nmake 2 poll 6 off ok\nturn 0 file\nword stepped\nturn 0 change watcher native\nchanged 4\nturn 0 file\napplied 4\nmake 3 native off ok\nturn 0 file\nword stepped\nturn 0 file\nword stepped\nturn 0 file\nready 4\nturn 0 last\nend ok lost 0\n",
         Status::Done,
     ),
     // one that changes back before it is applied
     (
         b"set follow off\nset path n /w\nnode dir /\nnode dir /w\nturn 0 file\nturn 0 file\nturn 0 file\nturn 0 file\nturn 0 change watcher poll 5\nturn 0 change watcher native\nturn 0 file\nturn 0 file\n",
-        b"turn 0 file\napplied 0\nmake 0 native off ok\nturn 0 file\nword stepped\nturn 0 file\nword stepped\nturn 0 file\nword quiet\nturn 0 change watcher poll 5\nchanged 1\nturn 0 change watcher native\nchanged 2\nturn 0 file\napplied 2\nturn 0 file\nword quiet\nturn 0 last\nend ok lost 0\n",
+        b"turn 0 file\napplied 0\nmake 0 native off ok\nturn 0 file\nword stepped\nturn 0 file\nword stepped\nturn 0 file\nword quiet\nturn 0 change watcher poll 5\nchanged 1\nturn 0 change watcher native\nchanged 2\nturn 0 file\napplied 2\nturn 0 file\nready 2\nturn 0 last\nend ok lost 0\n",
         Status::Done,
     ),
     // links are followed, and still are
     (
         b"set follow off\nset path n /w\nnode dir /\nnode dir /w\nturn 0 file\nturn 0 file\nturn 0 file\nturn 0 file\nturn 0 change follow on\nturn 0 file\nturn 0 file\nturn 0 file\nturn 0 file\nturn 0 change follow on\nturn 0 file\nturn 0 file\n",
-        b"turn 0 file\napplied 0\nmake 0 native off ok\nturn 0 file\nword stepped\nturn 0 file\nword stepped\nturn 0 file\nword quiet\nturn 0 change follow on\nchanged 1\nturn 0 file\napplied 1\nmake 1 native on ok\nturn 0 file\nword stepped\nturn 0 file\nword stepped\nturn 0 file\nword quiet\nturn 0 change follow on\nchanged 2\nturn 0 file\napplied 2\nturn 0 file\nword quiet\nturn 0 last\nend ok lost 0\n",
+        b"turn 0 file\napplied 0\nmake 0 native off ok\nturn 0 file\nword stepped\nturn 0 file\nword stepped\nturn 0 file\nword quiet\nturn 0 change follow on\nchanged 1\nturn 0 file\napplied 1\nmake 1 native on ok\nturn 0 file\nword stepped\nturn 0 file\nword stepped\nturn 0 file\nready 1\nturn 0 change follow on\nchanged 2\nturn 0 file\napplied 2\nturn 0 file\nready 2\nturn 0 last\nend ok lost 0\n",
         Status::Done,
     ),
     // other roots need no other backend: two visits, a scan and a sweep; then a visit and a sweep
     (
         b"set follow off\nset path n /w\nnode dir /\nnode dir /w\nnode dir /v\nturn 0 file\nturn 0 file\nturn 0 file\nturn 0 file\nturn 0 change paths 2 n /w r /v\nturn 0 file\nturn 0 file\nturn 0 file\nturn 0 file\nturn 0 file\nturn 0 file\nturn 0 change paths 1 n /v\nturn 0 file\nturn 0 file\nturn 0 file\nturn 0 file\n",
-        b"turn 0 file\napplied 0\nmake 0 native off ok\nturn 0 file\nword stepped\nturn 0 file\nword stepped\nturn 0 file\nword quiet\nturn 0 change paths 2 n /w r /v\nchanged 1\nturn 0 file\napplied 1\nturn 0 file\nword stepped\nturn 0 file\nword stepped\nturn 0 file\nword stepped\nturn 0 file\nword stepped\nturn 0 file\nword quiet\nturn 0 change paths 1 n /v\nchanged 2\nturn 0 file\napplied 2\nturn 0 file\nword stepped\nturn 0 file\nword stepped\nturn 0 file\nword quiet\nturn 0 last\nend ok lost 0\n",
+        b"turn 0 file\napplied 0\nmake 0 native off ok\nturn 0 file\nword stepped\nturn 0 file\nword stepped\nturn 0 file\nword quiet\nturn 0 change paths 2 n /w r /v\nchanged 1\nturn 0 file\napplied 1\nturn 0 file\nword stepped\nturn 0 file\nword stepped\nturn 0 file\nword stepped\nturn 0 file\nword stepped\nturn 0 file\nready 1\nturn 0 change paths 1 n /v\nchanged 2\nturn 0 file\napplied 2\nturn 0 file\nword stepped\nturn 0 file\nword stepped\nturn 0 file\nready 2\nturn 0 last\nend ok lost 0\n",
         Status::Done,
     ),
     // nor does another filter, which is asked from then on
     (
         b"set follow off\nset path r /w\nnode dir /\nnode dir /w\nnode dir /w/a\nturn 0 file\nturn 0 file\nturn 0 file\nturn 0 file\nturn 0 file\nturn 0 file\nturn 0 file\nturn 0 change filterer 3\nturn 0 file\nturn 0 file\nturn 0 file\nturn 0 file\nturn 0 file\nturn 0 file\nturn 0 file\n",
-        b"turn 0 file\napplied 0\nmake 0 native off ok\nturn 0 file\nword stepped\nturn 0 file\nword stepped\nturn 0 file\ndir 0 /w/a pass\nword stepped\nturn 0 file\nword stepped\nturn 0 file\nword stepped\nturn 0 file\nword quiet\nturn 0 change filterer 3\nchanged 1\nturn 0 file\napplied 1\nturn 0 file\nword stepped\nturn 0 file\nword stepped\nturn 0 file\ndir 3 /w/a pass\nword stepped\nturn 0 file\nword stepped\nturn 0 file\nword stepped\nturn 0 file\nword quiet\nturn 0 last\nend ok lost 0\n",
+        b"turn 0 file\napplied 0\nmake 0 native off ok\nturn 0 file\nword stepped\nturn 0 file\nword stepped\nturn 0 file\ndir 0 /w/a pass\nword stepped\nturn 0 file\nword stepped\nturn 0 file\nword stepped\nturn 0 file\nword quiet\nturn 0 change filterer 3\nchanged 1\nturn 0 file\napplied 1\nturn 0 file\nword stepped\nturn 0 file\nword stepped\nturn 0 file\ndir 3 /w/a pass\nword stepped\nturn 0 file\nword stepped\nturn 0 file\nword stepped\nturn 0 file\nready 1\nturn 0 last\nend ok lost 0\n",
         Status::Done,
     ),
     // the same roots in another order, spelled otherwise and twice are no others
     (
         b"set follow off\nset path n /w\nset path n /v\nnode dir /\nnode dir /w\nnode dir /v\nturn 0 file\nturn 0 file\nturn 0 file\nturn 0 file\nturn 0 file\nturn 0 change paths 4 n v n /v/../w n /w/. n //v\nturn 0 file\nturn 0 file\n",
-        b"turn 0 file\napplied 0\nmake 0 native off ok\nturn 0 file\nword stepped\nturn 0 file\nword stepped\nturn 0 file\nword stepped\nturn 0 file\nword quiet\nturn 0 change paths 4 n v n /v/../w n /w/. n //v\nchanged 1\nturn 0 file\napplied 1\nturn 0 file\nword quiet\nturn 0 last\nend ok lost 0\n",
+        b"turn 0 file\napplied 0\nmake 0 native off ok\nturn 0 file\nword stepped\nturn 0 file\nword stepped\nturn 0 file\nword stepped\nturn 0 file\nword quiet\nturn 0 change paths 4 n v n /v/../w n /w/. n //v\nchanged 1\nturn 0 file\napplied 1\nturn 0 file\nready 1\nturn 0 last\nend ok lost 0\n",
         Status::Done,
     ),
     // the same path with all below it is another root
     (
         b"set follow off\nset path n /w\nnode dir /\nnode dir /w\nturn 0 file\nturn 0 file\nturn 0 file\nturn 0 file\nturn 0 change paths 1 r /w\nturn 0 file\nturn 0 file\nturn 0 file\nturn 0 file\nturn 0 file\n",
-        b"turn 0 file\napplied 0\nmake 0 native off ok\nturn 0 file\nword stepped\nturn 0 file\nword stepped\nturn 0 file\nword quiet\nturn 0 change paths 1 r /w\nchanged 1\nturn 0 file\napplied 1\nturn 0 file\nword stepped\nturn 0 file\nword stepped\nturn 0 file\nword stepped\nturn 0 file\nword quiet\nturn 0 last\nend ok lost 0\n",
+        b"turn 0 file\napplied 0\nmake 0 native off ok\nturn 0 file\nword stepped\nturn 0 file\nword stepped\nturn 0 file\nword quiet\nturn 0 change paths 1 r /w\nchanged 1\nturn 0 file\napplied 1\nturn 0 file\nword stepped\nturn 0 file\nword stepped\nturn 0 file\nword stepped\nturn 0 file\nready 1\nturn 0 last\nend ok lost 0\n",
         Status::Done,
     ),
     // a change of nothing that is watched is applied too, and the steps go on
     (
         b"set follow off\nset path r /w\nnode dir /\nnode dir /w\nturn 0 file\nturn 0 file\nturn 0 change throttle 9\nturn 0 file\nturn 0 file\nturn 0 change signal\nturn 0 file\nturn 0 file\nturn 0 file\n",
-        b"turn 0 file\napplied 0\nmake 0 native off ok\nturn 0 file\nword stepped\nturn 0 change throttle 9\nchanged 1\nturn 0 file\napplied 1\nturn 0 file\nword stepped\nturn 0 change signal\nchanged 2\nturn 0 file\napplied 2\nturn 0 file\nword stepped\nturn 0 file\nword quiet\nturn 0 last\nend ok lost 0\n",
+        b"turn 0 file\napplied 0\nmake 0 native off ok\nturn 0 file\nword stepped\nturn 0 change throttle 9\nchanged 1\nturn 0 file\napplied 1\nturn 0 file\nword stepped\nturn 0 change signal\nchanged 2\nturn 0 file\napplied 2\nturn 0 file\nword stepped\nturn 0 file\nready 2\nturn 0 last\nend ok lost 0\n",
         Status::Done,
     ),
     // other roots between two steps: what was to be done is left
     (
         b"set follow off\nset path r /w\nnode dir /\nnode dir /w\nnode dir /v\nturn 0 file\nturn 0 file\nturn 0 change paths 1 n /v\nturn 0 file\nturn 0 file\nturn 0 file\nturn 0 file\n",
-        b"turn 0 file\napplied 0\nmake 0 native off ok\nturn 0 file\nword stepped\nturn 0 change paths 1 n /v\nchanged 1\nturn 0 file\napplied 1\nturn 0 file\nword stepped\nturn 0 file\nword stepped\nturn 0 file\nword quiet\nturn 0 last\nend ok lost 0\n",
+        b"turn 0 file\napplied 0\nmake 0 native off ok\nturn 0 file\nword stepped\nturn 0 change paths 1 n /v\nchanged 1\nturn 0 file\napplied 1\nturn 0 file\nword stepped\nturn 0 file\nword stepped\nturn 0 file\nready 1\nturn 0 last\nend ok lost 0\n",
         Status::Done,
     ),
     // an act changes the paths
     (
         b"set follow off\nnode dir /\nnode dir /w\naction change paths 1 n /w\nsend urgent 0\nturn 0 file\nturn 0 work\nturn 0 file\nturn 0 file\nturn 0 file\nturn 0 file\n",
-        b"sent 0 urgent 0\nturn 0 file\napplied 0\nturn 0 work\ntake 0\nhand 0 1 0 change paths 1 n /w\nchanged 1\nturn 0 file\napplied 1\nmake 0 native off ok\nturn 0 file\nword stepped\nturn 0 file\nword stepped\nturn 0 file\nword quiet\nturn 0 last\nend ok lost 0\n",
+        b"sent 0 urgent 0\nturn 0 file\napplied 0\nturn 0 work\ntake 0\nhand 0 1 0 change paths 1 n /w\nchanged 1\nturn 0 file\napplied 1\nmake 0 native off ok\nturn 0 file\nword stepped\nturn 0 file\nword stepped\nturn 0 file\nready 1\nturn 0 last\nend ok lost 0\n",
         Status::Done,
     ),
 ];
@@ -190,19 +190,19 @@ const JUDGED: [(&[u8], &[u8], Status); 15] = [
     // another error is shown, and there is one retry, when settings are applied
     (
         b"dir fail filterer k m\nset follow off\nset path r /w\nnode dir /\nnode dir /w\nnode dir /w/a\nturn 0 file\nturn 0 file\nturn 0 file\nturn 0 file\nturn 0 file\nturn 0 file\nturn 0 change throttle 9\nturn 0 file\nturn 0 file\nturn 0 file\nturn 0 file\nturn 0 file\nturn 0 file\nturn 0 file\nturn 0 file\nturn 0 change throttle 8\nturn 0 file\nturn 0 file\n",
-        b"turn 0 file\napplied 0\nmake 0 native off ok\nturn 0 file\nword stepped\nturn 0 file\nword stepped\nturn 0 file\ndir 0 /w/a fail filterer k m\nshow 0 filterer k m none\nword stepped\nturn 0 file\nword stepped\nturn 0 file\nword quiet\nturn 0 change throttle 9\nchanged 1\nturn 0 file\napplied 1\nturn 0 file\ndir 0 /w/a pass\nword stepped\nturn 0 file\nword stepped\nturn 0 file\nword stepped\nturn 0 file\nword stepped\nturn 0 file\ndir 0 /w/a pass\nword stepped\nturn 0 file\nword stepped\nturn 0 file\nword quiet\nturn 0 change throttle 8\nchanged 2\nturn 0 file\napplied 2\nturn 0 file\nword quiet\nturn 0 last\nend ok lost 0\n",
+        b"turn 0 file\napplied 0\nmake 0 native off ok\nturn 0 file\nword stepped\nturn 0 file\nword stepped\nturn 0 file\ndir 0 /w/a fail filterer k m\nshow 0 filterer k m none\nword stepped\nturn 0 file\nword stepped\nturn 0 file\nword quiet\nturn 0 change throttle 9\nchanged 1\nturn 0 file\napplied 1\nturn 0 file\ndir 0 /w/a pass\nword stepped\nturn 0 file\nword stepped\nturn 0 file\nword stepped\nturn 0 file\nword stepped\nturn 0 file\ndir 0 /w/a pass\nword stepped\nturn 0 file\nword stepped\nturn 0 file\nready 1\nturn 0 change throttle 8\nchanged 2\nturn 0 file\napplied 2\nturn 0 file\nready 2\nturn 0 last\nend ok lost 0\n",
         Status::Done,
     ),
     // what a filter fails at stays owned, so it isn't unwatched
     (
         b"fail watch 2 5\ndir fail filterer k m\ndir pass\ndir fail filterer k m\nset follow off\nset path r /w\nnode dir /\nnode dir /w\nnode dir /w/a\nturn 0 file\nturn 0 file\nturn 0 file\nturn 0 file\nturn 0 file\nturn 0 file\nturn 0 change throttle 9\nturn 0 file\nturn 0 file\nturn 0 file\nturn 0 file\nturn 0 file\nturn 0 file\nturn 0 file\nturn 0 file\n",
-        b"turn 0 file\napplied 0\nmake 0 native off ok\nturn 0 file\nword stepped\nturn 0 file\nword stepped\nturn 0 file\ndir 0 /w/a fail filterer k m\nshow 0 filterer k m none\nword stepped\nturn 0 file\nword stepped\nturn 0 file\nword quiet\nturn 0 change throttle 9\nchanged 1\nturn 0 file\napplied 1\nturn 0 file\ndir 0 /w/a pass\nword stepped\nturn 0 file\nword stepped\nturn 0 file\nword stepped\nturn 0 file\nword stepped\nturn 0 file\ndir 0 /w/a fail filterer k m\nshow 0 filterer k m none\nword stepped\nturn 0 file\nword stepped\nturn 0 file\nword quiet\nturn 0 last\nend ok lost 0\n",
+        b"turn 0 file\napplied 0\nmake 0 native off ok\nturn 0 file\nword stepped\nturn 0 file\nword stepped\nturn 0 file\ndir 0 /w/a fail filterer k m\nshow 0 filterer k m none\nword stepped\nturn 0 file\nword stepped\nturn 0 file\nword quiet\nturn 0 change throttle 9\nchanged 1\nturn 0 file\napplied 1\nturn 0 file\ndir 0 /w/a pass\nword stepped\nturn 0 file\nword stepped\nturn 0 file\nword stepped\nturn 0 file\nword stepped\nturn 0 file\ndir 0 /w/a fail filterer k m\nshow 0 filterer k m none\nword stepped\nturn 0 file\nword stepped\nturn 0 file\nready 1\nturn 0 last\nend ok lost 0\n",
         Status::Done,
     ),
     // what it rejects is, and where that fails there is another backend
     (
         b"fail watch 2 5\ndir fail filterer k m\ndir pass\ndir reject\nset follow off\nset path r /w\nnode dir /\nnode dir /w\nnode dir /w/a\nturn 0 file\nturn 0 file\nturn 0 file\nturn 0 file\nturn 0 file\nturn 0 file\nturn 0 change throttle 9\nturn 0 file\nturn 0 file\nturn 0 file\nturn 0 file\nturn 0 file\nturn 0 file\nturn 0 file\nturn 0 file\n",
-        b"turn 0 file\napplied 0\nmake 0 native off ok\nturn 0 file\nword stepped\nturn 0 file\nword stepped\nturn 0 file\ndir 0 /w/a fail filterer k m\nshow 0 filterer k m none\nword stepped\nturn 0 file\nword stepped\nturn 0 file\nword quiet\nturn 0 change throttle 9\nchanged 1\nturn 0 file\napplied 1\nturn 0 file\ndir 0 /w/a pass\nword stepped\nturn 0 file\nword stepped\nturn 0 file\nword stepped\nturn 0 file\nword stepped\nturn 0 file\ndir 0 /w/a reject\nshow 0 fswatcher native pathremove /w/a io 5 0 none\nmake 1 native off ok\nword stepped\nturn 0 file\nword stepped\nturn 0 file\nword quiet\nturn 0 last\nend ok lost 0\n",
+        b"turn 0 file\napplied 0\nmake 0 native off ok\nturn 0 file\nword stepped\nturn 0 file\nword stepped\nturn 0 file\ndir 0 /w/a fail filterer k m\nshow 0 filterer k m none\nword stepped\nturn 0 file\nword stepped\nturn 0 file\nword quiet\nturn 0 change throttle 9\nchanged 1\nturn 0 file\napplied 1\nturn 0 file\ndir 0 /w/a pass\nword stepped\nturn 0 file\nword stepped\nturn 0 file\nword stepped\nturn 0 file\nword stepped\nturn 0 file\ndir 0 /w/a reject\nshow 0 fswatcher native pathremove /w/a io 5 0 none\nmake 1 native off ok\nword stepped\nturn 0 file\nword stepped\nturn 0 file\nready 1\nturn 0 last\nend ok lost 0\n",
         Status::Done,
     ),
 ];
@@ -255,7 +255,7 @@ const SHOWN: [(&[u8], &[u8], Status); 17] = [
     // and behind it: until settings are applied that need a visit nothing comes of it; then guard, twice the root, and a sweep
     (
         b"set follow off\nset path n /w\nnode dir /\nturn 0 file\nturn 0 file\nnode dir /w\nturn 0 file\nturn 0 file\nturn 0 change throttle 9\nturn 0 file\nturn 0 file\nturn 0 change filterer 1\nturn 0 file\nturn 0 file\nturn 0 file\nturn 0 file\nturn 0 file\nturn 0 file\n",
-        b"turn 0 file\napplied 0\nmake 0 native off ok\nturn 0 file\nshow 0 fswatcher native pathscan /w notfound none\nword stepped\nturn 0 file\nword stepped\nturn 0 file\nword quiet\nturn 0 change throttle 9\nchanged 1\nturn 0 file\napplied 1\nturn 0 file\nword quiet\nturn 0 change filterer 1\nchanged 2\nturn 0 file\napplied 2\nturn 0 file\nword stepped\nturn 0 file\nword stepped\nturn 0 file\nword stepped\nturn 0 file\nword stepped\nturn 0 file\nword quiet\nturn 0 last\nend ok lost 0\n",
+        b"turn 0 file\napplied 0\nmake 0 native off ok\nturn 0 file\nshow 0 fswatcher native pathscan /w notfound none\nword stepped\nturn 0 file\nword stepped\nturn 0 file\nword quiet\nturn 0 change throttle 9\nchanged 1\nturn 0 file\napplied 1\nturn 0 file\nready 1\nturn 0 change filterer 1\nchanged 2\nturn 0 file\napplied 2\nturn 0 file\nword stepped\nturn 0 file\nword stepped\nturn 0 file\nword stepped\nturn 0 file\nword stepped\nturn 0 file\nready 2\nturn 0 last\nend ok lost 0\n",
         Status::Done,
     ),
     // what is gone before the first turn isn't there
@@ -291,7 +291,7 @@ const SHOWN: [(&[u8], &[u8], Status); 17] = [
     // the error handler that stands is shown it, with the watcher that was applied
     (
         b"set follow off\nset watcher poll 7\nset path n /w\nnode dir /\nturn 0 change onerror 4\nturn 0 file\nturn 0 file\nturn 0 file\nturn 0 file\n",
-        b"turn 0 change onerror 4\nchanged 1\nturn 0 file\napplied 1\nmake 0 poll 7 off ok\nturn 0 file\nshow 4 fswatcher poll 7 pathscan /w notfound none\nword stepped\nturn 0 file\nword stepped\nturn 0 file\nword quiet\nturn 0 last\nend ok lost 0\n",
+        b"turn 0 change onerror 4\nchanged 1\nturn 0 file\napplied 1\nmake 0 poll 7 off ok\nturn 0 file\nshow 4 fswatcher poll 7 pathscan /w notfound none\nword stepped\nturn 0 file\nword stepped\nturn 0 file\nready 1\nturn 0 last\nend ok lost 0\n",
         Status::Done,
     ),
     // a wish to exit closes the queue, and nothing more is shown
@@ -309,13 +309,13 @@ const SHOWN: [(&[u8], &[u8], Status); 17] = [
     // a look at the way down that fails: it is queued again by its guard, and has a retry
     (
         b"fail scan 0 5\nset follow off\nset path r /w\nnode dir /\nnode dir /w\nturn 0 file\nturn 0 file\nturn 0 file\nturn 0 file\nturn 0 file\nturn 0 file\nturn 0 change throttle 9\nturn 0 file\nturn 0 file\nturn 0 file\nturn 0 file\nturn 0 file\nturn 0 file\nturn 0 change throttle 8\nturn 0 file\nturn 0 file\n",
-        b"turn 0 file\napplied 0\nmake 0 native off ok\nturn 0 file\nshow 0 fswatcher native pathscan / io 5 none\nword stepped\nturn 0 file\nword stepped\nturn 0 file\nword stepped\nturn 0 file\nword stepped\nturn 0 file\nword quiet\nturn 0 change throttle 9\nchanged 1\nturn 0 file\napplied 1\nturn 0 file\nword stepped\nturn 0 file\nword stepped\nturn 0 file\nword stepped\nturn 0 file\nword stepped\nturn 0 file\nword quiet\nturn 0 change throttle 8\nchanged 2\nturn 0 file\napplied 2\nturn 0 file\nword quiet\nturn 0 last\nend ok lost 0\n",
+        b"turn 0 file\napplied 0\nmake 0 native off ok\nturn 0 file\nshow 0 fswatcher native pathscan / io 5 none\nword stepped\nturn 0 file\nword stepped\nturn 0 file\nword stepped\nturn 0 file\nword stepped\nturn 0 file\nword quiet\nturn 0 change throttle 9\nchanged 1\nturn 0 file\napplied 1\nturn 0 file\nword stepped\nturn 0 file\nword stepped\nturn 0 file\nword stepped\nturn 0 file\nword stepped\nturn 0 file\nready 1\nturn 0 change throttle 8\nchanged 2\nturn 0 file\napplied 2\nturn 0 file\nready 2\nturn 0 last\nend ok lost 0\n",
         Status::Done,
     ),
     // one at the root, links followed
     (
         b"fail scan 0 5\nset path r /w\nnode dir /\nnode dir /w\nturn 0 file\nturn 0 file\nturn 0 file\nturn 0 file\nturn 0 file\nturn 0 file\nturn 0 change throttle 9\nturn 0 file\nturn 0 file\nturn 0 file\nturn 0 file\nturn 0 file\nturn 0 file\nturn 0 change throttle 8\nturn 0 file\nturn 0 file\n",
-        b"turn 0 file\napplied 0\nmake 0 native on ok\nturn 0 file\nshow 0 fswatcher native pathscan /w io 5 none\nword stepped\nturn 0 file\nword stepped\nturn 0 file\nword stepped\nturn 0 file\nword stepped\nturn 0 file\nword quiet\nturn 0 change throttle 9\nchanged 1\nturn 0 file\napplied 1\nturn 0 file\nword stepped\nturn 0 file\nword stepped\nturn 0 file\nword stepped\nturn 0 file\nword stepped\nturn 0 file\nword quiet\nturn 0 change throttle 8\nchanged 2\nturn 0 file\napplied 2\nturn 0 file\nword quiet\nturn 0 last\nend ok lost 0\n",
+        b"turn 0 file\napplied 0\nmake 0 native on ok\nturn 0 file\nshow 0 fswatcher native pathscan /w io 5 none\nword stepped\nturn 0 file\nword stepped\nturn 0 file\nword stepped\nturn 0 file\nword stepped\nturn 0 file\nword quiet\nturn 0 change throttle 9\nchanged 1\nturn 0 file\napplied 1\nturn 0 file\nword stepped\nturn 0 file\nword stepped\nturn 0 file\nword stepped\nturn 0 file\nword stepped\nturn 0 file\nready 1\nturn 0 change throttle 8\nchanged 2\nturn 0 file\napplied 2\nturn 0 file\nready 2\nturn 0 last\nend ok lost 0\n",
         Status::Done,
     ),
 ];
@@ -332,7 +332,7 @@ const REBUILT: [(&[u8], &[u8], Status); 7] = [
     // a watch that fails twice: a backend is made before the first step is done, and then the path is skipped until settings are applied
     (
         b"fail watch 0 5\nset follow off\nset path n /w\nnode dir /\nnode dir /w\nturn 0 file\nturn 0 file\nturn 0 file\nturn 0 file\nturn 0 file\nturn 0 change throttle 9\nturn 0 file\nturn 0 file\nturn 0 file\nturn 0 file\n",
-        b"turn 0 file\napplied 0\nmake 0 native off ok\nturn 0 file\nshow 0 fswatcher native pathadd /w io 5 0 none\nmake 1 native off ok\nword stepped\nturn 0 file\nshow 0 fswatcher native pathadd /w io 5 0 none\nword stepped\nturn 0 file\nword stepped\nturn 0 file\nword quiet\nturn 0 change throttle 9\nchanged 1\nturn 0 file\napplied 1\nturn 0 file\nword stepped\nturn 0 file\nword stepped\nturn 0 file\nword quiet\nturn 0 last\nend ok lost 0\n",
+        b"turn 0 file\napplied 0\nmake 0 native off ok\nturn 0 file\nshow 0 fswatcher native pathadd /w io 5 0 none\nmake 1 native off ok\nword stepped\nturn 0 file\nshow 0 fswatcher native pathadd /w io 5 0 none\nword stepped\nturn 0 file\nword stepped\nturn 0 file\nword quiet\nturn 0 change throttle 9\nchanged 1\nturn 0 file\napplied 1\nturn 0 file\nword stepped\nturn 0 file\nword stepped\nturn 0 file\nready 1\nturn 0 last\nend ok lost 0\n",
         Status::Done,
     ),
     // of a directory, which is judged again
@@ -344,7 +344,7 @@ const REBUILT: [(&[u8], &[u8], Status); 7] = [
     // where no more can be watched nothing is until settings are applied, which is shown once
     (
         b"fail watch 0 28\nset follow off\nset path n /w\nnode dir /\nnode dir /w\nset path n /v\nnode dir /v\nturn 0 file\nturn 0 file\nturn 0 file\nturn 0 file\nturn 0 file\nturn 0 change throttle 9\nturn 0 file\nturn 0 file\nturn 0 file\nturn 0 file\nturn 0 file\n",
-        b"turn 0 file\napplied 0\nmake 0 native off ok\nturn 0 file\nshow 0 fswatcher native toomanywatches io 28 0 none\nword stepped\nturn 0 file\nword stepped\nturn 0 file\nword stepped\nturn 0 file\nword quiet\nturn 0 change throttle 9\nchanged 1\nturn 0 file\napplied 1\nturn 0 file\nword stepped\nturn 0 file\nword stepped\nturn 0 file\nword stepped\nturn 0 file\nword quiet\nturn 0 last\nend ok lost 0\n",
+        b"turn 0 file\napplied 0\nmake 0 native off ok\nturn 0 file\nshow 0 fswatcher native toomanywatches io 28 0 none\nword stepped\nturn 0 file\nword stepped\nturn 0 file\nword stepped\nturn 0 file\nword quiet\nturn 0 change throttle 9\nchanged 1\nturn 0 file\napplied 1\nturn 0 file\nword stepped\nturn 0 file\nword stepped\nturn 0 file\nword stepped\nturn 0 file\nready 1\nturn 0 last\nend ok lost 0\n",
         Status::Done,
     ),
     // so where no more can be open
@@ -368,7 +368,7 @@ const REBUILT: [(&[u8], &[u8], Status); 7] = [
     // two in one step: /w is a file now, so what was watched is watched again, where /v fails twice
     (
         b"fail watch 1 5\nset follow off\nset path n /u\nset path n /v\nset path n /w\nnode dir /\nnode dir /w\nnode dir /u\nnode dir /v\nturn 0 file\nturn 0 file\nturn 0 file\nturn 0 file\nturn 0 file\nturn 0 file\nturn 0 file\nturn 0 file\nturn 0 change throttle 9\nturn 0 file\nturn 0 file\nturn 0 file\nturn 0 file\nturn 0 file\nturn 0 file\nnode file /w 1\nturn 0 change filterer 1\nturn 0 file\nturn 0 file\nturn 0 file\nturn 0 file\nturn 0 file\nturn 0 file\n",
-        b"turn 0 file\napplied 0\nmake 0 native off ok\nturn 0 file\nword stepped\nturn 0 file\nshow 0 fswatcher native pathadd /v io 5 0 none\nmake 1 native off ok\nword stepped\nturn 0 file\nshow 0 fswatcher native pathadd /w io 5 0 none\nmake 2 native off ok\nword stepped\nturn 0 file\nshow 0 fswatcher native pathadd /v io 5 0 none\nword stepped\nturn 0 file\nword stepped\nturn 0 file\nword stepped\nturn 0 file\nword quiet\nturn 0 change throttle 9\nchanged 1\nturn 0 file\napplied 1\nturn 0 file\nword stepped\nturn 0 file\nword stepped\nturn 0 file\nword stepped\nturn 0 file\nword stepped\nturn 0 file\nword quiet\nturn 0 change filterer 1\nchanged 2\nturn 0 file\napplied 2\nturn 0 file\nword stepped\nturn 0 file\nword stepped\nturn 0 file\nmake 3 native off ok\nshow 0 fswatcher native pathadd /v io 5 0 none\nmake 4 native off ok\nshow 0 fswatcher native pathadd /v io 5 0 none\nword stepped\nturn 0 file\nword stepped\nturn 0 file\nword quiet\nturn 0 last\nend ok lost 0\n",
+        b"turn 0 file\napplied 0\nmake 0 native off ok\nturn 0 file\nword stepped\nturn 0 file\nshow 0 fswatcher native pathadd /v io 5 0 none\nmake 1 native off ok\nword stepped\nturn 0 file\nshow 0 fswatcher native pathadd /w io 5 0 none\nmake 2 native off ok\nword stepped\nturn 0 file\nshow 0 fswatcher native pathadd /v io 5 0 none\nword stepped\nturn 0 file\nword stepped\nturn 0 file\nword stepped\nturn 0 file\nword quiet\nturn 0 change throttle 9\nchanged 1\nturn 0 file\napplied 1\nturn 0 file\nword stepped\nturn 0 file\nword stepped\nturn 0 file\nword stepped\nturn 0 file\nword stepped\nturn 0 file\nready 1\nturn 0 change filterer 1\nchanged 2\nturn 0 file\napplied 2\nturn 0 file\nword stepped\nturn 0 file\nword stepped\nturn 0 file\nmake 3 native off ok\nshow 0 fswatcher native pathadd /v io 5 0 none\nmake 4 native off ok\nshow 0 fswatcher native pathadd /v io 5 0 none\nword stepped\nturn 0 file\nword stepped\nturn 0 file\nready 2\nturn 0 last\nend ok lost 0\n",
         Status::Done,
     ),
 ];
@@ -482,20 +482,23 @@ fn with_turns(alloc: Global, lines: &[u8]) -> Result<Text, Memory> {
     Ok(text)
 }
 
-/// What begins so, and goes on with 29 turns about files: so many do a step, and then there is nothing to do.
+/// What begins so, and goes on with 29 turns about files: so many do a step, in one it is told that all is watched, and then there is
+/// nothing to do.
 fn with_steps(alloc: Global, front: &[u8], steps: u32) -> Result<Text, Memory> {
     let mut text = Text::from_slice(alloc, front)?;
     for _ in 0..steps {
         text.append(b"turn 1 file\nword stepped\n")?;
     }
-    for _ in steps..29 {
+    text.append(b"turn 1 file\nready 1\n")?;
+    for _ in steps..28 {
         text.append(b"turn 1 file\nword quiet\n")?;
     }
     text.append(b"turn 1 last\nend ok lost 0\n")?;
     Ok(text)
 }
 
-/// Whether thirty turns behind these lines bring what begins so, and then at least one step, at most 16, and nothing more to do.
+/// Whether thirty turns behind these lines bring what begins so, and then at least one step, at most 16, that all is watched, and
+/// nothing more to do.
 fn settles(alloc: Global, lines: &[u8], front: &[u8]) -> Result<bool, Memory> {
     let script = with_turns(alloc, lines)?;
     let (sink, _) = run(alloc, b"replay", script.as_slice())?;

@@ -4,6 +4,8 @@
 #[cfg(test)]
 mod again_tests;
 #[cfg(test)]
+mod brought_tests;
+#[cfg(test)]
 mod file_tests;
 #[cfg(test)]
 mod function_tests;
@@ -11,6 +13,8 @@ mod function_tests;
 mod grace_tests;
 #[cfg(test)]
 mod key_tests;
+#[cfg(test)]
+mod listen_tests;
 #[cfg(test)]
 mod quit_tests;
 #[cfg(test)]

@@ -1,29 +1,14 @@
-use Rattle.std.proofs.Common.{refl, sym, ◌∙◌}
+use Rattle.std.proofs.Common.{sym, ◌∙◌}
 use Rattle.wx_file_turns.specs.Standing.{owing}
-use Rattle.wx_engine.proofs.TurnLemmas.{serves_other, serves_files}
-use Rattle.wx_engine.proofs.WatchLemmas.{Aside, ok_always, file_kind, files_over, aside, aside_source, aside_pays, aside_makes_none}
+use Rattle.wx_engine.proofs.TurnLemmas.{serves_other}
+use Rattle.wx_engine.proofs.WatchLemmas.{Aside, ok_always, about_files, files_over, aside, aside_source, aside_pays, aside_makes_none}
 use Rattle.wx_engine.proofs.running.serve.Goals.{After-serve_other}
 use Rattle.wx_engine.proofs.running.serve.Goals as goal
 
 -- ---- a turn about what is watched
 
-pub file_turn-requires : goal.file_turn-requires
-file_turn-requires g c = λ κs lives. (
-  lives.0,
-  (
-    lives.1.0,
-    (lives.1.1, ((c.args.at, rw (file_kind c.args.kind (sym c.is_file_turn.ensures ∙ c.if-is_file_turn.true)) at c.requires.1.1.1.0), c.requires.1.1.1.1.1)),
-  ),
-)
-
-pub returns-then-is_file_turn-clause-serves : goal.returns-then-is_file_turn-clause-serves
-returns-then-is_file_turn-clause-serves g c = serves_files _ _ _ g.start _ _ _ _ _ _ _ _ c.file_turn.ensures.attends
-
 pub returns-then-is_file_turn-clause-last : goal.returns-then-is_file_turn-clause-last
-returns-then-is_file_turn-clause-last g c = λ on. rw (file_kind c.args.kind (sym c.is_file_turn.ensures ∙ c.if-is_file_turn.true)) refl
-
-pub returns-in_err-file_turn-clause-serves : goal.returns-in_err-file_turn-clause-serves
-returns-in_err-file_turn-clause-serves g c = serves_files _ _ _ g.start _ _ _ _ _ _ _ _ c.file_turn.ensures.attends
+returns-then-is_file_turn-clause-last g c = λ on. about_files c.args.kind (sym c.is_file_turn.ensures ∙ c.if-is_file_turn.true)
 
 -- ---- a turn that isn't about what is watched
 

@@ -18,7 +18,6 @@ use Rattle.wx_action.proofs.TurnLaws.{next_turn}
 use Rattle.wx_machine.specs.Told.{is_last}
 use Rattle.wx_engine.specs.Run.{Rests, ServesTurns}
 use Rattle.wx_engine.proofs.TurnLemmas.{Drawn, turn_drawn, fault_drawn, drawn_follows, drawn_quiet, drawn_counts, early_drawn, served, turn_stands, fault_stands, turns_then}
-use Rattle.wx_engine.proofs.RunLemmas.{turn_cause}
 use Rattle.wx_engine.proofs.WatchLemmas.{files_over, pays_over, pays_none}
 use Rattle.wx_engine.proofs.running.serve_turns.Goals.{After-push-in-turns, After-serve}
 use Rattle.wx_engine.proofs.running.serve_turns.Goals as goal

@@ -1,5 +1,5 @@
 use Rattle.std.proofs.Common.{◌≡◌, length}
-use Rattle.wx_file_turns.specs.Applying.{are_all_in}
+use Rattle.wx_machine.specs.Files.{are_all_in}
 use Rattle.wx_file_turns.proofs.applying.are_all_in.Given as goal
 
 abbrev pub invariant-loop-rest : goal.invariant-loop-rest

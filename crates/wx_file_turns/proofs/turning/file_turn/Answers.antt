@@ -1,4 +1,4 @@
-use Rattle.std.proofs.Common.{sym, ◌∙◌}
+use Rattle.std.proofs.Common.{refl, sym, ◌∙◌}
 use Rattle.wx_machine.specs.Leads.{Here}
 use Rattle.wx_action.proofs.Serving.{promised_grown}
 use Rattle.wx_file_turns.proofs.Onward.{attends_alone, attends_grown}
@@ -26,7 +26,7 @@ returns-then-not-is_applied-clause-maker g c = let d = returns-then-not-is_appli
 pub attend-requires : goal.attend-requires
 attend-requires g c = λ κs lives.
     let h = steps_owed g.start c.args.worker.now c.args.files.now _ c.requires.1.1.1.0.0 c.args.journal.now.past c.requires.1.1.1.0.1 c.requires.1.1.1.1 (sym c.is_applied.ensures ∙ c.if-not-is_applied.false) c.in-Some.is in
-    (lives.0, (lives.1.0, (lives.1.1, (record { stands = h.0; due = h.1 }, (h.3, (h.2, c.requires.1.1.1.1.folder_kept))))))
+    (lives.0, (lives.1.0, (lives.1.1, (record { stands = h.0; due = h.1 }, (h.3, (c.requires.1.1.1.1.intake_kept, (h.2, c.requires.1.1.1.1.folder_kept)))))))
 
 pub returns-in-Some-clause-promised : goal.returns-in-Some-clause-promised
 returns-in-Some-clause-promised g c = let d = c.attend.ensures.attends in promised_grown (λ h. g.H.JobHooks.seen h) (λ plan. g.H.JobHooks.rule plan) (λ h. g.H.JobHooks.stands h) g.start _ _ _ _ _ (λ h. g.met.H.JobHooks.stands_other h) d.stands d.keeps
@@ -39,7 +39,7 @@ returns-in-Some-clause-maker g c = let d = c.attend.ensures.attends in maker_cou
 pub say-requires : goal.say-requires
 say-requires g c =
     let h = ignores_owed g.start c.args.worker.now c.args.files.now c.requires.1.1.1.0.0 c.args.journal.now.past c.requires.1.1.1.0.1 c.requires.1.1.1.1 (sym c.is_applied.ensures ∙ c.if-not-is_applied.false) c.in-None.is in
-    (h.0, ignored_due g.start c.args.journal.now.past h.1)
+    (h.0, (ignored_due g.start c.args.journal.now.past h.1, refl))
 
 pub returns-in_err-say-in-None-clause-attends : goal.returns-in_err-say-in-None-clause-attends
 returns-in_err-say-in-None-clause-attends g c = attends_grown _ _ _ g.start _ _ _ _ _ c.say.ensures.grows

@@ -1,6 +1,6 @@
 use Rattle.wx_words.specs.Parts.{line}
 use Rattle.wx_words.specs.Spellings.{Spelling}
-use Rattle.wx_journal.specs.Answers.{AreReadAgain, done, waited, verdict, backed, readied, hooked}
+use Rattle.wx_journal.specs.Answers.{AreReadAgain, done, waited, verdict, backed, news, readied, hooked}
 use Rattle.wx_journal.proofs.answers.answers_are_read_again.Goals as goal
 
 -- a spelling has both as its own laws
@@ -18,6 +18,9 @@ returns-clause-verdict c = read_again verdict
 
 pub returns-clause-backed : goal.returns-clause-backed
 returns-clause-backed c = read_again backed
+
+pub returns-clause-news : goal.returns-clause-news
+returns-clause-news c = read_again news
 
 pub returns-clause-readied : goal.returns-clause-readied
 returns-clause-readied c = read_again readied

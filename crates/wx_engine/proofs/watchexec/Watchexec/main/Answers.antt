@@ -1,5 +1,5 @@
 use Rattle.wx_machine.proofs.ReapLaws.{ran_reaps}
-use Rattle.wx_engine.proofs.MainLaws.{answered_ran, ran_shows, ran_shows_open, completed, ran_makes_by_rule, ran_is_served, ran_is_revised, ran_is_placed, ran_is_watched, ran_ends_unmade, ran_waits, graces_have_children}
+use Rattle.wx_engine.proofs.MainLaws.{answered_ran, ran_shows, ran_shows_open, completed, ran_makes_by_rule, ran_is_served, ran_is_revised, ran_is_placed, ran_is_watched, ran_is_from_files, ran_ends_unmade, ran_waits, graces_have_children}
 use Rattle.wx_engine.proofs.OfferLaws.{ran_offers}
 use Rattle.wx_engine.proofs.WishLaws.{answered_granted}
 use Rattle.wx_engine.proofs.watchexec.Watchexec.main.Goals as goal
@@ -60,6 +60,9 @@ returns-clause-functions g c = ran_waits c.args.self _ (answered_ran c.args.self
 
 pub returns-clause-watched : goal.returns-clause-watched
 returns-clause-watched g c = ran_is_watched c.args.self _ (answered_ran c.args.self _ c.run.result c.run.ensures.answers)
+
+pub returns-clause-from_files : goal.returns-clause-from_files
+returns-clause-from_files g c = ran_is_from_files c.args.self _ (answered_ran c.args.self _ c.run.result c.run.ensures.answers)
 
 pub returns-clause-ends_unmade : goal.returns-clause-ends_unmade
 returns-clause-ends_unmade g c = ran_ends_unmade c.args.self _ (answered_ran c.args.self _ c.run.result c.run.ensures.answers)

@@ -1,0 +1,40 @@
+-- What is made of an item that is heard.
+use Rattle.std.specs.Prelude.{◌≡◌, Bool, if◌then◌else◌, Result, Ok, Err, List, []}
+use Rattle.wx_notify.specs.declared.notify.Notify.{Notify}
+use Rattle.wx_watch.specs.declared.notify_fault.NotifyFault.{NotifyFault}
+use Rattle.wx_lane.specs.declared.topology.Topology.{Topology}
+use Rattle.wx_lane.specs.Messages.{topology_messages}
+use Rattle.wx_lane.specs.declared.lane.LaneItem.{LaneItem}
+use Rattle.wx_journal.specs.declared.entry.Entry.{Entry}
+use Rattle.wx_journal.specs.declared.entry.Entry.TheVariants.{Heard}
+use Rattle.wx_machine.specs.Start.{Start}
+use Rattle.wx_machine.specs.Files.{fault_of, item_fault, item_named, source}
+use Rattle.wx_machine.specs.Due.{rest_entry}
+use Rattle.wx_scan.specs.declared.backend.Backend.{Ghosts}
+use Rattle.wx_holding.specs.Holding.{state_of}
+use Rattle.wx_fs.specs.declared.recursor.Recursor.{Recursor}
+use Rattle.wx_file_turns.specs.declared.hearing.Hearing.{Hearing}
+
+-- what was brought says this of the tree, where its backend is live
+abbrev pub messages_of : Bool → Result Notify NotifyFault → List Topology
+messages_of live (Ok n) = if live then topology_messages n else []
+messages_of live (Err fault) = []
+
+abbrev pub hearing_of : Bool → LaneItem → Hearing
+hearing_of live i = record { name = i.name; messages = messages_of live i.item; fault = fault_of i.item }
+
+-- an item is to be heard next, and this is the fault that it is, where it is one
+pub record IsToHear (s : Start) (h : Hearing) (p : List Entry) : Type 0 where
+  pub next : rest_entry s p ≡ Heard h.name
+  pub fault : h.fault ≡ item_fault (item_named h.name (source s p).lane)
+
+-- it keeps watches as it did, over the same backend: for the same roots, by the same filter, with links followed or not as before
+pub record StaysWatching {B : Type 0} {G : Ghosts B} (r r' : Recursor B G) : Type 0 where
+  pub back_kept : r'.back ≡ r.back
+  pub kind_kept : r'.kind ≡ r.kind
+  pub follow_kept : r'.follow ≡ r.follow
+  pub folder_kept : r'.cwd ≡ r.cwd
+  pub spent_kept : r'.spent ≡ r.spent
+  pub place_kept : (state_of r'.held).backend ≡ (state_of r.held).backend
+  pub roots_kept : (state_of r'.held).roots ≡ (state_of r.held).roots
+  pub filter_kept : (state_of r'.held).filter ≡ (state_of r.held).filter
