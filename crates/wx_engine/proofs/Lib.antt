@@ -1,6 +1,7 @@
 mod BeginLemmas
 mod OfferLaws
 mod RunLemmas
+mod SettleLemmas
 mod TurnLemmas
 mod WatchLemmas
 mod WishLaws

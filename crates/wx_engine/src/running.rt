@@ -1,5 +1,5 @@
 // A run of the engine.
-ghost use Rattle.std.specs.Prelude.{◌≡◌, ◌∷◌, [], ℕ, ◌+◌, ◌<◌, ◌≤◌, true, false, OnOk, OnErr, IfOk, IfErr, codes};
+ghost use Rattle.std.specs.Prelude.{◌≡◌, ◌∷◌, [], ℕ, ◌+◌, ◌<◌, ◌≤◌, Bool, true, false, OnOk, OnErr, IfOk, IfErr, codes};
 ghost use Rattle.wx_machine.specs.Steady.{OnlyRoom};
 ghost use Rattle.wx_machine.specs.Kept.{KeepsOn, Promised};
 ghost use Rattle.wx_action.specs.Serves.{AddsAlone, Continues};
@@ -12,6 +12,11 @@ ghost use Rattle.wx_machine.specs.Told.{is_last, TellsNoEnd};
 ghost use Rattle.wx_machine.specs.Answer.{NoneIsToGo, BreaksOff, Answers};
 ghost use Rattle.wx_action.specs.Stands.{Stands, AtTurn, HasEndRoom, Works, end_room};
 ghost use Rattle.wx_file_turns.specs.Serves.{PaysOn, ends_unmade};
+ghost use Rattle.wx_tree.specs.Paths.{Path};
+ghost use Rattle.wx_tree.specs.Trees.{Tree};
+ghost use Rattle.wx_calm.specs.Calm.{StaysCalm};
+ghost use Rattle.wx_calm.specs.FewSteps.{FewSteps};
+ghost use Rattle.wx_file_turns.specs.Settling.{AreSettling, GoesOnSettling};
 ghost use Rattle.wx_file_turns.specs.Standing.{FilesStand, owing};
 ghost use Rattle.wx_journal.specs.Told.{Counts};
 ghost use Rattle.wx_engine.specs.Run.{HasCause, HasTurnCause, Stops, Rests, IsBetween, ServesTurn, ServesTurns, Lists, HasLaws};
@@ -190,6 +195,7 @@ fn serve_files<W: World, H: Hooks>(
     ensures breaks { IfErr result (λ error. BreaksOff start journal.new.past error) }
     ensures files { OnOk result (FilesStand start files.new journal.new.past) }
     ensures paid { PaysOn journal.old.past (W.seen world.old) (owing files.old) journal.new.past (W.seen world.new) (owing files.new) }
+    ensures settles { GoesOnSettling W.Back.backing W.Back.fits result start files.old journal.old.past (W.seen world.old).looked files.new journal.new.past (W.seen world.new).looked }
     ensures maker { Counts (ends_unmade journal.new.past) (W.seen world.old).progress.maker_faults (W.seen world.new).progress.maker_faults }
 {
     match kind {
@@ -221,6 +227,7 @@ fn serve<W: World, H: Hooks>(
     ensures breaks { IfErr result (λ error. BreaksOff start journal.new.past error) }
     ensures files { OnOk result (FilesStand start files.new journal.new.past) }
     ensures paid { PaysOn journal.old.past (W.seen world.old) (owing files.old) journal.new.past (W.seen world.new) (owing files.new) }
+    ensures settles { GoesOnSettling W.Back.backing W.Back.fits result start files.old journal.old.past (W.seen world.old).looked files.new journal.new.past (W.seen world.new).looked }
     ensures maker { Counts (ends_unmade journal.new.past) (W.seen world.old).progress.maker_faults (W.seen world.new).progress.maker_faults }
 {
     if is_file_turn(&kind) {
@@ -293,6 +300,7 @@ fn serve_turns<W: World, H: Hooks>(
     ensures keeps { KeepsOn H.seen H.rule H.stands hooks.old journal.old.past hooks.new journal.new.past }
     ensures cause { IfErr result (λ error. HasTurnCause journal.new.past error (W.seen world.old).progress (W.seen world.new).progress) }
     ensures paid { PaysOn journal.old.past (W.seen world.old) (owing files.old) journal.new.past (W.seen world.new) 0 }
+    ensures settles { (t : Tree) (ok : ℕ → Path → Bool) → StaysCalm t ok start journal.new.past (W.seen world.old).looked (W.seen world.new).looked → AreSettling W.Back.backing W.Back.fits t ok start journal.old.past files.old → FewSteps start t journal.new.past }
 {
     'turns: loop {
         make_room(state, world, journal)?;
@@ -332,6 +340,7 @@ pub(crate) fn run<W: World, H: Hooks>(
     ensures lists { Lists journal.new.past (W.seen world.old) (H.seen hooks.old).told (W.seen world.new) (H.seen hooks.new).told }
     ensures laws { HasLaws start journal.new.past }
     ensures promised { Promised H.seen H.rule H.stands hooks.old [] hooks.new journal.new.past }
+    ensures settles { (t : Tree) (ok : ℕ → Path → Bool) → StaysCalm t ok start journal.new.past (W.seen world.old).looked (W.seen world.new).looked → FewSteps start t journal.new.past }
     ensures world_plan { (W.seen world.new).plan ≡ (W.seen world.old).plan }
     ensures world_place { (W.seen world.new).place ≡ (W.seen world.old).place }
 {

@@ -1,5 +1,9 @@
 // The run of an engine.
-ghost use Rattle.std.specs.Prelude.{◌≡◌, [], ◌+◌, ◌≤◌, false, IfErr, None};
+ghost use Rattle.std.specs.Prelude.{◌≡◌, [], ◌+◌, ◌≤◌, ℕ, Bool, false, IfErr, None};
+ghost use Rattle.wx_tree.specs.Paths.{Path};
+ghost use Rattle.wx_tree.specs.Trees.{Tree};
+ghost use Rattle.wx_calm.specs.Calm.{StaysCalm};
+ghost use Rattle.wx_calm.specs.FewSteps.{FewSteps};
 ghost use Rattle.wx_control.specs.declared.id.Id.{Id as AnId};
 ghost use Rattle.wx_journal.specs.Told.{is_world, is_hooks, is_turn, anywhere, tells, Obeys, Rose};
 ghost use Rattle.wx_machine.specs.History.{child};
@@ -100,6 +104,11 @@ impl Watchexec {
         ensures from_files { AreFromFiles self journal.new.past }
         ensures ends_unmade { UnmadeEnds journal.new.past }
         ensures steps { AreFewSteps journal.new.past (W.seen world.old).looked.looks (W.seen world.new).looked.looks }
+
+        // On a tree that is known from the first turn on, where backends are exact, each path of the tree has names for parts, no look
+        // failed, links aren't followed by settings that were applied, and each filter judged directories as one test of paths does: since
+        // settings were applied there are no more steps than settle, and what they show is that applied roots are absent.
+        ensures settles { (t : Tree) (ok : ℕ → Path → Bool) → StaysCalm t ok self journal.new.past (W.seen world.old).looked (W.seen world.new).looked → FewSteps self t journal.new.past }
 
         // Where the hooks stood for the empty journal and are not short, each call passes their rule.
         ensures rule { (H.seen hooks.new).short ≡ false → H.stands hooks.old [] → Obeys (H.rule (H.seen hooks.old).plan) [] journal.new.past }

@@ -16,11 +16,12 @@ use Rattle.wx_machine.specs.Kept.{TellsHooks, Keeps, OnlyHooksRoom}
 use Rattle.wx_machine.specs.Leads.{FollowsHooks, Then}
 use Rattle.wx_machine.specs.Journal.{is_exit}
 use Rattle.wx_machine.specs.Due.{Due}
+use Rattle.wx_machine.specs.Added.{Same, More}
 use Rattle.wx_action.specs.declared.worker_state.Worker.{Worker}
 use Rattle.wx_action.specs.Stands.{Stands, end_room}
 use Rattle.wx_action.proofs.CallLemmas.{dir_stands}
 use Rattle.wx_action.proofs.WorkLemmas.{called_grows}
-use Rattle.wx_file_turns.specs.Judged.{recursive_places, IsStepping, IsUpToDate, StepsHand, Base, IsKept}
+use Rattle.wx_file_turns.specs.Judged.{AddsDirs, recursive_places, IsStepping, IsUpToDate, StepsHand, Base, IsKept}
 use Rattle.wx_file_turns.specs.Serves.{LeavesWatch}
 use Rattle.wx_file_turns.proofs.Entries.{leaves_dir}
 use Rattle.wx_file_turns.proofs.Onward.{steps_hand_then, steps_hand_room, hand_none}
@@ -34,6 +35,7 @@ module _ {K Fixed : Type 0} (seen : K → Hooked Fixed) (rule : Fixed → List E
   pub kept_room : (b : Base K) (folder : List ℕ) (w : Worker) (j k : Written) (x y : K) → IsKept seen rule holds b folder w j x → k.past ≡ j.past → j.spare ≤ k.spare → OnlyHooksRoom seen holds x y → IsKept seen rule holds b folder w k y
   kept_room b folder w j k x y h same more only = record {
     hand = steps_hand_then seen rule holds b.start b.worker w w b.journal j k b.hooks x y h.hand (steps_hand_room seen rule holds b.start w j k x y h.hand.grows.stands same more only);
+    dirs = rw same h.dirs;
     stepping = rw same h.stepping;
     applied_now = rw same h.applied_now;
     folder_kept = h.folder_kept;
@@ -51,6 +53,7 @@ module _ {K Fixed : Type 0} (seen : K → Hooked Fixed) (rule : Fixed → List E
       let one : StepsHand seen rule holds b.start w k y w' l z = record { grows = grew; leaves = leaves_dir b.start k.past l.past n path answer grown; end_kept = rw with_queue refl; room = λ r. rw with_queue (omega (arith, room, used)) } in
       record {
         hand = steps_hand_then seen rule holds b.start b.worker w w' b.journal k l b.hooks y z r.hand one;
+        dirs = rw grown (More (Dir n path answer) k.past r.dirs tt);
         stepping = dir_on b.start k.past l.past n path answer r.stepping grown;
         applied_now = rw grown r.applied_now;
         folder_kept = h.folder_kept;
@@ -58,7 +61,7 @@ module _ {K Fixed : Type 0} (seen : K → Hooked Fixed) (rule : Fixed → List E
 
   -- at the beginning
   pub kept_first : (s : Start) (folder : List ℕ) (w : Worker) (j : Written) (x : K) → Stands s w j.past → IsStepping s j.past → IsUpToDate s j.past → folder ≡ s.folder → IsKept seen rule holds (record { start = s; worker = w; journal = j; hooks = x }) folder w j x
-  kept_first s folder w j x stands step now same = record { hand = hand_none seen rule holds s w j x stands; stepping = step; applied_now = now; folder_kept = same }
+  kept_first s folder w j x stands step now same = record { hand = hand_none seen rule holds s w j x stands; dirs = Same; stepping = step; applied_now = now; folder_kept = same }
 
   -- what stands behind the references afterwards
   pub kept_behind : (b : Base K) (folder folder' : List ℕ) (w w' : Worker) (j j' : Written) (x x' : K) → IsKept seen rule holds b folder w j x → folder' ≡ folder → w' ≡ w → j' ≡ j → x' ≡ x → IsKept seen rule holds b folder' w' j' x'
@@ -67,3 +70,6 @@ module _ {K Fixed : Type 0} (seen : K → Hooked Fixed) (rule : Fixed → List E
 -- and behind that of the journal
 pub leaves_behind : (s : Start) (p q q' : List Entry) → LeavesWatch s p q → q' ≡ q → LeavesWatch s p q'
 leaves_behind s p q q' h same = rw same h
+
+pub dirs_behind : (p q q' : List Entry) → AddsDirs p q → q' ≡ q → AddsDirs p q'
+dirs_behind p q q' h same = rw same h

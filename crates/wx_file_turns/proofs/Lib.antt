@@ -4,6 +4,7 @@ pub mod Entries
 pub mod Hearings
 pub mod Intakes
 pub mod Listened
+pub mod Messages
 pub mod Named
 pub mod Nexts
 pub mod Onward
@@ -11,8 +12,10 @@ pub mod Rebuilt
 pub mod Rests
 pub mod Rising
 pub mod SameRoots
+pub mod Settled
 pub mod Standing
 pub mod Staying
 pub mod Steps
 pub mod Telling
 pub mod TurnLemmas
+pub mod Walks

@@ -7,6 +7,7 @@ use Rattle.wx_lane.specs.Public.{named}
 use Rattle.wx_journal.specs.declared.entry.Entry.{Entry}
 use Rattle.wx_journal.specs.declared.entry.Entry.TheVariants.{Dir}
 use Rattle.wx_journal.specs.Written.{Written}
+use Rattle.wx_machine.specs.Added.{Added}
 use Rattle.wx_machine.specs.Start.{Start}
 use Rattle.wx_machine.specs.Seen.{Hooked}
 use Rattle.wx_machine.specs.Settings.{settings}
@@ -44,6 +45,15 @@ pub record StepsHand {K Fixed : Type 0} (seen : K → Hooked Fixed) (rule : Fixe
   pub end_kept : end_room w' ≡ end_room w
   pub room : end_room w ≤ j.spare → end_room w' ≤ j'.spare
 
+-- the entry says how a directory was judged
+abbrev pub IsDir : Entry → Type 0
+IsDir (Dir n path answer) = Unit {0}
+IsDir (_) = ⊥
+
+-- the new journal is the old one with such entries on top
+abbrev pub AddsDirs : List Entry → List Entry → Type 0
+AddsDirs p p' = Added (λ q e. IsDir e) p p'
+
 -- a start, and worker, journal and hooks as they were at the beginning of a step
 pub record Base (K : Type 0) : Type 0 where
   pub start : Start
@@ -54,6 +64,7 @@ pub record Base (K : Type 0) : Type 0 where
 -- what is known of them since then: the step goes on
 pub record IsKept {K Fixed : Type 0} (seen : K → Hooked Fixed) (rule : Fixed → List Entry → Entry → Type 0) (holds : K → List Entry → Type 0) (b : Base K) (folder : List ℕ) (w' : Worker) (j' : Written) (x' : K) : Type 0 where
   pub hand : StepsHand seen rule holds b.start b.worker b.journal b.hooks w' j' x'
+  pub dirs : AddsDirs b.journal.past j'.past
   pub stepping : IsStepping b.start j'.past
   pub applied_now : IsUpToDate b.start j'.past
   pub folder_kept : folder ≡ b.start.folder

@@ -5,5 +5,6 @@ pub mod Judged
 pub mod Making
 pub mod Resting
 pub mod Serves
+pub mod Settling
 pub mod Standing
 pub mod Stepping

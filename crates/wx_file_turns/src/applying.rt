@@ -1,5 +1,11 @@
 // How settings are applied to what is watched.
-ghost use Rattle.std.specs.Prelude.{◌≡◌, List, ℕ, true, false, IfErr, IfOk, OnOk};
+ghost use Rattle.std.specs.Prelude.{◌≡◌, List, ℕ, Bool, true, false, IfErr, IfOk, OnOk};
+ghost use Rattle.wx_tree.specs.Paths.{Path};
+ghost use Rattle.wx_tree.specs.Trees.{Tree};
+ghost use Rattle.wx_scan.specs.Told.{IsNamed};
+ghost use Rattle.wx_calm.specs.Calm.{Foresees};
+ghost use Rattle.wx_calm.specs.FewSteps.{earlier_roots};
+ghost use Rattle.wx_file_turns.specs.Settling.{AnyOf, AreRefreshed, GoesOnSettling, IsJustApplied, Walked, Walks};
 ghost use Rattle.wx_machine.specs.Answer.{BreaksHere};
 ghost use Rattle.wx_machine.specs.Due.{Applies, Comes, Makes, Open, agenda, is_quitting};
 ghost use Rattle.wx_machine.specs.Files.{are_all_in, are_same_roots, is_same_switch, is_same_watcher};
@@ -100,6 +106,7 @@ impl<B: Backend + Drop> Watching<B> {
     fn refresh(&mut self, alloc: Global, config: &Config) -> Result<(), Memory>
         ensures watches { (folder : List ℕ) (back : ℕ) → ServesStill folder config.now back self.old → OnOk result (WatchesBy folder config.now back self.new) }
         ensures refreshes { OnOk result (Refreshes (is_settled config.now self.old) config.now self.old self.new) }
+        ensures others { (self.new.recursor.back ≡ self.old.recursor.back) × (self.new.recursor.follow ≡ self.old.recursor.follow) × (self.new.recursor.cwd ≡ self.old.recursor.cwd) }
     {
         let settled = self.is_settled(alloc, config)?;
         if settled {
@@ -147,7 +154,9 @@ impl<B: Backend + Drop> Files<B> {
     /// for want of memory.
     fn refresh(&mut self, config: &Config) -> Result<(), Memory>
         requires { any_serves config.now self.old.source ≡ true }
-        ensures { (start : Start) (past : List AnEntry) → IsBehind start self.old past → config.now ≡ settings start past → OnOk result (FilesStand start self.new past) }
+        ensures stands { (start : Start) (past : List AnEntry) → IsBehind start self.old past → config.now ≡ settings start past → OnOk result (FilesStand start self.new past) }
+        ensures refreshed { AreRefreshed result config.now self.old.source self.new.source }
+        ensures intake { self.new.intake ≡ self.old.intake }
     {
         match &mut self.source {
             None => Ok(()),
@@ -175,6 +184,7 @@ fn begin<W: World>(
     ensures onward { CountsOnward journal.old.past (W.seen world.old) journal.new.past (W.seen world.new) }
     ensures served { OnOk result (agenda start journal.new.past ≡ Open) }
     ensures watching { IfOk result (λ watching. IsWatching start watching journal.new.past) }
+    ensures walks { (t : Tree) (ok : ℕ → Path → Bool) → IsNamed t → Foresees t (W.seen world.old).looked → IsJustApplied start worker.now.config journal.old.past → IfOk result (λ watching. Walks W.Back.backing W.Back.fits t ok start journal.new.past watching) }
     ensures brought { StaysBrought start journal.old.past journal.new.past }
     ensures breaks { IfErr result (λ error. BreaksHere start journal.new.past error) }
 {
@@ -203,6 +213,8 @@ fn watch<W: World>(
     ensures onward { CountsOnward journal.old.past (W.seen world.old) journal.new.past (W.seen world.new) }
     ensures served { OnOk result (agenda start journal.new.past ≡ Open) }
     ensures files { OnOk result (FilesStand start files.new journal.new.past) }
+    ensures intake { files.new.intake ≡ files.old.intake }
+    ensures walks { (t : Tree) (ok : ℕ → Path → Bool) → IsNamed t → Foresees t (W.seen world.old).looked → IsJustApplied start worker.now.config journal.old.past → AnyOf (λ w. Walked W.Back.backing W.Back.fits t ok start (earlier_roots start journal.old.past) w) files.old.source → OnOk result (AnyOf (λ w. Walks W.Back.backing W.Back.fits t ok start journal.new.past w) files.new.source) }
     ensures breaks { IfErr result (λ error. BreaksHere start journal.new.past error) }
 {
     if files.serves(&worker.config) {
@@ -231,6 +243,7 @@ pub(crate) fn apply<W: World>(
     ensures served { OnOk result (agenda start journal.new.past ≡ Open) }
     ensures files { OnOk result (FilesStand start files.new journal.new.past) }
     ensures breaks { IfErr result (λ error. BreaksHere start journal.new.past error) }
+    ensures settles { GoesOnSettling W.Back.backing W.Back.fits result start files.old journal.old.past (W.seen world.old).looked files.new journal.new.past (W.seen world.new).looked }
     ensures paid { PaysOn journal.old.past (W.seen world.old) (owing files.old) journal.new.past (W.seen world.new) (owing files.new) }
 {
     worker.reserve(1, journal)?;

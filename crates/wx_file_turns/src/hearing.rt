@@ -1,5 +1,5 @@
 // How what was brought is heard: what it says of the tree is told to what keeps watches, and a fault is shown.
-ghost use Rattle.std.specs.Prelude.{◌≡◌, ◌≤◌, ◌+◌, ◌⊎◌, if◌then◌else◌, Some, true, false, [], IfErr, IfOk, OnOk};
+ghost use Rattle.std.specs.Prelude.{◌≡◌, ◌≤◌, ◌+◌, ◌⊎◌, if◌then◌else◌, true, false, [], IfErr, IfOk, OnOk, Some};
 ghost use Rattle.wx_machine.specs.Answer.{BreaksHere};
 ghost use Rattle.wx_machine.specs.Due.{Comes, Open, Shows, Steps, after_fault, agenda, is_quitting};
 ghost use Rattle.wx_machine.specs.Journal.{closed};
@@ -7,6 +7,8 @@ ghost use Rattle.wx_machine.specs.Start.{Start};
 ghost use Rattle.wx_machine.specs.Steps.{work_count};
 ghost use Rattle.wx_action.specs.Stands.{Owes};
 ghost use Rattle.wx_file_turns.specs.Hearing.{IsToHear, StaysWatching, hearing_of};
+ghost use Rattle.wx_calm.specs.FewSteps.{AddsBeside};
+ghost use Rattle.wx_file_turns.specs.Intake.{heard};
 ghost use Rattle.wx_file_turns.specs.Judged.{StepsHand};
 ghost use Rattle.wx_file_turns.specs.Serves.{AttendsHand};
 ghost use Rattle.wx_file_turns.specs.Standing.{IntakeStands};
@@ -89,7 +91,11 @@ fn tell_all<B: Backend + Drop>(
 ) -> Result<(), Memory>
     ensures stays { OnOk result (StaysWatching watching.old.recursor watching.new.recursor) }
     ensures named { watching.new.back ≡ watching.old.back }
+    ensures silent { messages ≡ [] → watching.new ≡ watching.old }
 {
+    if messages.is_empty() {
+        return Ok(());
+    }
     for message in messages.as_slice() {
         tell(message, &mut watching.recursor)?;
     }
@@ -192,6 +198,9 @@ pub(crate) fn hear<B: Backend + Drop, H: Hooks>(
     ensures watching { OnOk result (IsWatching start watching.new journal.new.past) }
     ensures intake { OnOk result (IntakeStands start intake.new journal.new.past) }
     ensures work { OnOk result (work_count journal.old.past + 1 ≤ work_count journal.new.past) }
+    ensures silent { hearing.messages ≡ [] → watching.new ≡ watching.old }
+    ensures lane { OnOk result (intake.new ≡ heard hearing.name intake.old) }
+    ensures beside { AddsBeside journal.old.past journal.new.past }
     ensures idle { (work_count journal.old.past + 1 ≤ work_count journal.new.past) ⊎ (watching.new ≡ watching.old) }
     ensures breaks { IfErr result (λ error. BreaksHere start journal.new.past error) }
 {

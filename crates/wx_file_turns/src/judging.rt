@@ -1,8 +1,15 @@
 // How a step judges directories: by the filter of the hooks, with each answer listed.
-ghost use Rattle.std.specs.Prelude.{◌≡◌, ◌∷◌, [], IfOk, OnErr, OnOk};
+ghost use Rattle.std.specs.Prelude.{◌≡◌, ◌∷◌, [], ℕ, Bool, true, IfOk, OnErr, OnOk};
+ghost use Rattle.wx_tree.specs.Paths.{Path as APath};
+ghost use Rattle.wx_tree.specs.Trees.{Tree};
+ghost use Rattle.wx_holding.specs.Holding.{state_of};
+ghost use Rattle.wx_calm.specs.Calm.{IsCalmTurn};
+ghost use Rattle.wx_calm.specs.Walking.{WalksStep};
 ghost use Rattle.wx_machine.specs.Start.{Start};
 ghost use Rattle.wx_action.specs.Stands.{Stands};
-ghost use Rattle.wx_file_turns.specs.Judged.{AreJudgedBy, Base, IsKept, IsStepping, recursive_places};
+ghost use Rattle.wx_file_turns.specs.Judged.{AddsDirs, AreJudgedBy, Base, IsKept, IsStepping, recursive_places};
+ghost use Rattle.wx_file_turns.specs.Settling.{IsSound, Walks};
+ghost use Rattle.wx_file_turns.specs.Standing.{works};
 ghost use Rattle.wx_file_turns.specs.Stepping.{IsAtStep, IsWorthwhileUnless, StepsOn};
 
 use crate::files::Watching;
@@ -91,6 +98,9 @@ pub(crate) fn take_step<W: World, H: Hooks>(
     ensures steps { StepsOn H.seen H.rule H.stands start worker.old journal.old (W.seen world.old) hooks.old worker.new journal.new (W.seen world.new) hooks.new }
     ensures at_step { OnOk result (IsAtStep start watching.new journal.new.past) }
     ensures worthwhile { IfOk result (λ shown. IsWorthwhileUnless shown.rebuild_backend watching.new journal.old.past (W.seen world.old) journal.new.past (W.seen world.new)) }
+    ensures dirs { AddsDirs journal.old.past journal.new.past }
+    ensures walks { (t : Tree) (ok : ℕ → APath → Bool) → IsCalmTurn t ok start journal.new.past (W.seen world.old).looked (W.seen world.new).looked → Walks W.Back.backing W.Back.fits t ok start journal.old.past watching.old → works watching.old ≡ true
+        → IfOk result (λ shown. IsSound W.Back.backing W.Back.fits t start watching.new.recursor × WalksStep t ok start journal.new.past (state_of watching.new.recursor.held) shown.errors shown.rebuild_backend) }
     ensures cut { OnErr result (IsStepping start journal.new.past) }
 {
     let mut dirs = DirCalls {

@@ -15,6 +15,7 @@ ghost use Rattle.wx_machine.specs.Start.{Start};
 ghost use Rattle.wx_action.specs.Stands.{AtTurn, Owes};
 ghost use Rattle.wx_file_turns.specs.Intake.{brought, listed};
 ghost use Rattle.wx_file_turns.specs.Serves.{AttendsAlone, CountsOnward, PaysOn, ends_unmade};
+ghost use Rattle.wx_file_turns.specs.Settling.{GoesOnSettling, GoesOnWalking};
 ghost use Rattle.wx_file_turns.specs.Standing.{FilesStand, IntakeStands, WatchesBy, owing, works};
 
 use crate::files::{Files, Watching};
@@ -99,6 +100,7 @@ fn listen<W: World>(
     ensures source { ((source start journal.new.past).applied ≡ (source start journal.old.past).applied) × ((source start journal.new.past).current ≡ (source start journal.old.past).current) }
     ensures watches { (folder : List ℕ) (config : AConfig) (back : ℕ) → WatchesBy folder config back watching.old → WatchesBy folder config back watching.new }
     ensures works { works watching.new ≡ works watching.old }
+    ensures settles { GoesOnWalking W.Back.backing W.Back.fits result start watching.old intake.old journal.old.past (W.seen world.old).looked watching.new intake.new journal.new.past (W.seen world.new).looked }
     ensures cut { OnErr result (NoneIsToGo (agenda start journal.new.past)) }
     ensures none_unmade { ends_unmade journal.new.past ≡ false }
 {
@@ -133,6 +135,7 @@ pub fn listen_turn<W: World>(
     ensures cut { OnErr result (NoneIsToGo (agenda start journal.new.past)) }
     ensures none_unmade { ends_unmade journal.new.past ≡ false }
     ensures paid { PaysOn journal.old.past (W.seen world.old) (owing files.old) journal.new.past (W.seen world.new) (owing files.new) }
+    ensures settles { GoesOnSettling W.Back.backing W.Back.fits result start files.old journal.old.past (W.seen world.old).looked files.new journal.new.past (W.seen world.new).looked }
 {
     match &mut files.source {
         None => say(worker, Word::Ignored, journal),

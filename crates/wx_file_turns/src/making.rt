@@ -1,5 +1,7 @@
 // How a backend is made.
-ghost use Rattle.std.specs.Prelude.{◌≡◌, ◌∷◌, [], IfErr, IfOk, Ok};
+ghost use Rattle.std.specs.Prelude.{◌≡◌, ◌∷◌, [], true, false, IfErr, IfOk, Ok};
+ghost use Rattle.wx_tree.specs.Trees.{Tree};
+ghost use Rattle.wx_scan.specs.Told.{IsNamed};
 ghost use Rattle.wx_journal.specs.declared.entry.Entry.TheVariants.{Make};
 ghost use Rattle.wx_machine.specs.Answer.{BreaksHere};
 ghost use Rattle.wx_machine.specs.Files.{init_fault};
@@ -65,6 +67,7 @@ pub(crate) fn make_backend<W: World>(
     ensures brought { StaysBrought start journal.old.past journal.new.past }
     ensures made { IfOk result (λ made. journal.new.past ≡ Make made.0 kind follow (Ok tt) ∷ journal.old.past) }
     ensures empty { IfOk result (λ made. (W.Back.backing made.1).registrations ≡ []) }
+    ensures exact { (W.seen world.old).looked.exact ≡ true → follow ≡ false → IfOk result (λ made. ((W.Back.backing made.1).exact ≡ true) × ((t : Tree) → IsNamed t → W.Back.fits made.1 t)) }
     ensures breaks { IfErr result (λ error. BreaksHere start journal.new.past error) }
 {
     worker.reserve(1, journal)?;

@@ -14,6 +14,7 @@ ghost use Rattle.wx_action.specs.Stands.{Owes};
 ghost use Rattle.wx_file_turns.specs.Intake.{left, told};
 ghost use Rattle.wx_file_turns.specs.Resting.{IsFirst, next_asked, next_event, next_item};
 ghost use Rattle.wx_file_turns.specs.Serves.{Attends, AttendsAlone, GrowsAlone, PaysOn};
+ghost use Rattle.wx_file_turns.specs.Settling.{GoesOnWalking};
 ghost use Rattle.wx_file_turns.specs.Standing.{IntakeStands, owed, works};
 ghost use Rattle.wx_file_turns.specs.Stepping.{IsWatching};
 
@@ -234,6 +235,7 @@ pub(crate) fn rest<W: World, H: Hooks>(
     ensures intake { OnOk result (IntakeStands start intake.new journal.new.past) }
     ensures breaks { IfErr result (λ error. BreaksHere start journal.new.past error) }
     ensures paid { PaysOn journal.old.past (W.seen world.old) (owed (works watching.old)) journal.new.past (W.seen world.new) (owed (works watching.new)) }
+    ensures settles { GoesOnWalking W.Back.backing W.Back.fits result start watching.old intake.old journal.old.past (W.seen world.old).looked watching.new intake.new journal.new.past (W.seen world.new).looked }
 {
     match coming(alloc, watching, intake)? {
         Next::Rest => Ok(say(worker, Word::Quiet, journal)?),

@@ -1,6 +1,7 @@
 // How errors of what keeps watches are shown, and words said.
-ghost use Rattle.std.specs.Prelude.{◌≡◌, ◌∷◌, false, IfErr, OnErr, OnOk};
+ghost use Rattle.std.specs.Prelude.{◌≡◌, ◌∷◌, [], IfErr, OnErr, OnOk, false};
 ghost use Rattle.wx_journal.specs.declared.entry.Entry.TheVariants.{Word as Said};
+ghost use Rattle.wx_machine.specs.Added.{Added};
 ghost use Rattle.wx_journal.specs.Told.{is_world};
 ghost use Rattle.wx_machine.specs.Answer.{BreaksHere};
 ghost use Rattle.wx_machine.specs.Due.{Due};
@@ -8,6 +9,7 @@ ghost use Rattle.wx_machine.specs.Start.{Start};
 ghost use Rattle.wx_action.specs.Stands.{Stands};
 ghost use Rattle.wx_file_turns.specs.Judged.{IsStepping, StepsHand};
 ghost use Rattle.wx_file_turns.specs.Serves.{GrowsAlone};
+ghost use Rattle.wx_file_turns.specs.Settling.{ShowsOneOf};
 
 use std::alloc::Global;
 use wx_action::{Hooks, Worker};
@@ -42,6 +44,7 @@ fn show_error<H: Hooks>(
     requires stepping { IsStepping start journal.old.past }
     ensures hand { StepsHand H.seen H.rule H.stands start worker.old journal.old hooks.old worker.new journal.new hooks.new }
     ensures stepping { OnOk result (IsStepping start journal.new.past) }
+    ensures shows { OnOk result (Added (λ p e. ShowsOneOf (error ∷ []) e) journal.old.past journal.new.past) }
     ensures breaks { IfErr result (λ error. BreaksHere start journal.new.past error) }
 {
     if worker.queue.is_closed() {
@@ -67,6 +70,7 @@ pub(crate) fn show_errors<H: Hooks>(
     requires stepping { IsStepping start journal.old.past }
     ensures hand { StepsHand H.seen H.rule H.stands start worker.old journal.old hooks.old worker.new journal.new hooks.new }
     ensures stepping { OnOk result (IsStepping start journal.new.past) }
+    ensures shows { OnOk result (Added (λ p e. ShowsOneOf errors e) journal.old.past journal.new.past) }
     ensures breaks { IfErr result (λ error. BreaksHere start journal.new.past error) }
 {
     let mut left = errors;

@@ -1,5 +1,12 @@
 // A step of what keeps watches.
-ghost use Rattle.std.specs.Prelude.{◌≡◌, ◌≤◌, ◌+◌, true, false, IfErr, OnOk};
+ghost use Rattle.std.specs.Prelude.{◌≡◌, ◌≤◌, ◌+◌, ◌∷◌, ℕ, Bool, true, false, IfErr, OnOk};
+ghost use Rattle.wx_tree.specs.Paths.{Path};
+ghost use Rattle.wx_tree.specs.Trees.{Tree};
+ghost use Rattle.wx_journal.specs.declared.entry.Entry.TheVariants.{Word as Said};
+ghost use Rattle.wx_journal.specs.declared.entry.Word.TheVariants.{Stepped};
+ghost use Rattle.wx_calm.specs.Calm.{IsCalmTurn};
+ghost use Rattle.wx_calm.specs.FewSteps.{FewSteps, IsFewMore, TurnShowsAbsent};
+ghost use Rattle.wx_file_turns.specs.Settling.{GoesOnWalking, Walks};
 ghost use Rattle.wx_machine.specs.Answer.{BreaksHere};
 ghost use Rattle.wx_machine.specs.Due.{Open, Steps, agenda, is_quitting};
 ghost use Rattle.wx_machine.specs.Start.{Start};
@@ -38,6 +45,7 @@ fn rebuild_where<W: World, H: Hooks>(
     ensures at_step { OnOk result (IsAtStep start watching.new journal.new.past) }
     ensures work { OnOk result (asked ≡ true → work_count journal.old.past + 1 ≤ work_count journal.new.past) }
     ensures none { asked ≡ false → watching.new ≡ watching.old }
+    ensures still { asked ≡ false → journal.new ≡ journal.old }
     ensures breaks { IfErr result (λ error. BreaksHere start journal.new.past error) }
 {
     if asked {
@@ -65,6 +73,8 @@ fn work<W: World, H: Hooks>(
     ensures steps { StepsOn H.seen H.rule H.stands start worker.old journal.old (W.seen world.old) hooks.old worker.new journal.new (W.seen world.new) hooks.new }
     ensures at_step { OnOk result (IsAtStep start watching.new journal.new.past) }
     ensures worthwhile { OnOk result (IsWorthwhile watching.new journal.old.past (W.seen world.old) journal.new.past (W.seen world.new)) }
+    ensures walks { (t : Tree) (ok : ℕ → Path → Bool) → IsCalmTurn t ok start journal.new.past (W.seen world.old).looked (W.seen world.new).looked → TurnShowsAbsent start t journal.old.past → Walks W.Back.backing W.Back.fits t ok start journal.old.past watching.old → works watching.old ≡ true
+        → OnOk result (IsFewMore start t journal.new.past × Walks W.Back.backing W.Back.fits t ok start (Said Stepped ∷ journal.new.past) watching.new) }
     ensures breaks { IfErr result (λ error. BreaksHere start journal.new.past error) }
 {
     let shown = take_step(alloc, folder, watching, worker, world, hooks, journal)?;
@@ -96,6 +106,8 @@ pub(crate) fn step<W: World, H: Hooks>(
     ensures brought { OnOk result (KeepsBrought start journal.old.past journal.new.past) }
     ensures breaks { IfErr result (λ error. BreaksHere start journal.new.past error) }
     ensures paid { PaysOn journal.old.past (W.seen world.old) 1 journal.new.past (W.seen world.new) (owed (works watching.new)) }
+    ensures walks { (t : Tree) (ok : ℕ → Path → Bool) → IsCalmTurn t ok start journal.new.past (W.seen world.old).looked (W.seen world.new).looked → FewSteps start t journal.old.past → TurnShowsAbsent start t journal.old.past → Walks W.Back.backing W.Back.fits t ok start journal.old.past watching.old → works watching.old ≡ true
+        → FewSteps start t journal.new.past × OnOk result (Walks W.Back.backing W.Back.fits t ok start journal.new.past watching.new) }
 {
     work(alloc, folder, watching, worker, world, hooks, journal)?;
     say(worker, Word::Stepped, journal)?;
@@ -127,6 +139,7 @@ pub(crate) fn attend<W: World, H: Hooks>(
     ensures intake { OnOk result (IntakeStands start intake.new journal.new.past) }
     ensures breaks { IfErr result (λ error. BreaksHere start journal.new.past error) }
     ensures paid { PaysOn journal.old.past (W.seen world.old) (owed (works watching.old)) journal.new.past (W.seen world.new) (owed (works watching.new)) }
+    ensures settles { GoesOnWalking W.Back.backing W.Back.fits result start watching.old intake.old journal.old.past (W.seen world.old).looked watching.new intake.new journal.new.past (W.seen world.new).looked }
 {
     if watching.has_work() {
         step(alloc, folder, watching, worker, world, hooks, journal)?;

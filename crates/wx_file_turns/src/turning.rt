@@ -8,6 +8,7 @@ ghost use Rattle.wx_machine.specs.Kept.{Promised};
 ghost use Rattle.wx_machine.specs.Start.{Start};
 ghost use Rattle.wx_action.specs.Stands.{AtTurn};
 ghost use Rattle.wx_file_turns.specs.Serves.{Attends, PaysOn, ends_unmade};
+ghost use Rattle.wx_file_turns.specs.Settling.{GoesOnSettling};
 ghost use Rattle.wx_file_turns.specs.Standing.{FilesStand, owing};
 
 use crate::applying::apply;
@@ -41,6 +42,7 @@ pub fn file_turn<W: World, H: Hooks>(
     ensures breaks { IfErr result (λ error. BreaksHere start journal.new.past error) }
     ensures maker { Counts (ends_unmade journal.new.past) (W.seen world.old).progress.maker_faults (W.seen world.new).progress.maker_faults }
     ensures paid { PaysOn journal.old.past (W.seen world.old) (owing files.old) journal.new.past (W.seen world.new) (owing files.new) }
+    ensures settles { GoesOnSettling W.Back.backing W.Back.fits result start files.old journal.old.past (W.seen world.old).looked files.new journal.new.past (W.seen world.new).looked }
 {
     if !files.is_applied(worker.config.change_signal) {
         return apply(files, worker, world, journal);

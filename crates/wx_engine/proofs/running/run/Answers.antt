@@ -13,6 +13,8 @@ use Rattle.wx_machine.proofs.RunLaws.{orderly, run_led, run_is_batched, run_has_
 use Rattle.wx_engine.proofs.MainLaws.{leads_world, leads_hooks, dying_hooks, answered_ran, ran_is_batched, ran_has_batches}
 use Rattle.wx_engine.proofs.BeginLemmas.{begun_run}
 use Rattle.wx_engine.proofs.RunLemmas.{stopped, caused_by, broken, wants, calm_stops, calm_begun}
+use Rattle.wx_calm.proofs.Journals.{few_first}
+use Rattle.wx_engine.proofs.SettleLemmas.{begun_few, ended_calm, ended_few, first_settles}
 use Rattle.wx_engine.proofs.WatchLemmas.{few_steps}
 use Rattle.wx_engine.proofs.running.run.Goals as goal
 
@@ -153,3 +155,24 @@ returns-clause-promised g c =
     let ended = dying_keeps g.start c.serve_turns-answer.new.journal.past c.end_jobs.new.journal.past c.end_jobs.ensures.dying in
     promised (λ h. g.H.JobHooks.seen h) (λ plan. g.H.JobHooks.rule plan) (λ h. g.H.JobHooks.stands h) c.args.hooks.now [] c.serve_turns-answer.new.hooks c.end_jobs.new.journal.past (λ h. g.met.H.JobHooks.stands_other h) (ended.own c.serve_turns-answer.ensures.rests.stands.own)
     (Past _ _ _ (c.serve_turns-answer.ensures.keeps _ _ (Past _ _ _ Still ((rw c.requires.1.1.1.1 at c.begin.ensures.adds).quiet [] Same))) (ended.quiet _ Same))
+
+-- ---- where nothing fails
+
+pub returns-in_err-about-clause-settles : goal.returns-in_err-about-clause-settles
+returns-in_err-about-clause-settles g c = λ t ok calm. rw c.requires.1.1.1.1 (few_first g.start t)
+
+pub returns-in_err-folder-clause-settles : goal.returns-in_err-folder-clause-settles
+returns-in_err-folder-clause-settles g c = λ t ok calm. rw c.requires.1.1.1.1 (few_first g.start t)
+
+pub returns-in_err-state-clause-settles : goal.returns-in_err-state-clause-settles
+returns-in_err-state-clause-settles g c = λ t ok calm.
+    let adds = rw c.requires.1.1.1.1 at c.begin.ensures.adds in
+    begun_few g.start t c.begin.new.journal.past (begin_adds_none g.start _ None None None None (adds.follows None None) adds.turns)
+
+pub returns-clause-settles : goal.returns-clause-settles
+returns-clause-settles g c = λ t ok calm.
+    let adds = rw c.requires.1.1.1.1 at c.begin.ensures.adds in
+    let begun = begun_few g.start t c.begin.new.journal.past (begin_adds_none g.start _ None None None None (adds.follows None None) adds.turns) in
+    let given = c.in_ok-files.ensures.given in
+    let ended = dying_adds_none _ _ c.end_jobs.ensures.dying in
+    ended_few g.start t _ _ ended (c.serve_turns-answer.ensures.settles t ok (ended_calm t ok g.start _ _ _ _ _ ended c.end_jobs.ensures.kept.looked_kept calm) (first_settles _ _ g.start t ok _ _ _ begun given.2 given.3))

@@ -1,5 +1,8 @@
 use Rattle.std.proofs.Common.{sym, ◌∙◌}
 use Rattle.wx_file_turns.specs.Standing.{owing}
+use Rattle.wx_calm.proofs.Journals.{follows_adds}
+use Rattle.wx_file_turns.proofs.Settled.{ok_never, settling_beside}
+use Rattle.wx_engine.proofs.SettleLemmas.{aside_beside}
 use Rattle.wx_engine.proofs.TurnLemmas.{serves_other}
 use Rattle.wx_engine.proofs.WatchLemmas.{Aside, ok_always, about_files, files_over, aside, aside_source, aside_pays, aside_makes_none}
 use Rattle.wx_engine.proofs.running.serve.Goals.{After-serve_other}
@@ -26,3 +29,14 @@ returns-clause-paid g c = aside_pays g.start c.args.journal.now.past c.serve_oth
 
 pub returns-clause-maker : goal.returns-clause-maker
 returns-clause-maker g c = aside_makes_none g.start _ _ _ _ (other g (goal.at.returns-clause-maker g c).After-serve_other) c.serve_other.ensures.continues.serves.steady.progress_kept
+
+-- ---- where nothing fails
+
+pub returns-in_err-serve_files-clause-settles : goal.returns-in_err-serve_files-clause-settles
+returns-in_err-serve_files-clause-settles g c = λ t ok calm h. ((c.serve_files.ensures.settles t ok calm h).0, ok_never c.from_residual.result _ _ c.from_residual.ensures.1)
+
+pub returns-then-is_file_turn-clause-settles : goal.returns-then-is_file_turn-clause-settles
+returns-then-is_file_turn-clause-settles g c = c.in_ok-serve_files.ensures.settles
+
+pub returns-clause-settles : goal.returns-clause-settles
+returns-clause-settles g c = settling_beside _ _ g.start c.serve_other.result c.args.files.now c.args.journal.now.past c.serve_other.new.journal.past _ _ (aside_beside g.start _ _ (other g (goal.at.returns-clause-settles g c).After-serve_other) (follows_adds g.start _ _ _ _ _ _ c.serve_other.ensures.continues.serves.follows))

@@ -1,4 +1,10 @@
-use Rattle.std.proofs.Common.{◌+◌, ◌≤◌, ◌∷◌, ap, arith, refl, sym, ◌∙◌}
+use Rattle.std.proofs.Common.{ℕ, Bool, ◌+◌, ◌≤◌, ◌∷◌, Ok, ap, arith, refl, sym, ◌∙◌}
+use Rattle.wx_tree.specs.Paths.{Path}
+use Rattle.wx_tree.specs.Trees.{Tree}
+use Rattle.wx_calm.specs.Calm.{StaysCalm}
+use Rattle.wx_calm.specs.FewSteps.{FewSteps}
+use Rattle.wx_file_turns.specs.Settling.{AreSettling}
+use Rattle.wx_action.specs.declared.work_turn.Worked.TheVariants as worked
 use Rattle.wx_journal.specs.declared.entry.Entry.TheVariants.{Turn as Turned, TurnFault}
 use Rattle.wx_journal.specs.Told.{tell}
 use Rattle.wx_machine.specs.Seen.{Shown}
@@ -18,6 +24,8 @@ use Rattle.wx_action.proofs.TurnLaws.{next_turn}
 use Rattle.wx_machine.specs.Told.{is_last}
 use Rattle.wx_engine.specs.Run.{Rests, ServesTurns}
 use Rattle.wx_engine.proofs.TurnLemmas.{Drawn, turn_drawn, fault_drawn, drawn_follows, drawn_quiet, drawn_counts, early_drawn, served, turn_stands, fault_stands, turns_then}
+use Rattle.wx_calm.proofs.Journals.{follows_adds}
+use Rattle.wx_engine.proofs.SettleLemmas.{SettlesInTurn, fault_beside, few_between, few_turned, same_beside, since_served, since_turn, turn_settles}
 use Rattle.wx_engine.proofs.WatchLemmas.{files_over, pays_over, pays_none}
 use Rattle.wx_engine.proofs.running.serve_turns.Goals.{After-push-in-turns, After-serve}
 use Rattle.wx_engine.proofs.running.serve_turns.Goals as goal
@@ -78,6 +86,14 @@ paid : (g : _) (c : After-push-in-turns g) → PaysOn c.args.journal.now.past (g
 paid g c =
     let grown = rw c.in_ok-make_room.ensures.same at c.push-in-turns.ensures.past in
     pays_over c.args.journal.now.past c.turns.journal.past c.push-in-turns.new.self.past (g.W.Outside.seen c.args.world.now) (g.W.Outside.seen c.turns.world) (g.W.Outside.seen c.turn.new.self) (owing c.args.files.now) (owing c.turns.files) c.turns.invariant.paid (rw grown (More (Turned c.in-Ok.given.turn) c.turns.journal.past SameJournal refl)) (room_looks g c)
+
+-- how few steps there are where nothing fails
+turn_faults : (g : _) (c : After-push-in-turns g) → (g.W.Outside.seen c.args.world.now).looked.faults ≤ (g.W.Outside.seen c.turn.new.self).looked.faults
+turn_faults g c = omega (arith, c.turns.invariant.scan_faults, c.in_ok-make_room.ensures.rest.steady.looked_kept.faults_kept, c.in-Ok.ensures.gives.looked.faults_kept)
+
+settles : (g : _) (c : After-push-in-turns g) → SettlesInTurn (λ b. g.W.Back.Backend.backing b) (λ b. g.W.Back.Backend.fits b) g.start c.args.journal.now.past c.args.files.now (g.W.Outside.seen c.args.world.now).looked c.push-in-turns.new.self.past c.turns.files (g.W.Outside.seen c.turn.new.self).looked
+settles g c =
+    since_turn _ _ g.start c.args.journal.now.past c.args.files.now (g.W.Outside.seen c.args.world.now).looked c.turns.journal.past c.push-in-turns.new.self.past c.turns.files (g.W.Outside.seen c.turns.world).looked (g.W.Outside.seen c.make_room.new.world).looked (g.W.Outside.seen c.turn.new.self).looked c.in-Ok.given.turn c.turns.invariant.settles (rw c.in_ok-make_room.ensures.same at c.push-in-turns.ensures.past) c.in_ok-make_room.ensures.rest.steady.looked_kept c.in-Ok.ensures.gives.looked
 
 -- the worker is as it was, where the kind of the turn was copied
 served_room : (g : _) (c : After-serve g) → HasEndRoom c.turns.state c.push-in-turns.new.self.spare (g.W.Outside.seen c.turn.new.self).spare → HasEndRoom c.kind_again-kind.new.state c.push-in-turns.new.self.spare (g.W.Outside.seen c.turn.new.self).spare
@@ -188,6 +204,26 @@ returns-in_err-serve-clause-serves g c = turns_then _ _ _ g.start _ _ _ _ _ _ _ 
 pub returns-in_err-serve-clause-paid : goal.returns-in_err-serve-clause-paid
 returns-in_err-serve-clause-paid g c = let at = goal.at.returns-in_err-serve-clause-paid g c in paid_on g at.After-serve (paid g at.After-push-in-turns)
 
+few_served : (g : _) (c : After-serve g) → SettlesInTurn (λ b. g.W.Back.Backend.backing b) (λ b. g.W.Back.Backend.fits b) g.start c.args.journal.now.past c.args.files.now (g.W.Outside.seen c.args.world.now).looked c.push-in-turns.new.self.past c.turns.files (g.W.Outside.seen c.turn.new.self).looked → (g.W.Outside.seen c.args.world.now).looked.faults ≤ (g.W.Outside.seen c.turn.new.self).looked.faults
+    → (t : Tree) (ok : ℕ → Path → Bool) → StaysCalm t ok g.start c.serve.new.journal.past (g.W.Outside.seen c.args.world.now).looked (g.W.Outside.seen c.serve.new.world).looked → AreSettling (λ b. g.W.Back.Backend.backing b) (λ b. g.W.Back.Backend.fits b) t ok g.start c.args.journal.now.past c.args.files.now → FewSteps g.start t c.serve.new.journal.past
+few_served g c since later t ok calm before = (turn_settles _ _ g.start c.serve.result c.args.journal.now.past c.args.files.now (g.W.Outside.seen c.args.world.now).looked c.push-in-turns.new.self.past c.serve.new.journal.past c.turns.files c.serve.new.files _ _ t ok since c.serve.ensures.settles (follows_adds g.start _ _ _ _ _ _ c.serve.ensures.serves.follows) later c.serve.ensures.serves.steady.looked_kept calm before).0
+
+pub returns-in_err-serve-clause-settles : goal.returns-in_err-serve-clause-settles
+returns-in_err-serve-clause-settles g c = let at = goal.at.returns-in_err-serve-clause-settles g c in few_served g at.After-serve (settles g at.After-push-in-turns) (turn_faults g at.After-push-in-turns)
+
+pub returns-in-End-clause-settles : goal.returns-in-End-clause-settles
+returns-in-End-clause-settles g c = let at = goal.at.returns-in-End-clause-settles g c in few_served g at.After-serve (settles g at.After-push-in-turns) (turn_faults g at.After-push-in-turns)
+
+pub returns-in_err-make_room-clause-settles : goal.returns-in_err-make_room-clause-settles
+returns-in_err-make_room-clause-settles g c = few_between _ _ g.start c.args.journal.now.past c.args.files.now (g.W.Outside.seen c.args.world.now).looked c.turns.journal.past _ c.turns.files (g.W.Outside.seen c.turns.world).looked _ c.turns.invariant.settles (same_beside _ _ c.in_err-make_room.ensures.same) c.in_err-make_room.ensures.rest.steady.looked_kept.faults_kept
+
+pub returns-in-Err-clause-settles : goal.returns-in-Err-clause-settles
+returns-in-Err-clause-settles g c =
+    few_between _ _ g.start c.args.journal.now.past c.args.files.now (g.W.Outside.seen c.args.world.now).looked c.turns.journal.past c.push.new.self.past c.turns.files (g.W.Outside.seen c.turns.world).looked (g.W.Outside.seen c.turn.new.self).looked c.turns.invariant.settles (fault_beside c.in-Err.fault.0 _ _ (rw c.in_ok-make_room.ensures.same at c.push.ensures.past)) (omega (arith, c.in_ok-make_room.ensures.rest.steady.looked_kept.faults_kept, c.in-Err.ensures.gives.looked.faults_kept))
+
+pub returns-in_err-kind-clause-settles : goal.returns-in_err-kind-clause-settles
+returns-in_err-kind-clause-settles g c = let at = goal.at.returns-in_err-kind-clause-settles g c in few_turned _ _ g.start c.args.journal.now.past c.args.files.now (g.W.Outside.seen c.args.world.now).looked c.push-in-turns.new.self.past c.turns.files (g.W.Outside.seen c.turn.new.self).looked (settles g at.After-push-in-turns)
+
 pub returns-in_err-serve-clause-keeps : goal.returns-in_err-serve-clause-keeps
 returns-in_err-serve-clause-keeps g c = λ x₀ p₀ k. c.serve.ensures.serves.keeps x₀ p₀ (keeps g (goal.at.returns-in_err-serve-clause-keeps g c).After-push-in-turns x₀ p₀ k)
 
@@ -235,6 +271,8 @@ turns-preserved g c =
       faults = omega (arith, c.turns.invariant.faults, c.in-Ok.ensures.gives.faults.later, ap (λ k. k.turn_faults) c.in_ok-make_room.ensures.rest.steady.progress_kept, faults_is);
       makers = omega (arith, c.turns.invariant.makers, c.in-Ok.ensures.gives.maker_faults, c.serve.ensures.maker.later, ap (λ k. k.maker_faults) c.in_ok-make_room.ensures.rest.steady.progress_kept);
       files = c.in_ok-serve.ensures.files;
+      scan_faults = omega (arith, turn_faults g at.After-push-in-turns, c.serve.ensures.serves.steady.looked_kept.faults_kept);
+      settles = since_served _ _ g.start c.serve.result worked.On c.args.journal.now.past c.args.files.now (g.W.Outside.seen c.args.world.now).looked c.push-in-turns.new.self.past c.serve.new.journal.past c.turns.files c.serve.new.files _ _ (c.in_ok-serve.was ∙ ap Ok c.in-On.is) (settles g at.After-push-in-turns) c.serve.ensures.settles (follows_adds g.start _ _ _ _ _ _ c.serve.ensures.serves.follows) (turn_faults g at.After-push-in-turns) c.serve.ensures.serves.steady.looked_kept;
       paid = λ n before. c.serve.ensures.paid n (paid g at.After-push-in-turns n before);
       host_faults = λ p₀ n₀ before. c.serve.ensures.serves.counts p₀ n₀ (counts g at.After-push-in-turns p₀ n₀ before);
       keeps = λ x₀ p₀ k. c.serve.ensures.serves.keeps x₀ p₀ (keeps g at.After-push-in-turns x₀ p₀ k);

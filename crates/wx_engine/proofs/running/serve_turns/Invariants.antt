@@ -11,6 +11,7 @@ use Rattle.wx_action.specs.Stands.{Stands, HasEndRoom}
 use Rattle.wx_file_turns.specs.Serves.{PaysOn}
 use Rattle.wx_file_turns.specs.Standing.{FilesStand, owing}
 use Rattle.wx_engine.specs.Run.{TellsTurns}
+use Rattle.wx_engine.proofs.SettleLemmas.{SettlesSince}
 use Rattle.wx_engine.proofs.running.serve_turns.Given as goal
 
 abbrev pub ghost-serve : goal.ghost-serve
@@ -32,6 +33,8 @@ invariant-turns g l = record {
   faults : (g.W.Outside.seen l.fn.world).progress.turn_faults ≤ (g.W.Outside.seen l.world).progress.turn_faults;
   makers : (g.W.Outside.seen l.fn.world).progress.maker_faults ≤ (g.W.Outside.seen l.world).progress.maker_faults;
   files : FilesStand g.start l.files l.journal.past;
+  scan_faults : (g.W.Outside.seen l.fn.world).looked.faults ≤ (g.W.Outside.seen l.world).looked.faults;
+  settles : SettlesSince (λ b. g.W.Back.Backend.backing b) (λ b. g.W.Back.Backend.fits b) g.start l.fn.journal.past l.fn.files (g.W.Outside.seen l.fn.world).looked l.journal.past l.files (g.W.Outside.seen l.world).looked;
   paid : PaysOn l.fn.journal.past (g.W.Outside.seen l.fn.world) (owing l.fn.files) l.journal.past (g.W.Outside.seen l.world) (owing l.files);
   host_faults : CountsOn l.fn.journal.past (g.W.Outside.seen l.fn.world).shown.faults l.journal.past (g.W.Outside.seen l.world).shown.faults;
   keeps : KeepsOn (λ h. g.H.JobHooks.seen h) (λ plan. g.H.JobHooks.rule plan) (λ h. g.H.JobHooks.stands h) l.fn.hooks l.fn.journal.past l.hooks l.journal.past;

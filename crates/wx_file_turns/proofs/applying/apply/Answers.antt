@@ -1,5 +1,5 @@
 use Rattle.std.proofs.Common.{◌≡◌, ◌∷◌, refl, ap, ◌∙◌}
-use Rattle.std.specs.Prelude.{true, false}
+use Rattle.std.specs.Prelude.{true, false, None}
 use Rattle.wx_config.specs.declared.config.Config.{Config}
 use Rattle.wx_journal.specs.declared.entry.Entry.TheVariants.{Applied}
 use Rattle.wx_machine.specs.Due.{Applies, Comes, Open, agenda}
@@ -13,7 +13,10 @@ use Rattle.wx_file_turns.proofs.Entries.{applied_alone, applied_stands}
 use Rattle.wx_file_turns.proofs.Onward.{alone_room, alone_then}
 use Rattle.wx_file_turns.proofs.SameRoots.{keeps_known}
 use Rattle.wx_file_turns.proofs.Steps.{applied_now_due}
-use Rattle.wx_file_turns.proofs.applying.apply.Goals.{After-begin, After-push}
+use Rattle.wx_file_turns.specs.declared.intake.Intake.{Intake}
+use Rattle.wx_file_turns.proofs.applying.apply.Goals.{After-push, After-begin}
+use Rattle.wx_calm.proofs.Journals.{follows_adds}
+use Rattle.wx_file_turns.proofs.Settled.{applied_none, applied_settles, same_lane, unapplied_settles}
 use Rattle.wx_file_turns.proofs.applying.apply.Goals as goal
 
 -- settings were said to be applied, in room that was taken
@@ -70,3 +73,21 @@ watch-requires g c = λ κs lives.
         ),
       ),
     )
+
+-- ---- where nothing fails
+
+pub returns-then-is_empty-clause-settles : goal.returns-then-is_empty-clause-settles
+returns-then-is_empty-clause-settles g c =
+    let grown : c.push.new.self.past ≡ Applied c.args.worker.now.config.change_signal ∷ c.args.journal.now.past = rw c.reserve.ensures.same at c.push.ensures.past in
+    applied_none _ _ g.start c.args.files.now _ c.args.journal.now.past c.push.new.self.past c.args.worker.now.config _ _ c.requires.1.1.0.stands.config_kept grown (same_lane c.args.files.now.intake c.begin.new.self (ap (λ (x : Intake). x.lane) c.begin.ensures)) refl
+
+pub returns-clause-settles : goal.returns-clause-settles
+returns-clause-settles g c =
+    let grown : c.push.new.self.past ≡ Applied c.args.worker.now.config.change_signal ∷ c.args.journal.now.past = rw c.reserve.ensures.same at c.push.ensures.past in
+    applied_settles _ _ g.start c.watch.result c.args.files.now c.watch.new.files c.args.journal.now.past c.push.new.self.past c.watch.new.journal.past c.args.worker.now.config _ _ c.requires.1.1.0.stands.config_kept grown (follows_adds g.start _ _ _ _ _ _ (c.watch.ensures.alone.serves None).follows) c.watch.ensures.onward.steps_kept (λ h. rw c.watch.ensures.intake (same_lane c.args.files.now.intake c.begin.new.self (ap (λ (x : Intake). x.lane) c.begin.ensures) h)) c.watch.ensures.walks
+
+pub returns-in_err-reserve-clause-settles : goal.returns-in_err-reserve-clause-settles
+returns-in_err-reserve-clause-settles g c = unapplied_settles _ _ g.start c.from_residual.result _ c.args.files.now c.args.files.now _ _ _ _ c.from_residual.ensures.1 c.reserve.ensures.same
+
+pub returns-in_err-same-clause-settles : goal.returns-in_err-same-clause-settles
+returns-in_err-same-clause-settles g c = unapplied_settles _ _ g.start c.from_residual-in_err-same.result _ c.args.files.now c.args.files.now _ _ _ _ c.from_residual-in_err-same.ensures.1 c.reserve.ensures.same

@@ -1,6 +1,8 @@
-use Rattle.std.proofs.Common.{inr, refl}
+use Rattle.std.proofs.Common.{None, inr, refl}
 use Rattle.wx_file_turns.proofs.Hearings.{called_heard, called_room, called_steps, called_then, fault_wants, heard_intake, heard_owes, heard_watched, heard_worked, heard_works, kind_applied, rests_wants}
 use Rattle.wx_file_turns.proofs.Onward.{leaves_none}
+use Rattle.wx_calm.proofs.Journals.{adds_then, beside_of, follows_adds}
+use Rattle.wx_file_turns.proofs.Settled.{beside_none, beside_one}
 use Rattle.wx_file_turns.proofs.hearing.hear.Goals as goal
 
 -- there was no room for it
@@ -51,3 +53,17 @@ returns-clause-work g c = heard_works g.start c.args.journal.now.past c.push.new
 
 pub returns-clause-idle : goal.returns-clause-idle
 returns-clause-idle g c = heard_worked g.start c.args.journal.now.past c.push.new.self.past c.show_fault.new.journal.past c.args.hearing.name _ (rw c.reserve.ensures.same at c.push.ensures.past) c.show_fault.ensures.hand.leaves
+
+-- ---- where nothing fails
+
+pub returns-in_err-reserve-clause-beside : goal.returns-in_err-reserve-clause-beside
+returns-in_err-reserve-clause-beside g c = beside_none _ _ c.reserve.ensures.same
+
+pub returns-in_err-tell_all-clause-beside : goal.returns-in_err-tell_all-clause-beside
+returns-in_err-tell_all-clause-beside g c = beside_one _ _ _ (record { none_applied = refl; none_done = refl }) (rw c.reserve.ensures.same at c.push.ensures.past)
+
+pub returns-clause-beside : goal.returns-clause-beside
+returns-clause-beside g c =
+    let shown = c.show_fault.ensures.hand in
+    let heard = beside_one _ c.args.journal.now.past c.push.new.self.past (record { none_applied = refl; none_done = refl }) (rw c.reserve.ensures.same at c.push.ensures.past) in
+    adds_then _ _ _ heard (beside_of _ _ (follows_adds g.start _ _ _ _ _ _ (shown.grows.adds.follows None)) shown.leaves.steps_kept shown.leaves.work_kept)

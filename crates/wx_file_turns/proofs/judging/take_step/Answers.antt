@@ -1,13 +1,15 @@
-use Rattle.std.proofs.Common.{rules, refl, ap}
+use Rattle.std.proofs.Common.{rules, refl, ap, ◌∙◌}
+use Rattle.wx_holding.specs.Calm.{IsStill}
 use Rattle.wx_holding.specs.Holding.{state_of}
 use Rattle.wx_machine.specs.Settings.{settings}
 use Rattle.wx_action.proofs.ArriveLemmas.{on_err}
 use Rattle.wx_file_turns.specs.Judged.{IsKept, IsStepping}
-use Rattle.wx_file_turns.proofs.DirLemmas.{kept_first, kept_behind, leaves_behind}
+use Rattle.wx_file_turns.proofs.DirLemmas.{kept_first, kept_behind, leaves_behind, dirs_behind}
 use Rattle.wx_file_turns.proofs.Onward.{steps_by_hand, steps_looked, steps_then}
 use Rattle.wx_file_turns.proofs.Rebuilt.{step_done, step_worth, looks_seen}
 use Rattle.wx_file_turns.proofs.Standing.{allowed}
 use Rattle.wx_file_turns.proofs.judging.take_step.Goals.{After-step}
+use Rattle.wx_file_turns.proofs.Walks.{step_behind}
 use Rattle.wx_file_turns.proofs.judging.take_step.Goals as goal
 
 pub step-requires-clause-allowed : goal.step-requires-clause-allowed
@@ -44,3 +46,17 @@ pub returns-clause-cut : goal.returns-clause-cut
 returns-clause-cut g c =
     let on : IsStepping g.start c.step.new.dirs.journal.now.past = (kept g (goal.at.returns-clause-cut g c).After-step).stepping in
     search (rules, on, on_err)
+
+pub returns-clause-dirs : goal.returns-clause-dirs
+returns-clause-dirs g c = dirs_behind _ _ _ (kept g (goal.at.returns-clause-dirs g c).After-step).dirs (search rules)
+
+pub returns-clause-walks : goal.returns-clause-walks
+returns-clause-walks g c = λ t ok calm h work.
+    let law = g.met.W.World.only_looks in
+    let k = kept g (goal.at.returns-clause-walks g c).After-step in
+    let at = c.requires.1.1.1.1.0 in
+    let old = ap (λ x. x.looked) (law c.args.world.now c.args.world.now refl) in
+    let new = ap (λ x. x.looked) (law c.args.world.now c.step.new.scan c.step.ensures.rest) in
+    let still : IsStill t (g.W.Looks.looked c.args.world.now) (g.W.Looks.looked c.step.new.scan) = record { told = rw old at calm.tree; no_fault = rw (old, new) at calm.stays.no_fault } in
+    let steps = c.step.ensures.settles t h.sound.links still calm.stays.named h.sound.stands in
+    step_behind _ _ t ok g.start c.args.journal.now.past c.step.new.dirs.journal.now.past _ c.args.watching.now _ c.step.new.dirs.worker.now.config.filterer c.step.result h work at.watching (search rules) (returns-clause-at_step g c) k.hand.leaves.settings_kept (ap (λ d. d.filterer) (k.hand.grows.stands.config_kept ∙ k.hand.leaves.settings_kept)) calm.stays.calm k.dirs c.step.ensures.others.2 c.step.ensures.others.3 steps

@@ -1,8 +1,34 @@
-use Rattle.std.proofs.Common.{arith}
+use Rattle.std.proofs.Common.{refl, arith}
+use Rattle.wx_file_turns.proofs.Settled.{asked_harmless, asked_walks, beside_none, beside_one, bring_beside, bring_harmless, quiet_walking, told_since, walking_by, walking_left}
 use Rattle.wx_machine.proofs.SteadyLemmas.{only_none}
 use Rattle.wx_file_turns.proofs.Listened.{bring_alone, bring_intake, intake_same, listened_bring, listened_from, listened_onward, listened_quiet, may_listen, none_listened, ok_cut, quiet_alone, quiet_intake, watches_asked, works_asked}
 use Rattle.wx_file_turns.proofs.Onward.{alone_room, alone_then}
 use Rattle.wx_file_turns.proofs.listening.listen.Goals as goal
+
+-- ---- where nothing fails
+
+pub returns-in_err-reserve-clause-settles : goal.returns-in_err-reserve-clause-settles
+returns-in_err-reserve-clause-settles g c = walking_left _ _ g.start c.from_residual.result _ c.args.watching.now c.args.watching.now c.args.intake.now c.args.intake.now _ _ _ _ c.from_residual.ensures.1 (beside_none _ _ c.reserve.ensures.same)
+
+pub returns-in_err-reserve_host-clause-settles : goal.returns-in_err-reserve_host-clause-settles
+returns-in_err-reserve_host-clause-settles g c = walking_left _ _ g.start c.from_residual-in_err-reserve_host.result _ c.args.watching.now c.args.watching.now c.args.intake.now c.args.intake.now _ _ _ _ c.from_residual-in_err-reserve_host.ensures.1 (beside_none _ _ c.reserve.ensures.same)
+
+pub returns-in-None-clause-settles : goal.returns-in-None-clause-settles
+returns-in-None-clause-settles g c =
+    let gives = c.ask_next.ensures.gives in
+    quiet_walking _ _ g.start c.args.watching.now c.ask_next.new.watching c.args.intake.now _ _ _ _ (beside_one _ _ _ (record { none_applied = refl; none_done = refl }) (rw c.reserve.ensures.same at c.push.ensures.past))
+    (λ t ok calm walks.
+    let known = told_since t ok g.start _ (g.W.Outside.seen c.args.world.now) (g.W.Outside.seen c.reserve_host.new.host) (g.W.Outside.seen c.ask_next.new.world) c.reserve_host.ensures.rest.steady.looked_kept calm in
+    asked_walks _ _ t ok g.start _ c.args.watching.now c.ask_next.new.watching _ _ _ gives.0 gives.1 _ _ walks c.requires.1.1.1.1.0.2.installed gives.2 gives.3 gives.4 c.ask_next.ensures.state c.ask_next.ensures.others.2 c.ask_next.ensures.others.3 known.0 known.1)
+
+pub returns-in-Some-clause-settles : goal.returns-in-Some-clause-settles
+returns-in-Some-clause-settles g c =
+    walking_by _ _ g.start c.bring.result c.args.watching.now c.ask_next.new.watching c.args.intake.now c.bring.new.intake _ _ _ _ (bring_beside c.bring.result _ _ _ _ _ _ _ c.reserve.ensures.same c.bring.ensures.listed c.bring.ensures.cut)
+    (λ t ok calm h walks.
+    let gives = c.ask_next.ensures.gives in
+    let known = told_since t ok g.start _ (g.W.Outside.seen c.args.world.now) (g.W.Outside.seen c.reserve_host.new.host) (g.W.Outside.seen c.ask_next.new.world) c.reserve_host.ensures.rest.steady.looked_kept calm in
+    bring_harmless c.bring.result _ _ _ c.args.intake.now c.bring.new.intake _ c.bring.ensures.brought h (asked_harmless _ _ t ok g.start _ c.args.watching.now _ _ _ _ gives.0 gives.1 _ _ walks gives.2 gives.4 known.0 known.1 c.in-Some.is)
+    (asked_walks _ _ t ok g.start _ c.args.watching.now c.ask_next.new.watching _ _ _ gives.0 gives.1 _ _ walks c.requires.1.1.1.1.0.2.installed gives.2 gives.3 gives.4 c.ask_next.ensures.state c.ask_next.ensures.others.2 c.ask_next.ensures.others.3 known.0 known.1))
 
 -- ---- there was no room in the journal
 

@@ -1,9 +1,18 @@
-use Rattle.std.proofs.Common.{arith, false, refl}
+use Rattle.std.proofs.Common.{refl, arith, false}
+use Rattle.wx_file_turns.proofs.Settled.{said_beside, settling_beside, settling_by, turn_shows}
 use Rattle.wx_file_turns.specs.Standing.{owed, owing, works}
 use Rattle.wx_file_turns.proofs.Listened.{files_ignored, files_listened, files_stood, grown_alone, ignored_either, listened_onward, ok_cut, owing_kept, turn_ignores, turn_listens}
 use Rattle.wx_file_turns.proofs.Steps.{still_paid}
 use Rattle.wx_file_turns.proofs.TurnLemmas.{ignored_due}
 use Rattle.wx_file_turns.proofs.listening.listen_turn.Goals as goal
+
+-- ---- where nothing fails
+
+pub returns-in-Some-clause-settles : goal.returns-in-Some-clause-settles
+returns-in-Some-clause-settles g c = settling_by _ _ g.start c.listen.result c.args.files.now _ _ c.listen.new.watching c.listen.new.intake _ _ _ _ (λ t. turn_shows g.start t _ _ _ c.requires.1.1.0.1.last) c.in-Some.is refl c.listen.ensures.settles
+
+pub returns-in-None-clause-settles : goal.returns-in-None-clause-settles
+returns-in-None-clause-settles g c = settling_beside _ _ g.start c.say.result c.args.files.now _ _ _ _ (said_beside c.say.result _ _ _ (record { none_applied = refl; none_done = refl }) c.say.ensures.said c.say.ensures.err)
 
 -- ---- none stands
 

@@ -2,6 +2,8 @@ use Rattle.std.proofs.Common.{◌∙◌, sym, arith}
 use Rattle.wx_file_turns.proofs.Entries.{shown_hand}
 use Rattle.wx_file_turns.proofs.Onward.{steps_hand_room, steps_hand_then}
 use Rattle.wx_file_turns.proofs.Steps.{error_owed}
+use Rattle.wx_file_turns.proofs.Walks.{shown_once}
+use Rattle.wx_machine.specs.Added.{Same}
 use Rattle.wx_file_turns.proofs.showing.show_error.Goals as goal
 
 -- there was no room in the hooks
@@ -23,3 +25,9 @@ pub returns-clause-hand : goal.returns-clause-hand
 returns-clause-hand g c =
     steps_hand_then _ _ _ g.start _ _ _ _ _ _ _ _ _ (steps_hand_room _ _ _ g.start c.args.worker.now c.args.journal.now c.reserve.new.journal c.args.hooks.now c.reserve-2.new.self c.requires.1.0 c.reserve.ensures.same c.reserve.ensures.kept c.reserve-2.ensures.rest)
     (shown_hand _ _ _ g.start _ _ _ _ _ _ c.call_show.ensures.within c.call_show.ensures.adds c.in_ok-reserve.ensures.room)
+
+pub returns-then-is_closed-clause-shows : goal.returns-then-is_closed-clause-shows
+returns-then-is_closed-clause-shows g c = Same
+
+pub returns-clause-shows : goal.returns-clause-shows
+returns-clause-shows g c = shown_once c.call_show.result g.start _ _ _ _ c.reserve.ensures.same c.call_show.ensures.done

@@ -1,5 +1,9 @@
 use Rattle.std.specs.Prelude.{length}
+use Rattle.wx_error.specs.declared.runtime.RuntimeError.{RuntimeError}
+use Rattle.wx_tree.specs.Lists.{In}
+use Rattle.wx_machine.specs.Added.{Added}
 use Rattle.wx_file_turns.specs.Judged.{IsStepping, StepsHand}
+use Rattle.wx_file_turns.specs.Settling.{ShowsOneOf}
 use Rattle.wx_file_turns.proofs.showing.show_errors.Given as goal
 
 abbrev pub ghost-show_error : goal.ghost-show_error
@@ -9,6 +13,8 @@ abbrev pub invariant-loop-error : goal.invariant-loop-error
 invariant-loop-error g l = record {
   hand : StepsHand (λ h. g.H.JobHooks.seen h) (λ plan. g.H.JobHooks.rule plan) (λ h. g.H.JobHooks.stands h) g.start l.fn.worker l.fn.journal l.fn.hooks l.worker l.journal l.hooks;
   stepping : IsStepping g.start l.journal.past;
+  left : (error : RuntimeError) → In error l.left → In error l.fn.errors;
+  shows : Added (λ p e. ShowsOneOf l.fn.errors e) l.fn.journal.past l.journal.past;
 }
 
 abbrev pub decreases-loop-error : goal.decreases-loop-error

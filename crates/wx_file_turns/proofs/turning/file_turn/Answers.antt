@@ -1,3 +1,4 @@
+use Rattle.wx_file_turns.proofs.Settled.{beside_none, beside_one, settling_beside, settling_by, settling_well, turn_shows}
 use Rattle.std.proofs.Common.{refl, sym, ◌∙◌}
 use Rattle.wx_machine.specs.Leads.{Here}
 use Rattle.wx_action.proofs.Serving.{promised_grown}
@@ -57,3 +58,14 @@ pub returns-in_ok-say-in-None-clause-served : goal.returns-in_ok-say-in-None-cla
 returns-in_ok-say-in-None-clause-served g c =
     let h = ignores_owed g.start c.args.worker.now c.args.files.now c.requires.1.1.1.0.0 c.args.journal.now.past c.requires.1.1.1.0.1 c.requires.1.1.1.1 (sym c.is_applied.ensures ∙ c.if-not-is_applied.false) c.in-None.is in
     ignored_open g.start c.args.journal.now.past _ h.1 h.2 c.in_ok-say-in-None.ensures.said
+
+-- ---- where nothing fails
+
+pub returns-in-Some-clause-settles : goal.returns-in-Some-clause-settles
+returns-in-Some-clause-settles g c = settling_by _ _ g.start c.attend.result c.args.files.now _ _ c.attend.new.watching c.attend.new.intake _ _ _ _ (λ t. turn_shows g.start t _ _ _ c.requires.1.1.1.0.1.last) c.in-Some.is refl c.attend.ensures.settles
+
+pub returns-in_err-say-in-None-clause-settles : goal.returns-in_err-say-in-None-clause-settles
+returns-in_err-say-in-None-clause-settles g c = settling_beside _ _ g.start c.from_residual.result c.args.files.now _ _ _ _ (beside_none _ _ c.in_err-say-in-None.ensures.err)
+
+pub returns-in_ok-say-in-None-clause-settles : goal.returns-in_ok-say-in-None-clause-settles
+returns-in_ok-say-in-None-clause-settles g c = settling_well _ _ g.start c.args.files.now _ _ _ _ (beside_one _ _ _ (record { none_applied = refl; none_done = refl }) c.in_ok-say-in-None.ensures.said)
