@@ -98,8 +98,9 @@ impl Watchexec {
 
         // What is watched: the directories that are judged, the backends that are made, the settings that are applied, and what is
         // brought, heard, let go and offered are those that the rules say. Each event that is offered of an item was brought by a live
-        // backend and is of a path that was applied; they come in the order brought, each once at most. Behind a backend that couldn't be made nothing but the end comes. There are at most as many steps as
-        // looks in this call, and entries that bring work; or the count of looks stands at the end of its range.
+        // backend and is of a path that was applied; they come in the order brought, each once at most. Behind a backend that couldn't
+        // be made nothing but the end comes. There are at most as many steps as looks in this call, and entries that bring work; or the
+        // count of looks stands at the end of its range.
         ensures watched { AreWatchedByRule self journal.new.past }
         ensures from_files { AreFromFiles self journal.new.past }
         ensures ends_unmade { UnmadeEnds journal.new.past }
