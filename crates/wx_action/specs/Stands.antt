@@ -62,6 +62,7 @@ pub record Stands (s : Start) (w : Worker) (p : List Entry) : Type 0 where
 abbrev pub end_room : Worker → ℕ
 end_room w = 2 * length w.jobs
 
+-- there is room for the end of all jobs in the journal and in the world
 pub record HasEndRoom (w : Worker) (journal host : ℕ) : Type 0 where
   pub in_journal : end_room w ≤ journal
   pub in_host : end_room w ≤ host

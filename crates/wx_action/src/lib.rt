@@ -13,8 +13,4 @@ pub use job_turns::{ask_turn, change_turn, end_jobs, ended_turn, job_turn, keep_
 pub use key_turns::{keys_turn, signal_turn};
 pub use work_turn::{Collected, Worked, throttle_collect, worker};
 pub use worker_state::Worker;
-pub use wx_hooks::{
-    ActionHandler, Batch, CommandState, CreateRefused, ErrorHook, Held, Hooks, Host, IdCount,
-    JobHooks, JobList, JobTaskContext, Jobs, Outside, QuitManner, Turn, TurnFault, TurnKind,
-    Turned, World,
-};
+pub use wx_hooks::{Hooks, World};

@@ -1,4 +1,4 @@
-//! The settings of an engine, their changes, and its filters. The errors, what is watched, and the names of jobs are offered
+//! The settings of an engine, their changes, and its filters. What is watched and the names of jobs are offered
 //! again here.
 #![tactic(auto)]
 
@@ -12,8 +12,4 @@ pub use config::{Changeable, ChangeableFilterer, ChangeableFn, Config};
 pub use config_watched::ConfigWatched;
 pub use filter::Filterer;
 pub use wx_control::Id;
-pub use wx_error::{CriticalError, RuntimeError, TrySendFault};
-pub use wx_watch::{
-    EntryKind, FsWatcherError, Identity, KeyboardWatcherError, NotifyFault, NotifyFaultKind,
-    ScanFault, WatchedPath, Watcher,
-};
+pub use wx_watch::{WatchedPath, Watcher};

@@ -20,7 +20,8 @@ use Rattle.wx_machine.specs.Jobs.{set, jobs}
 use Rattle.wx_action.specs.Stands.{Stands, end_room}
 use Rattle.wx_hooks.specs.JobsStand.{held_id}
 use Rattle.wx_machine.proofs.Orderly.{IsGoing}
-use Rattle.wx_machine.proofs.RunLaws.{orderly, run_led}
+use Rattle.wx_machine.proofs.RunLaws.{orderly}
+use Rattle.wx_machine.proofs.BatchLaws.{run_led}
 use Rattle.wx_machine.proofs.AllJobs.{turns_over}
 
 -- what is known once the beginning is listed

@@ -20,7 +20,8 @@ use Rattle.wx_journal.specs.Lines.{Answer}
 use Rattle.wx_machine.specs.RunLaws.{IsBatched, AreBatches, NoneUnseenIsShown, NoneIsShownClosed, AreMadeByRule, AreServed, AreRevised}
 use Rattle.wx_machine.specs.Leads.{Leads, Here, Then}
 use Rattle.wx_machine.proofs.MadeLaws.{run_makes_by_rule}
-use Rattle.wx_machine.proofs.RunLaws.{orderly, run_is_batched, run_has_batches, run_shows, run_shows_open, run_is_served, run_is_revised}
+use Rattle.wx_machine.proofs.RunLaws.{orderly}
+use Rattle.wx_machine.proofs.BatchLaws.{run_is_batched, run_has_batches, run_shows, run_shows_open, run_is_served, run_is_revised}
 use Rattle.wx_machine.proofs.FunctionLaws.{run_waits, dying_waits}
 use Rattle.wx_machine.proofs.PlanLaws.{of_end}
 use Rattle.wx_machine.proofs.Lawful.{IsOfEnd}

@@ -23,7 +23,7 @@ use Rattle.wx_machine.specs.Jobs.{jobs}
 use Rattle.wx_machine.specs.Due.{Hands, Agenda, Comes, agenda, Open, Ends, sends, rest, after_show, settle, IsRun}
 use Rattle.wx_machine.specs.Answer.{Dying, Alive, IsComplete, IsBroken, IsBehindTurn, NoneIsToGo, MemoryCuts, Wishes, BreaksOff, Answers}
 use Rattle.wx_machine.specs.RunLaws.{NoneUrgentWaits}
-use Rattle.wx_machine.proofs.RunLaws.{is_to_hand, none_waits, run_is_served}
+use Rattle.wx_machine.proofs.BatchLaws.{is_to_hand, none_waits, run_is_served}
 use Rattle.wx_journal.specs.Lines.{Answer}
 use Rattle.wx_machine.proofs.EndLaws.{dying_turns, dying_run, dying_ends}
 use Rattle.wx_engine.specs.Run.{EndsByWish, Stops, HasCause, HasTurnCause}

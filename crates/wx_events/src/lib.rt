@@ -1,4 +1,4 @@
-//! Events and their priorities, signals and ends of processes, and what they are written with.
+//! Events and their priorities, signals and ends of processes.
 #![tactic(auto)]
 
 mod event;
@@ -20,7 +20,3 @@ pub use kind::{
 pub use priority::Priority;
 pub use process::{ProcessEnd, Signal};
 pub use source::Source;
-pub use wx_words::{
-    Copies, Dotted, Escaped, List, Memory, Spelled, Text, TextPath, Words, cut, number_of,
-    put_items, read_dotted, take_literal, text_in,
-};

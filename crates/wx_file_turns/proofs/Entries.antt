@@ -109,7 +109,7 @@ applied_alone s w j j' a revision stands due grown room used = record {
     turns = rw grown (turns_over (Applied revision) j.past refl);
     counts = rw grown (λ p₀ n₀ c. record { later = c.later; rose = c.rose });
     unmade = unmade_same j.past j'.past a.progress.maker_faults a.progress.maker_faults (ap unmade_count grown) refl;
-    steady = record { plan_kept = refl; progress_kept = refl; host_faults = omega arith; place_kept = refl; looked_kept = record { looks_kept = omega arith; faults_kept = omega arith; exact_kept = λ e. e; shape_kept = λ t e. e; tree_kept = λ t e. refl } };
+    steady = record { plan_kept = refl; progress_kept = refl; host_faults = refl; place_kept = refl; looked_kept = record { looks_kept = omega arith; faults_kept = omega arith; exact_kept = λ e. e; shape_kept = λ t e. e; tree_kept = λ t e. refl } };
     settings_kept = ap (settings s) grown;
     quits_kept = rw grown refl;
   };
@@ -139,7 +139,7 @@ module _ {Plan B : Type 0} (backing : B → Backing) (fits : B → Tree → Type
     turns = turns_over (Make back kind follow (made result)) p refl;
     counts = rw gives.host_faults (λ p₀ n₀ c. record { later = c.later; rose = c.rose });
     unmade = unmade_by (failed_by (λ k. not (is_memory k)) result) (Make back kind follow (made result)) p a.progress.maker_faults b.progress.maker_faults (failed_made result) gives.maker_faults;
-    steady = record { plan_kept = gives.plan_kept; progress_kept = gives.progress_kept; host_faults = omega (arith, gives.host_faults); place_kept = gives.place_kept; looked_kept = gives.looked };
+    steady = record { plan_kept = gives.plan_kept; progress_kept = gives.progress_kept; host_faults = gives.host_faults; place_kept = gives.place_kept; looked_kept = gives.looked };
     settings_kept = refl;
     quits_kept = refl;
   })

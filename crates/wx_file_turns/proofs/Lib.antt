@@ -4,7 +4,6 @@ pub mod Entries
 pub mod Hearings
 pub mod Intakes
 pub mod Listened
-pub mod Messages
 pub mod Named
 pub mod Nexts
 pub mod Onward

@@ -6,7 +6,7 @@ use Rattle.wx_journal.specs.declared.entry.Entry.{Entry}
 use Rattle.wx_journal.specs.Written.{Written}
 use Rattle.wx_machine.specs.Start.{Start}
 use Rattle.wx_machine.specs.Progress.{Progress}
-use Rattle.wx_machine.specs.Seen.{Seen, Hooked}
+use Rattle.wx_machine.specs.Seen.{Seen, Hooked, Shown}
 use Rattle.wx_machine.specs.Kept.{OnlyHooksRoom, Same, Past}
 use Rattle.wx_machine.specs.Settings.{settings}
 use Rattle.wx_machine.specs.Files.{Source}
@@ -33,13 +33,13 @@ looked_on a b h = record {
 }
 
 pub watched_none : {Plan : Type 0} {a : Seen Plan} → OnlyWatched a a
-watched_none = record { plan_kept = refl; progress_kept = refl; host_faults = omega arith; place_kept = refl; looked_kept = looked_none }
+watched_none = record { plan_kept = refl; progress_kept = refl; host_faults = refl; place_kept = refl; looked_kept = looked_none }
 
 pub watched_then : {Plan : Type 0} {a b c : Seen Plan} → OnlyWatched a b → OnlyWatched b c → OnlyWatched a c
 watched_then {Plan} {a} {b} {c} h g = record {
   plan_kept = g.plan_kept ∙ h.plan_kept;
   progress_kept = g.progress_kept ∙ ap (λ (x : Progress). record x { maker_faults = c.progress.maker_faults }) h.progress_kept;
-  host_faults = omega (arith, h.host_faults, g.host_faults);
+  host_faults = g.host_faults ∙ h.host_faults;
   place_kept = g.place_kept ∙ h.place_kept;
   looked_kept = looked_then h.looked_kept g.looked_kept;
 }
@@ -49,7 +49,7 @@ pub watched_room : {Plan : Type 0} {a b : Seen Plan} → OnlyRoom a b → OnlyWa
 watched_room {Plan} {a} {b} only = record {
   plan_kept = only.steady.plan_kept;
   progress_kept = only.steady.progress_kept ∙ sym (ap (λ (x : Progress). record a.progress { maker_faults = x.maker_faults }) only.steady.progress_kept);
-  host_faults = (let same : b.shown.faults ≡ a.shown.faults = ap (λ x. x.faults) only.shown in omega (arith, same));
+  host_faults = ap (λ (x : Shown). x.faults) only.shown;
   place_kept = only.steady.place_kept;
   looked_kept = only.steady.looked_kept;
 }
@@ -121,7 +121,7 @@ serves_looked s p a b looked hooks same only = rw same (record {
   turns = λ p₀ t. t;
   counts = λ p₀ n₀ c. c;
   unmade = unmade_none p a.progress.maker_faults;
-  steady = record { plan_kept = refl; progress_kept = refl; host_faults = omega arith; place_kept = refl; looked_kept = looked_on a.looked looked only };
+  steady = record { plan_kept = refl; progress_kept = refl; host_faults = refl; place_kept = refl; looked_kept = looked_on a.looked looked only };
   settings_kept = refl;
   quits_kept = refl;
 })

@@ -165,8 +165,8 @@ ready_stands s w p named stands = record {
 }
 
 -- in room that was taken
-pub ready_alone : {Plan : Type 0} (s : Start) (w : Worker) (j j' : Written) (a b : Seen Plan) (named : ℕ) → Stands s w j.past → Due s j.past (Ready named) → Tells (Ready named) false a b → j'.past ≡ Ready named ∷ j.past → 1 + end_room w ≤ j.spare → j'.spare + 1 ≡ j.spare → 1 + end_room w ≤ a.spare → AttendsAlone s w j a j' b
-ready_alone s w j j' a b named stands due tells grown room used host = record {
+pub ready_alone : {Plan : Type 0} (s : Start) (w : Worker) (j j' : Written) (a b : Seen Plan) (named : ℕ) → Stands s w j.past → Due s j.past (Ready named) → Tells (Ready named) false a b → b.shown.faults ≡ a.shown.faults → j'.past ≡ Ready named ∷ j.past → 1 + end_room w ≤ j.spare → j'.spare + 1 ≡ j.spare → 1 + end_room w ≤ a.spare → AttendsAlone s w j a j' b
+ready_alone s w j j' a b named stands due tells faults grown room used host = record {
   stands = rw grown (ready_stands s w j.past named stands);
   serves = λ hooks. record {
     follows = rw (grown, tells.told) (λ p₀ world₀ hooks₀ l. Then (Ready named) j.past a.shown.told hooks l due);
@@ -176,7 +176,7 @@ ready_alone s w j j' a b named stands due tells grown room used host = record {
     steady = record {
       plan_kept = tells.steady.plan_kept;
       progress_kept = tells.steady.progress_kept ∙ sym (ap (λ (x : Progress). record a.progress { maker_faults = x.maker_faults }) tells.steady.progress_kept);
-      host_faults = tells.counts.later;
+      host_faults = faults;
       place_kept = tells.steady.place_kept;
       looked_kept = tells.steady.looked_kept;
     };

@@ -51,7 +51,7 @@ use Rattle.wx_file_turns.specs.Hearing.{hearing_of, messages_of}
 use Rattle.wx_file_turns.specs.Intake.{brought, heard, is_live_by, left, listed, stepped}
 use Rattle.wx_file_turns.specs.Resting.{next_asked, next_event, next_fenced, next_of}
 use Rattle.wx_file_turns.specs.Settling.{AnyOf, AreSettling, GoesOnSettling, GoesOnWalking, IsJustApplied, Walked, Walks}
-use Rattle.wx_file_turns.proofs.Messages.{tells_where_messages}
+use Rattle.wx_lane.proofs.MessageLemmas.{tells_where_messages}
 use Rattle.wx_file_turns.proofs.Walks.{any_walked, stands_at, walks_beside}
 
 -- ---- what waits says nothing of the tree

@@ -7,7 +7,6 @@ use Rattle.wx_watch.specs.declared.notify_fault.NotifyFault.{NotifyFault}
 use Rattle.wx_watch.specs.declared.watched.WatchedPath.{WatchedPath}
 use Rattle.wx_config.specs.Changes.{changed}
 use Rattle.wx_config.specs.declared.change.Change.{Change}
-use Rattle.wx_config.specs.declared.change.Change.TheVariants.{Signal, Pathset, FileWatcher, FollowSymlinks, KeyboardEvents, Throttle, Filterer, OnError, OnAction}
 use Rattle.wx_config.specs.declared.config.Config.{Config}
 use Rattle.wx_paths.specs.Paths.{is_absolute}
 use Rattle.wx_tree.specs.Lists.{In}
@@ -29,6 +28,7 @@ use Rattle.wx_journal.specs.declared.entry.Word.TheVariants.{Stepped}
 use Rattle.wx_journal.specs.Names.{item_count}
 use Rattle.wx_machine.specs.Start.{Start}
 use Rattle.wx_machine.specs.Settings.{settings, first_changed, pending}
+use Rattle.wx_machine.proofs.PlanLaws.{raised}
 use Rattle.wx_machine.specs.Files.{Source, source, let_go, offer_item, said, stand, applied, is_applied, is_below_recursive, unwatched}
 use Rattle.wx_file_turns.specs.declared.files.Files.{Files}
 use Rattle.wx_file_turns.specs.declared.files.Watching.{Watching}
@@ -44,17 +44,6 @@ use Rattle.wx_file_turns.proofs.Staying.{Asked, asked}
 abbrev IsNoLater : Option Config → Config → Type 0
 IsNoLater None c = Unit {0}
 IsNoLater (Some a) c = (a ≡ c) ⊎ (a.change_signal < c.change_signal)
-
-raised : (change : Change) (c : Config) → (changed change c).change_signal ≡ c.change_signal + 1
-raised Signal c = refl
-raised (Pathset paths) c = refl
-raised (FileWatcher watcher) c = refl
-raised (FollowSymlinks on) c = refl
-raised (KeyboardEvents on) c = refl
-raised (Throttle throttle) c = refl
-raised (Filterer n) c = refl
-raised (OnError n) c = refl
-raised (OnAction n) c = refl
 
 later_by_one : (change : Change) (o : Option Config) (c : Config) → IsNoLater o c → IsNoLater o (changed change c)
 later_by_one change None c h = tt

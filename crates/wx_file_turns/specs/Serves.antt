@@ -51,11 +51,11 @@ pub record LeavesWatch (s : Start) (p p' : List Entry) : Type 0 where
   pub items_kept : item_count p' ≡ item_count p
 
 -- What is left of a world that was looked at, asked for backends, or told that all is watched: its plan, where it is in its turns, and
--- where the object lies that is lent to it. Neither looks nor its count of faults of children fall.
+-- where the object lies that is lent to it, and its count of faults of children. Looks don't fall.
 pub record OnlyWatched {Plan : Type 0} (a b : Seen Plan) : Type 0 where
   pub plan_kept : b.plan ≡ a.plan
   pub progress_kept : b.progress ≡ record a.progress { maker_faults = b.progress.maker_faults }
-  pub host_faults : a.shown.faults ≤ b.shown.faults
+  pub host_faults : b.shown.faults ≡ a.shown.faults
   pub place_kept : b.place ≡ a.place
   pub looked_kept : StaysLooked a.looked b.looked
 

@@ -14,7 +14,7 @@ use Rattle.wx_journal.specs.declared.entry.TurnKind.TheVariants.{Last}
 use Rattle.wx_watch.specs.declared.notify_fault.NotifyFault.{NotifyFault}
 use Rattle.wx_watch.specs.declared.watched.Watcher.{Watcher}
 use Rattle.wx_mem_tree.specs.declared.entry.MemEntry.{MemEntry}
-use Rattle.wx_follow.specs.Edits.{FollowsEdits, edited}
+use Rattle.wx_follow.specs.Edits.{FollowsEdits}
 use Rattle.wx_script.specs.declared.script.TreeEdit.{TreeEdit}
 use Rattle.wx_script.specs.declared.script.ScriptTurn.{ScriptTurn}
 use Rattle.wx_script.specs.declared.script.ScriptTurn.TheVariants.{Turn, Fault}
@@ -50,7 +50,7 @@ rest_none (y ∷ turns) zero e = cc
 rest_none (y ∷ turns) (suc k) e = rest_none turns k e
 
 -- a turn of a script is one of the turns that were told
-turns_more : (x : ScriptTurn) (told : List Entry) → entry_of x ∷ turns_of told ≡ turns_of (entry_of x ∷ told)
+pub turns_more : (x : ScriptTurn) (told : List Entry) → entry_of x ∷ turns_of told ≡ turns_of (entry_of x ∷ told)
 turns_more (Turn t) told = refl
 turns_more (Fault code) told = refl
 
@@ -89,7 +89,7 @@ turn_over short answers used p (Turn t) all = all
 turn_over short answers used p (Fault code) all = all
 
 -- what wasn't refused before isn't where nothing more is
-not_first : (short more : Bool) → (short || more) ≡ false → short ≡ false
+pub not_first : (short more : Bool) → (short || more) ≡ false → short ≡ false
 not_first true more so = so
 not_first false more so = refl
 
@@ -101,12 +101,6 @@ pub perhaps_short : (short more : Bool) (answers : Answers) (used : Used) (p : L
 perhaps_short short more answers used p all so = all (not_first short more so)
 
 -- ---- changes of the tree
-
--- the next changes are made
-pub edits_more : (short more : Bool) (edits : List (List TreeEdit)) (n changed : ℕ) (es es' : List MemEntry)
-    → changed ≡ min n (length edits) → (more ≡ false → es' ≡ edited (get_or edits changed []) es) → FollowsEdits short edits n es → FollowsEdits (short || more) edits (suc n) es'
-edits_more short more edits n changed es es' is made so_far so =
-    made (not_second short more so) ∙ ap (λ (xs : List TreeEdit). edited xs es) (ap (λ (k : ℕ). get_or edits k []) is ∙ next_line edits n []) ∙ ap (edited (get_or edits n [])) (so_far (not_first short more so))
 
 -- a turn of a script is asked for
 pub edits_turn : (short : Bool) (edits : List (List TreeEdit)) (told : List Entry) (x : ScriptTurn) (es : List MemEntry) → FollowsEdits short edits (suc (length (turns_of told))) es → FollowsEdits short edits (length (turns_of (entry_of x ∷ told))) es

@@ -1,3 +1,4 @@
 mod ActedLaws
 mod BackedLaws
 mod GivenLaws
+mod EditLaws

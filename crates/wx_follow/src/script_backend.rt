@@ -1,7 +1,9 @@
 // A backend in memory, which follows a script.
-ghost use Rattle.std.specs.Prelude.{◌≡◌, ◌≤◌, [], ◌+◌, ◌^◌, ◌-◌, min, IfOk};
+ghost use Rattle.std.specs.Prelude.{◌≡◌, ◌≤◌, not, [], ◌+◌, ◌^◌, ◌-◌, min, IfOk};
 ghost use Rattle.wx_watch.specs.declared.notify_fault.NotifyFaultKind.TheVariants.{Io as IoFault};
+ghost use Rattle.wx_tree.specs.Trees.{Tree};
 ghost use Rattle.wx_scan.specs.Looked.{Rose};
+ghost use Rattle.wx_scan.specs.Told.{IsNamed};
 ghost use Rattle.wx_poller.specs.Polled.{Fits, backing_of};
 ghost use Rattle.wx_follow.specs.Backed.{backed, code_at};
 
@@ -51,6 +53,8 @@ impl ScriptBackend {
         ensures fresh { IfOk result (λ b. ((backing_of b.poller).registrations ≡ []) × (b.past.brought ≡ [])) }
         ensures counts { IfOk result (λ b. (b.calls ≡ 0) × (b.faults ≡ 0)) }
         ensures failing { IfOk result (λ b. b.failing ≡ failing.now) }
+        ensures exact { IfOk result (λ b. (backing_of b.poller).exact ≡ not follow) }
+        ensures fits { (t : Tree) → IsNamed t → IfOk result (λ b. Fits b.poller t) }
     {
         let copied = List::from_vec(Vec::from_slice(alloc, failing.as_slice())?);
         let poller = Poller::new(alloc, follow)?;

@@ -7,16 +7,19 @@ ghost use Rattle.wx_journal.specs.declared.entry.TurnKind.TheVariants.{Last};
 ghost use Rattle.wx_journal.specs.Told.{Counts};
 ghost use Rattle.wx_script.specs.HostCalls.{UsesAnswers, uses_prop};
 ghost use Rattle.wx_script.specs.Follows.{given_of};
-ghost use Rattle.wx_mem_tree.specs.Entries.{looked_of};
+ghost use Rattle.wx_mem_tree.specs.Entries.{none_fails};
 ghost use Rattle.wx_machine.specs.Seen.{Seen};
-ghost use Rattle.wx_poller.specs.Polled.{backing_of};
+ghost use Rattle.wx_poller.specs.Polled.{Fits, backing_of};
+ghost use Rattle.wx_tree.specs.Trees.{Tree};
+ghost use Rattle.wx_scan.specs.Told.{IsNamed};
 ghost use Rattle.wx_scan.specs.Backings.{failed_by, is_memory};
 ghost use Rattle.wx_hooks.specs.Given.{unheard};
-ghost use Rattle.wx_follow.specs.Edits.{FollowsEdits, edits_prop};
+ghost use Rattle.wx_follow.specs.Edits.{FollowsEdits, IsAhead, ahead_prop, any_lines, edits_prop, files_of};
+ghost use Rattle.wx_follow.specs.Backed.{is_none};
 ghost use Rattle.wx_follow.specs.Unseen.{same_unseen, unseen};
 ghost use Rattle.wx_script.specs.Turns.{comes, risen, Rises, entry_of, Given, turns_of, FollowsGiven};
 
-use crate::editing::{edit_next, edits_of, tree_with};
+use crate::editing::{change_next, edits_of, tree_ahead, tree_with};
 use crate::replies::{either, line, next, passed};
 use crate::script_backend::ScriptBackend;
 use crate::supply::Supply;
@@ -40,8 +43,9 @@ use wx_words::TextPath;
 /// entries: the turns among them are the script's first ones, and the answers among them are those of the script. It looks at a
 /// tree in memory, which it changes when a turn is asked for as the script says before this turn. A look fails where the script says
 /// so. It makes backends that poll, where the script doesn't say that there is none, of which those calls fail that the script says.
-/// Where memory is wanted for a change of the tree it is short, and leaves out the others that are made with it. Where it is wanted
-/// for a backend, to say why there is none, or to say what a backend brought, it is short, and answers `Memory`.
+/// The changes before the first turn are made ahead, with the world. Where memory is wanted for a later one it is short, and leaves
+/// out the others that are made with it. Where it is wanted for a backend, to say why there is none, or to say what a backend brought,
+/// it is short, and answers `Memory`.
 #[derive(Drop, Debug)]
 pub struct ScriptWorld {
     alloc: Global,
@@ -52,6 +56,7 @@ pub struct ScriptWorld {
     edits: List<List<TreeEdit>>,
     changed: usize,
     tree: MemTree,
+    ahead: MemTree,
     failing_watches: List<FailingCall>,
     left: Supply,
     told: Journal,
@@ -63,6 +68,8 @@ pub struct ScriptWorld {
     pub ghost follows: { FollowsGiven turns last told.past },
     pub ghost answered: { UsesAnswers is_short answers used told.past } by { uses_prop is_short answers used told.past },
     pub ghost edited: { FollowsEdits is_short edits (length (turns_of told.past)) tree.entries.items } by { edits_prop is_short edits (length (turns_of told.past)) tree.entries.items },
+    pub ghost first: { IsAhead edits (length (turns_of told.past)) ahead.entries.items } by { ahead_prop edits (length (turns_of told.past)) ahead.entries.items },
+    ghost some: { any_lines edits ≡ true },
     ghost lines: { changed ≡ min (length (turns_of told.past)) (length edits) },
     ghost rest: { left ≡ drop (length (turns_of told.past)) turns },
     ghost come: { list_all comes left ≡ true },
@@ -74,18 +81,20 @@ impl ScriptWorld {
     pub fn new(alloc: Global, script: &Script) -> Result<ScriptWorld, Memory>
         requires come { list_all comes script.now.turns ≡ true }
         requires rises { Rises script.now.turns script.now.last }
-        ensures plan { IfOk result (λ world. record { turns = world.turns; last = world.last; answers = world.answers; edits = world.edits } ≡ given_of script.now) }
+        ensures plan { IfOk result (λ world. record { turns = world.turns; last = world.last; answers = world.answers; edits = world.edits; fails = not (none_fails world.tree.failing) } ≡ given_of script.now) }
         ensures told { IfOk result (λ world. world.told.past ≡ []) }
         ensures moment { IfOk result (λ world. world.moment ≡ 0) }
         ensures faults { IfOk result (λ world. world.faults ≡ 0) }
         ensures host_faults { IfOk result (λ world. world.host_faults ≡ 0) }
         ensures maker_faults { IfOk result (λ world. world.maker_faults ≡ 0) }
         ensures looks { IfOk result (λ world. (world.tree.looks ≡ 0) × (world.tree.faults ≡ 0)) }
+        ensures watches { IfOk result (λ world. world.failing_watches ≡ script.now.failing_watches) }
         ensures short { IfOk result (λ world. world.is_short ≡ false) }
     {
         let turns = script.turns.copy(alloc)?;
         let answers = script.answers.copy(alloc)?;
         let edits = edits_of(alloc, script)?;
+        let ahead = tree_ahead(alloc, &edits)?;
         let tree = tree_with(alloc, script.failing_looks.as_slice())?;
         let failing = Vec::from_slice(alloc, script.failing_watches.as_slice())?;
         let left = Supply::new(alloc, &script.turns)?;
@@ -99,6 +108,7 @@ impl ScriptWorld {
             edits,
             changed: 0,
             tree,
+            ahead,
             failing_watches: List::from_vec(failing),
             left,
             told,
@@ -121,11 +131,11 @@ impl ScriptWorld {
 impl Outside for ScriptWorld {
     ghost Plan = { Given };
 
-    ghost seen = { λ s. record { plan = record { turns = s.turns; last = s.last; answers = s.answers; edits = s.edits }; shown = record { told = Some s.told.past; faults = s.host_faults }; spare = s.told.spare; progress = record { turns = Some (turns_of s.told.past); left = length s.left; moment = s.moment; turn_faults = s.faults; maker_faults = s.maker_faults }; place = []; looked = looked_of s.tree.entries.items s.tree.looks s.tree.faults } };
+    ghost seen = { λ s. record { plan = record { turns = s.turns; last = s.last; answers = s.answers; edits = s.edits; fails = not (none_fails s.tree.failing) }; shown = record { told = Some s.told.past; faults = s.host_faults }; spare = s.told.spare; progress = record { turns = Some (turns_of s.told.past); left = length s.left; moment = s.moment; turn_faults = s.faults; maker_faults = s.maker_faults }; place = []; looked = files_of s.edits (length (turns_of s.told.past)) s.ahead.entries.items s.failing_watches s.tree.entries.items s.tree.looks s.tree.faults } };
 }
 
 impl Looks for ScriptWorld {
-    ghost looked = { λ s. looked_of s.tree.entries.items s.tree.looks s.tree.faults };
+    ghost looked = { λ s. files_of s.edits (length (turns_of s.told.past)) s.ahead.entries.items s.failing_watches s.tree.entries.items s.tree.looks s.tree.faults };
 
     ghost Rest = { Seen Given };
 
@@ -235,7 +245,13 @@ impl World for ScriptWorld {
     ghost only_looks = { λ x y e. same_unseen (⟦<ScriptWorld as Outside>⟧.seen x) (⟦<ScriptWorld as Outside>⟧.seen y) e };
 
     fn turn(&mut self) -> Result<Turned, TurnFault> {
-        let short = edit_next(self.alloc, &self.edits, self.changed, &mut self.tree);
+        let short = change_next(
+            self.alloc,
+            &self.edits,
+            self.changed,
+            &mut self.ahead,
+            &mut self.tree,
+        );
         self.is_short = either(self.is_short, short);
         self.changed = passed(&self.edits, self.changed);
         let Some((given, told)) = self.left.next() else {
@@ -369,6 +385,8 @@ fn backend_or_fault(
 ) -> Result<ScriptBackend, (NotifyFault, NotifyFault, bool)>
     ensures ok { OnOk result (due.now ≡ Ok tt) }
     ensures fresh { IfOk result (λ backend. ((backing_of backend.poller).registrations ≡ []) × (backend.calls ≡ 0) × (backend.failing ≡ failing.now)) }
+    ensures exact { is_none failing.now ≡ true → follow ≡ false → IfOk result (λ backend. (⟦<ScriptBackend as Backend>⟧.backing backend).exact ≡ true) }
+    ensures fits { (t : Tree) → IsNamed t → IfOk result (λ backend. Fits backend.poller t) }
     ensures twice { IfErr result (λ e. e.1 ≡ e.0) }
     ensures err { IfErr result (λ e. e.2 ≡ false → due.now ≡ Err e.0) }
 {

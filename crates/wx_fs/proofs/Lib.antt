@@ -1,5 +1,5 @@
 mod Epochs
 mod Keeping
 mod Readable
-mod RootNames
+pub mod RootNames
 mod Telling

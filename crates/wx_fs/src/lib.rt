@@ -1,5 +1,4 @@
-//! What keeps watches on trees of directories: a recursor over a backend. It offers what a recursor is given and asks again, and
-//! what is made of a notification.
+//! What keeps watches on trees of directories: a recursor over a backend. It offers again what a recursor is given.
 #![tactic(auto)]
 
 mod handing;
@@ -11,5 +10,4 @@ mod topology;
 pub use recursor::{Recursor, StepResult};
 pub use rooting::kept_roots;
 pub use wx_dir_check::DirCheck;
-pub use wx_lane::{Lane, LaneItem, NotifyFault, Topology, event_is_public, topology_messages};
-pub use wx_scan::{Backend, EntryKind, Looks, Notify, NotifyPath, ScanError, Scanner};
+pub use wx_scan::{Backend, Notify, NotifyPath};

@@ -18,7 +18,4 @@ pub use held::Held;
 pub use ids::IdCount;
 pub use job_list::{JobList, Jobs};
 pub use outside::{Hooks, TurnFault, Turned, World};
-pub use wx_job::{Host, JobHooks, JobTaskContext, Outside};
-pub use wx_journal::{Turn, TurnKind};
-pub use wx_keys::{Completions, Paths, Signals};
-pub use wx_machine::{CommandState, QuitManner};
+pub use wx_machine::QuitManner;

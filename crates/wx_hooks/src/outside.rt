@@ -69,10 +69,12 @@ pub trait World: Host + Scanner {
         requires { 1 ≤ (Self.seen self.old).spare }
         ensures { GivesNext Self.Back.backing Self.Back.fits item name result back.old back.new (Self.seen self.old) (Self.seen self.new) };
 
-    /// All that the settings of this revision say is watched, and what was brought before is heard. Raises the flag of that.
+    /// All that the settings of this revision say is watched, and what was brought before is heard. Raises the flag of that. No
+    /// call on a child fails here.
     fn ready(&mut self, revision: u64, flag: &Flag)
         requires { 1 ≤ (Self.seen self.old).spare }
-        ensures { Tells (Entry.Ready revision) false (Self.seen self.old) (Self.seen self.new) };
+        ensures tells { Tells (Entry.Ready revision) false (Self.seen self.old) (Self.seen self.new) }
+        ensures host_faults { (Self.seen self.new).shown.faults ≡ (Self.seen self.old).shown.faults };
 
     /// What no look changes is all but what was seen of files.
     ghost only_looks: { (x y : Self) → Self.Looks.rest y ≡ Self.Looks.rest x → Self.Outside.seen y ≡ record (Self.Outside.seen x) { looked = Self.Looks.looked y } };

@@ -13,9 +13,5 @@ mod task;
 pub use context::JobTaskContext;
 pub use outside::{Host, JobHooks, Outside};
 pub use task::{JobTask, start_job};
-pub use wx_error::CriticalError;
-pub use wx_journal::{
-    Act, Beginning, Entries, Entry, HostFault, Journal, Named, Offered, SpawnTag, Turn, TurnKind,
-    Wish, Word, put_end,
-};
-pub use wx_machine::{CommandState, Stepped, children_are_reaped};
+pub use wx_journal::{Wish, Word, put_end};
+pub use wx_machine::CommandState;

@@ -1,6 +1,6 @@
 mod HearLemmas
 mod MeetLemmas
-mod MessageLemmas
+pub mod MessageLemmas
 mod NextLemmas
 mod PublicLemmas
 mod WaitLemmas

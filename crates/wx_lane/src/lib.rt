@@ -12,5 +12,5 @@ pub use lane::{Lane, LaneItem};
 pub use laws::messages_tell_change;
 pub use public::event_is_public;
 pub use topology::{Topology, topology_messages};
-pub use wx_notify::{Notify, NotifyPath};
+pub use wx_notify::Notify;
 pub use wx_watch::NotifyFault;

@@ -1,6 +1,7 @@
 pub mod AfterwardsLemmas
 pub mod Always
 pub mod BagLaws
+pub mod BatchLaws
 pub mod CaseLemmas
 pub mod CutLaws
 pub mod EndLaws

@@ -15,9 +15,10 @@ pub data Leads (s : Start) (p : List Entry) (world hooks : Option (List Entry)) 
 abbrev pub Follows : Start → List Entry → Option (List Entry) → Option (List Entry) → List Entry → Option (List Entry) → Option (List Entry) → Type 0
 Follows s p world hooks p' world' hooks' = (p₀ : List Entry) (world₀ hooks₀ : Option (List Entry)) → Leads s p₀ world₀ hooks₀ p world hooks → Leads s p₀ world₀ hooks₀ p' world' hooks'
 
--- the same where the world isn't called, and where neither is
+-- the same where the world isn't called
 abbrev pub FollowsHooks : Start → List Entry → Option (List Entry) → List Entry → Option (List Entry) → Type 0
 FollowsHooks s p hooks p' hooks' = (world : Option (List Entry)) → Follows s p world hooks p' world hooks'
 
+-- the same where neither the world nor the hooks are called
 abbrev pub FollowsAlone : Start → List Entry → List Entry → Type 0
 FollowsAlone s p p' = (world hooks : Option (List Entry)) → Follows s p world hooks p' world hooks

@@ -1,6 +1,7 @@
 -- What is found is what the tree answers.
 use Rattle.std.proofs.Common.{◌≡◌, ℕ, true, false, List, refl, ap, sym, ◌∙◌}
 use Rattle.std.specs.Prelude.{◌&&◌, Bool, Some, map}
+use Rattle.std.proofs.lemmas.Bool.{both_ways}
 use Rattle.wx_watch.specs.declared.scan_fault.EntryKind.TheVariants.{Directory, NonFollowedSymlink, Other}
 use Rattle.wx_tree.specs.Paths.{Path}
 use Rattle.wx_tree.specs.Places.{spelled}
@@ -43,3 +44,10 @@ stamp_directory p es x f n = rw (f, n) refl
 
 pub stamp_link : (p : Path) (es : List MemEntry) (x : MemEntry) (target : List ℕ) → found_at p es ≡ Some x → x.node ≡ Link target → 0 ≡ stamp_at es p
 stamp_link p es x target f n = rw (f, n) refl
+
+-- a file is no directory, and no link is one
+pub no_directory_file : (p : Path) (es : List MemEntry) (x : MemEntry) (stamp : ℕ) → found_at p es ≡ Some x → x.node ≡ File stamp → is_directory_node (node_at (tree_of es) p) ≡ true → ⊥
+no_directory_file p es x stamp f n d = both_ways (is_directory_node (node_at (tree_of es) p)) (rw (found_node p es (Some x) f, n) refl) d
+
+pub no_directory_link : (p : Path) (es : List MemEntry) (x : MemEntry) (target : List ℕ) → found_at p es ≡ Some x → x.node ≡ Link target → is_directory_node (node_at (tree_of es) p) ≡ true → ⊥
+no_directory_link p es x target f n d = both_ways (is_directory_node (node_at (tree_of es) p)) (rw (found_node p es (Some x) f, n) refl) d

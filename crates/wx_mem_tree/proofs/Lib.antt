@@ -1,3 +1,5 @@
 mod Found
 mod Once
 mod Answered
+pub mod Put
+mod Calm

@@ -10,7 +10,7 @@ use Rattle.wx_tree.specs.declared.node.Node.{Node}
 use Rattle.wx_tree.specs.declared.node.Node.TheVariants.{Dir, File, Link}
 use Rattle.wx_tree.proofs.PathLemmas.{same-true, same-refl}
 use Rattle.wx_mem_tree.specs.declared.entry.MemEntry.{MemEntry}
-use Rattle.wx_mem_tree.specs.Entries.{are_once, entries_of, is_at, put_node, tree_of, without_entry, without_path, without_stamp}
+use Rattle.wx_mem_tree.specs.Entries.{are_once, entries_of, is_at, put_node, tree_of, without_path, without_stamp}
 
 abbrev PathsOnce : List MemEntry → Type 0
 PathsOnce [] = Unit {0}
@@ -41,25 +41,21 @@ filtered_once keep (e ∷ es) h =
     let more = filtered_once keep es h.1 in
     elim (cases_Bool (keep e)) [ inl a ↦ rw a (filtered_at keep e.path es h.0, more) | inr a ↦ rw a more ]
 
-removed_at : (p : Path) (es : List MemEntry) → is_at p (without_entry p es) ≡ false
-removed_at p [] = refl
-removed_at p (e ∷ es) = elim (cases_Bool (same e.path p)) [ inl a ↦ rw a (removed_at p es) | inr a ↦ rw (a, a) (removed_at p es) ]
-
-appended_at : (p : Path) (es : List MemEntry) (x : MemEntry) → is_at p es ≡ false → same x.path p ≡ false → is_at p (es ++ x ∷ []) ≡ false
-appended_at p [] x h d = rw d refl
-appended_at p (e ∷ es) x h d = let o = or_none (same e.path p) (is_at p es) h in rw o.0 (appended_at p es x o.1 d)
-
 turned : (p q : Path) → same p q ≡ false → same q p ≡ false
 turned p q h = elim (cases_Bool (same q p)) [ inl a ↦ (let e : q ≡ p = same-true q p a in absurd (both_ways (same p q) h (rw e (same-refl p)))) | inr a ↦ a ]
 
-appended_once : (es : List MemEntry) (x : MemEntry) → PathsOnce es → is_at x.path es ≡ false → PathsOnce (es ++ x ∷ [])
-appended_once [] x h d = (refl, tt)
-appended_once (e ∷ es) x h d =
-    let o = or_none (same e.path x.path) (is_at x.path es) d in
-    (appended_at e.path es x h.0 (turned e.path x.path o.0), appended_once es x h.1 o.1)
+put_elsewhere : (p q : Path) (n : Node) (es : List MemEntry) → is_at q es ≡ false → same p q ≡ false → is_at q (put_node p n es) ≡ false
+put_elsewhere p q n [] h d = rw d refl
+put_elsewhere p q n (e ∷ es) h d =
+    let o = or_none (same e.path q) (is_at q es) h in
+    let more = put_elsewhere p q n es o.1 d in
+    elim (cases_Bool (same e.path p)) [ inl a ↦ rw (a, o.0) o.1 | inr a ↦ rw (a, o.0) more ]
 
 put_apart : (p : Path) (n : Node) (es : List MemEntry) → PathsOnce es → PathsOnce (put_node p n es)
-put_apart p n es h = appended_once (without_entry p es) (record { path = p; node = n }) (filtered_once (λ e. not (same e.path p)) es h) (removed_at p es)
+put_apart p n [] h = (refl, tt)
+put_apart p n (e ∷ es) h =
+    let more = put_apart p n es h.1 in
+    elim (cases_Bool (same e.path p)) [ inl a ↦ rw a h | inr a ↦ rw a (put_elsewhere p e.path n es h.0 (turned e.path p a), more) ]
 
 pub kept_once : (keep : MemEntry → Bool) (es : List MemEntry) → are_once es ≡ true → are_once (filter keep es) ≡ true
 kept_once keep es h = once_from (filter keep es) (filtered_once keep es (once_parts es h))
@@ -119,7 +115,6 @@ is_listing p es h = record {
 }
 
 -- whether the node was put or memory was short
-pub put_kept : (r : Result (Unit {0}) Memory) (p : Path) (n : Node) (es fs : List MemEntry) → are_once es ≡ true → OnOk r (fs ≡ put_node p n es) → OnErr r ((fs ≡ without_entry p es) ⊎ (fs ≡ es)) → are_once fs ≡ true
+pub put_kept : (r : Result (Unit {0}) Memory) (p : Path) (n : Node) (es fs : List MemEntry) → are_once es ≡ true → OnOk r (fs ≡ put_node p n es) → OnErr r (fs ≡ es) → are_once fs ≡ true
 put_kept (Ok u) p n es fs h ok err = ap are_once ok ∙ put_once p n es h
-put_kept (Err m) p n es fs h ok (inl e) = ap are_once e ∙ kept_once (λ x. not (same x.path p)) es h
-put_kept (Err m) p n es fs h ok (inr e) = ap are_once e ∙ h
+put_kept (Err m) p n es fs h ok err = ap are_once err ∙ h

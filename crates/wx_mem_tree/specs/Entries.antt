@@ -1,5 +1,5 @@
 -- A tree in memory: a list of what stands where, each path once.
-use Rattle.std.specs.Prelude.{◌≡◌, ◌≤◌, length, ℕ, Bool, true, false, not, ◌||◌, ◌&&◌, if◌then◌else◌, Option, None, Some, option_map, List, [], ◌∷◌, ◌++◌, filter}
+use Rattle.std.specs.Prelude.{◌≡◌, ◌≤◌, length, ℕ, suc, Bool, true, false, not, ◌||◌, ◌&&◌, ◌==◌, if◌then◌else◌, Option, None, Some, option_map, List, [], ◌∷◌, filter}
 use Rattle.wx_tree.specs.Paths.{Path, has_entry, holds, same}
 use Rattle.wx_tree.specs.Trees.{Tree, TreeEntry, node_at}
 use Rattle.wx_tree.specs.declared.node.Node.{Node}
@@ -7,6 +7,7 @@ use Rattle.wx_tree.specs.declared.node.Node.TheVariants.{Dir, File, Link}
 use Rattle.wx_scan.specs.Looked.{Looked}
 use Rattle.wx_scan.specs.Told.{has_link_above, is_link_node}
 use Rattle.wx_mem_tree.specs.declared.entry.MemEntry.{MemEntry}
+use Rattle.wx_mem_tree.specs.declared.mem_tree.FailingLook.{FailingLook}
 
 -- of a file its stamp apart
 abbrev pub without_stamp : Node → Node
@@ -53,13 +54,15 @@ abbrev pub are_once : List MemEntry → Bool
 are_once [] = true
 are_once (e ∷ es) = not (is_at e.path es) && are_once es
 
--- nothing stands at the path
-abbrev pub without_entry : Path → List MemEntry → List MemEntry
-without_entry p es = filter (λ e. not (same e.path p)) es
+-- how many entries stand before the one at the path
+abbrev pub index_of : Path → List MemEntry → ℕ
+index_of p [] = 0
+index_of p (e ∷ es) = if same e.path p then 0 else suc (index_of p es)
 
 -- this stands at the path now, in place of what stood there
 abbrev pub put_node : Path → Node → List MemEntry → List MemEntry
-put_node p n es = without_entry p es ++ record { path = p; node = n } ∷ []
+put_node p n [] = record { path = p; node = n } ∷ []
+put_node p n (e ∷ es) = if same e.path p then record e { node = n } ∷ es else e ∷ put_node p n es
 
 -- the path is gone, and all below it
 abbrev pub without_path : Path → List MemEntry → List MemEntry
@@ -85,3 +88,21 @@ has_link_on with_last t p = has_link_above t p || (with_last && is_link_at t p)
 abbrev pub IsWithin : Option ℕ → Path → Type 0
 IsWithin None p = Unit {0}
 IsWithin (Some level) p = level ≤ length p
+
+-- no look is to fail
+abbrev pub none_fails : List FailingLook → Bool
+none_fails [] = true
+none_fails (f ∷ fs) = false
+
+-- the code with which this look is to fail, by the first order about it
+abbrev pub code_of : List FailingLook → ℕ → Option ℕ
+code_of [] look = None
+code_of (f ∷ fs) look = if f.call == look then Some f.code else code_of fs look
+
+-- what no look changes of a tree
+pub record Unlooked : Type 0 where
+  pub entries : List MemEntry
+  pub failing : List FailingLook
+
+abbrev pub unlooked : List MemEntry → List FailingLook → Unlooked
+unlooked es failing = record { entries = es; failing = failing }

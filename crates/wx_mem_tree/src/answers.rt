@@ -13,21 +13,6 @@ use wx_text::{List, Memory, Text};
 use wx_tree::{Node, Place};
 use wx_words::TextPath;
 
-/// The code of the system for what is no directory (ENOTDIR).
-const NO_DIRECTORY: u32 = 20;
-
-/// Whether this is a fault: neither that nothing is there, nor want of memory.
-pub fn is_fault<T>(answer: &Result<T, ScanError>) -> bool
-    ensures { result ≡ is_fault answer.now }
-{
-    match answer {
-        Ok(_) => false,
-        Err(ScanError::NotFound) => false,
-        Err(ScanError::Io(_)) => true,
-        Err(ScanError::Memory) => false,
-    }
-}
-
 /// What stands at a path.
 pub fn kind_at(
     alloc: Global,
@@ -35,7 +20,8 @@ pub fn kind_at(
     follow: bool,
     entries: &[MemEntry],
 ) -> Result<EntryKind, ScanError>
-    ensures { follow ≡ false → (p : Path) → SpellsPath (tree_of entries.now) p path.now → is_fault result ≡ false → IsKind result (tree_of entries.now) p }
+    ensures told { follow ≡ false → (p : Path) → SpellsPath (tree_of entries.now) p path.now → is_fault result ≡ false → IsKind result (tree_of entries.now) p }
+    ensures calm { is_fault result ≡ false }
 {
     let entry = found(alloc, path, follow, entries)?;
     match entry.node {
@@ -51,7 +37,8 @@ pub fn canonical_at(
     path: &TextPath,
     entries: &[MemEntry],
 ) -> Result<TextPath, ScanError>
-    ensures { (p : Path) → SpellsPath (tree_of entries.now) p path.now → is_fault result ≡ false → Unlinked (IsCanonical result) (tree_of entries.now) p }
+    ensures told { (p : Path) → SpellsPath (tree_of entries.now) p path.now → is_fault result ≡ false → Unlinked (IsCanonical result) (tree_of entries.now) p }
+    ensures calm { is_fault result ≡ false }
 {
     let entry = found(alloc, path, true, entries)?;
     Ok(entry.path.path(alloc)?)
@@ -99,27 +86,29 @@ fn listed(
     }
 }
 
-/// The entries of a directory. Behind a link they are named below the path that was asked for.
+/// The entries of a directory, and none of what is no directory. Behind a link they are named below the path that was asked for.
 pub fn listed_at(
     alloc: Global,
     path: &TextPath,
     entries: &[MemEntry],
 ) -> Result<List<TextPath>, ScanError>
     requires { are_once entries.now ≡ true }
-    ensures { (p : Path) → SpellsPath (tree_of entries.now) p path.now → is_fault result ≡ false → Unlinked (IsListed result) (tree_of entries.now) p }
+    ensures told { (p : Path) → SpellsPath (tree_of entries.now) p path.now → is_fault result ≡ false → Unlinked (IsListed result) (tree_of entries.now) p }
+    ensures calm { is_fault result ≡ false }
 {
     let asked = Place::new(alloc, path)?;
     let entry = found(alloc, path, true, entries)?;
     match entry.node {
         Node::Dir => Ok(listed(alloc, &asked, &entry.path, entries)?),
-        Node::File(_) => Err(ScanError::Io(NO_DIRECTORY)),
-        Node::Link(_) => Err(ScanError::Io(NO_DIRECTORY)),
+        Node::File(_) => Ok(List::new(alloc)),
+        Node::Link(_) => Ok(List::new(alloc)),
     }
 }
 
 /// The stamp of a file.
 pub fn stamp_at(alloc: Global, path: &TextPath, entries: &[MemEntry]) -> Result<u64, ScanError>
-    ensures { (p : Path) → SpellsPath (tree_of entries.now) p path.now → is_fault result ≡ false → Unlinked (IsStamp (stamp_at entries.now) result) (tree_of entries.now) p }
+    ensures told { (p : Path) → SpellsPath (tree_of entries.now) p path.now → is_fault result ≡ false → Unlinked (IsStamp (stamp_at entries.now) result) (tree_of entries.now) p }
+    ensures calm { is_fault result ≡ false }
 {
     let entry = found(alloc, path, true, entries)?;
     match entry.node {

@@ -1,7 +1,7 @@
 // What stands where.
-ghost use Rattle.std.specs.Prelude.{◌≡◌, ◌++◌, ◌∷◌, [], Some, map, ◌⊎◌, IfNone, IfOk, IfSome, OnErr, OnOk};
+ghost use Rattle.std.specs.Prelude.{◌≡◌, Some, map, IfNone, IfOk, IfSome, OnErr, OnOk};
 ghost use Rattle.wx_tree.specs.Places.{spelled};
-ghost use Rattle.wx_mem_tree.specs.Entries.{entries_of, found_at, put_node, without_entry, without_path};
+ghost use Rattle.wx_mem_tree.specs.Entries.{entries_of, found_at, index_of, put_node, without_path};
 
 use std::alloc::Global;
 use wx_text::{List, Memory};
@@ -30,22 +30,35 @@ pub fn found_at<'a>(path: &Place, entries: &'a [MemEntry]) -> Option<&'a MemEntr
     None
 }
 
-/// Puts a node in the place of what stands at this path. It fails only for want of memory. What stood there may be gone then.
-pub fn put_node(entries: &mut Vec<MemEntry>, path: Place, node: Node) -> Result<(), Memory>
-    ensures ok { OnOk result (entries.new.items ≡ put_node path node entries.old.items) }
-    ensures err { OnErr result (entries.new.items ≡ without_entry path entries.old.items ⊎ (entries.new.items ≡ entries.old.items)) }
+/// How many entries stand before the one of this path, or how many there are where it has none.
+fn index_of(path: &Place, entries: &[MemEntry]) -> usize
+    ensures { result ≡ index_of path.now entries.now }
 {
-    entries.reserve(1)?;
-    take_entry(entries, &path);
-    entries.push(MemEntry { path, node })?;
-    Ok(())
+    let mut index = 0;
+    let mut rest = entries;
+    while let [first, after @ ..] = rest {
+        if first.path.is_same(path) {
+            return index;
+        }
+        index += 1;
+        rest = after;
+    }
+    index
 }
 
-/// Takes away what stands at this path.
-fn take_entry(entries: &mut Vec<MemEntry>, path: &Place)
-    ensures { entries.new.items ≡ without_entry path.now entries.old.items }
+/// Puts a node at this path, in the place of what stands there, or behind all others. It fails only for want of memory, and
+/// changes nothing then.
+pub fn put_node(entries: &mut Vec<MemEntry>, path: Place, node: Node) -> Result<(), Memory>
+    ensures ok { OnOk result (entries.new.items ≡ put_node path node entries.old.items) }
+    ensures err { OnErr result (entries.new.items ≡ entries.old.items) }
 {
-    entries.retain(|e| !e.path.is_same(path));
+    let at = index_of(&path, entries.as_slice());
+    if at < entries.len() {
+        entries[at].node = node;
+        return Ok(());
+    }
+    entries.push(MemEntry { path, node })?;
+    Ok(())
 }
 
 /// Takes this path away, and all below it.

@@ -1,6 +1,6 @@
 // Where links lead.
 ghost use Rattle.std.specs.Prelude.{◌≡◌, ◌≤◌, false, None, Some, IfOk, IfErr, length};
-ghost use Rattle.wx_scan.specs.Told.{IsAbsent, SpellsPath, is_link_node};
+ghost use Rattle.wx_scan.specs.Told.{IsAbsent, SpellsPath, is_fault, is_link_node};
 ghost use Rattle.wx_scan.specs.declared.scanner.ScanError.TheVariants.{Memory as OutOfMemory};
 ghost use Rattle.wx_tree.specs.Paths.{Path};
 ghost use Rattle.wx_tree.specs.Trees.{node_at};
@@ -14,11 +14,8 @@ use wx_text::{Memory, Text};
 use wx_tree::{Node, Place};
 use wx_words::TextPath;
 
-/// How many links are followed, until a path counts as one that leads nowhere (ELOOP).
+/// How many links are followed, until a path counts as one that leads nowhere.
 const LINKS: u32 = 40;
-
-/// The code of the system for too many links.
-const TOO_MANY_LINKS: u32 = 40;
 
 /// Whether a link stands at this path.
 fn is_link(path: &Place, entries: &[MemEntry]) -> bool
@@ -102,6 +99,7 @@ fn all_followed(
     entries: &[MemEntry],
 ) -> Result<Place, ScanError>
     requires { level ≤ length path }
+    ensures { is_fault result ≡ false }
 {
     let mut place = followed(alloc, &path, level, entries)?;
     for _ in 1..LINKS {
@@ -110,7 +108,7 @@ fn all_followed(
             Some(level) => place = followed(alloc, &place, level, entries)?,
         }
     }
-    Err(ScanError::Io(TOO_MANY_LINKS))
+    Err(ScanError::NotFound)
 }
 
 /// The same path without links, but perhaps for the last.
@@ -122,6 +120,7 @@ fn resolved(
 ) -> Result<Place, ScanError>
     ensures ok { has_link_on with_last (tree_of entries.now) path ≡ false → IfOk result (λ found. found ≡ path) }
     ensures err { has_link_on with_last (tree_of entries.now) path ≡ false → IfErr result (λ error. error ≡ OutOfMemory) }
+    ensures calm { is_fault result ≡ false }
 {
     match link_level(alloc, &path, with_last, entries)? {
         None => Ok(path),
@@ -138,6 +137,7 @@ pub fn found<'a>(
 ) -> Result<&'a MemEntry, ScanError>
     ensures ok { (p : Path) → SpellsPath (tree_of entries.now) p path.now → has_link_on with_last (tree_of entries.now) p ≡ false → IfOk result (λ entry. found_at p entries.now ≡ Some entry.now) }
     ensures err { (p : Path) → SpellsPath (tree_of entries.now) p path.now → has_link_on with_last (tree_of entries.now) p ≡ false → IfErr result (λ error. IsAbsent error (node_at (tree_of entries.now) p)) }
+    ensures calm { is_fault result ≡ false }
 {
     match resolved(alloc, Place::new(alloc, path)?, with_last, entries) {
         Err(error) => Err(error),

@@ -1,14 +1,14 @@
 // A tree of files in memory.
-ghost use Rattle.std.specs.Prelude.{◌≡◌, [], true, false, IfOk, OnOk, List};
+ghost use Rattle.std.specs.Prelude.{◌≡◌, [], true, false, is_some, if◌then◌else◌, IfOk, OnOk, OnErr};
 ghost use Rattle.wx_scan.specs.Looked.{Looked, LooksOnce, Rose};
 ghost use Rattle.wx_scan.specs.Told.{is_fault};
 ghost use Rattle.wx_tree.specs.Places.{place};
-ghost use Rattle.wx_mem_tree.specs.Entries.{are_once, looked_of, put_node, without_path};
-ghost use Rattle.wx_mem_tree.specs.declared.entry.MemEntry.{MemEntry as AnEntry};
+ghost use Rattle.wx_mem_tree.specs.Entries.{Unlooked, are_once, code_of, looked_of, none_fails, put_node, unlooked, without_path};
 
-use crate::answers::{canonical_at, is_fault, kind_at, listed_at, stamp_at};
+use crate::answers::{canonical_at, kind_at, listed_at, stamp_at};
 use crate::entry::{MemEntry, put_node, take_path};
 use std::alloc::Global;
+use std::mem;
 use wx_scan::{EntryKind, Looks, ScanError, Scanner};
 use wx_text::{List, Memory};
 use wx_tree::{Node, Place};
@@ -23,7 +23,8 @@ pub struct FailingLook {
 
 /// A tree of files in memory, and its scanner. It tells its tree. Where links are followed, or stand in the way, they lead
 /// where their target says, taken from their directory, `..` in it being the directory before it. What is listed behind a link is
-/// named below the path that was asked for.
+/// named below the path that was asked for. A path that leads through more than 40 links leads nowhere, and what is no
+/// directory has no entries: so a look fails only where it was ordered to.
 #[derive(Drop, Debug)]
 pub struct MemTree {
     alloc: Global,
@@ -32,6 +33,7 @@ pub struct MemTree {
     looks: u64,
     faults: u64,
     pub ghost once: { are_once entries.items ≡ true },
+    pub ghost calm: { (if none_fails failing then faults else 0) ≡ 0 },
 }
 
 impl MemTree {
@@ -49,9 +51,10 @@ impl MemTree {
     }
 
     /// Puts a node at a path, in the place of what stands there. What is below stays. Of the path only its parts count, which
-    /// stand between slashes and aren't empty. It fails only for want of memory. What stood there may be gone then.
+    /// stand between slashes and aren't empty. It fails only for want of memory, and changes nothing then.
     pub fn node(&mut self, path: TextPath, node: Node) -> Result<(), Memory>
         ensures entries { OnOk result (self.new.entries.items ≡ put_node (place path) node self.old.entries.items) }
+        ensures err { OnErr result (self.new.entries.items ≡ self.old.entries.items) }
         ensures failing { self.new.failing ≡ self.old.failing }
         ensures counts { (self.new.looks ≡ self.old.looks) × (self.new.faults ≡ self.old.faults) }
     {
@@ -62,6 +65,7 @@ impl MemTree {
     /// Takes a path away, and all below it. It fails only for want of memory, and changes nothing then.
     pub fn gone(&mut self, path: &TextPath) -> Result<(), Memory>
         ensures entries { OnOk result (self.new.entries.items ≡ without_path (place path.now) self.old.entries.items) }
+        ensures err { OnErr result (self.new.entries.items ≡ self.old.entries.items) }
         ensures failing { self.new.failing ≡ self.old.failing }
         ensures counts { (self.new.looks ≡ self.old.looks) × (self.new.faults ≡ self.old.faults) }
     {
@@ -70,10 +74,20 @@ impl MemTree {
         Ok(())
     }
 
+    /// Exchanges what stands in the two trees. The rest stays: how often each was looked at, and which looks are to fail.
+    pub fn swap(&mut self, other: &mut MemTree)
+        ensures entries { (self.new.entries.items ≡ other.old.entries.items) × (other.new.entries.items ≡ self.old.entries.items) }
+        ensures failing { (self.new.failing ≡ self.old.failing) × (other.new.failing ≡ other.old.failing) }
+        ensures counts { (self.new.looks ≡ self.old.looks) × (self.new.faults ≡ self.old.faults) }
+    {
+        mem::swap(&mut self.entries, &mut other.entries);
+    }
+
     /// The call of this number, counted from 0, is to fail with this code. Of two for one call the first stands. It fails
     /// only for want of memory.
     pub fn fail(&mut self, call: u64, code: u32) -> Result<(), Memory>
         ensures entries { self.new.entries.items ≡ self.old.entries.items }
+        ensures failing { OnOk result (none_fails self.new.failing ≡ false) }
         ensures counts { (self.new.looks ≡ self.old.looks) × (self.new.faults ≡ self.old.faults) }
     {
         self.failing.push(FailingLook { call, code })?;
@@ -87,34 +101,26 @@ impl MemTree {
         self.looks
     }
 
-    /// The code with which the next call is to fail.
-    fn failing_next(&self) -> Option<u32> {
-        for look in self.failing.as_slice() {
-            if look.call == self.looks {
-                return Some(look.code);
-            }
-        }
-        None
-    }
-
     /// Counts a look, and answers this, or that the look is to fail.
     fn noted<T: Drop>(&mut self, answer: Result<T, ScanError>) -> Result<T, ScanError>
+        requires { is_fault answer ≡ false }
         ensures looked { LooksOnce (is_fault result) (looked_of self.old.entries.items self.old.looks self.old.faults) (looked_of self.new.entries.items self.new.looks self.new.faults) }
-        ensures entries { self.new.entries.items ≡ self.old.entries.items }
-        ensures answer { (Rose self.old.faults self.new.faults → ⊥) → (result ≡ answer) × (is_fault answer ≡ false) }
+        ensures rest { unlooked self.new.entries.items self.new.failing ≡ unlooked self.old.entries.items self.old.failing }
+        ensures answer { (Rose self.old.faults self.new.faults → ⊥) → (result ≡ answer) }
     {
-        let answer = match self.failing_next() {
+        let code = code_of(self.failing.as_slice(), self.looks);
+        self.count(code.is_some());
+        match code {
             Some(code) => Err(ScanError::Io(code)),
             None => answer,
-        };
-        self.count(is_fault(&answer));
-        answer
+        }
     }
 
     /// Counts a look, and whether it failed.
     fn count(&mut self, failed: bool)
+        requires { failed ≡ true → none_fails self.old.failing ≡ false }
         ensures looked { LooksOnce failed (looked_of self.old.entries.items self.old.looks self.old.faults) (looked_of self.new.entries.items self.new.looks self.new.faults) }
-        ensures entries { self.new.entries.items ≡ self.old.entries.items }
+        ensures rest { (self.new.entries.items ≡ self.old.entries.items) × (self.new.failing ≡ self.old.failing) }
     {
         self.looks = self.looks.saturating_add(1);
         if failed {
@@ -123,12 +129,26 @@ impl MemTree {
     }
 }
 
+/// The code with which this look is to fail.
+fn code_of(failing: &[FailingLook], look: u64) -> Option<u32>
+    ensures { result ≡ code_of failing.now look }
+{
+    let mut rest = failing;
+    while let [first, after @ ..] = rest {
+        if first.call == look {
+            return Some(first.code);
+        }
+        rest = after;
+    }
+    None
+}
+
 impl Looks for MemTree {
     ghost looked = { λ s. looked_of s.entries.items s.looks s.faults };
 
-    ghost Rest = { List AnEntry };
+    ghost Rest = { Unlooked };
 
-    ghost rest = { λ s. s.entries.items };
+    ghost rest = { λ s. unlooked s.entries.items s.failing };
 }
 
 impl Scanner for MemTree {

@@ -122,7 +122,7 @@ follow /w/l = dir /w/a
 follow /w/m = other
 follow /w/up = dir /v
 follow /w/lost = none
-follow /w/round = io 40
+follow /w/round = none
 follow /w/a = dir /w/a
 canonical /w/a = /w/a
 canonical /w/l/f = /w/a/f
@@ -136,7 +136,7 @@ scan / =  /w /v
 scan /w/a =  /w/a/f
 scan /w/l =  /w/l/f
 scan /w/up =  /w/up/x
-scan /w/f = io 20
+scan /w/f = 
 scan /w/none = none
 scan /v =  /v/x
 ";
@@ -156,6 +156,8 @@ look /w/a/f = other
 look /v = none
 look /v/x = none
 scan / =  /w
+scan /w =  /w/a /w/f /w/l /w/m /w/up /w/lost /w/round
+scan /w/a = 
 ";
 
 /// The tree with a directory made a file, and another one gone.
@@ -171,6 +173,31 @@ fn edits_of_the_tree(rt: HostRuntime) {
     let mut tree = edited(rt.alloc()).expect(&rt, "a tree");
     each_holds(&rt, rt.alloc(), &mut tree, EDITED);
     drop(tree);
+}
+
+const OTHER: &str = "\
+look /w = none
+look /v = dir /v
+";
+
+/// Two trees that exchanged what stands in them, the first of which was looked at once.
+fn exchanged(alloc: Global) -> Result<(MemTree, MemTree), Memory> {
+    let mut first = tree(alloc)?;
+    let mut second = MemTree::new(alloc)?;
+    second.node(path(alloc, "/v")?, Node::Dir)?;
+    let _ = first.stamp(&path(alloc, "/w/f")?);
+    first.swap(&mut second);
+    Ok((first, second))
+}
+
+#[test]
+fn what_stands_is_exchanged(rt: HostRuntime) {
+    let (mut first, mut second) = exchanged(rt.alloc()).expect(&rt, "two trees");
+    assert!(rt; first.looks() == 1 && second.looks() == 0);
+    each_holds(&rt, rt.alloc(), &mut first, OTHER);
+    each_holds(&rt, rt.alloc(), &mut second, LOOKS);
+    drop(first);
+    drop(second);
 }
 
 const FAILING: &str = "\

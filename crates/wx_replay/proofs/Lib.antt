@@ -1,1 +1,3 @@
 pub mod ReplayLaws
+mod LinkLaws
+mod StillLaws

@@ -12,6 +12,8 @@ use Rattle.wx_script.specs.declared.script.Script.{Script}
 use Rattle.wx_script.specs.Follows.{start_of, FollowsScript}
 use Rattle.wx_bytes.specs.Causes.{AddsFront}
 use Rattle.wx_script.specs.Scripts.{IsScriptOf, IsFirstBad}
+use Rattle.wx_calm.specs.FewSteps.{FewSteps}
+use Rattle.wx_replay.specs.Still.{IsStill, first_tree}
 use Rattle.wx_replay.specs.declared.status.Status.{Status}
 use Rattle.wx_replay.specs.declared.status.Status.TheVariants.{Done, Critical, Usage, NoScript, ReadFault, WriteFault, Memory}
 
@@ -40,7 +42,7 @@ pub record IsShown (journal : List Entry) (answer : Answer) (text : List ℕ) (s
   pub written : IsWritten status
 
 -- The text is the journal of a run that follows the script, with its answer, and the status is that of this answer. It is
--- the text of no other journal and answer.
+-- the text of no other journal and answer. Where the script is still the run takes few steps.
 pub record IsReplay (s : Script) (text : List ℕ) (status : Status) : Type 0 where
   pub journal : List Entry
   pub answer : Answer
@@ -51,6 +53,7 @@ pub record IsReplay (s : Script) (text : List ℕ) (status : Status) : Type 0 wh
   pub text_is : text ≡ printed journal answer
   pub only : (other : List Entry) (said : Answer) → JournalFits other → AnswerFits said → text ≡ printed other said → (other ≡ journal) × (said ≡ answer)
   pub status_is : status ≡ status_of answer
+  pub few : IsStill s → FewSteps (start_of ready s) (first_tree s) journal
 
 -- a replay of the script that the bytes are, or the number of their first bad line
 pub data ReplaysRead (bytes text : List ℕ) (status : Status) : Type 0 where

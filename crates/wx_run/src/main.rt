@@ -21,6 +21,8 @@ mod quit_tests;
 mod settings_tests;
 mod standard;
 #[cfg(test)]
+mod still_tests;
+#[cfg(test)]
 mod tests;
 mod top;
 

@@ -1,5 +1,5 @@
 -- What it means that a run follows a script.
-use Rattle.std.specs.Prelude.{◌≡◌, ◌≤◌, ℕ, true, Option, None, Some, List, [], ◌∷◌, ◌++◌, length}
+use Rattle.std.specs.Prelude.{◌≡◌, ◌≤◌, ℕ, Bool, true, Option, None, Some, List, [], ◌∷◌, ◌++◌, length}
 use Rattle.std.specs.List.{list_all}
 use Rattle.wx_journal.specs.declared.entry.Entry.{Entry}
 use Rattle.wx_config.specs.Defaults.{default_config}
@@ -7,7 +7,9 @@ use Rattle.wx_control.specs.Flags.{Flag}
 use Rattle.wx_config.specs.declared.config.Config.{Config}
 use Rattle.wx_machine.specs.Start.{Start, IsSize, is_absolute}
 use Rattle.wx_script.specs.declared.script.Script.{Script}
-use Rattle.wx_script.specs.Turns.{comes, Rises, Given, FollowsGiven}
+use Rattle.wx_script.specs.declared.script.TreeEdit.{TreeEdit}
+use Rattle.wx_script.specs.Scripts.{edited_path, is_placed}
+use Rattle.wx_script.specs.Turns.{any_fails, comes, Rises, Given, FollowsGiven}
 use Rattle.wx_script.specs.Answered.{AreAnswered}
 use Rattle.wx_script.specs.HostCalls.{FollowsAnswers}
 use Rattle.wx_script.specs.Acted.{hands, filters, dirs, errors, polls, AreHooked, Wished}
@@ -20,6 +22,14 @@ folder_or_top (Some path) = path
 abbrev pub folder_of : Script → List ℕ
 folder_of s = folder_or_top s.folder
 
+-- the changes of its tree: before each turn, and behind the last of them before the first turn that it doesn't have
+abbrev pub edits_of : Script → List (List TreeEdit)
+edits_of s = s.edits ++ s.pending ∷ []
+
+-- it changes what is at an absolute path that is as `normalize` makes it
+abbrev pub is_placed_edit : TreeEdit → Bool
+is_placed_edit edit = is_placed (edited_path edit)
+
 -- what holds of each script that is read
 pub record IsScript (s : Script) : Type 0 where
   pub size : IsSize s.size
@@ -28,6 +38,7 @@ pub record IsScript (s : Script) : Type 0 where
   pub sends : length s.sends ≤ s.size
   pub comes : list_all comes s.turns ≡ true
   pub rises : Rises s.turns s.last
+  pub placed : list_all (list_all is_placed_edit) (edits_of s) ≡ true
 
 -- what the engine starts from: the settings of the script and its folder, with this flag, and the defaults of all else
 abbrev pub config_of : Flag → Script → Config
@@ -51,7 +62,7 @@ start_of ready s = record {
 
 -- what its world gives
 abbrev pub given_of : Script → Given
-given_of s = record { turns = s.turns; last = s.last; answers = s.answers; edits = s.edits ++ s.pending ∷ [] }
+given_of s = record { turns = s.turns; last = s.last; answers = s.answers; edits = edits_of s; fails = any_fails s.failing_looks }
 
 -- what its hooks do
 abbrev pub wished_of : Script → Wished

@@ -1,5 +1,5 @@
 -- The turns of a script, and what a world that follows it gives.
-use Rattle.std.specs.Prelude.{◌≡◌, ℕ, zero, suc, Bool, true, not, nat_le, if◌then◌else◌, Option, None, Some, List, [], ◌∷◌, length, slice_get}
+use Rattle.std.specs.Prelude.{◌≡◌, ℕ, zero, suc, Bool, true, false, not, nat_le, if◌then◌else◌, Option, None, Some, List, [], ◌∷◌, length, slice_get}
 use Rattle.std.specs.List.{filter}
 use Rattle.wx_journal.specs.declared.entry.Entry.{Entry}
 use Rattle.wx_journal.specs.declared.entry.Entry.TheVariants.{Turn as Turned, TurnFault}
@@ -7,6 +7,7 @@ use Rattle.wx_journal.specs.declared.entry.TurnKind.TheVariants.{Last}
 use Rattle.wx_journal.specs.Told.{is_turn}
 use Rattle.wx_machine.specs.Told.{is_last}
 use Rattle.wx_script.specs.declared.answers.Answers.{Answers}
+use Rattle.wx_script.specs.declared.script.FailingCall.{FailingCall}
 use Rattle.wx_script.specs.declared.script.TreeEdit.{TreeEdit}
 use Rattle.wx_script.specs.declared.script.ScriptTurn.{ScriptTurn}
 use Rattle.wx_script.specs.declared.script.ScriptTurn.TheVariants.{Turn, Fault}
@@ -27,12 +28,18 @@ abbrev pub Rises : List ScriptTurn → ℕ → Type 0
 Rises turns last = risen 0 turns ≡ Some last
 
 -- what a world gives: these turns, and then last turns at this moment, and these answers to the calls on the host and on the maker
--- of backends; and how it edits its tree when each turn is asked for
+-- of backends; how it edits its tree when each turn is asked for; and whether some look at it is to fail
 pub record Given : Type 0 where
   pub turns : List ScriptTurn
   pub last : ℕ
   pub answers : Answers
   pub edits : List (List TreeEdit)
+  pub fails : Bool
+
+-- a call is to fail
+abbrev pub any_fails : List FailingCall → Bool
+any_fails [] = false
+any_fails (f ∷ fs) = true
 
 -- the entry of a turn of a script, and where there is none that of a last turn
 abbrev pub entry_of : ScriptTurn → Entry

@@ -1,4 +1,4 @@
-//! The words in which values are written. It offers texts and lists again, which these are made of.
+//! The words in which values are written. It offers want of memory again.
 #![tactic(auto, unfolding(crate::specs::Line::behind))]
 
 mod cursor;
@@ -28,4 +28,4 @@ pub use rows::{
 };
 pub use spelled::Spelled;
 pub use texts::{Escaped, text_in};
-pub use wx_text::{Copies, List, Memory, Text, copy_twice};
+pub use wx_text::Memory;

@@ -9,7 +9,8 @@ use Rattle.std.specs.Prelude.{None}
 use Rattle.wx_machine.specs.Start.{Start}
 use Rattle.wx_machine.proofs.NoFiles.{begin_adds_none, dying_adds_none, source_kept}
 use Rattle.wx_machine.proofs.PaidLaws.{paid_first, paid_kept}
-use Rattle.wx_machine.proofs.RunLaws.{orderly, run_led, run_is_batched, run_has_batches}
+use Rattle.wx_machine.proofs.RunLaws.{orderly}
+use Rattle.wx_machine.proofs.BatchLaws.{run_led, run_is_batched, run_has_batches}
 use Rattle.wx_engine.proofs.MainLaws.{leads_world, leads_hooks, dying_hooks, answered_ran, ran_is_batched, ran_has_batches}
 use Rattle.wx_engine.proofs.BeginLemmas.{begun_run}
 use Rattle.wx_engine.proofs.RunLemmas.{stopped, caused_by, broken, wants, calm_stops, calm_begun}

@@ -16,7 +16,7 @@ use Rattle.wx_machine.specs.Added.{Same as SameJournal, More}
 use Rattle.wx_machine.specs.Due.{IsRun}
 use Rattle.wx_machine.specs.Kept.{KeepsOn, Past}
 use Rattle.wx_machine.specs.Leads.{Follows}
-use Rattle.wx_machine.proofs.RunLaws.{run_led}
+use Rattle.wx_machine.proofs.BatchLaws.{run_led}
 use Rattle.wx_action.specs.Stands.{HasEndRoom}
 use Rattle.wx_file_turns.specs.Serves.{PaysOn}
 use Rattle.wx_file_turns.specs.Standing.{owing}

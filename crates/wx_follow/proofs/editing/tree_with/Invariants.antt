@@ -1,5 +1,13 @@
-use Rattle.std.proofs.Common.{◌≡◌, []}
+use Rattle.std.proofs.Common.{◌≡◌, [], take}
+use Rattle.std.specs.Prelude.{not}
+use Rattle.wx_mem_tree.specs.Entries.{none_fails}
+use Rattle.wx_script.specs.Turns.{any_fails}
 use Rattle.wx_follow.proofs.editing.tree_with.Given as goal
 
 abbrev pub invariant-loop-look : goal.invariant-loop-look
-invariant-loop-look l = (l.tree.entries.items ≡ []) × (l.tree.looks ≡ 0) × (l.tree.faults ≡ 0)
+invariant-loop-look l = record {
+  fails : not (none_fails l.tree.failing) ≡ any_fails (take l.look-index l.failing);
+  entries : l.tree.entries.items ≡ [];
+  looks : l.tree.looks ≡ 0;
+  faults : l.tree.faults ≡ 0;
+}
