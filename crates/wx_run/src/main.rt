@@ -11,6 +11,7 @@ mod file_tests;
 mod function_tests;
 #[cfg(test)]
 mod grace_tests;
+mod keeping;
 #[cfg(test)]
 mod key_tests;
 #[cfg(test)]
@@ -26,6 +27,7 @@ mod still_tests;
 mod tests;
 mod top;
 
+use keeping::KeepingSource;
 use log::{Log, warn};
 use standard::{StdSink, StdSource};
 use std::alloc::Global;
@@ -33,6 +35,7 @@ use std::io::ErrorKind;
 use std::process::ExitCode;
 use std::{env, io};
 use top::wx_main;
+use wx_refusal::{Refusal, refusal};
 use wx_replay::Status;
 use wx_text::{Memory, Text};
 
@@ -50,17 +53,33 @@ fn words(rt: &HostRuntime) -> Result<Vec<Text>, Memory> {
     Ok(words)
 }
 
-/// Names a status other than `Done` on standard error, in one line, and says where to look.
-fn warn_of(rt: &impl Log, status: Status) {
+/// Why what was read is no script. `None` where it is one, or where there was no memory to keep it or to say why.
+fn why_refused<'a>(alloc: Global, status: Status, kept: Option<&'a [u8]>) -> Option<Refusal<'a>> {
+    if status != Status::NoScript {
+        return None;
+    }
+    refusal(alloc, kept?).ok()?
+}
+
+/// Says on standard error, in one line, why what was read is no script, or where that isn't known, where to look.
+fn warn_of_script(rt: &impl Log, why: Option<Refusal<'_>>) {
+    match why {
+        Some(why) => warn!(rt; "status 3: standard input is no script: {why}"),
+        None => {
+            warn!(rt; "status 3: standard input is no script; standard output has its first bad line, or that it is too long")
+        }
+    }
+}
+
+/// Names a status other than `Done` on standard error, in one line, and says where to look, or why a script is refused.
+fn warn_of(rt: &impl Log, status: Status, why: Option<Refusal<'_>>) {
     match status {
         Status::Done => {}
         Status::Critical => {
             warn!(rt; "status 1: the run ended with an error, which the end line on standard output tells")
         }
         Status::Usage => warn!(rt; "status 2: call it so: wx_run replay < SCRIPT"),
-        Status::NoScript => {
-            warn!(rt; "status 3: standard input is no script; standard output has its first bad line, or that it is too long")
-        }
+        Status::NoScript => warn_of_script(rt, why),
         Status::ReadFault => warn!(rt; "status 4: standard input could not be read"),
         Status::WriteFault => warn!(rt; "status 5: standard output could not be written whole"),
         Status::Memory => warn!(rt; "status 6: there is not enough memory; nothing was written"),
@@ -68,12 +87,13 @@ fn warn_of(rt: &impl Log, status: Status) {
 }
 
 fn main(rt: HostRuntime) -> ExitCode {
-    let mut source = StdSource::new(rt.reader());
+    let mut source = KeepingSource::new(rt.alloc(), StdSource::new(rt.reader()));
     let mut sink = StdSink::new(io::writer(&rt));
     let status = match words(&rt) {
         Ok(words) => wx_main(rt.alloc(), words.as_slice(), &mut source, &mut sink),
         Err(_) => Status::Memory,
     };
-    warn_of(&rt, status);
+    let why = why_refused(rt.alloc(), status, source.kept());
+    warn_of(&rt, status, why);
     ExitCode::from(status.code())
 }

@@ -1,0 +1,51 @@
+//! The names of the Rust crate `watchexec` that exist here, where they stand there.
+#![tactic(auto)]
+
+pub use watchexec_supervisor::{command, job};
+pub use wx_config::Config;
+pub use wx_control::Id;
+pub use wx_engine::Watchexec;
+pub use wx_hooks::ErrorHook;
+pub use wx_watch::WatchedPath;
+
+/// What is done about a batch of events.
+pub mod action {
+    pub use wx_action::worker;
+    pub use wx_hooks::ActionHandler;
+    pub use wx_machine::QuitManner;
+}
+
+/// Values that may be replaced.
+pub mod changeable {
+    pub use wx_config::{Changeable, ChangeableFn};
+}
+
+/// The settings.
+pub mod config {
+    pub use wx_config::Config;
+}
+
+/// What fails.
+pub mod error {
+    pub use wx_error::{CriticalError, RuntimeError};
+    pub use wx_watch::{FsWatcherError, KeyboardWatcherError};
+}
+
+/// What judges events and directories.
+pub mod filter {
+    pub use wx_config::{ChangeableFilterer, Filterer};
+}
+
+/// What paths have in common, and what events come to for a command.
+pub mod paths {
+    pub use wx_paths::common_prefix;
+    pub use wx_summary::{PATH_SEPARATOR, summarise_events_to_env};
+}
+
+/// Where events come from.
+pub mod sources {
+    /// Files.
+    pub mod fs {
+        pub use wx_watch::{WatchedPath, Watcher};
+    }
+}

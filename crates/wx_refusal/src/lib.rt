@@ -1,0 +1,11 @@
+//! Why bytes are no script, in one line for whoever wrote them.
+#![tactic(auto)]
+
+mod reasons;
+mod refusing;
+#[cfg(test)]
+mod tests;
+mod unformed;
+
+pub use reasons::{Front, Reason, Refusal};
+pub use refusing::refusal;
