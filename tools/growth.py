@@ -1,6 +1,6 @@
 #!/usr/bin/env python3
 """Prints how the processor time of replays grows with what waits in them: the seconds for N, 2 N and 4 N, and by which factor they
-rose. A factor of about 2 is linear, one of about 4 quadratic. "Costs" in docs/DESIGN.md tells which list each kind is about.
+rose. A factor of about 2 is linear, one of about 4 quadratic. "What calls cost" in docs/DESIGN.md tells which list each kind is about.
 
 Call it at the top of the repository: `tools/growth.py [PROGRAM] [KIND..]`. PROGRAM is crates/wx_run/out/wx_run where it isn't
 given, which `rt run` makes. Without a KIND all are run. N is doubled from 250 on until a replay takes a tenth of a second.
