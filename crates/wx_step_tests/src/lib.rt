@@ -7,6 +7,8 @@ mod failing_tests;
 #[cfg(test)]
 mod link_tests;
 #[cfg(test)]
+mod runs;
+#[cfg(test)]
 mod tests;
 #[cfg(test)]
 mod trial;

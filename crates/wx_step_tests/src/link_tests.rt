@@ -1,251 +1,348 @@
 // Links, and what one directory is reached by: the expected values are worked out by hand from the rules.
-use crate::trial::{Trial, expect_yes, path};
-use std::alloc::Global;
-use wx_mem_tree::Node;
-use wx_text::Memory;
+use crate::runs::run_holds;
 
-/// Whether this is owned, registered and unwatched, and this guards roots, in order, a line a path, and this was shown.
-fn ends(
-    trial: &Trial,
-    owned: &str,
-    registered: &str,
-    unwatched: &str,
-    guards: &str,
-    shown: &str,
-) -> Result<bool, Memory> {
-    let is_owned = trial.owned()?.as_str() == owned;
-    let is_registered = trial.registered()?.as_str() == registered;
-    let is_unwatched = trial.unwatched()?.as_str() == unwatched;
-    let is_guarded = trial.guards()?.as_str() == guards;
-    let is_shown = trial.shown.as_str() == shown;
-    Ok(is_owned && is_registered && is_unwatched && is_guarded && is_shown)
-}
+// A link below a root isn't owned where links aren't followed.
+const LEFT_OUT: &str = "\
+d /
+d /w
+d /w/a
+l /w/l a
+roots r /w
+settle
+owned = /w /w/a
+registered = /w /w/a
+unwatched = none
+guards = none
+shown = none
+rebuilds = 0
+";
 
-/// Links followed (`yes`) or not, what stands where, the roots; then what is owned, registered and guards, and what was shown.
-const SETTLED: [[&str; 7]; 11] = [
-    // A link below a root isn't owned where links aren't followed. Where they are it shares the registration of its directory.
-    [
-        "no",
-        "d /\nd /w\nd /w/a\nl /w/l a\n",
-        "r /w\n",
-        "/w\n/w/a\n",
-        "/w\n/w/a\n",
-        "",
-        "",
-    ],
-    [
-        "yes",
-        "d /\nd /w\nd /w/a\nl /w/l a\n",
-        "r /w\n",
-        "/w\n/w/a\n/w/l\n",
-        "/w\n/w/a\n",
-        "",
-        "",
-    ],
-    // A link back to the root is owned and not scanned again.
-    [
-        "yes",
-        "d /\nd /w\nd /w/a\nl /w/a/up /w\n",
-        "r /w\n",
-        "/w\n/w/a\n/w/a/up\n",
-        "/w\n/w/a\n",
-        "",
-        "",
-    ],
-    // A link to a directory beside the root is scanned, since it is new there.
-    [
-        "yes",
-        "d /\nd /w\nd /o\nd /o/p\nl /w/l /o\n",
-        "r /w\n",
-        "/w\n/w/l\n/w/l/p\n",
-        "/w\n/w/l\n/w/l/p\n",
-        "",
-        "",
-    ],
-    // A link that leads nowhere is absent, and shown. One to a file is no directory.
-    [
-        "yes",
-        "d /\nd /w\nl /w/l /no\n",
-        "r /w\n",
-        "/w\n",
-        "/w\n",
-        "",
-        "absent /w/l\n",
-    ],
-    [
-        "yes",
-        "d /\nd /w\nf /f\nl /w/l /f\n",
-        "r /w\n",
-        "/w\n",
-        "/w\n",
-        "",
-        "",
-    ],
-    // A root that is a link, below a link, or below a file: a guard, and nothing is shown.
-    ["no", "d /\nd /o\nl /l /o\n", "r /l\n", "", "/\n", "/\n", ""],
-    [
-        "no",
-        "d /\nd /o\nd /o/x\nl /l /o\n",
-        "r /l/x\n",
-        "",
-        "/\n",
-        "/\n",
-        "",
-    ],
-    ["no", "d /\nf /f\n", "r /f/x\n", "", "/\n", "/\n", ""],
-    // The same root where links are followed.
-    [
-        "yes",
-        "d /\nd /o\nd /o/x\nl /l /o\n",
-        "r /l\n",
-        "/l\n/l/x\n",
-        "/l\n/l/x\n",
-        "",
-        "",
-    ],
-    // Two roots that lead to one tree own it each by its own path, and share what is registered.
-    [
-        "yes",
-        "d /\nd /w\nd /w/a\nl /l /w\n",
-        "r /w\nr /l\n",
-        "/w\n/l\n/w/a\n/l/a\n",
-        "/w\n/w/a\n",
-        "",
-        "",
-    ],
+// Where they are it shares the registration of its directory.
+const FOLLOWED: &str = "\
+follow
+d /
+d /w
+d /w/a
+l /w/l a
+roots r /w
+settle
+owned = /w /w/a /w/l
+registered = /w /w/a
+unwatched = none
+guards = none
+shown = none
+rebuilds = 0
+";
+
+// A link back to the root is owned and not scanned again.
+const LEADS_BACK: &str = "\
+follow
+d /
+d /w
+d /w/a
+l /w/a/up /w
+roots r /w
+settle
+owned = /w /w/a /w/a/up
+registered = /w /w/a
+unwatched = none
+guards = none
+shown = none
+rebuilds = 0
+";
+
+// A link to a directory beside the root is scanned, since it is new there.
+const LEADS_BESIDE: &str = "\
+follow
+d /
+d /w
+d /o
+d /o/p
+l /w/l /o
+roots r /w
+settle
+owned = /w /w/l /w/l/p
+registered = /w /w/l /w/l/p
+unwatched = none
+guards = none
+shown = none
+rebuilds = 0
+";
+
+// A link that leads nowhere is absent, and shown.
+const LEADS_NOWHERE: &str = "\
+follow
+d /
+d /w
+l /w/l /no
+roots r /w
+settle
+owned = /w
+registered = /w
+unwatched = none
+guards = none
+shown = absent /w/l
+rebuilds = 0
+";
+
+// One to a file is no directory.
+const LEADS_TO_FILE: &str = "\
+follow
+d /
+d /w
+f /f
+l /w/l /f
+roots r /w
+settle
+owned = /w
+registered = /w
+unwatched = none
+guards = none
+shown = none
+rebuilds = 0
+";
+
+// A root that is a link: a guard, and nothing is shown.
+const ROOT_IS_LINK: &str = "\
+d /
+d /o
+l /l /o
+roots r /l
+settle
+owned = none
+registered = /
+unwatched = none
+guards = /
+shown = none
+rebuilds = 0
+";
+
+// So is one below a link.
+const ROOT_BELOW_LINK: &str = "\
+d /
+d /o
+d /o/x
+l /l /o
+roots r /l/x
+settle
+owned = none
+registered = /
+unwatched = none
+guards = /
+shown = none
+rebuilds = 0
+";
+
+// So is one below a file.
+const ROOT_BELOW_FILE: &str = "\
+d /
+f /f
+roots r /f/x
+settle
+owned = none
+registered = /
+unwatched = none
+guards = /
+shown = none
+rebuilds = 0
+";
+
+// A root that is a link, where links are followed.
+const ROOT_FOLLOWED: &str = "\
+follow
+d /
+d /o
+d /o/x
+l /l /o
+roots r /l
+settle
+owned = /l /l/x
+registered = /l /l/x
+unwatched = none
+guards = none
+shown = none
+rebuilds = 0
+";
+
+// Two roots that lead to one tree own it each by its own path, and share what is registered.
+const TWO_ROOTS: &str = "\
+follow
+d /
+d /w
+d /w/a
+l /l /w
+roots r /w, r /l
+settle
+owned = /w /l /w/a /l/a
+registered = /w /w/a
+unwatched = none
+guards = none
+shown = none
+rebuilds = 0
+";
+
+const SETTLED: [&str; 11] = [
+    LEFT_OUT,
+    FOLLOWED,
+    LEADS_BACK,
+    LEADS_BESIDE,
+    LEADS_NOWHERE,
+    LEADS_TO_FILE,
+    ROOT_IS_LINK,
+    ROOT_BELOW_LINK,
+    ROOT_BELOW_FILE,
+    ROOT_FOLLOWED,
+    TWO_ROOTS,
 ];
-
-/// These roots settle without a wish for a rebuild.
-fn settles_so(trial: &mut Trial, row: &[&str; 7]) -> Result<bool, Memory> {
-    let [_, _, roots, owned, registered, guards, shown] = *row;
-    trial.reconcile(roots)?;
-    let settled = trial.settle()?;
-    let ends = ends(trial, owned, registered, "", guards, shown)?;
-    Ok(settled && ends && trial.rebuilds == 0)
-}
-
-fn settles(alloc: Global, row: &[&str; 7]) -> Result<bool, Memory> {
-    let mut trial = Trial::new(alloc, row[0] == "yes", row[1])?;
-    settles_so(&mut trial, row)
-}
 
 #[test]
 fn links_and_what_they_lead_to(rt: HostRuntime) {
-    for row in SETTLED {
-        expect_yes(&rt, settles(rt.alloc(), &row), row[1]);
+    for run in SETTLED {
+        run_holds(&rt, rt.alloc(), run);
     }
 }
 
-/// Between the look at a candidate and the watch its link came to lead elsewhere: it is unwatched and counts as gone.
-fn candidate_changes(trial: &mut Trial) -> Result<bool, Memory> {
-    trial.change_from(4, "d /\nd /w\nd /o\nd /p\nl /w/l /p\n")?;
-    trial.reconcile("r /w\n")?;
-    let settled = trial.settle()?;
-    let ends = ends(trial, "/w\n", "/w\n", "/w/l\n", "", "changed /w/l\n")?;
-    Ok(settled && ends && trial.held.retries.is_empty() && trial.rebuilds == 0)
-}
+// Between the look at a candidate and the watch its link came to lead elsewhere: it is unwatched and counts as gone.
+const CANDIDATE_CHANGES: &str = "\
+follow
+d /
+d /w
+d /o
+d /p
+l /w/l /o
+later d /
+later d /w
+later d /o
+later d /p
+later l /w/l /p
+changes 4
+roots r /w
+settle
+owned = /w
+registered = /w
+unwatched = /w/l
+guards = none
+shown = changed /w/l
+retries = 0
+rebuilds = 0
+";
 
-fn candidate(alloc: Global) -> Result<bool, Memory> {
-    let mut trial = Trial::new(alloc, true, "d /\nd /w\nd /o\nd /p\nl /w/l /o\n")?;
-    candidate_changes(&mut trial)
-}
+// The same of a root: it is found again through its guard, which then goes.
+const ROOT_CHANGES: &str = "\
+follow
+d /
+d /o
+d /p
+l /l /o
+later d /
+later d /o
+later d /p
+later l /l /p
+changes 1
+roots r /l
+settle
+owned = /l
+registered = /l
+unwatched = /l /
+guards = none
+shown = changed /l
+rebuilds = 0
+";
 
-/// The same of a root: it is found again through its guard, which then goes.
-fn root_changes(trial: &mut Trial) -> Result<bool, Memory> {
-    trial.change_from(1, "d /\nd /o\nd /p\nl /l /p\n")?;
-    trial.reconcile("r /l\n")?;
-    let settled = trial.settle()?;
-    let ends = ends(trial, "/l\n", "/l\n", "/l\n/\n", "", "changed /l\n")?;
-    Ok(settled && ends && trial.rebuilds == 0)
-}
-
-fn root(alloc: Global) -> Result<bool, Memory> {
-    let mut trial = Trial::new(alloc, true, "d /\nd /o\nd /p\nl /l /o\n")?;
-    root_changes(&mut trial)
-}
-
-/// The path isn't there any more at the second look: it is unwatched and counts as gone.
-fn candidate_goes(trial: &mut Trial) -> Result<bool, Memory> {
-    trial.change_from(4, "d /\nd /w\n")?;
-    trial.reconcile("r /w\n")?;
-    let settled = trial.settle()?;
-    let ends = ends(trial, "/w\n", "/w\n", "/w/a\n", "", "absent /w/a\n")?;
-    Ok(settled && ends && trial.rebuilds == 0)
-}
-
-fn gone(alloc: Global) -> Result<bool, Memory> {
-    let mut trial = Trial::new(alloc, true, "d /\nd /w\nd /w/a\n")?;
-    candidate_goes(&mut trial)
-}
+// The path isn't there any more at the second look: it is unwatched and counts as gone.
+const CANDIDATE_GOES: &str = "\
+follow
+d /
+d /w
+d /w/a
+later d /
+later d /w
+changes 4
+roots r /w
+settle
+owned = /w
+registered = /w
+unwatched = /w/a
+guards = none
+shown = absent /w/a
+rebuilds = 0
+";
 
 #[test]
 fn what_changes_before_it_is_watched(rt: HostRuntime) {
-    expect_yes(&rt, candidate(rt.alloc()), "candidate");
-    expect_yes(&rt, root(rt.alloc()), "root");
-    expect_yes(&rt, gone(rt.alloc()), "gone");
+    run_holds(&rt, rt.alloc(), CANDIDATE_CHANGES);
+    run_holds(&rt, rt.alloc(), ROOT_CHANGES);
+    run_holds(&rt, rt.alloc(), CANDIDATE_GOES);
 }
 
-/// What a registration was made by is owned no more, and others share it: it stays, and a rebuild is asked for once.
-fn loses_representatives(trial: &mut Trial) -> Result<bool, Memory> {
-    trial.reconcile("r /w\nr /l\n")?;
-    let first = trial.settle()?;
-    trial.reconcile("r /l\n")?;
-    let second = trial.settle()?;
-    let once = trial.rebuilds == 1;
-    trial.reconcile("r /l\n")?;
-    let third = trial.settle()?;
-    let ends = ends(trial, "/l\n/l/a\n", "/w\n/w/a\n", "", "", "")?;
-    Ok(first && second && third && once && ends && trial.rebuilds == 1)
-}
+// What a registration was made by is owned no more, and others share it: it stays, and a rebuild is asked for once.
+const REPRESENTATIVES: &str = "\
+follow
+d /
+d /w
+d /w/a
+l /l /w
+roots r /w, r /l
+settle
+roots r /l
+settle
+rebuilds = 1
+roots r /l
+settle
+owned = /l /l/a
+registered = /w /w/a
+unwatched = none
+guards = none
+shown = none
+rebuilds = 1
+";
 
-fn representatives(alloc: Global) -> Result<bool, Memory> {
-    let mut trial = Trial::new(alloc, true, "d /\nd /w\nd /w/a\nl /l /w\n")?;
-    loses_representatives(&mut trial)
-}
+// A path whose link leads elsewhere by now is known under another identity: it is left out of the next replay, and isn't owned.
+const KNOWN_OTHERWISE: &str = "\
+follow
+d /
+d /w
+d /o
+d /p
+l /w/l /o
+roots r /w
+settle
+owned = /w /w/l
+registered = /w /w/l
+unwatched = none
+guards = none
+shown = none
+l /w/l /p
+roots r /w
+settle
+owned = /w
+registered = /w
+unwatched = /w/l
+guards = none
+shown = none
+excluded = 1
+rebuilds = 1
+";
 
-/// A path whose link leads elsewhere by now is known under another identity: it is left out of the next replay, and isn't owned.
-fn is_known_otherwise(trial: &mut Trial) -> Result<bool, Memory> {
-    trial.reconcile("r /w\n")?;
-    let settled = trial.settle()?;
-    let first = ends(trial, "/w\n/w/l\n", "/w\n/w/l\n", "", "", "")?;
-    let link = Node::Link(path(trial.alloc, "/p")?);
-    trial.scan.tree.node(path(trial.alloc, "/w/l")?, link)?;
-    trial.reconcile("r /w\n")?;
-    let settled = settled && trial.settle()?;
-    let ends = ends(trial, "/w\n", "/w\n", "/w/l\n", "", "")?;
-    Ok(settled && first && ends && trial.held.excluded.len() == 1 && trial.rebuilds == 1)
-}
-
-fn known_otherwise(alloc: Global) -> Result<bool, Memory> {
-    let mut trial = Trial::new(alloc, true, "d /\nd /w\nd /o\nd /p\nl /w/l /o\n")?;
-    is_known_otherwise(&mut trial)
-}
-
-/// A guard keeps the registration that it shares, and is a path by which it was made.
-fn guard_keeps(trial: &mut Trial) -> Result<bool, Memory> {
-    trial.reconcile("n /w\nr /w/no\n")?;
-    let first = trial.settle()?;
-    trial.reconcile("r /w/no\n")?;
-    let second = trial.settle()?;
-    let ends = ends(
-        trial,
-        "",
-        "/w\n",
-        "",
-        "/w\n",
-        "absent /w/no\nabsent /w/no\n",
-    )?;
-    Ok(first && second && ends && trial.rebuilds == 0)
-}
-
-fn shared_guard(alloc: Global) -> Result<bool, Memory> {
-    let mut trial = Trial::new(alloc, false, "d /\nd /w\n")?;
-    guard_keeps(&mut trial)
-}
+// A guard keeps the registration that it shares, and is a path by which it was made.
+const GUARD_KEEPS: &str = "\
+d /
+d /w
+roots n /w, r /w/no
+settle
+roots r /w/no
+settle
+owned = none
+registered = /w
+unwatched = none
+guards = /w
+shown = absent /w/no absent /w/no
+rebuilds = 0
+";
 
 #[test]
 fn what_is_shared(rt: HostRuntime) {
-    expect_yes(&rt, representatives(rt.alloc()), "representatives");
-    expect_yes(&rt, known_otherwise(rt.alloc()), "known otherwise");
-    expect_yes(&rt, shared_guard(rt.alloc()), "guard");
+    run_holds(&rt, rt.alloc(), REPRESENTATIVES);
+    run_holds(&rt, rt.alloc(), KNOWN_OTHERWISE);
+    run_holds(&rt, rt.alloc(), GUARD_KEEPS);
 }

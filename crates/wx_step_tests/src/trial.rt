@@ -5,14 +5,13 @@ ghost use Rattle.wx_step.specs.Rests.{IsAtRest};
 
 use std::alloc::Global;
 use std::process::Abort;
-use wx_fs_trial::{Changing, FailingBackend, FailingCall, Refusing};
+use wx_fs_trial::{Changing, FailingBackend, Refusing};
 use wx_holding::Held;
 use wx_mem_tree::{MemTree, Node};
 use wx_recursor::{ScanFault, ShownError};
 use wx_step::{asks_below, step};
 use wx_text::{Copies, Memory, Text};
 use wx_tree::{Place, Root};
-use wx_watch::NotifyFaultKind;
 use wx_words::{Escaped, TextPath};
 
 pub fn path(alloc: Global, bytes: &str) -> Result<TextPath, Memory> {
@@ -41,26 +40,24 @@ pub struct Trial {
     pub rebuilds: u64,
 }
 
-/// What stands where: `d` a directory, `f` a file, `l` a link with its target behind the path.
-fn tree(alloc: Global, nodes: &str) -> Result<MemTree, Memory> {
-    let mut tree = MemTree::new(alloc)?;
-    for node in nodes.lines() {
-        let Some((kind, at)) = node.split_once(" ") else {
-            continue;
-        };
-        match at.split_once(" ") {
-            Some((at, target)) => tree.node(path(alloc, at)?, Node::Link(path(alloc, target)?))?,
-            None => {
-                let node = if kind == "d" {
-                    Node::Dir
-                } else {
-                    Node::File(1)
-                };
-                tree.node(path(alloc, at)?, node)?;
-            }
-        }
+/// Puts a node into a tree: `d` a directory, `f` a file, `l` a link with its target behind the path. No where it is none of these.
+pub fn put_node(alloc: Global, tree: &mut MemTree, kind: &str, at: &str) -> Result<bool, Memory> {
+    match kind {
+        "d" => tree.node(path(alloc, at)?, Node::Dir)?,
+        "f" => tree.node(path(alloc, at)?, Node::File(1))?,
+        "l" => return put_link(alloc, tree, at),
+        _ => return Ok(false),
     }
-    Ok(tree)
+    Ok(true)
+}
+
+fn put_link(alloc: Global, tree: &mut MemTree, words: &str) -> Result<bool, Memory> {
+    let Some((at, target)) = words.split_once(" ") else {
+        return Ok(false);
+    };
+    let link = Node::Link(path(alloc, target)?);
+    tree.node(path(alloc, at)?, link)?;
+    Ok(true)
 }
 
 /// A word and the path behind it.
@@ -84,42 +81,52 @@ fn shown_error(alloc: Global, error: &ShownError) -> Result<String, Memory> {
     }
 }
 
-/// Behind the lines, one for each of the errors.
-fn note_errors(alloc: Global, errors: &[ShownError], lines: &mut String) -> Result<(), Memory> {
+/// Behind the text, the words of each error, with a space behind them.
+fn note_errors(alloc: Global, errors: &[ShownError], text: &mut String) -> Result<(), Memory> {
     for error in errors {
-        let line = shown_error(alloc, error)?;
-        lines.push_str(line.as_str())?;
-        lines.push_str("\n")?;
+        let words = shown_error(alloc, error)?;
+        text.push_str(words.as_str())?;
+        text.push_str(" ")?;
     }
     Ok(())
 }
 
+/// Behind the text, the path with a space behind it.
+fn put_path(alloc: Global, path: &TextPath, out: &mut String) -> Result<(), Memory> {
+    let shown = format!(in alloc; "{} ", Escaped(path.text()))?;
+    out.push_str(shown.as_str())?;
+    Ok(())
+}
+
+/// These paths in order, with a space behind each.
+fn shown_paths(alloc: Global, paths: &[TextPath]) -> Result<String, Memory> {
+    let mut out = String::new(alloc);
+    for path in paths {
+        put_path(alloc, path, &mut out)?;
+    }
+    Ok(out)
+}
+
 impl Trial {
-    pub fn new(alloc: Global, follow: bool, nodes: &str) -> Result<Trial, Memory> {
+    /// Over an empty tree, with no links followed.
+    pub fn new(alloc: Global) -> Result<Trial, Memory> {
         Ok(Trial {
             alloc,
-            follow,
+            follow: false,
             held: Held::new(alloc),
             back: FailingBackend::new(alloc),
-            scan: Changing::new(tree(alloc, nodes)?, MemTree::new(alloc)?, u64::MAX),
+            scan: Changing::new(MemTree::new(alloc)?, MemTree::new(alloc)?, u64::MAX),
             dirs: Refusing::new(alloc),
             shown: String::new(alloc),
             rebuilds: 0,
         })
     }
 
-    /// From this look on, counted from 0, this stands there.
-    pub fn change_from(&mut self, look: u64, nodes: &str) -> Result<(), Memory> {
-        self.scan.later = tree(self.alloc, nodes)?;
-        self.scan.from = look;
-        Ok(())
-    }
-
-    /// Sets the roots: `r` a recursive one, `n` one without what is below.
+    /// Sets the roots: `r` a recursive one, `n` one without what is below, with a comma between two.
     pub fn reconcile(&mut self, roots: &str) -> Result<(), Memory> {
         let mut given = Vec::new(self.alloc);
         let mut under = Vec::new(self.alloc);
-        for root in roots.lines() {
+        for root in roots.split(", ") {
             let Some((kind, at)) = root.split_once(" ") else {
                 continue;
             };
@@ -136,7 +143,7 @@ impl Trial {
         self.held.reconcile(self.alloc, given, 0)
     }
 
-    /// Does one step, and keeps what it showed, a line an error. It says whether nothing is left that could be let go. None where it
+    /// Does one step, and keeps what it showed. It says whether nothing is left that could be let go. None where it
     /// would ask beside the recursive roots.
     fn step(&mut self, at_rest: bool) -> Result<Option<bool>, Memory>
         requires { at_rest ≡ true → IsAtRest (state_of self.old.held) }
@@ -176,60 +183,36 @@ impl Trial {
         Ok(false)
     }
 
-    /// What is registered, in order, a line a path.
+    /// What is registered, in order.
     pub fn registered(&self) -> Result<String, Memory> {
-        let mut out = String::new(self.alloc);
-        for path in self.back.registered.as_slice() {
-            let bytes = Escaped(path.text());
-            out.push_str(format!(in self.alloc; "{bytes}\n")?.as_str())?;
-        }
-        Ok(out)
+        shown_paths(self.alloc, self.back.registered.as_slice())
     }
 
-    /// What is owned, in order, a line a path.
+    /// What is owned, in order.
     pub fn owned(&self) -> Result<String, Memory> {
         let mut out = String::new(self.alloc);
         for owner in self.held.owners.as_slice() {
-            let spelled = owner.path.path(self.alloc)?;
-            let bytes = Escaped(spelled.text());
-            out.push_str(format!(in self.alloc; "{bytes}\n")?.as_str())?;
+            put_path(self.alloc, &owner.path.path(self.alloc)?, &mut out)?;
         }
         Ok(out)
     }
 
-    /// What guards roots, in order, a line a path.
+    /// What guards roots, in order.
     pub fn guards(&self) -> Result<String, Memory> {
         let mut out = String::new(self.alloc);
         for guard in self.held.guards.as_slice() {
-            let spelled = guard.path.path(self.alloc)?;
-            let bytes = Escaped(spelled.text());
-            out.push_str(format!(in self.alloc; "{bytes}\n")?.as_str())?;
+            put_path(self.alloc, &guard.path.path(self.alloc)?, &mut out)?;
         }
         Ok(out)
     }
 
-    /// What was to be watched no more, in order, a line a path.
+    /// What was to be watched no more, in order.
     pub fn unwatched(&self) -> Result<String, Memory> {
-        let mut out = String::new(self.alloc);
-        for path in self.back.unwatched.as_slice() {
-            let bytes = Escaped(path.text());
-            out.push_str(format!(in self.alloc; "{bytes}\n")?.as_str())?;
-        }
-        Ok(out)
+        shown_paths(self.alloc, self.back.unwatched.as_slice())
     }
 
-    /// What was asked about, in order, a line a path.
+    /// What was asked about, in order.
     pub fn asked(&self) -> Result<String, Memory> {
-        let mut out = String::new(self.alloc);
-        for path in self.dirs.asked.as_slice() {
-            let bytes = Escaped(path.text());
-            out.push_str(format!(in self.alloc; "{bytes}\n")?.as_str())?;
-        }
-        Ok(out)
-    }
-
-    pub fn fail_call(&mut self, call: u64, kind: NotifyFaultKind) -> Result<(), Memory> {
-        self.back.failing.push(FailingCall { call, kind })?;
-        Ok(())
+        shown_paths(self.alloc, self.dirs.asked.as_slice())
     }
 }
