@@ -12,6 +12,7 @@ pub mod Rests
 pub mod Rising
 pub mod SameRoots
 pub mod Settled
+pub mod Shown
 pub mod Standing
 pub mod Staying
 pub mod Steps

@@ -22,7 +22,7 @@ use Rattle.wx_file_turns.specs.declared.files.Watching.{Watching}
 use Rattle.wx_file_turns.specs.declared.intake.Intake.{Intake}
 use Rattle.wx_file_turns.specs.declared.resting.Next.{Next}
 use Rattle.wx_file_turns.specs.declared.resting.Next.TheVariants as next
-use Rattle.wx_file_turns.specs.Hearing.{IsToHear, hearing_of}
+use Rattle.wx_file_turns.specs.Hearing.{IsToHear, hearing_of, item_messages, messages_of}
 use Rattle.wx_file_turns.specs.Intake.{is_live_by}
 use Rattle.wx_file_turns.specs.Resting.{IsFirst, IsNext, next_asked, next_fenced, next_first, next_item, next_of}
 use Rattle.wx_file_turns.specs.Standing.{IntakeStands}
@@ -36,8 +36,12 @@ use Rattle.wx_file_turns.proofs.SameRoots.{public_known}
 live_known : {B : Type 0} {G : Ghosts B} (s : Start) (w : Watching B G) (i : Intake) (p : List Entry) (back : ℕ) → IsWatching s w p → IntakeStands s i p → is_live (source s p) back ≡ is_live_by w i.since back
 live_known s w i p back h stands = rw (h.current, h.watches.named, stands.since_kept) refl
 
-is_to_hear : (s : Start) (p : List Entry) (live : Bool) (i : LaneItem) → rest_entry s p ≡ Heard i.name → item_named i.name (source s p).lane ≡ Some i → IsToHear s (hearing_of live i) p
-is_to_hear s p live i comes found = record { next = comes; fault = sym (ap item_fault found) }
+is_to_hear : (s : Start) (p : List Entry) (live : Bool) (i : LaneItem) → is_live (source s p) i.back ≡ live → rest_entry s p ≡ Heard i.name → item_named i.name (source s p).lane ≡ Some i → IsToHear s (hearing_of live i) p
+is_to_hear s p live i lives comes found = record {
+  next = comes;
+  messages = ap (λ (b : Bool). messages_of b i.item) (sym lives) ∙ sym (ap (item_messages (source s p)) found);
+  fault = sym (ap item_fault found);
+}
 
 is_first : (s : Start) (p : List Entry) (i : LaneItem) → first_item (source s p).lane ≡ Some i → IsFirst s i.name p
 is_first s p i there = rw there refl
@@ -61,7 +65,7 @@ module _ {B : Type 0} {G : Ghosts B} (s : Start) (w : Watching B G) (p : List En
   by_item live (Err fault) h deaf is lives = let both : true ≡ false = sym (fault_deaf i.item fault i.heard is) ∙ deaf in absurd cc
 
   by_deaf : (live deaf : Bool) → IsWatching s w p → is_deaf i ≡ deaf → is_live (source s p) i.back ≡ live → IsNext s (cond deaf (next.Hear (hearing_of live i)) (next_of w live i i.item)) p
-  by_deaf live true h deaf lives = is_to_hear s p live i (deaf_rests s p i asks there deaf) (first_named (source s p).lane i there)
+  by_deaf live true h deaf lives = is_to_hear s p live i lives (deaf_rests s p i asks there deaf) (first_named (source s p).lane i there)
   by_deaf live false h deaf lives = by_item live i.item h deaf refl lives
 
 -- ---- what comes
@@ -70,16 +74,16 @@ by_first : {B : Type 0} {G : Ghosts B} (s : Start) (w : Watching B G) (i : Intak
 by_first s w i p None h stands asks there = ap (asks_entry s p) asks ∙ ap (lane_entry s p) there
 by_first s w i p (Some x) h stands asks there = by_deaf s w p x asks there (is_live_by w i.since x.back) (is_deaf x) h refl (live_known s w i p x.back h stands)
 
-by_fence : {B : Type 0} {G : Ghosts B} (s : Start) (w : Watching B G) (i : Intake) (p : List Entry) (named : ℕ) (o : Option LaneItem) → AreRising 0 (item_count p) (source s p).lane → (source s p).asks ≡ Some named → fenced (source s p).fence (source s p).lane ≡ o → IsNext s (next_fenced w i.since named o) p
-by_fence s w i p named None rising asks there = ready_rests s p named asks there
-by_fence s w i p named (Some x) rising asks there = is_to_hear s p (is_live_by w i.since x.back) x (fenced_rests s p named x asks there) (fence_named (item_count p) (source s p).fence (source s p).lane x rising there)
+by_fence : {B : Type 0} {G : Ghosts B} (s : Start) (w : Watching B G) (i : Intake) (p : List Entry) (named : ℕ) (o : Option LaneItem) → AreRising 0 (item_count p) (source s p).lane → IsWatching s w p → IntakeStands s i p → (source s p).asks ≡ Some named → fenced (source s p).fence (source s p).lane ≡ o → IsNext s (next_fenced w i.since named o) p
+by_fence s w i p named None rising h stands asks there = ready_rests s p named asks there
+by_fence s w i p named (Some x) rising h stands asks there = is_to_hear s p (is_live_by w i.since x.back) x (live_known s w i p x.back h stands) (fenced_rests s p named x asks there) (fence_named (item_count p) (source s p).fence (source s p).lane x rising there)
 
 items_kept : (s : Start) (i : Intake) (p : List Entry) → IntakeStands s i p → (source s p).lane ≡ i.lane.items
 items_kept s i p h = sym (ap (λ (l : LaneState). l.items) h.lane_kept)
 
 by_asks : {B : Type 0} {G : Ghosts B} (s : Start) (w : Watching B G) (i : Intake) (p : List Entry) (o : Option ℕ) → NamesItsOwn p → IsWatching s w p → IntakeStands s i p → (source s p).asks ≡ o → IsNext s (next_asked w i o) p
 by_asks s w i p None own h stands asks = by_first s w i p (first_item i.lane.items) h stands asks (ap first_item (items_kept s i p stands))
-by_asks s w i p (Some named) own h stands asks = by_fence s w i p named (fenced i.fence i.lane.items) (lane_rises s p own) asks (rw (stands.fence_kept, items_kept s i p stands) refl)
+by_asks s w i p (Some named) own h stands asks = by_fence s w i p named (fenced i.fence i.lane.items) (lane_rises s p own) h stands asks (rw (stands.fence_kept, items_kept s i p stands) refl)
 
 pub is_next : {B : Type 0} {G : Ghosts B} (s : Start) (w : Watching B G) (i : Intake) (p : List Entry) → NamesItsOwn p → IsWatching s w p → IntakeStands s i p → IsNext s (next_asked w i i.asks) p
 is_next s w i p own h stands = by_asks s w i p i.asks own h stands (sym stands.asks_kept)

@@ -1,13 +1,24 @@
--- What a recursor is told of the tree leaves its roots, the number of its filter, and where its backend is.
-use Rattle.std.proofs.Common.{◌≡◌, List, [], ◌∷◌, ◌++◌, refl, ap, ◌∙◌}
+-- What a recursor is told of the tree leaves its roots, the number of its filter, and where its backend is; and what it is then.
+use Rattle.std.proofs.Common.{◌≡◌, ◌<◌, ◌≤◌, ◌+◌, ℕ, suc, List, [], ◌∷◌, ◌++◌, length, drop, get_or, drop-cons, add-one, inl, refl, ap, sym, subst, ◌∙◌}
+use Rattle.std.proofs.lemmas.List.{drop_all}
 use Rattle.std.specs.Prelude.{Result, Ok, Err, OnOk}
 use Rattle.wx_scan.specs.declared.backend.Backend.{Ghosts}
 use Rattle.wx_tree.specs.Paths.{Path}
+use Rattle.wx_lane.specs.declared.topology.Topology.{Topology}
 use Rattle.wx_recursor.specs.States.{RecursorState}
 use Rattle.wx_recursor.specs.Calls.{aliases, created, created_one, for_each, removed, removed_one, renamed, rescanned, unsure, unsure_one}
 use Rattle.wx_holding.specs.Holding.{state_of}
 use Rattle.wx_fs.specs.declared.recursor.Recursor.{Recursor}
-use Rattle.wx_file_turns.specs.Hearing.{StaysWatching}
+use Rattle.wx_journal.specs.declared.entry.Entry.{Entry}
+use Rattle.wx_journal.specs.declared.entry.Entry.TheVariants.{Heard}
+use Rattle.wx_machine.specs.Start.{Start}
+use Rattle.wx_machine.specs.Due.{rest_entry}
+use Rattle.wx_action.specs.Stands.{MayShow}
+use Rattle.wx_file_turns.specs.declared.files.Watching.{Watching}
+use Rattle.wx_file_turns.specs.declared.hearing.Hearing.{Hearing}
+use Rattle.wx_file_turns.specs.Attended.{Rests}
+use Rattle.wx_file_turns.specs.Hearing.{IsToHear, StaysWatching, messages_by, told_all, told_of}
+use Rattle.wx_file_turns.specs.Stepping.{IsWatching}
 use Rattle.wx_file_turns.proofs.Staying.{Asked, asked}
 
 -- ---- what each is
@@ -90,3 +101,38 @@ stays_then r t v h g = record {
 pub stays_on : {B E : Type 0} {G : Ghosts B} (r t v : Recursor B G) (result : Result (Unit {0}) E) → StaysWatching r t → OnOk result (StaysWatching t v) → OnOk result (StaysWatching r v)
 stays_on r t v (Ok done) h g = stays_then r t v h g
 stays_on r t v (Err want) h g = tt
+
+-- ---- what it is then
+
+-- the next message was told, of those that are left
+pub told_next : (folder cwd : List ℕ) (ms : List Topology) (i : ℕ) (m : Topology) (s t u : RecursorState) → i < length ms → m ≡ get_or ms i m → cwd ≡ folder → t ≡ told_of cwd m s → told_all folder (drop i ms) s ≡ u → told_all folder (drop (i + 1) ms) t ≡ u
+told_next folder cwd ms i m s t u below is same told before =
+    let first : told_all folder (drop i ms) s ≡ told_all folder (drop (suc i) ms) (told_of folder m s) = ap (λ (xs : List Topology). told_all folder xs s) (drop-cons ms i m below ∙ ap (λ (y : Topology). y ∷ drop (suc i) ms) (sym is)) in
+    ap (told_all folder (drop (i + 1) ms)) (told ∙ ap (λ (f : List ℕ). told_of f m s) same)
+    ∙ ap (λ (k : ℕ). told_all folder (drop k ms) (told_of folder m s)) (add-one i)
+    ∙ sym first
+    ∙ before
+
+-- and then none is left
+pub told_last : (folder : List ℕ) (ms : List Topology) (i : ℕ) (t u : RecursorState) → length ms ≤ i → told_all folder (drop i ms) t ≡ u → t ≡ u
+told_last folder ms i t u past before = sym (ap (λ (xs : List Topology). told_all folder xs t) (drop_all i ms past)) ∙ before
+
+-- ---- where there is no step to take
+
+-- an entry came that says nothing of the tree
+pub rests_silent : {B : Type 0} {G : Ghosts B} (s : Start) (w : Watching B G) (p p' : List Entry) (e : Entry) → rest_entry s p ≡ e → messages_by s p e ≡ [] → p' ≡ e ∷ p → Rests s w w p p'
+rests_silent s w p p' e comes none grown = record {
+  comes = inl (grown ∙ ap (λ (x : Entry). x ∷ p) (sym comes));
+  told = ap (λ (ms : List Topology). told_all s.folder ms (state_of w.recursor.held)) (sym (ap (messages_by s p) comes ∙ none));
+}
+
+-- an item was heard
+pub rests_heard : {B X E : Type 0} {G : Ghosts B} (s : Start) (w v : Watching B G) (h : Hearing) (p p' : List Entry) (result : Result X E) → IsToHear s h p → IsWatching s w p → OnOk result (MayShow (Heard h.name ∷ p) p') → OnOk result (state_of v.recursor.held ≡ told_all w.recursor.cwd h.messages (state_of w.recursor.held)) → OnOk result (Rests s w v p p')
+rests_heard s w v h p p' (Ok x) next watching shown told = record {
+  comes = subst (λ (e : Entry). MayShow (e ∷ p) p') (sym next.next) shown;
+  told =
+      told
+      ∙ ap (λ (f : List ℕ). told_all f h.messages (state_of w.recursor.held)) watching.watches.folder_kept
+      ∙ ap (λ (ms : List Topology). told_all s.folder ms (state_of w.recursor.held)) (next.messages ∙ sym (ap (messages_by s p) next.next));
+}
+rests_heard s w v h p p' (Err e) next watching shown told = tt

@@ -1,4 +1,5 @@
 pub mod Applying
+pub mod Attended
 pub mod Hearing
 pub mod Intake
 pub mod Judged
@@ -6,5 +7,6 @@ pub mod Making
 pub mod Resting
 pub mod Serves
 pub mod Settling
+pub mod Showing
 pub mod Standing
 pub mod Stepping

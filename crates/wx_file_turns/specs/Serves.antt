@@ -50,8 +50,8 @@ pub record LeavesWatch (s : Start) (p p' : List Entry) : Type 0 where
   pub unmade_kept : unmade_count p' ≡ unmade_count p
   pub items_kept : item_count p' ≡ item_count p
 
--- What is left of a world that was looked at, asked for backends, or told that all is watched: its plan, where it is in its turns, and
--- where the object lies that is lent to it, and its count of faults of children. Looks don't fall.
+-- Files were looked at, backends were asked for, or it was told that all is watched. The world's plan, turns and place, and its count of
+-- faults of children, are as they were. Its count of failed makes may have risen; its counts of looks never fall.
 pub record OnlyWatched {Plan : Type 0} (a b : Seen Plan) : Type 0 where
   pub plan_kept : b.plan ≡ a.plan
   pub progress_kept : b.progress ≡ record a.progress { maker_faults = b.progress.maker_faults }

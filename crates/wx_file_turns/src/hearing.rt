@@ -1,12 +1,14 @@
 // How what was brought is heard: what it says of the tree is told to what keeps watches, and a fault is shown.
-ghost use Rattle.std.specs.Prelude.{◌≡◌, ◌≤◌, ◌+◌, ◌⊎◌, if◌then◌else◌, true, false, [], IfErr, IfOk, OnOk, Some};
+ghost use Rattle.std.specs.Prelude.{◌≡◌, ◌≤◌, ◌+◌, ◌⊎◌, ◌∷◌, if◌then◌else◌, true, false, [], IfErr, IfOk, OnOk, Some};
+ghost use Rattle.wx_holding.specs.Holding.{state_of};
+ghost use Rattle.wx_journal.specs.declared.entry.Entry.TheVariants.{Heard};
 ghost use Rattle.wx_machine.specs.Answer.{BreaksHere};
 ghost use Rattle.wx_machine.specs.Due.{Comes, Open, Shows, Steps, after_fault, agenda, is_quitting};
 ghost use Rattle.wx_machine.specs.Journal.{closed};
 ghost use Rattle.wx_machine.specs.Start.{Start};
 ghost use Rattle.wx_machine.specs.Steps.{work_count};
-ghost use Rattle.wx_action.specs.Stands.{Owes};
-ghost use Rattle.wx_file_turns.specs.Hearing.{IsToHear, StaysWatching, hearing_of};
+ghost use Rattle.wx_action.specs.Stands.{MayShow, Owes};
+ghost use Rattle.wx_file_turns.specs.Hearing.{IsToHear, StaysWatching, hearing_of, told_all, told_of};
 ghost use Rattle.wx_calm.specs.FewSteps.{AddsBeside};
 ghost use Rattle.wx_file_turns.specs.Intake.{heard};
 ghost use Rattle.wx_file_turns.specs.Judged.{StepsHand};
@@ -73,7 +75,8 @@ pub(crate) fn heard_item(alloc: Global, live: bool, item: &LaneItem) -> Result<H
 
 /// Tells what keeps watches what happened to the tree. It fails only for want of memory.
 fn tell<B: Backend + Drop>(message: &Topology, recursor: &mut Recursor<B>) -> Result<(), Memory>
-    ensures { OnOk result (StaysWatching recursor.old recursor.new) }
+    ensures stays { OnOk result (StaysWatching recursor.old recursor.new) }
+    ensures told { OnOk result (state_of recursor.new.held ≡ told_of recursor.old.cwd message.now (state_of recursor.old.held)) }
 {
     match message {
         Topology::Create(path) => recursor.topology_create(path),
@@ -90,6 +93,7 @@ fn tell_all<B: Backend + Drop>(
     watching: &mut Watching<B>,
 ) -> Result<(), Memory>
     ensures stays { OnOk result (StaysWatching watching.old.recursor watching.new.recursor) }
+    ensures told { OnOk result (state_of watching.new.recursor.held ≡ told_all watching.old.recursor.cwd messages (state_of watching.old.recursor.held)) }
     ensures named { watching.new.back ≡ watching.old.back }
     ensures silent { messages ≡ [] → watching.new ≡ watching.old }
 {
@@ -116,6 +120,7 @@ fn show_owed<H: Hooks>(
     requires going { is_quitting journal.old.past ≡ false }
     ensures hand { StepsHand H.seen H.rule H.stands start worker.old journal.old hooks.old worker.new journal.new hooks.new }
     ensures served { OnOk result (agenda start journal.new.past ≡ Open) }
+    ensures adds { MayShow journal.old.past journal.new.past }
     ensures breaks { IfErr result (λ error. BreaksHere start journal.new.past error) }
 {
     worker.reserve(1, journal)?;
@@ -137,6 +142,7 @@ fn show_found<H: Hooks>(
     requires going { is_quitting journal.old.past ≡ false }
     ensures hand { StepsHand H.seen H.rule H.stands start worker.old journal.old hooks.old worker.new journal.new hooks.new }
     ensures served { OnOk result (agenda start journal.new.past ≡ Open) }
+    ensures adds { MayShow journal.old.past journal.new.past }
     ensures breaks { IfErr result (λ error. BreaksHere start journal.new.past error) }
 {
     if worker.queue.is_closed() {
@@ -168,6 +174,7 @@ fn show_fault<H: Hooks>(
     requires going { is_quitting journal.old.past ≡ false }
     ensures hand { StepsHand H.seen H.rule H.stands start worker.old journal.old hooks.old worker.new journal.new hooks.new }
     ensures served { OnOk result (agenda start journal.new.past ≡ Open) }
+    ensures adds { MayShow journal.old.past journal.new.past }
     ensures breaks { IfErr result (λ error. BreaksHere start journal.new.past error) }
 {
     match fault {
@@ -195,9 +202,11 @@ pub(crate) fn hear<B: Backend + Drop, H: Hooks>(
     requires going { is_quitting journal.old.past ≡ false }
     ensures hand { AttendsHand H.seen H.rule H.stands start worker.old journal.old hooks.old worker.new journal.new hooks.new }
     ensures served { OnOk result (agenda start journal.new.past ≡ Open) }
+    ensures adds { OnOk result (MayShow (Heard hearing.name ∷ journal.old.past) journal.new.past) }
     ensures watching { OnOk result (IsWatching start watching.new journal.new.past) }
     ensures intake { OnOk result (IntakeStands start intake.new journal.new.past) }
     ensures work { OnOk result (work_count journal.old.past + 1 ≤ work_count journal.new.past) }
+    ensures told { OnOk result (state_of watching.new.recursor.held ≡ told_all watching.old.recursor.cwd hearing.messages (state_of watching.old.recursor.held)) }
     ensures silent { hearing.messages ≡ [] → watching.new ≡ watching.old }
     ensures lane { OnOk result (intake.new ≡ heard hearing.name intake.old) }
     ensures beside { AddsBeside journal.old.past journal.new.past }

@@ -5,6 +5,7 @@ ghost use Rattle.wx_tree.specs.Trees.{Tree};
 ghost use Rattle.wx_holding.specs.Holding.{state_of};
 ghost use Rattle.wx_calm.specs.Calm.{IsCalmTurn};
 ghost use Rattle.wx_calm.specs.Walking.{WalksStep};
+ghost use Rattle.wx_fs.specs.Told.{TellsStep};
 ghost use Rattle.wx_machine.specs.Start.{Start};
 ghost use Rattle.wx_action.specs.Stands.{Stands};
 ghost use Rattle.wx_file_turns.specs.Judged.{AddsDirs, AreJudgedBy, Base, IsKept, IsStepping, recursive_places};
@@ -102,6 +103,7 @@ pub(crate) fn take_step<W: World, H: Hooks>(
     ensures walks { (t : Tree) (ok : ℕ → APath → Bool) → IsCalmTurn t ok start journal.new.past (W.seen world.old).looked (W.seen world.new).looked → Walks W.Back.backing W.Back.fits t ok start journal.old.past watching.old → works watching.old ≡ true
         → IfOk result (λ shown. IsSound W.Back.backing W.Back.fits t start watching.new.recursor × WalksStep t ok start journal.new.past (state_of watching.new.recursor.held) shown.errors shown.rebuild_backend) }
     ensures cut { OnErr result (IsStepping start journal.new.past) }
+    ensures tells { IfOk result (λ shown. TellsStep watching.old.recursor.kind (state_of watching.old.recursor.held) (state_of watching.new.recursor.held) shown.errors shown.rebuild_backend) }
 {
     let mut dirs = DirCalls {
         worker,

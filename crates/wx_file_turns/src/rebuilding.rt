@@ -1,9 +1,10 @@
 // How a backend is made in place of the one that stands.
-ghost use Rattle.std.specs.Prelude.{◌≤◌, ◌+◌, IfErr, OnOk};
+ghost use Rattle.std.specs.Prelude.{◌≤◌, ◌+◌, IfErr, IfOk, OnOk};
 ghost use Rattle.wx_machine.specs.Answer.{BreaksHere};
 ghost use Rattle.wx_machine.specs.Start.{Start};
 ghost use Rattle.wx_machine.specs.Steps.{work_count};
 ghost use Rattle.wx_action.specs.Stands.{Stands};
+ghost use Rattle.wx_file_turns.specs.Showing.{Rebuilds, RebuildsAll, RebuildsOnce};
 ghost use Rattle.wx_file_turns.specs.Stepping.{IsAtStep, StepsOn};
 
 use crate::files::Watching;
@@ -31,6 +32,7 @@ fn rebuild_once<W: World, H: Hooks>(
     ensures steps { StepsOn H.seen H.rule H.stands start worker.old journal.old (W.seen world.old) hooks.old worker.new journal.new (W.seen world.new) hooks.new }
     ensures at_step { OnOk result (IsAtStep start watching.new journal.new.past) }
     ensures work { OnOk result (work_count journal.old.past + 1 ≤ work_count journal.new.past) }
+    ensures rebuilds { IfOk result (λ more. RebuildsOnce start watching.old watching.new more journal.old.past journal.new.past) }
     ensures breaks { IfErr result (λ error. BreaksHere start journal.new.past error) }
 {
     watching.recursor.prepare_backend_rebuild()?;
@@ -59,6 +61,7 @@ fn rebuild_within<W: World, H: Hooks>(
     requires at_step { IsAtStep start watching.old journal.old.past }
     ensures steps { StepsOn H.seen H.rule H.stands start worker.old journal.old (W.seen world.old) hooks.old worker.new journal.new (W.seen world.new) hooks.new }
     ensures at_step { OnOk result (IsAtStep start watching.new journal.new.past) }
+    ensures rebuilds { OnOk result (Rebuilds start watching.old journal.old.past watching.new journal.new.past) }
     ensures breaks { IfErr result (λ error. BreaksHere start journal.new.past error) }
 {
     for _round in 0..rounds {
@@ -85,6 +88,7 @@ pub(crate) fn rebuild<W: World, H: Hooks>(
     ensures steps { StepsOn H.seen H.rule H.stands start worker.old journal.old (W.seen world.old) hooks.old worker.new journal.new (W.seen world.new) hooks.new }
     ensures at_step { OnOk result (IsAtStep start watching.new journal.new.past) }
     ensures work { OnOk result (work_count journal.old.past + 1 ≤ work_count journal.new.past) }
+    ensures rebuilds { OnOk result (RebuildsAll start watching.old watching.new journal.old.past journal.new.past) }
     ensures breaks { IfErr result (λ error. BreaksHere start journal.new.past error) }
 {
     let more = watching.recursor.replay_count().saturating_add(1);

@@ -11,6 +11,7 @@ ghost use Rattle.wx_machine.specs.Start.{Start};
 ghost use Rattle.wx_action.specs.Calls.{offer_of};
 ghost use Rattle.wx_action.specs.Serves.{Grows};
 ghost use Rattle.wx_action.specs.Stands.{Owes};
+ghost use Rattle.wx_file_turns.specs.Attended.{Rests};
 ghost use Rattle.wx_file_turns.specs.Intake.{left, told};
 ghost use Rattle.wx_file_turns.specs.Resting.{IsFirst, next_asked, next_event, next_item};
 ghost use Rattle.wx_file_turns.specs.Serves.{Attends, AttendsAlone, GrowsAlone, PaysOn};
@@ -233,6 +234,7 @@ pub(crate) fn rest<W: World, H: Hooks>(
     ensures served { OnOk result (agenda start journal.new.past ≡ Open) }
     ensures watching { OnOk result (IsWatching start watching.new journal.new.past) }
     ensures intake { OnOk result (IntakeStands start intake.new journal.new.past) }
+    ensures rests { OnOk result (Rests start watching.old watching.new journal.old.past journal.new.past) }
     ensures breaks { IfErr result (λ error. BreaksHere start journal.new.past error) }
     ensures paid { PaysOn journal.old.past (W.seen world.old) (owed (works watching.old)) journal.new.past (W.seen world.new) (owed (works watching.new)) }
     ensures settles { GoesOnWalking W.Back.backing W.Back.fits result start watching.old intake.old journal.old.past (W.seen world.old).looked watching.new intake.new journal.new.past (W.seen world.new).looked }

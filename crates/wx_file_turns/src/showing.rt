@@ -5,11 +5,13 @@ ghost use Rattle.wx_machine.specs.Added.{Added};
 ghost use Rattle.wx_journal.specs.Told.{is_world};
 ghost use Rattle.wx_machine.specs.Answer.{BreaksHere};
 ghost use Rattle.wx_machine.specs.Due.{Due};
+ghost use Rattle.wx_machine.specs.Journal.{closed};
 ghost use Rattle.wx_machine.specs.Start.{Start};
 ghost use Rattle.wx_action.specs.Stands.{Stands};
 ghost use Rattle.wx_file_turns.specs.Judged.{IsStepping, StepsHand};
 ghost use Rattle.wx_file_turns.specs.Serves.{GrowsAlone};
 ghost use Rattle.wx_file_turns.specs.Settling.{ShowsOneOf};
+ghost use Rattle.wx_file_turns.specs.Showing.{ShowsAll, ShowsUnless};
 
 use std::alloc::Global;
 use wx_action::{Hooks, Worker};
@@ -45,6 +47,7 @@ fn show_error<H: Hooks>(
     ensures hand { StepsHand H.seen H.rule H.stands start worker.old journal.old hooks.old worker.new journal.new hooks.new }
     ensures stepping { OnOk result (IsStepping start journal.new.past) }
     ensures shows { OnOk result (Added (λ p e. ShowsOneOf (error ∷ []) e) journal.old.past journal.new.past) }
+    ensures shown { OnOk result (ShowsUnless (closed journal.old.past) start error journal.old.past journal.new.past) }
     ensures breaks { IfErr result (λ error. BreaksHere start journal.new.past error) }
 {
     if worker.queue.is_closed() {
@@ -71,6 +74,7 @@ pub(crate) fn show_errors<H: Hooks>(
     ensures hand { StepsHand H.seen H.rule H.stands start worker.old journal.old hooks.old worker.new journal.new hooks.new }
     ensures stepping { OnOk result (IsStepping start journal.new.past) }
     ensures shows { OnOk result (Added (λ p e. ShowsOneOf errors e) journal.old.past journal.new.past) }
+    ensures all { OnOk result (ShowsAll start errors journal.old.past journal.new.past) }
     ensures breaks { IfErr result (λ error. BreaksHere start journal.new.past error) }
 {
     let mut left = errors;

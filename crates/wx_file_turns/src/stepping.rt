@@ -12,7 +12,9 @@ ghost use Rattle.wx_machine.specs.Due.{Open, Steps, agenda, is_quitting};
 ghost use Rattle.wx_machine.specs.Start.{Start};
 ghost use Rattle.wx_machine.specs.Steps.{work_count};
 ghost use Rattle.wx_action.specs.Stands.{Owes, Stands};
+ghost use Rattle.wx_file_turns.specs.Attended.{AttendedBy};
 ghost use Rattle.wx_file_turns.specs.Serves.{Attends, PaysOn};
+ghost use Rattle.wx_file_turns.specs.Showing.{DoesStep, RebuildsWhere, ShowsStep};
 ghost use Rattle.wx_file_turns.specs.Standing.{IntakeStands, owed, works};
 ghost use Rattle.wx_file_turns.specs.Stepping.{IsAtStep, IsWatching, IsWorthwhile, KeepsBrought, StepsOn};
 
@@ -46,6 +48,7 @@ fn rebuild_where<W: World, H: Hooks>(
     ensures work { OnOk result (asked ≡ true → work_count journal.old.past + 1 ≤ work_count journal.new.past) }
     ensures none { asked ≡ false → watching.new ≡ watching.old }
     ensures still { asked ≡ false → journal.new ≡ journal.old }
+    ensures rebuilds { OnOk result (RebuildsWhere asked start watching.old watching.new journal.old.past journal.new.past) }
     ensures breaks { IfErr result (λ error. BreaksHere start journal.new.past error) }
 {
     if asked {
@@ -73,6 +76,7 @@ fn work<W: World, H: Hooks>(
     ensures steps { StepsOn H.seen H.rule H.stands start worker.old journal.old (W.seen world.old) hooks.old worker.new journal.new (W.seen world.new) hooks.new }
     ensures at_step { OnOk result (IsAtStep start watching.new journal.new.past) }
     ensures worthwhile { OnOk result (IsWorthwhile watching.new journal.old.past (W.seen world.old) journal.new.past (W.seen world.new)) }
+    ensures shown { OnOk result (ShowsStep start watching.old watching.new journal.old.past journal.new.past) }
     ensures walks { (t : Tree) (ok : ℕ → Path → Bool) → IsCalmTurn t ok start journal.new.past (W.seen world.old).looked (W.seen world.new).looked → TurnShowsAbsent start t journal.old.past → Walks W.Back.backing W.Back.fits t ok start journal.old.past watching.old → works watching.old ≡ true
         → OnOk result (IsFewMore start t journal.new.past × Walks W.Back.backing W.Back.fits t ok start (Said Stepped ∷ journal.new.past) watching.new) }
     ensures breaks { IfErr result (λ error. BreaksHere start journal.new.past error) }
@@ -104,6 +108,7 @@ pub(crate) fn step<W: World, H: Hooks>(
     ensures served { OnOk result (agenda start journal.new.past ≡ Open) }
     ensures watching { OnOk result (IsWatching start watching.new journal.new.past) }
     ensures brought { OnOk result (KeepsBrought start journal.old.past journal.new.past) }
+    ensures done { OnOk result (DoesStep start watching.old watching.new journal.old.past journal.new.past) }
     ensures breaks { IfErr result (λ error. BreaksHere start journal.new.past error) }
     ensures paid { PaysOn journal.old.past (W.seen world.old) 1 journal.new.past (W.seen world.new) (owed (works watching.new)) }
     ensures walks { (t : Tree) (ok : ℕ → Path → Bool) → IsCalmTurn t ok start journal.new.past (W.seen world.old).looked (W.seen world.new).looked → FewSteps start t journal.old.past → TurnShowsAbsent start t journal.old.past → Walks W.Back.backing W.Back.fits t ok start journal.old.past watching.old → works watching.old ≡ true
@@ -137,6 +142,7 @@ pub(crate) fn attend<W: World, H: Hooks>(
     ensures served { OnOk result (agenda start journal.new.past ≡ Open) }
     ensures watching { OnOk result (IsWatching start watching.new journal.new.past) }
     ensures intake { OnOk result (IntakeStands start intake.new journal.new.past) }
+    ensures attended { OnOk result (AttendedBy (works watching.old) start watching.old watching.new journal.old.past journal.new.past) }
     ensures breaks { IfErr result (λ error. BreaksHere start journal.new.past error) }
     ensures paid { PaysOn journal.old.past (W.seen world.old) (owed (works watching.old)) journal.new.past (W.seen world.new) (owed (works watching.new)) }
     ensures settles { GoesOnWalking W.Back.backing W.Back.fits result start watching.old intake.old journal.old.past (W.seen world.old).looked watching.new intake.new journal.new.past (W.seen world.new).looked }

@@ -1,5 +1,5 @@
 // A turn about what is watched.
-ghost use Rattle.std.specs.Prelude.{◌≡◌, ℕ, IfErr, OnOk};
+ghost use Rattle.std.specs.Prelude.{◌≡◌, ℕ, true, IfErr, OnOk};
 ghost use Rattle.wx_journal.specs.declared.entry.TurnKind.TheVariants.{File as FileTurn};
 ghost use Rattle.wx_journal.specs.Told.{Counts};
 ghost use Rattle.wx_machine.specs.Answer.{BreaksHere};
@@ -7,9 +7,10 @@ ghost use Rattle.wx_machine.specs.Due.{Open, agenda};
 ghost use Rattle.wx_machine.specs.Kept.{Promised};
 ghost use Rattle.wx_machine.specs.Start.{Start};
 ghost use Rattle.wx_action.specs.Stands.{AtTurn};
+ghost use Rattle.wx_file_turns.specs.Attended.{Attended};
 ghost use Rattle.wx_file_turns.specs.Serves.{Attends, PaysOn, ends_unmade};
 ghost use Rattle.wx_file_turns.specs.Settling.{GoesOnSettling};
-ghost use Rattle.wx_file_turns.specs.Standing.{FilesStand, owing};
+ghost use Rattle.wx_file_turns.specs.Standing.{FilesStand, is_revision, owing};
 
 use crate::applying::apply;
 use crate::files::Files;
@@ -39,6 +40,7 @@ pub fn file_turn<W: World, H: Hooks>(
     ensures promised { Promised H.seen H.rule H.stands hooks.old journal.old.past hooks.new journal.new.past }
     ensures served { OnOk result (agenda start journal.new.past ≡ Open) }
     ensures files { OnOk result (FilesStand start files.new journal.new.past) }
+    ensures attended { is_revision worker.old.config.change_signal files.old.applied ≡ true → OnOk result (Attended start files.old.source files.new.source journal.old.past journal.new.past) }
     ensures breaks { IfErr result (λ error. BreaksHere start journal.new.past error) }
     ensures maker { Counts (ends_unmade journal.new.past) (W.seen world.old).progress.maker_faults (W.seen world.new).progress.maker_faults }
     ensures paid { PaysOn journal.old.past (W.seen world.old) (owing files.old) journal.new.past (W.seen world.new) (owing files.new) }

@@ -1,7 +1,10 @@
-use Rattle.std.proofs.Common.{None, inr, refl}
+use Rattle.std.proofs.Common.{List, None, inr, refl, subst}
+use Rattle.wx_journal.specs.declared.entry.Entry.{Entry}
+use Rattle.wx_action.specs.Stands.{MayShow}
 use Rattle.wx_file_turns.proofs.Hearings.{called_heard, called_room, called_steps, called_then, fault_wants, heard_intake, heard_owes, heard_watched, heard_worked, heard_works, kind_applied, rests_wants}
 use Rattle.wx_file_turns.proofs.Onward.{leaves_none}
 use Rattle.wx_calm.proofs.Journals.{adds_then, beside_of, follows_adds}
+use Rattle.wx_holding.proofs.Results.{ok_always}
 use Rattle.wx_file_turns.proofs.Settled.{beside_none, beside_one}
 use Rattle.wx_file_turns.proofs.hearing.hear.Goals as goal
 
@@ -41,6 +44,12 @@ returns-clause-hand g c =
     called_then _ _ _ g.start c.args.worker.now c.args.worker.now _ c.args.journal.now c.push.new.self _ c.args.hooks.now c.args.hooks.now _
     (called_heard _ _ _ g.start c.args.worker.now c.args.hearing c.args.journal.now c.reserve.new.journal c.push.new.self c.args.hooks.now c.requires.1.1.0 c.requires.1.1.1.0 c.reserve.ensures.same c.in_ok-reserve.ensures.room c.push.ensures.past c.push.ensures.room)
     (called_steps _ _ _ g.start _ _ _ _ _ _ c.show_fault.ensures.hand)
+
+pub returns-clause-adds : goal.returns-clause-adds
+returns-clause-adds g c = ok_always c.show_fault.result _ (subst (λ (p : List Entry). MayShow p c.show_fault.new.journal.past) (rw c.reserve.ensures.same at c.push.ensures.past) c.show_fault.ensures.adds)
+
+pub returns-clause-told : goal.returns-clause-told
+returns-clause-told g c = ok_always c.show_fault.result _ c.in_ok-tell_all.ensures.told
 
 pub returns-clause-watching : goal.returns-clause-watching
 returns-clause-watching g c = heard_watched g.start c.args.watching.now c.tell_all.new.watching c.args.journal.now.past c.push.new.self.past c.show_fault.new.journal.past c.args.hearing.name c.show_fault.result c.requires.1.1.1.1.0 (rw c.reserve.ensures.same at c.push.ensures.past) c.tell_all.ensures.named c.in_ok-tell_all.ensures.stays c.show_fault.ensures.hand.leaves

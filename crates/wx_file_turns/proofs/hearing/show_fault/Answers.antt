@@ -1,3 +1,4 @@
+use Rattle.std.proofs.Common.{inl, refl}
 use Rattle.wx_file_turns.proofs.Hearings.{found_owed, none_open}
 use Rattle.wx_file_turns.proofs.Onward.{hand_none}
 use Rattle.wx_file_turns.proofs.hearing.show_fault.Goals as goal
@@ -8,6 +9,9 @@ returns-in-None-clause-hand g c = hand_none _ _ _ g.start _ _ _ c.requires.1.0.s
 
 pub returns-in-None-clause-served : goal.returns-in-None-clause-served
 returns-in-None-clause-served g c = none_open g.start c.args.journal.now.past _ c.args.kind c.args.fault c.requires.1.0.due c.in-None.is
+
+pub returns-in-None-clause-adds : goal.returns-in-None-clause-adds
+returns-in-None-clause-adds g c = inl refl
 
 -- or is one
 pub show_found-requires : goal.show_found-requires

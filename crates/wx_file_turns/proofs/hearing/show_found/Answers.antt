@@ -1,4 +1,4 @@
-use Rattle.std.proofs.Common.{sym, ◌∙◌}
+use Rattle.std.proofs.Common.{inl, refl, sym, ◌∙◌}
 use Rattle.wx_file_turns.proofs.Hearings.{closed_open, fault_shows}
 use Rattle.wx_file_turns.proofs.Onward.{hand_none}
 use Rattle.wx_file_turns.proofs.hearing.show_found.Goals as goal
@@ -9,6 +9,9 @@ returns-then-is_closed-clause-hand g c = hand_none _ _ _ g.start _ _ _ c.require
 
 pub returns-then-is_closed-clause-served : goal.returns-then-is_closed-clause-served
 returns-then-is_closed-clause-served g c = closed_open g.start c.args.worker.now c.args.journal.now.past c.args.kind c.args.fault c.requires.1.0 (sym c.is_closed.ensures ∙ c.if-is_closed.true)
+
+pub returns-then-is_closed-clause-adds : goal.returns-then-is_closed-clause-adds
+returns-then-is_closed-clause-adds g c = inl refl
 
 -- or isn't
 pub show_owed-requires : goal.show_owed-requires

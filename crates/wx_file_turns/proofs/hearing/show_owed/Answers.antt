@@ -1,4 +1,6 @@
-use Rattle.std.proofs.Common.{arith}
+use Rattle.std.proofs.Common.{List, inl, arith, subst}
+use Rattle.wx_journal.specs.declared.entry.Entry.{Entry}
+use Rattle.wx_action.specs.Stands.{MayShow}
 use Rattle.wx_action.proofs.Serving.{hooks_none}
 use Rattle.wx_file_turns.proofs.Entries.{shown_hand}
 use Rattle.wx_file_turns.proofs.Hearings.{error_shows, shown_open}
@@ -25,3 +27,12 @@ returns-clause-hand g c =
 
 pub returns-clause-served : goal.returns-clause-served
 returns-clause-served g c = shown_open g.start c.args.worker.now c.args.journal.now.past c.reserve.new.journal.past c.call_show.new.journal.past c.args.error c.call_show.result c.reserve.ensures.same c.requires.1.0 c.requires.1.1 c.call_show.ensures.done
+
+pub returns-in_err-reserve-clause-adds : goal.returns-in_err-reserve-clause-adds
+returns-in_err-reserve-clause-adds g c = inl c.reserve.ensures.same
+
+pub returns-in_err-reserve-2-clause-adds : goal.returns-in_err-reserve-2-clause-adds
+returns-in_err-reserve-2-clause-adds g c = inl c.reserve.ensures.same
+
+pub returns-clause-adds : goal.returns-clause-adds
+returns-clause-adds g c = subst (λ (p : List Entry). MayShow p c.call_show.new.journal.past) c.reserve.ensures.same c.call_show.ensures.adds

@@ -1,6 +1,7 @@
 use Rattle.std.proofs.Common.{rules, refl}
 use Rattle.wx_file_turns.proofs.Onward.{steps_alone, steps_by_hand, steps_looked, steps_then}
 use Rattle.wx_file_turns.proofs.Rebuilt.{looks_seen, rebuilt}
+use Rattle.wx_file_turns.proofs.Shown.{rebuilds_once}
 use Rattle.wx_file_turns.proofs.Steps.{remake_due, remake_on}
 use Rattle.wx_file_turns.proofs.rebuilding.rebuild_once.Goals as goal
 
@@ -36,3 +37,6 @@ returns-clause-at_step g c = record {
   stepping = c.in_ok-show_errors.ensures.stepping;
   watching = rebuilt g.start c.args.watching.now _ c.args.journal.now.past c.make_backend.new.journal.past _ _ _ _ _ _ _ _ _ c.requires.1.1.1.1.watching c.in_ok-back.ensures.made c.show_errors.ensures.hand.leaves refl (search rules) (search rules) (search rules) c.in_ok-prepare_backend_rebuild.ensures.state c.in_ok-install_backend.ensures.state c.in_ok-shown.ensures.state;
 }
+
+pub returns-clause-rebuilds : goal.returns-clause-rebuilds
+returns-clause-rebuilds g c = rebuilds_once g.start c.args.watching.now _ _ _ _ _ _ c.args.journal.now.past c.make_backend.new.journal.past _ (search rules) c.in_ok-prepare_backend_rebuild.ensures.state c.in_ok-install_backend.ensures.state c.in_ok-shown.ensures.state (search rules) c.in_ok-show_errors.ensures.all

@@ -8,6 +8,7 @@ use Rattle.wx_file_turns.proofs.Onward.{attends_alone, attends_grown, attends_he
 use Rattle.wx_file_turns.proofs.Rests.{attends_offered, gone_rested, heard_paid, offered_rested, quiet_rested, ready_rested, rested_paid, same_paid}
 use Rattle.wx_file_turns.proofs.Steps.{quiet_due}
 use Rattle.wx_file_turns.proofs.Settled.{beside_none, beside_one, heard_harmless, left_harmless, next_silent, ok_anyway, walking_left, walking_same, walking_well}
+use Rattle.wx_file_turns.proofs.Telling.{rests_heard, rests_silent}
 use Rattle.wx_file_turns.proofs.resting.rest.Goals as goal
 
 -- ---- there is nothing to do
@@ -219,3 +220,35 @@ returns-in_err-offer-in-Offer-clause-settles g c = walking_left _ _ g.start c.fr
 
 pub returns-in_ok-offer-in-Offer-clause-settles : goal.returns-in_ok-offer-in-Offer-clause-settles
 returns-in_ok-offer-in-Offer-clause-settles g c = walking_well _ _ g.start c.args.watching.now c.args.watching.now c.args.intake.now c.offer.new.intake _ _ _ _ (beside_one _ _ _ (record { none_applied = refl; none_done = refl }) c.in_ok-offer-in-Offer.ensures.offered.0) refl (λ h. left_harmless _ _ c.in_ok-offer-in-Offer.ensures.offered.1 h)
+
+-- ---- what comes, and is told
+
+pub returns-in_ok-say-in-Rest-clause-rests : goal.returns-in_ok-say-in-Rest-clause-rests
+returns-in_ok-say-in-Rest-clause-rests g c =
+    let owes = c.requires.1.1.1.0 in
+    let next = next_found g.start _ _ _ _ _ c.in_ok-coming.ensures c.in-Rest.is owes.stands.own c.requires.1.1.1.1.0 c.requires.1.1.1.1.1.0 in
+    rests_silent g.start c.args.watching.now c.args.journal.now.past _ _ next refl c.in_ok-say-in-Rest.ensures.said
+
+pub returns-in_ok-tell_ready-in-Ready-clause-rests : goal.returns-in_ok-tell_ready-in-Ready-clause-rests
+returns-in_ok-tell_ready-in-Ready-clause-rests g c =
+    let owes = c.requires.1.1.1.0 in
+    let next = next_found g.start _ _ _ _ _ c.in_ok-coming.ensures c.in-Ready.is owes.stands.own c.requires.1.1.1.1.0 c.requires.1.1.1.1.1.0 in
+    rests_silent g.start c.args.watching.now c.args.journal.now.past _ _ next refl c.in_ok-tell_ready-in-Ready.ensures.told.0
+
+pub returns-in_ok-let_go-in-LetGo-clause-rests : goal.returns-in_ok-let_go-in-LetGo-clause-rests
+returns-in_ok-let_go-in-LetGo-clause-rests g c =
+    let owes = c.requires.1.1.1.0 in
+    let next = next_found g.start _ _ _ _ _ c.in_ok-coming.ensures c.in-LetGo.is owes.stands.own c.requires.1.1.1.1.0 c.requires.1.1.1.1.1.0 in
+    rests_silent g.start c.args.watching.now c.args.journal.now.past _ _ next.0 refl c.in_ok-let_go-in-LetGo.ensures.gone.0
+
+pub returns-in_ok-offer-in-Offer-clause-rests : goal.returns-in_ok-offer-in-Offer-clause-rests
+returns-in_ok-offer-in-Offer-clause-rests g c =
+    let owes = c.requires.1.1.1.0 in
+    let next = next_found g.start _ _ _ _ _ c.in_ok-coming.ensures c.in-Offer.is owes.stands.own c.requires.1.1.1.1.0 c.requires.1.1.1.1.1.0 in
+    rests_silent g.start c.args.watching.now c.args.journal.now.past _ _ next.0 refl c.in_ok-offer-in-Offer.ensures.offered.0
+
+pub returns-in-Hear-clause-rests : goal.returns-in-Hear-clause-rests
+returns-in-Hear-clause-rests g c =
+    let owes = c.requires.1.1.1.0 in
+    let next = next_found g.start _ _ _ _ _ c.in_ok-coming.ensures c.in-Hear.is owes.stands.own c.requires.1.1.1.1.0 c.requires.1.1.1.1.1.0 in
+    rests_heard g.start c.args.watching.now c.hear.new.watching _ c.args.journal.now.past _ c.hear.result next c.requires.1.1.1.1.0 c.hear.ensures.adds c.hear.ensures.told

@@ -1,6 +1,7 @@
 use Rattle.std.proofs.Common.{◌∙◌, sym, arith}
 use Rattle.wx_file_turns.proofs.Entries.{shown_hand}
 use Rattle.wx_file_turns.proofs.Onward.{steps_hand_room, steps_hand_then}
+use Rattle.wx_file_turns.proofs.Shown.{open_shows, shut_shows}
 use Rattle.wx_file_turns.proofs.Steps.{error_owed}
 use Rattle.wx_file_turns.proofs.Walks.{shown_once}
 use Rattle.wx_machine.specs.Added.{Same}
@@ -31,3 +32,9 @@ returns-then-is_closed-clause-shows g c = Same
 
 pub returns-clause-shows : goal.returns-clause-shows
 returns-clause-shows g c = shown_once c.call_show.result g.start _ _ _ _ c.reserve.ensures.same c.call_show.ensures.done
+
+pub returns-then-is_closed-clause-shown : goal.returns-then-is_closed-clause-shown
+returns-then-is_closed-clause-shown g c = shut_shows g.start c.args.worker.now c.args.error c.args.journal.now.past c.requires.1.0 (sym c.is_closed.ensures ∙ c.if-is_closed.true)
+
+pub returns-clause-shown : goal.returns-clause-shown
+returns-clause-shown g c = open_shows g.start c.args.worker.now c.args.error c.args.journal.now.past c.reserve.new.journal.past _ c.call_show.result c.requires.1.0 (sym c.is_closed.ensures ∙ c.if-is_closed.false) c.reserve.ensures.same c.call_show.ensures.done

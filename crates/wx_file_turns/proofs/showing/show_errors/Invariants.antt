@@ -1,9 +1,11 @@
-use Rattle.std.specs.Prelude.{length}
+use Rattle.std.specs.Prelude.{List, length}
 use Rattle.wx_error.specs.declared.runtime.RuntimeError.{RuntimeError}
 use Rattle.wx_tree.specs.Lists.{In}
+use Rattle.wx_journal.specs.declared.entry.Entry.{Entry}
 use Rattle.wx_machine.specs.Added.{Added}
 use Rattle.wx_file_turns.specs.Judged.{IsStepping, StepsHand}
 use Rattle.wx_file_turns.specs.Settling.{ShowsOneOf}
+use Rattle.wx_file_turns.specs.Showing.{ShowsAll}
 use Rattle.wx_file_turns.proofs.showing.show_errors.Given as goal
 
 abbrev pub ghost-show_error : goal.ghost-show_error
@@ -15,6 +17,7 @@ invariant-loop-error g l = record {
   stepping : IsStepping g.start l.journal.past;
   left : (error : RuntimeError) → In error l.left → In error l.fn.errors;
   shows : Added (λ p e. ShowsOneOf l.fn.errors e) l.fn.journal.past l.journal.past;
+  all : (past : List Entry) → ShowsAll g.start l.left l.journal.past past → ShowsAll g.start l.fn.errors l.fn.journal.past past;
 }
 
 abbrev pub decreases-loop-error : goal.decreases-loop-error

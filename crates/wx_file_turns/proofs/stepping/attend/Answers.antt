@@ -1,5 +1,6 @@
 use Rattle.std.proofs.Common.{sym, ◌∙◌}
 use Rattle.wx_file_turns.proofs.Settled.{ok_never, stepped_harmless}
+use Rattle.wx_file_turns.proofs.Shown.{attended_rest, attended_step}
 use Rattle.wx_file_turns.proofs.Standing.{intake_stepped}
 use Rattle.wx_file_turns.proofs.stepping.attend.Goals as goal
 
@@ -15,3 +16,11 @@ returns-then-has_work-clause-settles g c = λ t ok calm few shows h walks.
 
 pub returns-then-has_work-clause-intake : goal.returns-then-has_work-clause-intake
 returns-then-has_work-clause-intake g c = intake_stepped g.start c.args.intake.now _ c.args.journal.now.past _ _ c.requires.1.1.1.1.1.0 c.in_ok-step.ensures.brought c.items.ensures c.step-then-has_work.ensures
+
+-- ---- what is done
+
+pub returns-then-has_work-clause-attended : goal.returns-then-has_work-clause-attended
+returns-then-has_work-clause-attended g c = attended_step g.start c.args.watching.now c.step.new.watching c.args.journal.now.past c.step.new.journal.past (sym c.has_work.ensures ∙ c.if-has_work.true) c.in_ok-step.ensures.done
+
+pub returns-clause-attended : goal.returns-clause-attended
+returns-clause-attended g c = attended_rest g.start c.args.watching.now c.rest.new.watching c.args.journal.now.past c.rest.new.journal.past c.rest.result (sym c.has_work.ensures ∙ c.if-has_work.false) c.rest.ensures.rests

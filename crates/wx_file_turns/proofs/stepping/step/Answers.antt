@@ -8,6 +8,9 @@ use Rattle.wx_file_turns.proofs.stepping.step.Goals as goal
 pub returns-clause-attends : goal.returns-clause-attends
 returns-clause-attends g c = attends_then _ _ _ g.start _ _ _ _ _ _ _ _ _ _ _ _ c.work.ensures.steps.attends (attends_grown _ _ _ g.start _ _ _ _ _ c.say.ensures.grows)
 
+pub returns-clause-done : goal.returns-clause-done
+returns-clause-done g c = record { worked = c.work.new.journal.past; shows = c.in_ok-work.ensures.shown; said = c.in_ok-say.ensures.said }
+
 -- ---- where nothing fails
 
 pub returns-in_err-work-clause-walks : goal.returns-in_err-work-clause-walks

@@ -2,6 +2,7 @@ use Rattle.std.proofs.Common.{ap, None}
 use Rattle.wx_calm.proofs.Journals.{follows_adds}
 use Rattle.wx_file_turns.proofs.Onward.{onward_leaves, steps_by_hand, steps_then}
 use Rattle.wx_file_turns.proofs.Rebuilt.{at_step_still, work_worth}
+use Rattle.wx_file_turns.proofs.Shown.{step_shows}
 use Rattle.wx_file_turns.proofs.Walks.{worked}
 use Rattle.wx_file_turns.proofs.stepping.work.Goals as goal
 
@@ -17,6 +18,9 @@ returns-clause-steps g c = steps_then _ _ _ g.start _ _ _ _ _ _ _ _ _ _ _ _ (ste
 
 pub returns-clause-worthwhile : goal.returns-clause-worthwhile
 returns-clause-worthwhile g c = work_worth c.rebuild_where.result _ _ _ _ _ _ _ _ _ _ c.in_ok-shown.ensures.worthwhile c.take_step.ensures.steps.onward (onward_leaves g.start _ _ _ c.show_errors.ensures.hand.leaves) c.rebuild_where.ensures.steps.onward c.rebuild_where.ensures.work c.rebuild_where.ensures.none
+
+pub returns-clause-shown : goal.returns-clause-shown
+returns-clause-shown g c = step_shows g.start c.args.watching.now c.take_step.new.watching c.rebuild_where.new.watching _ _ c.args.journal.now.past _ _ _ c.rebuild_where.result c.in_ok-shown.ensures.tells c.take_step.ensures.dirs c.in_ok-show_errors.ensures.all c.rebuild_where.ensures.rebuilds
 
 -- ---- where nothing fails
 

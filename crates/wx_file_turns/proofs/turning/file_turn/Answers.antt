@@ -1,5 +1,5 @@
 use Rattle.wx_file_turns.proofs.Settled.{beside_none, beside_one, settling_beside, settling_by, settling_well, turn_shows}
-use Rattle.std.proofs.Common.{refl, sym, ◌∙◌}
+use Rattle.std.proofs.Common.{◌≡◌, true, false, refl, sym, ◌∙◌}
 use Rattle.wx_machine.specs.Leads.{Here}
 use Rattle.wx_action.proofs.Serving.{promised_grown}
 use Rattle.wx_file_turns.proofs.Onward.{attends_alone, attends_grown}
@@ -69,3 +69,14 @@ returns-in_err-say-in-None-clause-settles g c = settling_beside _ _ g.start c.fr
 
 pub returns-in_ok-say-in-None-clause-settles : goal.returns-in_ok-say-in-None-clause-settles
 returns-in_ok-say-in-None-clause-settles g c = settling_well _ _ g.start c.args.files.now _ _ _ _ (beside_one _ _ _ (record { none_applied = refl; none_done = refl }) c.in_ok-say-in-None.ensures.said)
+
+-- ---- what is done
+
+pub returns-then-not-is_applied-clause-attended : goal.returns-then-not-is_applied-clause-attended
+returns-then-not-is_applied-clause-attended g c = λ applied. let both : true ≡ false = sym applied ∙ sym c.is_applied.ensures ∙ c.if-not-is_applied.true in absurd cc
+
+pub returns-in-Some-clause-attended : goal.returns-in-Some-clause-attended
+returns-in-Some-clause-attended g c = λ applied. rw c.in-Some.is c.attend.ensures.attended
+
+pub returns-in_ok-say-in-None-clause-attended : goal.returns-in_ok-say-in-None-clause-attended
+returns-in_ok-say-in-None-clause-attended g c = λ applied. rw c.in-None.is tt
