@@ -8,6 +8,7 @@ use Rattle.wx_tree.specs.declared.node.Node.TheVariants.{Dir, File, Link}
 use Rattle.wx_scan.specs.Looked.{Looked}
 use Rattle.wx_scan.specs.Told.{is_file_node}
 use Rattle.wx_mem_tree.specs.declared.entry.MemEntry.{MemEntry}
+use Rattle.wx_mem_tree.specs.declared.mem_tree.FailingLook.{FailingLook}
 use Rattle.wx_mem_tree.specs.Entries.{looked_of, put_node, tree_of, without_path}
 use Rattle.wx_script.specs.declared.script.FailingCall.{FailingCall}
 use Rattle.wx_script.specs.declared.script.TreeEdit.{TreeEdit}
@@ -83,3 +84,7 @@ shape_of edits (suc n) ahead es = still_tree (drop (suc n) edits) es
 -- what contracts see of its files
 abbrev pub files_of : List (List TreeEdit) → ℕ → List MemEntry → List FailingCall → List MemEntry → ℕ → ℕ → Looked
 files_of edits n ahead failing es looks faults = record (looked_of es looks faults) { shape = shape_of edits n ahead es; exact = is_none failing }
+
+-- the look of the tree that fails so
+abbrev pub failing_look : FailingCall → FailingLook
+failing_look x = record { call = x.call; code = x.code }

@@ -1,10 +1,10 @@
 // The tree of a world that follows a script, and how it is changed.
-ghost use Rattle.std.specs.Prelude.{◌≡◌, ◌∷◌, ◌++◌, [], true, false, not, get_or, IfOk, OnOk};
+ghost use Rattle.std.specs.Prelude.{◌≡◌, ◌∷◌, ◌++◌, [], true, false, not, get_or, map, IfOk, OnOk};
 ghost use Rattle.std.specs.List.{list_all};
 ghost use Rattle.wx_script.specs.Follows.{edits_of};
 ghost use Rattle.wx_script.specs.Turns.{any_fails};
 ghost use Rattle.wx_mem_tree.specs.Entries.{none_fails, tree_of};
-ghost use Rattle.wx_follow.specs.Edits.{MadeNext, edit, edited, is_new_stamp, tree_after};
+ghost use Rattle.wx_follow.specs.Edits.{MadeNext, edit, edited, failing_look, is_new_stamp, tree_after};
 
 use crate::replies::line;
 use std::alloc::Global;
@@ -26,6 +26,7 @@ pub(crate) fn edits_of(alloc: Global, script: &Script) -> Result<List<List<TreeE
 /// The tree in which nothing stands, of which these looks fail. It fails only for want of memory.
 pub(crate) fn tree_with(alloc: Global, failing: &[FailingCall]) -> Result<MemTree, Memory>
     ensures fresh { IfOk result (λ tree. (tree.entries.items ≡ []) × (tree.looks ≡ 0) × (tree.faults ≡ 0)) }
+    ensures failing { IfOk result (λ tree. tree.failing ≡ map failing_look failing.now) }
     ensures fails { IfOk result (λ tree. not (none_fails tree.failing) ≡ any_fails failing.now) }
 {
     let mut tree = MemTree::new(alloc)?;

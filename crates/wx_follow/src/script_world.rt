@@ -1,5 +1,5 @@
 // A world in memory, which follows a script.
-ghost use Rattle.std.specs.Prelude.{◌≡◌, ◌⊎◌, [], true, false, not, min, Some, Ok, Err, IfOk, IfErr, OnOk, length, drop};
+ghost use Rattle.std.specs.Prelude.{◌≡◌, ◌⊎◌, [], true, false, not, min, map, Some, Ok, Err, IfOk, IfErr, OnOk, length, drop};
 ghost use Rattle.std.specs.List.{list_all};
 ghost use Rattle.wx_watch.specs.declared.notify_fault.NotifyFaultKind.TheVariants.{Memory as OutOfMemory};
 ghost use Rattle.wx_journal.specs.declared.entry.Entry.TheVariants.{Make};
@@ -14,7 +14,7 @@ ghost use Rattle.wx_tree.specs.Trees.{Tree};
 ghost use Rattle.wx_scan.specs.Told.{IsNamed};
 ghost use Rattle.wx_scan.specs.Backings.{failed_by, is_memory};
 ghost use Rattle.wx_hooks.specs.Given.{unheard};
-ghost use Rattle.wx_follow.specs.Edits.{FollowsEdits, IsAhead, ahead_prop, any_lines, edits_prop, files_of};
+ghost use Rattle.wx_follow.specs.Edits.{FollowsEdits, IsAhead, ahead_prop, any_lines, edits_prop, failing_look, files_of};
 ghost use Rattle.wx_follow.specs.Backed.{is_none};
 ghost use Rattle.wx_follow.specs.Unseen.{same_unseen, unseen};
 ghost use Rattle.wx_script.specs.Turns.{comes, risen, Rises, entry_of, Given, turns_of, FollowsGiven};
@@ -88,6 +88,7 @@ impl ScriptWorld {
         ensures host_faults { IfOk result (λ world. world.host_faults ≡ 0) }
         ensures maker_faults { IfOk result (λ world. world.maker_faults ≡ 0) }
         ensures looks { IfOk result (λ world. (world.tree.looks ≡ 0) × (world.tree.faults ≡ 0)) }
+        ensures failing { IfOk result (λ world. world.tree.failing ≡ map failing_look script.now.failing_looks) }
         ensures watches { IfOk result (λ world. world.failing_watches ≡ script.now.failing_watches) }
         ensures short { IfOk result (λ world. world.is_short ≡ false) }
     {

@@ -1,5 +1,5 @@
 // A tree of files in memory.
-ghost use Rattle.std.specs.Prelude.{◌≡◌, [], true, false, is_some, if◌then◌else◌, IfOk, OnOk, OnErr};
+ghost use Rattle.std.specs.Prelude.{◌≡◌, ◌∷◌, ◌++◌, [], true, false, is_some, if◌then◌else◌, IfOk, OnOk, OnErr};
 ghost use Rattle.wx_scan.specs.Looked.{Looked, LooksOnce, Rose};
 ghost use Rattle.wx_scan.specs.Told.{is_fault};
 ghost use Rattle.wx_tree.specs.Places.{place};
@@ -84,10 +84,12 @@ impl MemTree {
     }
 
     /// The call of this number, counted from 0, is to fail with this code. Of two for one call the first stands. It fails
-    /// only for want of memory.
+    /// only for want of memory, and changes nothing then.
     pub fn fail(&mut self, call: u64, code: u32) -> Result<(), Memory>
-        ensures entries { self.new.entries.items ≡ self.old.entries.items }
+        ensures look { OnOk result (self.new.failing ≡ self.old.failing ++ record { call = call; code = code } ∷ []) }
         ensures failing { OnOk result (none_fails self.new.failing ≡ false) }
+        ensures err { OnErr result (self.new ≡ self.old) }
+        ensures entries { self.new.entries.items ≡ self.old.entries.items }
         ensures counts { (self.new.looks ≡ self.old.looks) × (self.new.faults ≡ self.old.faults) }
     {
         self.failing.push(FailingLook { call, code })?;
