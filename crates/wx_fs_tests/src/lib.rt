@@ -4,6 +4,8 @@
 #[cfg(test)]
 mod lending_tests;
 #[cfg(test)]
+mod native;
+#[cfg(test)]
 mod public_tests;
 #[cfg(test)]
 mod random_tests;

@@ -12,7 +12,13 @@ const TREES: u64 = 50;
 
 /// How often the word stands in the text, among words with a space behind each.
 fn times(text: &str, word: &str) -> usize {
-    text.split(" ").filter(|other| *other == word).count()
+    let mut count: usize = 0;
+    for other in text.split(" ") {
+        if other == word {
+            count = count.saturating_add(1);
+        }
+    }
+    count
 }
 
 /// How many words stand in the text, with a space behind each.
@@ -84,21 +90,24 @@ fn absent_root(line: &str) -> Option<&str> {
         .strip_suffix(" notfound")
 }
 
-/// Whether each error is that of an absent root, and each absent root was shown.
-fn are_shown(shown: &str, nodes: &str, roots: &str) -> bool {
+/// Whether each error is that of an absent root.
+fn are_absent(shown: &str, nodes: &str, roots: &str) -> bool {
     for line in shown.lines() {
-        match absent_root(line) {
-            Some(at) => {
-                if !is_absent(nodes, at) || !has_root(roots, at) {
-                    return false;
-                }
-            }
-            None => return false,
+        let Some(at) = absent_root(line) else {
+            return false;
+        };
+        if !is_absent(nodes, at) || !has_root(roots, at) {
+            return false;
         }
     }
+    true
+}
+
+/// Whether each absent root was shown.
+fn are_shown(shown: &str, nodes: &str, roots: &str) -> bool {
     for line in roots.lines() {
         if let Some((_, at)) = line.split_once(" ") {
-            if is_absent(nodes, at) && !shown.lines().any(|line| absent_root(line) == Some(at)) {
+            if is_absent(nodes, at) && !is_shown(shown, at) {
                 return false;
             }
         }
@@ -106,8 +115,24 @@ fn are_shown(shown: &str, nodes: &str, roots: &str) -> bool {
     true
 }
 
+fn is_shown(shown: &str, root: &str) -> bool {
+    for line in shown.lines() {
+        if absent_root(line) == Some(root) {
+            return true;
+        }
+    }
+    false
+}
+
 fn has_root(roots: &str, at: &str) -> bool {
-    roots.lines().any(|line| matches!(line.split_once(" "), Some((_, root)) if root == at))
+    for line in roots.lines() {
+        if let Some((_, root)) = line.split_once(" ") {
+            if root == at {
+                return true;
+            }
+        }
+    }
+    false
 }
 
 /// How many steps are enough: for so many guards, roots, nodes, and owners.
@@ -121,70 +146,103 @@ fn enough(guards: usize, roots: usize, nodes: usize, owners: usize) -> usize {
     parts.saturating_mul(4)
 }
 
-/// Steps at most so often. It says how many were done, and none where a rebuild was asked for or a step couldn't be done.
-fn steps(trial: &mut Trial<FailingBackend>, most: usize) -> Result<Option<usize>, Memory> {
-    let mut done: usize = 0;
-    for _ in 0..most {
-        if !trial.recursor.has_work() {
-            return Ok(Some(done));
-        }
-        let Some(told) = trial.step()? else {
-            return Ok(None);
-        };
-        trial.note(&told)?;
-        if told.rebuild_backend {
-            return Ok(None);
-        }
-        done = done.saturating_add(1);
-    }
-    Ok(Some(done))
+/// How many steps are enough from here on, once these roots are set.
+fn enough_from(trial: &Trial<FailingBackend>, nodes: &str, roots: &str) -> Result<usize, Memory> {
+    let guards = trial.guards()?;
+    let owners = trial.owned()?;
+    Ok(enough(
+        words(guards.as_str()),
+        roots.lines().count(),
+        nodes.lines().count(),
+        words(owners.as_str()),
+    ))
 }
 
-/// One epoch with these roots: some steps of it, or all until it has settled.
+/// Sets the roots, with nothing shown so far.
+fn begins(trial: &mut Trial<FailingBackend>, roots: &str) -> Result<(), Memory> {
+    trial.forget();
+    trial.reconcile(roots)
+}
+
+/// Whether what is kept and shown is as the slow walk says, and nothing is left to be done.
+fn is_right(
+    trial: &Trial<FailingBackend>,
+    nodes: &str,
+    refused: &str,
+    roots: &str,
+) -> Result<bool, Memory> {
+    let kept = Kept::of(trial)?;
+    let shown = trial.shown.as_str();
+    Ok(
+        trial.is_idle()
+            && kept.is_right(nodes, refused, roots)
+            && are_absent(shown, nodes, roots)
+            && are_shown(shown, nodes, roots),
+    )
+}
+
+/// One epoch with these roots that settles.
+fn settles(
+    trial: &mut Trial<FailingBackend>,
+    nodes: &str,
+    refused: &str,
+    roots: &str,
+) -> Result<bool, Memory> {
+    let enough = enough_from(trial, nodes, roots)?;
+    begins(trial, roots)?;
+    Ok(trial.run(enough as u64)? && is_right(trial, nodes, refused, roots)?)
+}
+
+/// One epoch with these roots that is broken off.
+fn breaks_off(trial: &mut Trial<FailingBackend>, most: u32, roots: &str) -> Result<bool, Memory> {
+    begins(trial, roots)?;
+    trial.run(u64::from(most))
+}
+
+/// One epoch: some steps of it, or all until it has settled.
 fn epoch(
     trial: &mut Trial<FailingBackend>,
     draws: &mut Draws,
     refused: &str,
-    settles: bool,
+    is_whole: bool,
 ) -> Result<bool, Memory> {
     let roots = draws.draw_roots()?;
-    let kept = Kept::of(trial)?;
-    trial.shown = String::new(trial.alloc);
-    trial.reconcile(roots.as_str())?;
-    if !settles {
-        return Ok(steps(trial, draws.draw_steps() as usize)?.is_some());
+    if is_whole {
+        return settles(trial, draws.nodes.as_str(), refused, roots.as_str());
     }
-    let enough = enough(
-        words(kept.guards.as_str()),
-        roots.lines().count(),
-        draws.nodes.lines().count(),
-        words(kept.owned.as_str()),
-    );
-    let done = steps(trial, enough)?.is_some() && !trial.recursor.has_work();
-    let kept = Kept::of(trial)?;
-    let nodes = draws.nodes.as_str();
-    Ok(
-        done && !trial.recursor.needs_retry()
-            && kept.is_right(nodes, refused, roots.as_str())
-            && are_shown(trial.shown.as_str(), nodes, roots.as_str()),
-    )
+    breaks_off(trial, draws.draw_steps(), roots.as_str())
 }
 
-/// A recursor over the tree of this seed: epochs that are broken off, and some that settle.
+/// Refuses these directories.
+fn refuse(trial: &mut Trial<FailingBackend>, refused: &str) -> Result<(), Memory> {
+    for at in refused.lines() {
+        trial.dirs.refused.push(path(trial.alloc, at)?)?;
+    }
+    Ok(())
+}
+
+/// Epochs that are broken off, and some that settle.
+fn epochs(
+    trial: &mut Trial<FailingBackend>,
+    draws: &mut Draws,
+    refused: &str,
+) -> Result<bool, Memory> {
+    for number in 0..6u32 {
+        if !epoch(trial, draws, refused, number % 3 != 1)? {
+            return Ok(false);
+        }
+    }
+    Ok(true)
+}
+
+/// A recursor over the tree of this seed.
 fn walks(alloc: Global, seed: u64) -> Result<bool, Memory> {
     let mut draws = Draws::new(alloc, seed);
     draws.draw_tree()?;
     let refused = draws.draw_refused()?;
     let mut trial = Trial::new(alloc, draws.nodes.as_str(), "/", FailingBackend::new(alloc))?;
-    for at in refused.lines() {
-        trial.dirs.refused.push(path(alloc, at)?)?;
-    }
-    for number in 0..6u32 {
-        if !epoch(&mut trial, &mut draws, refused.as_str(), number % 3 != 1)? {
-            return Ok(false);
-        }
-    }
-    Ok(true)
+    refuse(&mut trial, refused.as_str())?;
+    epochs(&mut trial, &mut draws, refused.as_str())
 }
 
 #[test]

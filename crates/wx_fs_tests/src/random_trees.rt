@@ -77,7 +77,12 @@ impl Draws {
 
     /// Whether the tree has this path.
     fn has(&self, at: &str) -> bool {
-        self.paths.iter().any(|path| path.as_str() == at)
+        for path in self.paths.as_slice() {
+            if path.as_str() == at {
+                return true;
+            }
+        }
+        false
     }
 
     /// Puts an entry of some directory into the tree, unless one of this name is there.

@@ -1,12 +1,11 @@
 // A recursor whose tree changes, by its calls: the expected values are worked out by hand from the rules.
-use crate::runs::{changes, finds, run_holds};
-use crate::trial::{Trial, expect_yes, failing};
+use crate::native::over;
+use crate::runs::run_holds;
+use crate::trial::Trial;
 use std::alloc::Global;
 use std::process::Abort;
-use wx_fs::Backend;
 use wx_fs_trial::FailingBackend;
 use wx_text::Memory;
-use wx_watch::NotifyFaultKind;
 
 /// The run holds over a poller, and over a backend that watches whatever it is told to.
 fn holds_over_each(rt: &impl Abort, alloc: Global, nodes: &str, cwd: &str, roots: &str, run: &str) {
@@ -35,7 +34,10 @@ ambiguous /w/b
 settle
 owned = /w /w/b
 shown = none
+rebuilds = 0
 rescan
+asks
+rebuilds = 1
 ";
 
 #[test]
@@ -61,6 +63,7 @@ ambiguous /w/a
 settle
 owned = /w
 shown = none
+rebuilds = 0
 ";
 
 #[test]
@@ -85,6 +88,7 @@ settle
 owned = none
 guards = /w
 shown = fswatcher native pathscan /w/r notfound
+rebuilds = 0
 ";
 
 #[test]
@@ -112,7 +116,9 @@ fn told_by(alloc: Global, given: &str, place: &str) -> Result<String, Memory> {
         "settle\nowned = /w /w/d\ndir {place}\ncreate {given}\nsettle\nowned = /w /w/d {place}\n"
     )?;
     let changed = format!(in alloc; "ambiguous {given}\nsettle\nowned = /w /w/d {place}\n")?;
-    let gone = format!(in alloc; "gone {place}\nremove {given}\nsettle\nowned = /w /w/d\n")?;
+    let gone = format!(in alloc;
+        "gone {place}\nremove {given}\nsettle\nowned = /w /w/d\nrebuilds = 0\n"
+    )?;
     let mut run = String::new(alloc);
     run.push_str(made.as_str())?;
     run.push_str(changed.as_str())?;
@@ -155,6 +161,7 @@ rename ../b ../d/a
 settle
 owned = /w /w/d /w/d/a
 shown = none
+rebuilds = 0
 ";
 
 #[test]
@@ -163,36 +170,19 @@ fn both_paths_of_a_rename(rt: HostRuntime) {
     holds_over_each(&rt, rt.alloc(), nodes, "/w/d", "r /w\n", RENAMED);
 }
 
-/// Whether each of the four calls finds no memory.
-fn are_refused<B: Backend + Drop>(trial: &mut Trial<B>) -> bool {
-    let creates = changes(trial, "create /w/a") == Err(Memory);
-    let removes = changes(trial, "remove /w/a") == Err(Memory);
-    let renames = changes(trial, "rename /w/a /w/b") == Err(Memory);
-    let unsure = changes(trial, "ambiguous /w/a") == Err(Memory);
-    creates && removes && renames && unsure
-}
-
-/// A step in which a watch finds no memory has spent the recursor. What it owns stays.
-fn spends_holds<B: Backend + Drop>(trial: &mut Trial<B>) -> Result<bool, Memory> {
-    trial.reconcile("r /w\n")?;
-    let fails = trial.settle() == Err(Memory);
-    let refused = are_refused(trial);
-    let idle = !trial.recursor.has_work();
-    Ok(fails && refused && idle && finds(trial, "owned", "/w")?)
-}
-
-fn spends<B: Backend + Drop>(made: Result<Trial<B>, Memory>) -> Result<bool, Memory> {
-    let mut trial = made?;
-    spends_holds(&mut trial)
-}
-
-/// Over a backend whose second watch finds no memory.
-fn short_of_memory(alloc: Global) -> Result<Trial<FailingBackend>, Memory> {
-    let back = failing(alloc, 1, NotifyFaultKind::Memory)?;
-    Trial::new(alloc, "d /\nd /w\nd /w/a\n", "/", back)
-}
+// A step in which a watch finds no memory has spent the recursor. What it owns stays.
+const SPENT: &str = "\
+short settle
+short create /w/a
+short remove /w/a
+short rename /w/a /w/b
+short ambiguous /w/a
+has work = no
+owned = /w
+";
 
 #[test]
 fn a_recursor_that_is_spent(rt: HostRuntime) {
-    expect_yes(&rt, spends(short_of_memory(rt.alloc())), "spent");
+    let made = over(rt.alloc(), "d /\nd /w\nd /w/a\n", "/", "memory");
+    run_holds(&rt, made, "r /w\n", SPENT);
 }

@@ -126,7 +126,7 @@ impl<B: Backend + Drop> Trial<B> {
     }
 
     /// Does one step. None where no backend is installed, or it could ask about a root that isn't judged.
-    pub fn step(&mut self) -> Result<Option<StepResult>, Memory> {
+    fn step(&mut self) -> Result<Option<StepResult>, Memory> {
         if self.recursor.back.is_none() {
             return Ok(None);
         }
@@ -136,6 +136,11 @@ impl<B: Backend + Drop> Trial<B> {
             return Ok(Some(told));
         }
         Ok(None)
+    }
+
+    /// Lends the backend.
+    pub fn lend(&mut self) -> Option<B> {
+        self.recursor.lend()
     }
 
     /// Restores this backend, where one was lent.
@@ -162,7 +167,7 @@ impl<B: Backend + Drop> Trial<B> {
     }
 
     /// Keeps what was shown, a line an error.
-    pub fn note(&mut self, told: &StepResult) -> Result<(), Memory> {
+    fn note(&mut self, told: &StepResult) -> Result<(), Memory> {
         for error in told.errors.as_slice() {
             let line = format!(in self.alloc; "{error}\n")?;
             self.shown.push_str(line.as_str())?;
@@ -173,21 +178,42 @@ impl<B: Backend + Drop> Trial<B> {
         Ok(())
     }
 
-    /// Steps until there is no work, or a rebuild is asked for.
-    pub fn settle(&mut self) -> Result<bool, Memory> {
-        for _ in 0..1000u64 {
+    /// Forgets what was shown.
+    pub fn forget(&mut self) -> bool {
+        self.shown = String::new(self.alloc);
+        true
+    }
+
+    /// Does one step. No where it can't be done, or asks for a rebuild.
+    pub fn goes_on(&mut self) -> Result<bool, Memory> {
+        let Some(told) = self.step()? else {
+            return Ok(false);
+        };
+        self.note(&told)?;
+        Ok(!told.rebuild_backend)
+    }
+
+    /// Steps at most so often, while there is work. No where a step can't be done, or asks for a rebuild.
+    pub fn run(&mut self, most: u64) -> Result<bool, Memory> {
+        for _ in 0..most {
             if !self.recursor.has_work() {
                 return Ok(true);
             }
-            let Some(told) = self.step()? else {
-                return Ok(false);
-            };
-            self.note(&told)?;
-            if told.rebuild_backend {
+            if !self.goes_on()? {
                 return Ok(false);
             }
         }
-        Ok(false)
+        Ok(true)
+    }
+
+    /// Steps until there is no work, or a rebuild is asked for.
+    pub fn settle(&mut self) -> Result<bool, Memory> {
+        Ok(self.run(1000)? && !self.recursor.has_work())
+    }
+
+    /// Whether there is no work, and no retry is needed.
+    pub fn is_idle(&self) -> bool {
+        !self.recursor.has_work() && !self.recursor.needs_retry()
     }
 
     /// What is owned, in order.
