@@ -72,8 +72,8 @@ fn serve(alloc: Global) -> Result<Command, Memory> {
     })
 }
 
-/// The journal of a run that follows these lines.
-pub(crate) fn run(alloc: Global, lines: &[u8]) -> Result<Text, Fail> {
+/// Hooks that hold both, each under the number 0.
+fn hooks(alloc: Global) -> Result<BoxedHooks, Memory> {
     let mut actions: List<Box<dyn OnAction + Drop>> = List::new(alloc);
     actions.push(Box::new(alloc, Starts { alloc })?)?;
     let mut hooks: List<Box<dyn OnSpawn + Drop>> = List::new(alloc);
@@ -81,7 +81,12 @@ pub(crate) fn run(alloc: Global, lines: &[u8]) -> Result<Text, Fail> {
     hooks.push(Box::new(alloc, Sets { alloc, setting })?)?;
     let (filters, errors) = (List::new(alloc), List::new(alloc));
     let (functions, faults) = (List::new(alloc), List::new(alloc));
-    let mut hooks = BoxedHooks::new(alloc, filters, actions, errors, functions, hooks, faults);
+    Ok(BoxedHooks::new(alloc, filters, actions, errors, functions, hooks, faults))
+}
+
+/// The journal of a run that follows these lines.
+pub(crate) fn run(alloc: Global, lines: &[u8]) -> Result<Text, Fail> {
+    let mut hooks = hooks(alloc)?;
     let engine = Watchexec::new(alloc, 0, folder(alloc)?)?;
     journal_of(alloc, engine, &mut hooks, lines)
 }

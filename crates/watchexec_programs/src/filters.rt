@@ -52,12 +52,17 @@ fn engine(alloc: Global) -> Result<Watchexec, Fail> {
     Ok(Watchexec::with_config(alloc, config, folder(alloc)?)?)
 }
 
-/// The journal of a run that follows these lines.
-pub(crate) fn run(alloc: Global, lines: &[u8]) -> Result<Text, Fail> {
+/// Hooks that hold the filter under the number 0.
+fn hooks(alloc: Global) -> Result<BoxedHooks, Memory> {
     let mut filters: List<Box<dyn Filterer + Drop>> = List::new(alloc);
     filters.push(Box::new(alloc, Sources)?)?;
     let (actions, errors, functions) = (List::new(alloc), List::new(alloc), List::new(alloc));
     let (hooks, faults) = (List::new(alloc), List::new(alloc));
-    let mut hooks = BoxedHooks::new(alloc, filters, actions, errors, functions, hooks, faults);
+    Ok(BoxedHooks::new(alloc, filters, actions, errors, functions, hooks, faults))
+}
+
+/// The journal of a run that follows these lines.
+pub(crate) fn run(alloc: Global, lines: &[u8]) -> Result<Text, Fail> {
+    let mut hooks = hooks(alloc)?;
     journal_of(alloc, engine(alloc)?, &mut hooks, lines)
 }

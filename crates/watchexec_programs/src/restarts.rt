@@ -37,14 +37,21 @@ fn restart(alloc: Global, job: &mut Option<Job>, handler: &mut ActionHandler<'_>
     ensures same { handler.new ≡ record handler.old { acts = handler.new.acts } }
 {
     if job.is_none() {
-        let command = make_all(alloc).ok()?;
-        let (_, created) = handler.create_job(alloc, command).ok()?;
-        *job = Some(created);
+        *job = Some(create(alloc, handler)?);
     }
     let job = job.as_ref()?;
     job.restart_with_signal(alloc, handler, Signal::Terminate, GRACE)
         .ok()?;
     Some(())
+}
+
+/// Creates the job. It answers nothing where a call fails.
+fn create(alloc: Global, handler: &mut ActionHandler<'_>) -> Option<Job>
+    ensures same { handler.new ≡ record handler.old { acts = handler.new.acts } }
+{
+    let command = make_all(alloc).ok()?;
+    let (_, job) = handler.create_job(alloc, command).ok()?;
+    Some(job)
 }
 
 /// The command `make all`.
@@ -58,13 +65,18 @@ fn make_all(alloc: Global) -> Result<Command, Memory> {
     })
 }
 
-/// The journal of a run that follows these lines.
-pub(crate) fn run(alloc: Global, lines: &[u8]) -> Result<Text, Fail> {
+/// Hooks that hold it under the number 0.
+fn hooks(alloc: Global) -> Result<BoxedHooks, Memory> {
     let mut actions: List<Box<dyn OnAction + Drop>> = List::new(alloc);
     actions.push(Box::new(alloc, Restarts { alloc, job: None })?)?;
     let (filters, errors, functions) = (List::new(alloc), List::new(alloc), List::new(alloc));
     let (hooks, faults) = (List::new(alloc), List::new(alloc));
-    let mut hooks = BoxedHooks::new(alloc, filters, actions, errors, functions, hooks, faults);
+    Ok(BoxedHooks::new(alloc, filters, actions, errors, functions, hooks, faults))
+}
+
+/// The journal of a run that follows these lines.
+pub(crate) fn run(alloc: Global, lines: &[u8]) -> Result<Text, Fail> {
+    let mut hooks = hooks(alloc)?;
     let engine = Watchexec::new(alloc, 0, folder(alloc)?)?;
     journal_of(alloc, engine, &mut hooks, lines)
 }

@@ -1,5 +1,6 @@
 // What the programs share: a page that a handler writes on, and the run of an engine in a world that follows a script.
 ghost use Rattle.std.specs.Prelude.{◌≡◌, ◌∷◌, [], IfOk};
+ghost use Rattle.wx_script.specs.Follows.{IsScript};
 
 use std::alloc::Global;
 use std::cell::RefCell;
@@ -10,7 +11,7 @@ use wx_engine::{ScriptHooks, ScriptWorld};
 use wx_hooks::{Hooks, World};
 use wx_journal::Journal;
 use wx_print::print_journal;
-use wx_script::read_script;
+use wx_script::{Script, read_script};
 use wx_text::{Copies, Memory, Text};
 use wx_words::TextPath;
 
@@ -59,20 +60,30 @@ pub(crate) fn folder(alloc: Global) -> Result<TextPath, Memory>
     Ok(TextPath::new(Text::from_slice(alloc, b"/")?))
 }
 
-/// A world that follows these lines.
-pub(crate) fn world(alloc: Global, lines: &[u8]) -> Result<ScriptWorld, Fail> {
+/// The script of these lines.
+fn script(alloc: Global, lines: &[u8]) -> Result<Script, Fail>
+    ensures { IfOk result IsScript }
+{
     match read_script(alloc, lines)? {
-        Ok(script) => Ok(ScriptWorld::new(alloc, &script)?),
+        Ok(script) => Ok(script),
         Err(_) => Err(Fail::new("no script")),
     }
 }
 
+/// A world that follows these lines.
+pub(crate) fn world(alloc: Global, lines: &[u8]) -> Result<ScriptWorld, Fail> {
+    let script = script(alloc, lines)?;
+    let world = ScriptWorld::new(alloc, &script);
+    drop(script);
+    Ok(world?)
+}
+
 /// Hooks that follow these lines.
 pub(crate) fn hooks(alloc: Global, lines: &[u8]) -> Result<ScriptHooks, Fail> {
-    match read_script(alloc, lines)? {
-        Ok(script) => Ok(ScriptHooks::new(alloc, &script)?),
-        Err(_) => Err(Fail::new("no script")),
-    }
+    let script = script(alloc, lines)?;
+    let hooks = ScriptHooks::new(alloc, &script);
+    drop(script);
+    Ok(hooks?)
 }
 
 /// The journal of a run, as text.
@@ -84,7 +95,10 @@ fn run<W: World, H: Hooks>(
 ) -> Result<Text, Memory> {
     let mut journal = Journal::new(alloc)?;
     let answer = engine.main(alloc, world, hooks, &mut journal);
-    print_journal(alloc, &journal, &answer)
+    let text = print_journal(alloc, &journal, &answer);
+    drop(answer);
+    drop(journal);
+    text
 }
 
 /// The journal of a run of this engine with these hooks, in a world that follows these lines.
@@ -95,5 +109,7 @@ pub(crate) fn journal_of<H: Hooks>(
     lines: &[u8],
 ) -> Result<Text, Fail> {
     let mut world = world(alloc, lines)?;
-    Ok(run(alloc, engine, &mut world, hooks)?)
+    let text = run(alloc, engine, &mut world, hooks);
+    drop(world);
+    Ok(text?)
 }

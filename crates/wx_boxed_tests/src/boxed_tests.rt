@@ -1,25 +1,22 @@
 // Hooks that hold boxes, as a user makes them, and runs with them: their texts are worked out by hand.
 ghost use Rattle.std.specs.Prelude.{◌≡◌, ◌⊎◌, false, true, Ok as Well, Err as Wrong, codes};
 ghost use Rattle.wx_error.specs.declared.runtime.RuntimeError.TheVariants.{ProcessDeadOnArrival};
-ghost use Rattle.wx_script.specs.Follows.{IsScript};
 
 use std::alloc::Global;
 use std::process::Abort;
 use std::test::Fail;
 use wx_boxed::{BoxedHooks, OnAction, OnError, OnFault, OnJob, OnSpawn};
 use wx_command::Spawnable;
-use wx_config::{Config, Filterer};
+use wx_config::Filterer;
 use wx_control::{Flag, Id, Job};
-use wx_engine::Watchexec;
 use wx_error::RuntimeError;
 use wx_events::{Event, Priority, Signal};
 use wx_hooks::{ActionHandler, ErrorHook, Hooks};
 use wx_job::{JobHooks, JobTaskContext};
 use wx_journal::HostFault;
 use wx_machine::CommandState;
-use wx_script::Script;
 use wx_text::{Copies, List, Memory, Text};
-use wx_trial::{created, root, run_text, script_of};
+use wx_trial::{Setup, created, text_by};
 use wx_words::{TextPath, cut};
 
 /// Rejects each event.
@@ -145,31 +142,8 @@ fn ask_restart(alloc: Global, slot: &Option<Job>, handler: &mut ActionHandler<'_
     }
 }
 
-/// An engine without a throttle whose filter, error handler and action handler have these numbers.
-fn engine_of(alloc: Global, filter: u32, error: u32, action: u32) -> Result<Watchexec, Memory> {
-    let folder = root(alloc)?;
-    let mut config = Config::new(alloc)?;
-    config.throttle.replace(0);
-    config.filterer = filter;
-    config.error_handler = error;
-    config.action_handler = action;
-    Watchexec::with_config(alloc, config, folder)
-}
-
-/// The text of a run of such an engine that follows this script.
-fn text_by(
-    alloc: Global,
-    numbers: (u32, u32, u32),
-    script: &Script,
-    hooks: &mut BoxedHooks,
-) -> Result<Text, Memory>
-    requires { IsScript script.now }
-{
-    let engine = engine_of(alloc, numbers.0, numbers.1, numbers.2)?;
-    run_text(alloc, engine, script, hooks)
-}
-
-/// Whether the run of such an engine that follows these lines has this text behind its first line.
+/// Whether the run of an engine without a throttle that follows these lines has this text behind its first line. Its filter, its
+/// error handler and its action handler have these numbers.
 fn runs_so(
     alloc: Global,
     numbers: (u32, u32, u32),
@@ -177,10 +151,14 @@ fn runs_so(
     hooks: &mut BoxedHooks,
     want: &[u8],
 ) -> Result<bool, Fail> {
-    let script = script_of(alloc, lines)?;
-    let text = text_by(alloc, numbers, &script, hooks);
-    drop(script);
-    let text = text?;
+    let setup = Setup {
+        throttle: 0,
+        revision: 0,
+        filterer: numbers.0,
+        error_handler: numbers.1,
+        action_handler: numbers.2,
+    };
+    let text = text_by(alloc, setup, lines, hooks)?;
     let rest = cut(text.as_slice(), 10).map(|parts| parts.1);
     Ok(rest == Some(want))
 }

@@ -1,6 +1,5 @@
 // An executor that awaits the tickets of a handler while turns go on.
 ghost use Rattle.std.specs.Prelude.{◌≡◌, false};
-ghost use Rattle.wx_script.specs.Follows.{IsScript};
 
 use futures::Future;
 use futures::executor::{LocalPool, LocalSpawner};
@@ -12,15 +11,13 @@ use wx_command::Spawnable;
 use wx_control::{Flag, Id, Job, Ticket};
 use wx_engine::Watchexec;
 use wx_events::{ProcessEnd, Signal};
-use wx_follow::ScriptWorld;
 use wx_hooks::{ActionHandler, TurnFault, Turned, World};
 use wx_job::{Host, Outside};
 use wx_journal::{HostFault, SpawnTag, TurnKind};
 use wx_notify::Notify;
 use wx_scan::{EntryKind, Looks, ScanError, Scanner};
-use wx_script::Script;
 use wx_text::{Copies, List, Memory, Text};
-use wx_trial::{created, root, script_of, text_in};
+use wx_trial::{created, root, text_in, world_of};
 use wx_watch::{NotifyFault, Watcher};
 use wx_words::{TextPath, cut};
 
@@ -91,17 +88,34 @@ fn wait_for(boxed: &StartsAndStops, ticket: Ticket, flag: &Flag) -> Option<()> {
     boxed.spawner.spawn(Awaits { ticket, ready }).ok()
 }
 
-/// A world in which tasks are polled between the turns, and which hands a flag along with each ask, as a handle does. It notes
-/// before each turn whether the tickets were ready, and whether that flag was raised.
+/// What happens between the turns: tasks are polled, and it is noted whether the tickets were ready, and whether the flag was
+/// raised that is handed along with each ask.
 #[derive(Drop)]
-struct Polls<W> {
+struct Between {
     alloc: Global,
-    inner: W,
     pool: LocalPool<Awaits>,
     started: Flag,
     stopped: Flag,
     asked: Flag,
     noted: Text,
+}
+
+impl Between {
+    /// Polls the tasks, and then notes what is to be noted.
+    fn pass(&mut self) {
+        self.pool.run_until_stalled(16);
+        // a note that found no memory is missed at the end
+        let _noted = self.noted.append(note(&self.started, &self.stopped));
+        let _asked = self.noted.append(note_of_ask(&self.asked));
+    }
+}
+
+/// A world between whose turns this happens, and which hands a flag along with each ask, as a handle does. Of two fields it is
+/// dropped by a short proof.
+#[derive(Drop)]
+struct Polls<W> {
+    inner: W,
+    between: Between,
 }
 
 impl<W: World> Outside for Polls<W> {
@@ -206,14 +220,11 @@ impl<W: World> World for Polls<W> {
     }
 
     fn turn(&mut self) -> Result<Turned, TurnFault> {
-        self.pool.run_until_stalled(16);
-        // a note that found no memory is missed at the end
-        let _noted = self.noted.append(note(&self.started, &self.stopped));
-        let _asked = self.noted.append(note_of_ask(&self.asked));
+        self.between.pass();
         let mut turned = self.inner.turn()?;
         if is_ask(&turned) {
             // and so is a raise of a flag that found none
-            turned.done = self.asked.copy(self.alloc).ok();
+            turned.done = self.between.asked.copy(self.between.alloc).ok();
         }
         Ok(turned)
     }
@@ -250,30 +261,27 @@ const STOPPED: &[u8] =
 /// last turn but one.
 const NOTED: &[u8] = b"none none none started started started both both both both asked ";
 
-/// The text of a run that follows this script, with tasks of this pool between its turns, and what was noted.
-fn text_between(
+/// The text of a run in this world, with tasks of this pool between its turns, and what was noted. Of any world, it is quicker to
+/// prove.
+fn text_between<W: World + Drop>(
     alloc: Global,
-    script: &Script,
+    inner: W,
     pool: LocalPool<Awaits>,
     flags: (Flag, Flag),
     hooks: &mut BoxedHooks,
-) -> Result<(Text, Text), Memory>
-    requires { IsScript script.now }
-{
-    let inner = ScriptWorld::new(alloc, script)?;
-    let asked = Flag::new(alloc, false)?;
-    let mut world = Polls {
+) -> Result<(Text, Text), Memory> {
+    let between = Between {
         alloc,
-        inner,
         pool,
         started: flags.0,
         stopped: flags.1,
-        asked,
+        asked: Flag::new(alloc, false)?,
         noted: Text::new(alloc),
     };
+    let mut world = Polls { inner, between };
     let engine = Watchexec::new(alloc, 0, root(alloc)?)?;
     let text = text_in(alloc, engine, &mut world, hooks)?;
-    let noted = world.noted.copy(alloc)?;
+    let noted = world.between.noted.copy(alloc)?;
     drop(world);
     Ok((text, noted))
 }
@@ -302,9 +310,8 @@ fn tickets_are_awaited_while_turns_go_on(rt: HostRuntime) -> Result<(), Fail> {
         List::new(alloc),
         List::new(alloc),
     );
-    let script = script_of(alloc, TURNS)?;
-    let ran = text_between(alloc, &script, pool, (started, stopped), &mut hooks);
-    drop(script);
+    let inner = world_of(alloc, TURNS)?;
+    let ran = text_between(alloc, inner, pool, (started, stopped), &mut hooks);
     drop(hooks);
     let (text, noted) = ran?;
     let rest = cut(text.as_slice(), 10).map(|parts| parts.1);

@@ -17,7 +17,7 @@ use wx_words::Spelled;
 
 /// A sink that keeps the asks that it takes with the flag of the last one, counts all sends, and refuses each where it
 /// is told to.
-#[derive(Drop, Debug)]
+#[derive(Drop)]
 struct Kept {
     asks: List<(Id, Ask)>,
     last: Option<Flag>,

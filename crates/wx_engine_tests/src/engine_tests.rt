@@ -5,7 +5,6 @@
 ghost use Rattle.std.specs.Prelude.{◌≡◌, ◌≤◌};
 ghost use Rattle.wx_journal.specs.declared.entry.Entry.TheVariants.{Dir};
 ghost use Rattle.wx_journal.specs.Told.{tell};
-ghost use Rattle.wx_script.specs.Follows.{IsScript};
 
 use std::alloc::Global;
 use std::process::Abort;
@@ -19,30 +18,13 @@ use wx_follow::{ScriptHooks, ScriptWorld};
 use wx_hooks::{Hooks, World};
 use wx_job::{Host, JobHooks};
 use wx_journal::{SpawnTag, TurnKind};
-use wx_script::Script;
 use wx_text::{List, Memory, Text};
-use wx_trial::{engine_with, root, run_text, script_of};
+use wx_trial::{engine_with, hooks_of, root, text_of, world_of};
 use wx_words::{TextPath, cut};
 
 /// Two turns with a fault between them, and one call that quits.
 const TURNS: &[u8] =
     b"set throttle 10\nset size 4\naction quit\nturn 5 arrive high 0\nturnfault 3\nturn 8 work\n";
-
-/// A world that follows the script `TURNS`.
-fn world_of(alloc: Global) -> Result<ScriptWorld, Fail> {
-    let script = script_of(alloc, TURNS)?;
-    let world = ScriptWorld::new(alloc, &script);
-    drop(script);
-    Ok(world?)
-}
-
-/// Hooks that follow the script of these lines.
-fn hooks_of(alloc: Global, lines: &[u8]) -> Result<ScriptHooks, Fail> {
-    let script = script_of(alloc, lines)?;
-    let hooks = ScriptHooks::new(alloc, &script);
-    drop(script);
-    Ok(hooks?)
-}
 
 /// The sort of a turn: 0 for an event, 1 for work, 2 for a last turn, 3 for one of a job, 4 for a change of the settings, 6 for files.
 fn sort(kind: &TurnKind) -> u32 {
@@ -66,18 +48,37 @@ fn next<W: World>(world: &mut W) -> Result<Result<(u64, u32), u32>, Memory> {
     })
 }
 
+/// The turns of `TURNS`, and one behind the last.
+const GIVEN: [Result<(u64, u32), u32>; 5] = [
+    Ok((5, 0)),
+    Err(3),
+    Ok((8, 1)),
+    Ok((8, 2)),
+    Ok((8, 2)),
+];
+
+/// Holds the next turn to this one.
+fn expect_next<W: World>(
+    rt: &impl Abort,
+    world: &mut W,
+    want: Result<(u64, u32), u32>,
+) -> Result<(), Fail> {
+    let given = next(world)?;
+    assert!(rt; given == want, "at {want:?}");
+    Ok(())
+}
+
 /// Holds the turns of the world to those of `TURNS`.
 fn expect_turns<W: World>(rt: &impl Abort, world: &mut W) -> Result<(), Fail> {
-    let turns = [Ok((5, 0)), Err(3), Ok((8, 1)), Ok((8, 2)), Ok((8, 2))];
-    for turn in turns {
-        assert_eq!(rt; next(world)?, turn);
+    for want in &GIVEN {
+        expect_next(rt, world, *want)?;
     }
     Ok(())
 }
 
 #[test]
 fn the_turns_come_in_order(rt: HostRuntime) -> Result<(), Fail> {
-    let mut world = world_of(rt.alloc())?;
+    let mut world = world_of(rt.alloc(), TURNS)?;
     let held = expect_turns(&rt, &mut world);
     drop(world);
     held
@@ -106,18 +107,25 @@ fn word_of(answer: Result<bool, RuntimeError>) -> &'static str {
     word
 }
 
-/// Holds what the filter answers to three events: the script has two answers.
-fn expect_answers(rt: &impl Abort, alloc: Global, hooks: &mut ScriptHooks) -> Result<(), Fail> {
+/// What the filter answers about the event of this name, as a word.
+fn event_word<H: Hooks>(alloc: Global, hooks: &mut H, name: u64) -> Result<&'static str, Memory> {
     let event = Event {
         tags: List::new(alloc),
     };
-    hooks.reserve(3)?;
-    let first = word_of(hooks.check_event(0, 0, &event, Priority::Low));
-    assert_eq!(rt; first, "reject");
-    let second = word_of(hooks.check_event(0, 1, &event, Priority::Low));
-    assert_eq!(rt; second, "exit");
-    let third = word_of(hooks.check_event(0, 2, &event, Priority::Low));
-    assert_eq!(rt; third, "pass");
+    hooks.reserve(1)?;
+    Ok(word_of(hooks.check_event(0, name, &event, Priority::Low)))
+}
+
+/// Ends the test where the filter didn't answer so.
+fn expect_word(rt: &impl Abort, word: &str, want: &str) {
+    assert!(rt; word == want, "{word} for {want}");
+}
+
+/// Holds what the filter answers to three events: the script has two answers.
+fn expect_answers(rt: &impl Abort, alloc: Global, hooks: &mut ScriptHooks) -> Result<(), Fail> {
+    expect_word(rt, event_word(alloc, hooks, 0)?, "reject");
+    expect_word(rt, event_word(alloc, hooks, 1)?, "exit");
+    expect_word(rt, event_word(alloc, hooks, 2)?, "pass");
     Ok(())
 }
 
@@ -144,24 +152,15 @@ fn dir_word<H: Hooks>(alloc: Global, hooks: &mut H, path: &[u8]) -> Result<&'sta
     Ok(word_of(check_and_tell(hooks, 0, path)))
 }
 
-/// What the filter answers about an event, as a word.
-fn event_word<H: Hooks>(alloc: Global, hooks: &mut H) -> Result<&'static str, Memory> {
-    let event = Event {
-        tags: List::new(alloc),
-    };
-    hooks.reserve(1)?;
-    Ok(word_of(hooks.check_event(0, 0, &event, Priority::Low)))
-}
-
 /// Holds what the filter answers to directories and events: the script has three answers about directories, and one about
 /// events.
 fn expect_dirs(rt: &impl Abort, alloc: Global, hooks: &mut ScriptHooks) -> Result<(), Fail> {
-    assert_eq!(rt; dir_word(alloc, hooks, b"/w/a")?, "reject");
-    assert_eq!(rt; dir_word(alloc, hooks, b"/w/a")?, "pass");
-    assert_eq!(rt; event_word(alloc, hooks)?, "fail");
-    assert_eq!(rt; dir_word(alloc, hooks, b"/w/b")?, "exit");
-    assert_eq!(rt; event_word(alloc, hooks)?, "pass");
-    assert_eq!(rt; dir_word(alloc, hooks, b"/w/a")?, "pass");
+    expect_word(rt, dir_word(alloc, hooks, b"/w/a")?, "reject");
+    expect_word(rt, dir_word(alloc, hooks, b"/w/a")?, "pass");
+    expect_word(rt, event_word(alloc, hooks, 0)?, "fail");
+    expect_word(rt, dir_word(alloc, hooks, b"/w/b")?, "exit");
+    expect_word(rt, event_word(alloc, hooks, 0)?, "pass");
+    expect_word(rt, dir_word(alloc, hooks, b"/w/a")?, "pass");
     Ok(())
 }
 
@@ -206,13 +205,12 @@ fn expect_calls(rt: &impl Abort, alloc: Global, world: &mut ScriptWorld) -> Resu
     assert!(rt; child_ends(world, what));
     world.reserve(3)?;
     let_go(world, &Flag::new(alloc, false)?);
-    assert_eq!(rt; next(world)?, Ok((5, 0)));
-    Ok(())
+    expect_next(rt, world, Ok((5, 0)))
 }
 
 #[test]
 fn calls_on_children_go_well(rt: HostRuntime) -> Result<(), Fail> {
-    let mut world = world_of(rt.alloc())?;
+    let mut world = world_of(rt.alloc(), TURNS)?;
     let held = expect_calls(&rt, rt.alloc(), &mut world);
     drop(world);
     held
@@ -221,27 +219,18 @@ fn calls_on_children_go_well(rt: HostRuntime) -> Result<(), Fail> {
 /// An urgent event arrives behind another one, and is handed first and at once.
 const HURRIES: &[u8] = b"turn 0 arrive low 0\nturn 3 arrive urgent 0\nturn 4 work\n";
 
-/// The text of a run of this script with the default settings and action handler 7.
-fn text_of_defaults(alloc: Global, script: &Script, hooks: &mut ScriptHooks) -> Result<Text, Memory>
-    requires { IsScript script.now }
-{
-    let engine = Watchexec::new(alloc, 7, root(alloc)?)?;
-    run_text(alloc, engine, script, hooks)
+/// The text of a run of the script `HURRIES` with the default settings and action handler 7, and with hooks that follow the script.
+fn text_of_hurries(alloc: Global) -> Result<Text, Fail> {
+    let mut hooks = hooks_of(alloc, HURRIES)?;
+    let text = text_of_defaults(alloc, &mut hooks);
+    drop(hooks);
+    text
 }
 
-/// The text of such a run of the script `HURRIES`, with hooks that follow it.
-fn text_of_hurries(alloc: Global) -> Result<Text, Fail> {
-    let script = script_of(alloc, HURRIES)?;
-    let text = match ScriptHooks::new(alloc, &script) {
-        Ok(mut hooks) => {
-            let text = text_of_defaults(alloc, &script, &mut hooks);
-            drop(hooks);
-            text
-        }
-        Err(want) => Err(want),
-    };
-    drop(script);
-    Ok(text?)
+/// The same with these hooks.
+fn text_of_defaults(alloc: Global, hooks: &mut ScriptHooks) -> Result<Text, Fail> {
+    let engine = Watchexec::new(alloc, 7, root(alloc)?)?;
+    text_of(alloc, engine, HURRIES, hooks)
 }
 
 #[test]

@@ -1,25 +1,25 @@
 // Hooks as a user writes them, and runs with them: their texts are worked out by hand.
 ghost use Rattle.std.specs.Prelude.{◌≡◌, ◌^◌, [], false, None, OnErr};
-ghost use Rattle.wx_script.specs.Follows.{IsScript};
 
 use std::alloc::Global;
+use std::process::Abort;
 use std::test::Fail;
 use wx_command::Spawnable;
+use wx_config::Change;
 use wx_control::{Id, Job};
 use wx_error::{CriticalError, RuntimeError};
 use wx_events::{Event, Priority, Signal};
-use wx_hooks::{ActionHandler, ErrorHook, Hooks};
+use wx_hooks::{ActionHandler, ChangeRefused, ErrorHook, Hooks};
 use wx_job::{JobHooks, JobTaskContext};
 use wx_journal::{Entry, HostFault};
 use wx_machine::CommandState;
-use wx_script::Script;
 use wx_text::{Copies, List, Memory, Text};
-use wx_trial::{command_of, created, engine_with, run_text, script_of};
+use wx_trial::{Setup, command_of, created, text_by};
 use wx_words::{TextPath, cut};
 
 /// What hooks do in a call.
 #[derive(Clone, Copy)]
-enum Does {
+pub(crate) enum Does {
     /// Each batch starts one job, which the first creates. A batch that finds its child running quits.
     Restarts,
     /// The batch creates two jobs, starts the first and stops the second.
@@ -38,11 +38,13 @@ enum Does {
     Wishes(&'static [Says]),
     /// The filter has each directory watched but `/w/b`.
     Judges,
+    /// Each batch asks for three changes of the settings, which are to be answered so.
+    Changes([Result<(), ChangeRefused>; 3]),
 }
 
 /// What an error handler wishes.
 #[derive(Clone, Copy)]
-enum Says {
+pub(crate) enum Says {
     /// The error that is shown is to end the run.
     Elevate,
     /// An error of its own is to end it.
@@ -53,10 +55,21 @@ enum Says {
 
 /// Hooks that do this in each call, and whether what they saw in the last one was right.
 #[derive(Drop)]
-struct Own {
+pub(crate) struct Own {
     alloc: Global,
     does: Does,
-    is_right: bool,
+    pub(crate) is_right: bool,
+}
+
+impl Own {
+    /// Hooks that do this, before the first call.
+    pub(crate) fn new(alloc: Global, does: Does) -> Own {
+        Own {
+            alloc,
+            does,
+            is_right: false,
+        }
+    }
 }
 
 impl JobHooks for Own {
@@ -149,8 +162,23 @@ fn act(alloc: Global, does: Does, handler: &mut ActionHandler<'_>) -> Option<boo
         Does::SetsVariable | Does::WantsMemory => start_hooked(alloc, handler),
         Does::Deletes => delete(alloc, handler),
         Does::Ends => end_at_interrupt(alloc, handler),
+        Does::Changes(wants) => change_thrice(alloc, wants, handler),
         Does::Wishes(_) | Does::Judges => None,
     }
+}
+
+/// Asks for three changes of the settings, and answers whether they were answered so.
+fn change_thrice(
+    alloc: Global,
+    wants: [Result<(), ChangeRefused>; 3],
+    handler: &mut ActionHandler<'_>,
+) -> Option<bool>
+    ensures same { handler.new ≡ record handler.old { acts = handler.new.acts } }
+{
+    let first = handler.change(alloc, Change::Filterer(1));
+    let second = handler.change(alloc, Change::Filterer(2));
+    let third = handler.change(alloc, Change::Filterer(3));
+    Some(first == wants[0] && second == wants[1] && third == wants[2])
 }
 
 /// Whether no child of the job runs, and what is about to be spawned is what its command spawns.
@@ -208,23 +236,46 @@ fn wish(alloc: Global, says: Says, hook: &mut ErrorHook) -> Option<()>
     }
 }
 
+/// The id of the first job that is shown.
+fn first_shown(handler: &ActionHandler<'_>) -> Option<Id> {
+    handler.list_jobs().next().map(|item| item.0)
+}
+
+/// A handle on the job of this id.
+fn shown(alloc: Global, id: Id, handler: &ActionHandler<'_>) -> Option<Job> {
+    handler.get_job(alloc, id).ok()?
+}
+
+/// Starts the job, or answers nothing where that failed.
+fn start(alloc: Global, job: Job, handler: &mut ActionHandler<'_>) -> Option<bool>
+    ensures same { handler.new ≡ record handler.old { acts = handler.new.acts } }
+{
+    let started = job.start(alloc, handler).is_ok();
+    drop(job);
+    if started { Some(true) } else { None }
+}
+
 /// Starts the job, or quits where its child runs.
+fn start_or_quit(alloc: Global, job: Job, handler: &mut ActionHandler<'_>) -> Option<bool>
+    ensures same { handler.new ≡ record handler.old { acts = handler.new.acts } }
+{
+    if handler.job_running(job.id()) {
+        drop(job);
+        handler.quit();
+        return Some(true);
+    }
+    start(alloc, job, handler)
+}
+
+/// Starts the job, which is created where there is none, or quits where its child runs.
 fn restart(alloc: Global, handler: &mut ActionHandler<'_>) -> Option<bool>
     ensures same { handler.new ≡ record handler.old { acts = handler.new.acts } }
 {
-    let first = handler.list_jobs().next().map(|item| item.0);
-    let job = match first {
-        Some(id) => handler.get_job(alloc, id).ok()??,
+    let job = match first_shown(handler) {
+        Some(id) => shown(alloc, id, handler)?,
         None => created(alloc, Id(0), b"a", handler)?,
     };
-    let started = if handler.job_running(job.id()) {
-        handler.quit();
-        true
-    } else {
-        job.start(alloc, handler).is_ok()
-    };
-    drop(job);
-    if started { Some(true) } else { None }
+    start_or_quit(alloc, job, handler)
 }
 
 /// Ends the run gracefully where one of the signals is an interrupt, and else starts the job.
@@ -255,14 +306,11 @@ fn hooked(alloc: Global, handler: &mut ActionHandler<'_>) -> Option<Job>
 fn start_hooked(alloc: Global, handler: &mut ActionHandler<'_>) -> Option<bool>
     ensures same { handler.new ≡ record handler.old { acts = handler.new.acts } }
 {
-    let first = handler.list_jobs().next().map(|item| item.0);
-    let job = match first {
-        Some(id) => handler.get_job(alloc, id).ok()??,
+    let job = match first_shown(handler) {
+        Some(id) => shown(alloc, id, handler)?,
         None => hooked(alloc, handler)?,
     };
-    let started = job.start(alloc, handler).is_ok();
-    drop(job);
-    if started { Some(true) } else { None }
+    start(alloc, job, handler)
 }
 
 /// Creates a job.
@@ -280,15 +328,29 @@ fn new_job(alloc: Global, handler: &mut ActionHandler<'_>) -> Option<Job>
 fn delete(alloc: Global, handler: &mut ActionHandler<'_>) -> Option<bool>
     ensures same { handler.new ≡ record handler.old { acts = handler.new.acts } }
 {
-    let first = handler.list_jobs().next().map(|item| item.0);
-    let job = match first {
-        Some(id) => handler.get_job(alloc, id).ok()??,
-        None => new_job(alloc, handler)?,
-    };
-    let asked = match first {
-        Some(_) => job.restart(alloc, handler).is_ok(),
-        None => job.delete_now(alloc, handler).is_ok(),
-    };
+    match first_shown(handler) {
+        Some(id) => restart_shown(alloc, id, handler),
+        None => delete_new(alloc, handler),
+    }
+}
+
+/// Restarts the job of this id. No child may run.
+fn restart_shown(alloc: Global, id: Id, handler: &mut ActionHandler<'_>) -> Option<bool>
+    ensures same { handler.new ≡ record handler.old { acts = handler.new.acts } }
+{
+    let job = shown(alloc, id, handler)?;
+    let asked = job.restart(alloc, handler).is_ok();
+    let runs = handler.job_running(job.id());
+    drop(job);
+    Some(asked && !runs)
+}
+
+/// Creates a job and deletes it. No child may run.
+fn delete_new(alloc: Global, handler: &mut ActionHandler<'_>) -> Option<bool>
+    ensures same { handler.new ≡ record handler.old { acts = handler.new.acts } }
+{
+    let job = new_job(alloc, handler)?;
+    let asked = job.delete_now(alloc, handler).is_ok();
     let runs = handler.job_running(job.id());
     drop(job);
     Some(asked && !runs)
@@ -300,15 +362,22 @@ fn ask_two(alloc: Global, handler: &mut ActionHandler<'_>) -> Option<()>
 {
     let a = created(alloc, Id(0), b"a", handler)?;
     let b = created(alloc, Id(1), b"b", handler);
-    let asked = match &b {
-        Some(b) => a.start(alloc, handler).is_ok() && b.stop(alloc, handler).is_ok(),
-        None => false,
-    };
+    let asked = ask_both(alloc, &a, &b, handler);
     drop(a);
     drop(b);
     handler.quit();
     handler.quit();
     if asked { Some(()) } else { None }
+}
+
+/// Starts the first of two jobs and stops the second. Answers whether both were asked.
+fn ask_both(alloc: Global, a: &Job, b: &Option<Job>, handler: &mut ActionHandler<'_>) -> bool
+    ensures same { handler.new ≡ record handler.old { acts = handler.new.acts } }
+{
+    match b {
+        Some(b) => a.start(alloc, handler).is_ok() && b.stop(alloc, handler).is_ok(),
+        None => false,
+    }
 }
 
 /// The line of the hand that asks for what `ask_two` does.
@@ -343,8 +412,8 @@ fn is_not_shown(alloc: Global, handler: &mut ActionHandler<'_>) -> Option<bool>
     let found = handler.get_job(alloc, Id(0)).ok()?;
     let is_found = found.is_some();
     drop(found);
-    let listed = handler.list_jobs().next();
-    Some(!is_found && listed.is_none() && !handler.job_running(Id(0)))
+    let is_listed = first_shown(handler).is_some();
+    Some(!is_found && !is_listed && !handler.job_running(Id(0)))
 }
 
 /// The first batch creates the job, the second starts it again after its child ended, the third finds it running.
@@ -376,28 +445,26 @@ const ASKED_TWO: &[u8] =
 const LOOKED: &[u8] =
     b"turn 0 arrive urgent 0\noffer 0 - queued urgent 0\nturn 0 work\ntake 0\nhand 0 1 0 create 0 exec ---- 1 a\nmade 0\nturn 0 last\ngone 0\nend ok lost 0\n";
 
-/// The text of a run of this script with these hooks.
-fn own_text(alloc: Global, script: &Script, hooks: &mut Own) -> Result<Text, Memory>
-    requires { IsScript script.now }
-{
-    let engine = engine_with(alloc, 50_000_000, 4)?;
-    run_text(alloc, engine, script, hooks)
+/// The default throttle, and the first of each kind of hook.
+pub(crate) const SETUP: Setup = Setup {
+    throttle: 50_000_000,
+    revision: 0,
+    filterer: 0,
+    error_handler: 0,
+    action_handler: 0,
+};
+
+/// Whether hooks that do this saw what is right, and the run that follows these lines has this text behind its first line. Jobs
+/// and commands are dropped above by generic code, which is quicker to prove.
+fn runs_so(alloc: Global, does: Does, lines: &[u8], want: &[u8]) -> Result<bool, Fail> {
+    let mut hooks = Own::new(alloc, does);
+    let text = text_by(alloc, SETUP, lines, &mut hooks)?;
+    Ok(hooks.is_right && is_behind(text.as_slice(), want))
 }
 
-/// Whether hooks that do this saw what is right, and the run that follows these lines has this text behind its first line. A
-/// script is dropped by generic code, which is quicker to prove; so are jobs and commands above.
-fn runs_so(alloc: Global, does: Does, lines: &[u8], want: &[u8]) -> Result<bool, Fail> {
-    let script = script_of(alloc, lines)?;
-    let mut hooks = Own {
-        alloc,
-        does,
-        is_right: false,
-    };
-    let text = own_text(alloc, &script, &mut hooks);
-    drop(script);
-    let text = text?;
-    let rest = cut(text.as_slice(), 10).map(|parts| parts.1);
-    Ok(hooks.is_right && rest == Some(want))
+/// Whether the text has this behind its first line.
+pub(crate) fn is_behind(text: &[u8], want: &[u8]) -> bool {
+    cut(text, 10).map(|parts| parts.1) == Some(want)
 }
 
 #[test]
@@ -468,23 +535,28 @@ const CLOSED: &[u8] =
 const UNWISHED: &[u8] =
     b"turn 0 arrive low 1 unknown\noffer 0 - queued low 1 unknown\nturn 0 work\ntake 0\nfilter 0 0 fail deadonarrival\nshow 0 deadonarrival none\nturn 1 arrive low 0\noffer 1 - queued low 0\nturn 1 last\nend ok lost 0\n";
 
+/// What an error handler wishes, one after the other, and what comes of it.
+const WISHES: [(&[Says], &[u8]); 8] = [
+    (&[], UNWISHED),
+    (&[Says::Elevate], ELEVATED),
+    (&[Says::Elevate, Says::Critical], ELEVATED),
+    (&[Says::Elevate, Says::Exit], ELEVATED),
+    (&[Says::Critical, Says::Exit], CRITICAL),
+    (&[Says::Critical, Says::Elevate], CRITICAL),
+    (&[Says::Exit, Says::Critical], CLOSED),
+    (&[Says::Exit, Says::Elevate], CLOSED),
+];
+
+/// Ends the test where this isn't so of a run that was to have this text.
+fn expect_so(rt: &impl Abort, so: bool, want: &[u8]) {
+    assert!(rt; so, "of {want:?}");
+}
+
 #[test]
 fn the_first_wish_stands(rt: HostRuntime) -> Result<(), Fail> {
-    let table: [(&'static [Says], &[u8]); 8] = [
-        (&[], UNWISHED),
-        (&[Says::Elevate], ELEVATED),
-        (&[Says::Elevate, Says::Critical], ELEVATED),
-        (&[Says::Elevate, Says::Exit], ELEVATED),
-        (&[Says::Critical, Says::Exit], CRITICAL),
-        (&[Says::Critical, Says::Elevate], CRITICAL),
-        (&[Says::Exit, Says::Critical], CLOSED),
-        (&[Says::Exit, Says::Elevate], CLOSED),
-    ];
-    for (wishes, want) in table {
-        assert!(rt;
-            runs_so(rt.alloc(), Does::Wishes(wishes), SHOWN, want)?,
-            "of {want:?}"
-        );
+    for (wishes, want) in &WISHES {
+        let so = runs_so(rt.alloc(), Does::Wishes(wishes), SHOWN, want)?;
+        expect_so(&rt, so, want);
     }
     Ok(())
 }

@@ -11,7 +11,7 @@ use wx_command::{Command, Program, SpawnOptions};
 use wx_config::Config;
 use wx_control::{Id, Job};
 use wx_engine::Watchexec;
-use wx_follow::ScriptWorld;
+use wx_follow::{ScriptHooks, ScriptWorld};
 use wx_hooks::{ActionHandler, Hooks, World};
 use wx_journal::Journal;
 use wx_print::print_journal;
@@ -20,7 +20,7 @@ use wx_text::{List, Memory, Text};
 use wx_words::TextPath;
 
 /// The script of these lines.
-pub fn script_of(alloc: Global, lines: &[u8]) -> Result<Script, Fail>
+fn script_of(alloc: Global, lines: &[u8]) -> Result<Script, Fail>
     ensures { IfOk result IsScript }
 {
     match read_script(alloc, lines)? {
@@ -34,6 +34,44 @@ pub fn root(alloc: Global) -> Result<TextPath, Memory>
     ensures { IfOk result (λ folder. folder ≡ 47 ∷ []) }
 {
     Ok(TextPath::new(Text::from_slice(alloc, b"/")?))
+}
+
+/// A world that follows the script of these lines.
+pub fn world_of(alloc: Global, lines: &[u8]) -> Result<ScriptWorld, Fail> {
+    let script = script_of(alloc, lines)?;
+    let world = ScriptWorld::new(alloc, &script);
+    drop(script);
+    Ok(world?)
+}
+
+/// Hooks that follow the script of these lines.
+pub fn hooks_of(alloc: Global, lines: &[u8]) -> Result<ScriptHooks, Fail> {
+    let script = script_of(alloc, lines)?;
+    let hooks = ScriptHooks::new(alloc, &script);
+    drop(script);
+    Ok(hooks?)
+}
+
+/// What an engine begins with: the throttle, the revision of its settings, and the numbers of its filter and its handlers.
+#[derive(Clone, Copy)]
+pub struct Setup {
+    pub throttle: u64,
+    pub revision: u64,
+    pub filterer: u32,
+    pub error_handler: u32,
+    pub action_handler: u32,
+}
+
+/// An engine with this setup.
+fn engine_by(alloc: Global, setup: Setup) -> Result<Watchexec, Memory> {
+    let folder = root(alloc)?;
+    let mut config = Config::new(alloc)?;
+    config.throttle.replace(setup.throttle);
+    config.change_signal = setup.revision;
+    config.filterer = setup.filterer;
+    config.error_handler = setup.error_handler;
+    config.action_handler = setup.action_handler;
+    Watchexec::with_config(alloc, config, folder)
 }
 
 /// An engine with this throttle and a queue of this size.
@@ -69,8 +107,39 @@ pub fn text_in<W: World, H: Hooks>(
     }
 }
 
+/// The text of a run of an engine with this setup, in a world that follows the script of these lines.
+pub fn text_by<H: Hooks>(
+    alloc: Global,
+    setup: Setup,
+    lines: &[u8],
+    hooks: &mut H,
+) -> Result<Text, Fail> {
+    let engine = engine_by(alloc, setup)?;
+    text_of(alloc, engine, lines, hooks)
+}
+
+/// The text of a run of this engine, in a world that follows the script of these lines.
+pub fn text_of<H: Hooks>(
+    alloc: Global,
+    engine: Watchexec,
+    lines: &[u8],
+    hooks: &mut H,
+) -> Result<Text, Fail> {
+    match script_of(alloc, lines) {
+        Ok(script) => {
+            let text = run_text(alloc, engine, &script, hooks);
+            drop(script);
+            Ok(text?)
+        }
+        Err(fail) => {
+            drop(engine);
+            Err(fail)
+        }
+    }
+}
+
 /// The text of a run of this engine, in a world that follows the script.
-pub fn run_text<H: Hooks>(
+fn run_text<H: Hooks>(
     alloc: Global,
     engine: Watchexec,
     script: &Script,
