@@ -1,8 +1,12 @@
 // Rebuilds of what is held: the expected values are worked out by hand from the rules.
+//
+// What is held is long to drop: it is lent to a helper in which calls may fail.
 use crate::setup::{backend, held};
 use crate::shown::{shown, watched};
 use std::alloc::Global;
 use std::process::Abort;
+use wx_fs_trial::FailingBackend;
+use wx_holding::Held;
 use wx_mem_tree::MemTree;
 use wx_rebuild::{defer, install, prepare, replay, replay_count};
 use wx_text::Memory;
@@ -70,11 +74,17 @@ const PREPARED: &[(&str, &str)] = &[
     ),
 ];
 
+fn is_prepared(alloc: Global, after: &str, held: &mut Held) -> Result<bool, Memory> {
+    prepare(alloc, held)?;
+    let text = shown(alloc, held)?;
+    Ok(text.as_str() == after && held.excluded.is_empty() && held.lost.is_empty())
+}
+
 fn prepares(alloc: Global, before: &str, after: &str) -> Result<bool, Memory> {
     let mut held = held(alloc, before)?;
-    prepare(alloc, &mut held)?;
-    let text = shown(alloc, &mut held)?;
-    Ok(text.as_str() == after && held.excluded.is_empty() && held.lost.is_empty())
+    let is_so = is_prepared(alloc, after, &mut held);
+    drop(held);
+    is_so
 }
 
 #[test]
@@ -148,6 +158,22 @@ const REPLAYED: &[(&str, &str, &str, &str)] = &[
     ),
 ];
 
+fn is_replayed(
+    alloc: Global,
+    (after, watching): (&str, &str),
+    held: &mut Held,
+    back: &mut FailingBackend,
+) -> Result<bool, Memory> {
+    install(held);
+    let mut tree = MemTree::new(alloc)?;
+    let replayed = replay(alloc, held, back, &mut tree);
+    drop(tree);
+    replayed?;
+    let text = shown(alloc, held)?;
+    let line = watched(alloc, back)?;
+    Ok(text.as_str() == after && line.as_str() == watching)
+}
+
 fn replays(
     alloc: Global,
     before: &str,
@@ -155,14 +181,12 @@ fn replays(
     after: &str,
     watching: &str,
 ) -> Result<bool, Memory> {
-    let mut held = held(alloc, before)?;
     let mut back = backend(alloc, faults)?;
-    let mut tree = MemTree::new(alloc)?;
-    install(&mut held);
-    replay(alloc, &mut held, &mut back, &mut tree)?;
-    let text = shown(alloc, &mut held)?;
-    let line = watched(alloc, &back)?;
-    Ok(text.as_str() == after && line.as_str() == watching)
+    let mut held = held(alloc, before)?;
+    let is_so = is_replayed(alloc, (after, watching), &mut held, &mut back);
+    drop(held);
+    drop(back);
+    is_so
 }
 
 #[test]
@@ -174,11 +198,17 @@ fn what_waits_is_watched_again(rt: HostRuntime) {
 }
 
 /// A replay that finds no memory says so.
-fn replay_finds_no_memory(alloc: Global) -> Result<bool, Memory> {
-    let mut held = held(alloc, "root /w\nown /w\nwaiting /w\n")?;
+fn finds_no_memory(alloc: Global, held: &mut Held) -> Result<bool, Memory> {
     let mut back = backend(alloc, "memory")?;
     let mut tree = MemTree::new(alloc)?;
-    Ok(replay(alloc, &mut held, &mut back, &mut tree) == Err(Memory))
+    Ok(replay(alloc, held, &mut back, &mut tree) == Err(Memory))
+}
+
+fn replay_finds_no_memory(alloc: Global) -> Result<bool, Memory> {
+    let mut held = held(alloc, "root /w\nown /w\nwaiting /w\n")?;
+    let is_so = finds_no_memory(alloc, &mut held);
+    drop(held);
+    is_so
 }
 
 #[test]
@@ -187,17 +217,23 @@ fn no_memory(rt: HostRuntime) {
 }
 
 /// Registrations count, those that wait and guards too. A deferred replay needs a retry until the next reconcile.
+fn is_deferred(alloc: Global, held: &mut Held) -> Result<bool, Memory> {
+    let count = replay_count(held);
+    let before = held.needs_retry();
+    defer(held);
+    let after = held.needs_retry();
+    held.reconcile(alloc, Vec::new(alloc), 0)?;
+    Ok(count == 4 && !before && after && !held.needs_retry())
+}
+
 fn defers(alloc: Global) -> Result<bool, Memory> {
     let mut held = held(
         alloc,
         "root /w\nown /w\nown /w/a\nguard /g/x /g\nregistered /w\nregistered /w/a\nwaiting /g\n",
     )?;
-    let count = replay_count(&held);
-    let before = held.needs_retry();
-    defer(&mut held);
-    let after = held.needs_retry();
-    held.reconcile(alloc, Vec::new(alloc), 0)?;
-    Ok(count == 4 && !before && after && !held.needs_retry())
+    let is_so = is_deferred(alloc, &mut held);
+    drop(held);
+    is_so
 }
 
 #[test]

@@ -3,8 +3,6 @@
 
 mod reasons;
 mod refusing;
-#[cfg(test)]
-mod tests;
 mod unformed;
 
 pub use reasons::{Front, Reason, Refusal};

@@ -3,30 +3,55 @@ use std::alloc::Global;
 use std::process::Abort;
 use wx_script::{Script, read_script};
 
+/// What is counted of a script.
+#[derive(Clone, Copy)]
+struct Counted {
+    turns: (usize, usize, usize, u64, u32, u64),
+    jobs: (usize, usize, usize, usize, usize),
+    filters: (usize, usize, usize),
+    dirs: (usize, usize, usize),
+    files: ((usize, usize, usize), (usize, usize, usize)),
+    errors: (usize, usize, u32),
+    hooks: (usize, usize, usize),
+}
+
+/// What is counted of the script of these bytes, if it is one. A script is long to drop: it is done here alone.
+fn counts(alloc: Global, bytes: &[u8]) -> Option<Counted> {
+    let script = script_in(alloc, bytes)?;
+    let counts = Counted {
+        turns: turn_counts(&script),
+        jobs: job_counts(&script),
+        filters: filter_counts(&script),
+        dirs: dir_counts(&script),
+        files: file_counts(&script),
+        errors: error_counts(&script),
+        hooks: hook_counts(&script),
+    };
+    drop(script);
+    Some(counts)
+}
+
 /// What the script of these bytes is, if it is one.
 fn script_in(alloc: Global, bytes: &[u8]) -> Option<Script> {
     read_script(alloc, bytes).ok()?.ok()
 }
 
-/// How many sends, turns and actions the script of these bytes has, and its throttle, its size and the moment of its last turn.
-fn counts(alloc: Global, bytes: &[u8]) -> Option<(usize, usize, usize, u64, u32, u64)> {
-    let script = script_in(alloc, bytes)?;
-    Some((
+/// The number of the bad line of these bytes.
+fn bad_line(alloc: Global, bytes: &[u8]) -> Option<u64> {
+    let bad = read_script(alloc, bytes).ok()?.err()?;
+    Some(bad.0)
+}
+
+/// How many sends, turns and actions the script has, and its throttle, its size and the moment of its last turn.
+fn turn_counts(script: &Script) -> (usize, usize, usize, u64, u32, u64) {
+    (
         script.sends.len(),
         script.turns.len(),
         script.actions.len(),
         script.throttle,
         script.size,
         script.last,
-    ))
-}
-
-/// The number of the bad line of these bytes.
-fn bad_line(alloc: Global, bytes: &[u8]) -> Option<u64> {
-    match read_script(alloc, bytes) {
-        Ok(Err(bad)) => Some(bad.0),
-        _ => None,
-    }
+    )
 }
 
 /// Ends the test where this isn't so of the script of these bytes.
@@ -61,22 +86,24 @@ const SCRIPTS: [(&[u8], (usize, usize, usize, u64, u32, u64)); 5] = [
 #[test]
 fn reads_scripts(rt: HostRuntime) {
     for (bytes, want) in &SCRIPTS {
-        expect_so(&rt, counts(rt.alloc(), bytes) == Some(*want), bytes);
+        expect_so(
+            &rt,
+            counts(rt.alloc(), bytes).map(|c| c.turns) == Some(*want),
+            bytes,
+        );
     }
 }
 
-/// How many acts the first action of the script of these bytes has, and how many answers to spawns, signals, kills and waits the
-/// script has.
-fn answer_counts(alloc: Global, bytes: &[u8]) -> Option<(usize, usize, usize, usize, usize)> {
-    let script = script_in(alloc, bytes)?;
+/// How many acts the first action of the script has, and how many answers to spawns, signals, kills and waits the script has.
+fn job_counts(script: &Script) -> (usize, usize, usize, usize, usize) {
     let first = script.actions.as_slice().first();
-    Some((
+    (
         first.map_or(0, |acts| acts.len()),
         script.answers.spawns.len(),
         script.answers.signals.len(),
         script.answers.kills.len(),
         script.answers.waits.len(),
-    ))
+    )
 }
 
 const JOBS: [(&[u8], (usize, usize, usize, usize, usize)); 10] = [
@@ -125,14 +152,17 @@ const JOBS: [(&[u8], (usize, usize, usize, usize, usize)); 10] = [
 #[test]
 fn reads_lines_about_jobs(rt: HostRuntime) {
     for (bytes, want) in &JOBS {
-        expect_so(&rt, answer_counts(rt.alloc(), bytes) == Some(*want), bytes);
+        expect_so(
+            &rt,
+            counts(rt.alloc(), bytes).map(|c| c.jobs) == Some(*want),
+            bytes,
+        );
     }
 }
 
-/// How many sends, turns and answers of the filter the script of these bytes has.
-fn filter_counts(alloc: Global, bytes: &[u8]) -> Option<(usize, usize, usize)> {
-    let script = script_in(alloc, bytes)?;
-    Some((script.sends.len(), script.turns.len(), script.filters.len()))
+/// How many sends, turns and answers of the filter the script has.
+fn filter_counts(script: &Script) -> (usize, usize, usize) {
+    (script.sends.len(), script.turns.len(), script.filters.len())
 }
 
 const FILTERS: [(&[u8], (usize, usize, usize)); 4] = [
@@ -154,18 +184,21 @@ const FILTERS: [(&[u8], (usize, usize, usize)); 4] = [
 #[test]
 fn reads_lines_about_filters(rt: HostRuntime) {
     for (bytes, want) in &FILTERS {
-        expect_so(&rt, filter_counts(rt.alloc(), bytes) == Some(*want), bytes);
+        expect_so(
+            &rt,
+            counts(rt.alloc(), bytes).map(|c| c.filters) == Some(*want),
+            bytes,
+        );
     }
 }
 
-/// How many answers of the filter about events and about directories the script of these bytes has, and how many of the latter
-/// stand before the first that excludes one.
-fn dir_counts(alloc: Global, bytes: &[u8]) -> Option<(usize, usize, usize)> {
-    let script = script_in(alloc, bytes)?;
+/// How many answers of the filter about events and about directories the script has, and how many of the latter stand before the
+/// first that excludes one.
+fn dir_counts(script: &Script) -> (usize, usize, usize) {
     let dirs = script.dirs.as_slice();
     let first = dirs.iter().position(|answer| matches!(answer, Ok(false)));
     let before = first.unwrap_or(dirs.len());
-    Some((script.filters.len(), dirs.len(), before))
+    (script.filters.len(), dirs.len(), before)
 }
 
 const DIRS: [(&[u8], (usize, usize, usize)); 6] = [
@@ -189,7 +222,11 @@ const DIRS: [(&[u8], (usize, usize, usize)); 6] = [
 #[test]
 fn reads_lines_about_directories(rt: HostRuntime) {
     for (bytes, want) in &DIRS {
-        expect_so(&rt, dir_counts(rt.alloc(), bytes) == Some(*want), bytes);
+        expect_so(
+            &rt,
+            counts(rt.alloc(), bytes).map(|c| c.dirs) == Some(*want),
+            bytes,
+        );
     }
 }
 
@@ -220,13 +257,9 @@ fn refuses_lines_about_directories(rt: HostRuntime) {
     each_is_bad(&rt, rt.alloc(), &NO_DIRS);
 }
 
-/// What the script of these bytes has of files: for how many turns it has changes of the tree, how many changes before the first of
-/// these, how many behind the last, and how many answers of the maker, looks that fail and calls on backends that fail.
-fn file_counts(
-    alloc: Global,
-    bytes: &[u8],
-) -> Option<((usize, usize, usize), (usize, usize, usize))> {
-    let script = script_in(alloc, bytes)?;
+/// What the script has of files: for how many turns it has changes of the tree, how many changes before the first of these, how many
+/// behind the last, and how many answers of the maker, looks that fail and calls on backends that fail.
+fn file_counts(script: &Script) -> ((usize, usize, usize), (usize, usize, usize)) {
     let first = script.edits.as_slice().first();
     let edits = (
         script.edits.len(),
@@ -238,7 +271,7 @@ fn file_counts(
         script.failing_looks.len(),
         script.failing_watches.len(),
     );
-    Some((edits, answers))
+    (edits, answers)
 }
 
 const FILES: [(&[u8], ((usize, usize, usize), (usize, usize, usize))); 8] = [
@@ -273,7 +306,11 @@ const FILES: [(&[u8], ((usize, usize, usize), (usize, usize, usize))); 8] = [
 #[test]
 fn reads_lines_about_files(rt: HostRuntime) {
     for (bytes, want) in &FILES {
-        expect_so(&rt, file_counts(rt.alloc(), bytes) == Some(*want), bytes);
+        expect_so(
+            &rt,
+            counts(rt.alloc(), bytes).map(|c| c.files) == Some(*want),
+            bytes,
+        );
     }
 }
 
@@ -330,10 +367,9 @@ fn refuses_lines_about_files(rt: HostRuntime) {
     each_is_bad(&rt, rt.alloc(), &NO_FILES);
 }
 
-/// How many answers of the filter and wishes of the error handler the script of these bytes has, and the size of the channel of errors.
-fn error_counts(alloc: Global, bytes: &[u8]) -> Option<(usize, usize, u32)> {
-    let script = script_in(alloc, bytes)?;
-    Some((script.filters.len(), script.errors.len(), script.error_size))
+/// How many answers of the filter and wishes of the error handler the script has, and the size of the channel of errors.
+fn error_counts(script: &Script) -> (usize, usize, u32) {
+    (script.filters.len(), script.errors.len(), script.error_size)
 }
 
 const ERRORS: [(&[u8], (usize, usize, u32)); 5] = [
@@ -356,19 +392,22 @@ const ERRORS: [(&[u8], (usize, usize, u32)); 5] = [
 #[test]
 fn reads_lines_about_errors(rt: HostRuntime) {
     for (bytes, want) in &ERRORS {
-        expect_so(&rt, error_counts(rt.alloc(), bytes) == Some(*want), bytes);
+        expect_so(
+            &rt,
+            counts(rt.alloc(), bytes).map(|c| c.errors) == Some(*want),
+            bytes,
+        );
     }
 }
 
-/// How many calls of hooks the script of these bytes has words for, and how many words and bytes of them the first has.
-fn hook_counts(alloc: Global, bytes: &[u8]) -> Option<(usize, usize, usize)> {
-    let script = script_in(alloc, bytes)?;
+/// How many calls of hooks the script has words for, and how many words and bytes of them the first has.
+fn hook_counts(script: &Script) -> (usize, usize, usize) {
     let first = script.hooks.as_slice().first();
     let words = first.map_or(0, |words| words.len());
     let size = first
         .and_then(|words| words.first())
         .map_or(0, |word| word.len());
-    Some((script.hooks.len(), words, size))
+    (script.hooks.len(), words, size)
 }
 
 const HOOKS: [(&[u8], (usize, usize, usize)); 5] = [
@@ -388,7 +427,11 @@ const HOOKS: [(&[u8], (usize, usize, usize)); 5] = [
 #[test]
 fn reads_lines_about_hooks(rt: HostRuntime) {
     for (bytes, want) in &HOOKS {
-        expect_so(&rt, hook_counts(rt.alloc(), bytes) == Some(*want), bytes);
+        expect_so(
+            &rt,
+            counts(rt.alloc(), bytes).map(|c| c.hooks) == Some(*want),
+            bytes,
+        );
     }
 }
 

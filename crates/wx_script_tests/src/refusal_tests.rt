@@ -1,7 +1,7 @@
 // What is told of refused scripts. Each line is worked out by what FORMATS tells of scripts.
-use crate::refusal;
 use std::alloc::Global;
 use std::process::Abort;
+use wx_refusal::refusal;
 
 /// What is told of this script, empty where it is one.
 fn told_of(rt: &impl Abort, alloc: Global, script: &[u8]) -> String {
