@@ -1,12 +1,12 @@
 // A run of the engine.
-ghost use Rattle.std.specs.Prelude.{◌≡◌, ◌∷◌, [], ℕ, ◌+◌, ◌<◌, ◌≤◌, Bool, true, false, OnOk, OnErr, IfOk, IfErr, codes};
+ghost use Rattle.std.specs.Prelude.{◌≡◌, ◌∷◌, [], List, None, ℕ, ◌+◌, ◌<◌, ◌≤◌, Bool, true, false, OnOk, OnErr, IfOk, IfErr, codes};
 ghost use Rattle.wx_machine.specs.Steady.{OnlyRoom};
 ghost use Rattle.wx_machine.specs.Kept.{KeepsOn, Promised};
 ghost use Rattle.wx_action.specs.Serves.{AddsAlone, Continues};
 ghost use Rattle.wx_machine.specs.Start.{Start, IsSize};
 ghost use Rattle.wx_machine.specs.Jobs.{jobs};
 ghost use Rattle.wx_machine.specs.Due.{agenda, begin_of, Open, IsRun};
-ghost use Rattle.wx_machine.specs.Files.{is_file_turn};
+ghost use Rattle.wx_machine.specs.Files.{is_file_turn, source, unwatched};
 ghost use Rattle.wx_machine.specs.Keyboard.{ended_by};
 ghost use Rattle.wx_machine.specs.Told.{is_last, TellsNoEnd};
 ghost use Rattle.wx_machine.specs.Answer.{NoneIsToGo, BreaksOff, Answers};
@@ -19,6 +19,8 @@ ghost use Rattle.wx_calm.specs.FewSteps.{FewSteps};
 ghost use Rattle.wx_file_turns.specs.Settling.{AreSettling, GoesOnSettling};
 ghost use Rattle.wx_file_turns.specs.Standing.{FilesStand, owing};
 ghost use Rattle.wx_journal.specs.Told.{Counts};
+ghost use Rattle.wx_journal.specs.declared.entry.Entry.{Entry as AnEntry};
+ghost use Rattle.wx_file_turns.specs.Intake.{nothing_brought};
 ghost use Rattle.wx_engine.specs.Run.{HasCause, HasTurnCause, Stops, Rests, IsBetween, ServesTurn, ServesTurns, Lists, HasLaws};
 
 use crate::watchexec::Watchexec;
@@ -34,6 +36,7 @@ use wx_file_turns::{Files, file_turn, listen_turn};
 use wx_hooks::{Hooks, World};
 use wx_job::{Host, JobHooks};
 use wx_journal::{Beginning, Entry, Journal, TurnKind, copy_bytes};
+use wx_scan::Backend;
 use wx_text::{Copies, Memory, Text};
 use wx_words::TextPath;
 
@@ -324,6 +327,20 @@ fn serve_turns<W: World, H: Hooks>(
     }
 }
 
+/// What a run keeps beside its worker: what the error says that the fault of a turn is about, and what is watched. It fails only
+/// for want of memory.
+fn parts<B: Backend + Drop>(alloc: Global, engine: &Watchexec) -> Result<(Text, Files<B>), Memory>
+    ensures about { IfOk result (λ parts. parts.0 ≡ codes "turn") }
+    ensures given { IfOk result (λ parts. (parts.1.source ≡ None) × (parts.1.intake ≡ nothing_brought engine.now.config.event_channel_size)) }
+    ensures stands { IfOk result (λ parts. (p : List AnEntry) → source engine.now p ≡ unwatched → FilesStand engine.now parts.1 p) }
+    ensures owing { IfOk result (λ parts. owing parts.1 ≡ 0) }
+{
+    let about = Text::from_slice(alloc, b"turn")?;
+    let folder = engine.folder.copy(alloc)?;
+    let files = Files::new(alloc, folder, engine.config.event_channel_size)?;
+    Ok((about, files))
+}
+
 /// A whole run. It begins, serves turns until it is to end, and then each job that lives ends.
 pub(crate) fn run<W: World, H: Hooks>(
     alloc: Global,
@@ -344,11 +361,11 @@ pub(crate) fn run<W: World, H: Hooks>(
     ensures world_plan { (W.seen world.new).plan ≡ (W.seen world.old).plan }
     ensures world_place { (W.seen world.new).place ≡ (W.seen world.old).place }
 {
-    let about = Text::from_slice(alloc, b"turn")?;
-    let folder = engine.folder.copy(alloc)?;
-    let mut files: Files<W::Back> = Files::new(alloc, folder, engine.config.event_channel_size)?;
+    let (about, mut files): (Text, Files<W::Back>) = parts(alloc, &engine)?;
     let mut state = begin(alloc, engine, journal)?;
     let answer = serve_turns(alloc, about, &mut files, &mut state, world, hooks, journal);
     end_jobs(&mut state, world, journal);
+    drop(state);
+    drop(files);
     answer
 }

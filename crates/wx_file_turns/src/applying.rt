@@ -23,6 +23,7 @@ ghost use Rattle.wx_file_turns.specs.Stepping.{IsWatching, StaysBrought};
 use crate::files::{Files, Watching};
 use crate::making::make_backend;
 use std::alloc::Global;
+use std::mem;
 use wx_action::{Worker, World};
 use wx_config::Config;
 use wx_error::CriticalError;
@@ -193,7 +194,13 @@ fn begin<W: World>(
     let follow = *worker.config.follow_symlinks.get();
     let (back, made) = make_backend(alloc, worker, kind, follow, world, journal)?;
     let mut recursor = Recursor::new(alloc, made, kind, follow, cwd)?;
-    recursor.reconcile(worker.config.pathset.get(), worker.config.filterer)?;
+    match recursor.reconcile(worker.config.pathset.get(), worker.config.filterer) {
+        Ok(()) => {}
+        Err(want) => {
+            drop(recursor);
+            return Err(want.into());
+        }
+    }
     Ok(Watching { back, recursor })
 }
 
@@ -220,9 +227,9 @@ fn watch<W: World>(
     if files.serves(&worker.config) {
         return Ok(files.refresh(&worker.config)?);
     }
-    files.source = None;
+    drop(mem::replace(&mut files.source, None));
     let watching = begin(files.alloc, &files.folder, worker, world, journal)?;
-    files.source = Some(watching);
+    drop(mem::replace(&mut files.source, Some(watching)));
     Ok(())
 }
 
@@ -255,7 +262,7 @@ pub(crate) fn apply<W: World>(
     files.applied = Some(revision);
     files.intake.begin(revision, same, backs, items);
     if worker.config.pathset.get().is_empty() {
-        files.source = None;
+        drop(mem::replace(&mut files.source, None));
         return Ok(());
     }
     watch(files, worker, world, journal)

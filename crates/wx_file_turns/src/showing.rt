@@ -54,8 +54,20 @@ fn show_error<H: Hooks>(
         drop(error);
         return Ok(());
     }
-    worker.reserve(1, journal)?;
-    hooks.reserve(1)?;
+    match worker.reserve(1, journal) {
+        Ok(()) => {}
+        Err(want) => {
+            drop(error);
+            return Err(want.into());
+        }
+    }
+    match hooks.reserve(1) {
+        Ok(()) => {}
+        Err(want) => {
+            drop(error);
+            return Err(want.into());
+        }
+    }
     worker.call_show(alloc, error, hooks, journal)
 }
 

@@ -102,15 +102,18 @@ fn play(alloc: Global, script: &Script) -> Result<(Text, Status), Memory>
     ensures text { IfOk result (λ r. IsReplay script.now r.0 r.1) }
     ensures status { IfOk result (λ r. IsWritten r.1) }
 {
-    let engine = engine_of(alloc, script)?;
-    let mut world = ScriptWorld::new(alloc, script)?;
-    let mut hooks = ScriptHooks::new(alloc, script)?;
     let mut journal = Journal::new(alloc)?;
+    let engine = engine_of(alloc, script)?;
+    let mut hooks = ScriptHooks::new(alloc, script)?;
+    let mut world = ScriptWorld::new(alloc, script)?;
     let answer = engine.main(alloc, &mut world, &mut hooks, &mut journal);
     let short_world = world.short();
     let short_hooks = hooks.short();
     let out = shown(alloc, short_world, short_hooks, &journal, &answer);
     drop(answer);
+    drop(journal);
+    drop(hooks);
+    drop(world);
     out
 }
 

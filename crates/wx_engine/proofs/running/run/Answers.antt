@@ -6,7 +6,6 @@ use Rattle.wx_machine.specs.Kept.{Same, Still, Past}
 use Rattle.wx_machine.proofs.KeptLemmas.{promised}
 use Rattle.wx_machine.specs.Leads.{Here}
 use Rattle.std.specs.Prelude.{None}
-use Rattle.wx_machine.specs.Start.{Start}
 use Rattle.wx_machine.proofs.NoFiles.{begin_adds_none, dying_adds_none, source_kept}
 use Rattle.wx_machine.proofs.PaidLaws.{paid_first, paid_kept}
 use Rattle.wx_machine.proofs.RunLaws.{orderly}
@@ -30,30 +29,6 @@ returns-in_err-about-clause-laws g c = rw c.requires.1.1.1.1 (record { batched =
 
 pub returns-in_err-about-clause-promised : goal.returns-in_err-about-clause-promised
 returns-in_err-about-clause-promised g c = rw c.requires.1.1.1.1 (promised (λ h. g.H.JobHooks.seen h) (λ plan. g.H.JobHooks.rule plan) (λ h. g.H.JobHooks.stands h) c.args.hooks.now [] c.args.hooks.now [] (λ h. g.met.H.JobHooks.stands_other h) tt Still)
-
-pub returns-in_err-folder-clause-answers : goal.returns-in_err-folder-clause-answers
-returns-in_err-folder-clause-answers g c = wants g.start c.args.journal.now.past c.from_residual-in_err-folder.result c.from_residual-in_err-folder.ensures.1 (rw c.requires.1.1.1.1 (broken g.start [] tt refl tt))
-
-pub returns-in_err-folder-clause-lists : goal.returns-in_err-folder-clause-lists
-returns-in_err-folder-clause-lists g c = rw c.requires.1.1.1.1 (record { world_told = refl; hooks_told = refl; turns_told = refl; count = omega arith; early = omega arith; host_faults = counted_from [] _ [] _ (λ p n before. before); steps = few_steps [] _ _ (paid_first _) })
-
-pub returns-in_err-folder-clause-laws : goal.returns-in_err-folder-clause-laws
-returns-in_err-folder-clause-laws g c = rw c.requires.1.1.1.1 (record { batched = refl; batches = tt; calm = tt; rise = tt })
-
-pub returns-in_err-folder-clause-promised : goal.returns-in_err-folder-clause-promised
-returns-in_err-folder-clause-promised g c = rw c.requires.1.1.1.1 (promised (λ h. g.H.JobHooks.seen h) (λ plan. g.H.JobHooks.rule plan) (λ h. g.H.JobHooks.stands h) c.args.hooks.now [] c.args.hooks.now [] (λ h. g.met.H.JobHooks.stands_other h) tt Still)
-
-pub returns-in_err-files-clause-answers : goal.returns-in_err-files-clause-answers
-returns-in_err-files-clause-answers g c = wants g.start c.args.journal.now.past c.from_residual-in_err-files.result c.from_residual-in_err-files.ensures.1 (rw c.requires.1.1.1.1 (broken g.start [] tt refl tt))
-
-pub returns-in_err-files-clause-lists : goal.returns-in_err-files-clause-lists
-returns-in_err-files-clause-lists g c = rw c.requires.1.1.1.1 (record { world_told = refl; hooks_told = refl; turns_told = refl; count = omega arith; early = omega arith; host_faults = counted_from [] _ [] _ (λ p n before. before); steps = few_steps [] _ _ (paid_first _) })
-
-pub returns-in_err-files-clause-laws : goal.returns-in_err-files-clause-laws
-returns-in_err-files-clause-laws g c = rw c.requires.1.1.1.1 (record { batched = refl; batches = tt; calm = tt; rise = tt })
-
-pub returns-in_err-files-clause-promised : goal.returns-in_err-files-clause-promised
-returns-in_err-files-clause-promised g c = rw c.requires.1.1.1.1 (promised (λ h. g.H.JobHooks.seen h) (λ plan. g.H.JobHooks.rule plan) (λ h. g.H.JobHooks.stands h) c.args.hooks.now [] c.args.hooks.now [] (λ h. g.met.H.JobHooks.stands_other h) tt Still)
 
 -- ---- the beginning alone
 
@@ -103,7 +78,7 @@ serve_turns-answer-requires g c = λ κs lives.
                 rise = same.rise tt;
               };
               run = begun_run g.start _ _ c.requires.1.1.1.1 c.begin.ensures.adds;
-              files = c.in_ok-files.ensures.stands g.start _ (ap (λ (s : Start). s.folder) (sym (c.engine.view_is ∙ c.requires.1.1.1.0)) ∙ sym c.in_ok-folder.ensures) (ap (λ (s : Start). s.config.event_channel_size) (sym (c.engine.view_is ∙ c.requires.1.1.1.0))) (source_kept g.start [] _ (begin_adds_none g.start _ None None None None (adds.follows None None) adds.turns));
+              files = (rw c.requires.1.1.1.0 at c.in_ok-about.ensures.stands) _ (source_kept g.start [] _ (begin_adds_none g.start _ None None None None (adds.follows None None) adds.turns));
               open_is = c.in_ok-state.ensures.open;
               fault = same.fault;
               now = omega (arith, same.now);
@@ -137,7 +112,7 @@ returns-clause-lists g c =
       count = omega (arith, begun.count, served.count, ended.count);
       early = omega (arith, begun.early, served.early, ended.early);
       host_faults = counted_from [] _ _ _ (λ p n k. c.end_jobs.ensures.faults p n (served.counts p n (adds.counts _ p n k)));
-      steps = few_steps c.end_jobs.new.journal.past _ _ (paid_kept _ c.serve_turns-answer.new.journal.past c.end_jobs.new.journal.past _ _ 0 (dying_adds_none _ _ c.end_jobs.ensures.dying) c.end_jobs.ensures.kept.looked_kept.looks_kept (c.serve_turns-answer.ensures.paid _ (rw c.in_ok-files.ensures.owing (paid_kept _ [] c.begin.new.journal.past _ _ 0 (begin_adds_none g.start c.begin.new.journal.past None None None None (adds.follows None None) adds.turns) (omega arith) (paid_first _)))));
+      steps = few_steps c.end_jobs.new.journal.past _ _ (paid_kept _ c.serve_turns-answer.new.journal.past c.end_jobs.new.journal.past _ _ 0 (dying_adds_none _ _ c.end_jobs.ensures.dying) c.end_jobs.ensures.kept.looked_kept.looks_kept (c.serve_turns-answer.ensures.paid _ (rw c.in_ok-about.ensures.owing (paid_kept _ [] c.begin.new.journal.past _ _ 0 (begin_adds_none g.start c.begin.new.journal.past None None None None (adds.follows None None) adds.turns) (omega arith) (paid_first _)))));
     }
 
 pub returns-clause-laws : goal.returns-clause-laws
@@ -162,9 +137,6 @@ returns-clause-promised g c =
 pub returns-in_err-about-clause-settles : goal.returns-in_err-about-clause-settles
 returns-in_err-about-clause-settles g c = λ t ok calm. rw c.requires.1.1.1.1 (few_first g.start t)
 
-pub returns-in_err-folder-clause-settles : goal.returns-in_err-folder-clause-settles
-returns-in_err-folder-clause-settles g c = λ t ok calm. rw c.requires.1.1.1.1 (few_first g.start t)
-
 pub returns-in_err-state-clause-settles : goal.returns-in_err-state-clause-settles
 returns-in_err-state-clause-settles g c = λ t ok calm.
     let adds = rw c.requires.1.1.1.1 at c.begin.ensures.adds in
@@ -174,6 +146,6 @@ pub returns-clause-settles : goal.returns-clause-settles
 returns-clause-settles g c = λ t ok calm.
     let adds = rw c.requires.1.1.1.1 at c.begin.ensures.adds in
     let begun = begun_few g.start t c.begin.new.journal.past (begin_adds_none g.start _ None None None None (adds.follows None None) adds.turns) in
-    let given = c.in_ok-files.ensures.given in
+    let given = c.in_ok-about.ensures.given in
     let ended = dying_adds_none _ _ c.end_jobs.ensures.dying in
-    ended_few g.start t _ _ ended (c.serve_turns-answer.ensures.settles t ok (ended_calm t ok g.start _ _ _ _ _ ended c.end_jobs.ensures.kept.looked_kept calm) (first_settles _ _ g.start t ok _ _ _ begun given.2 given.3))
+    ended_few g.start t _ _ ended (c.serve_turns-answer.ensures.settles t ok (ended_calm t ok g.start _ _ _ _ _ ended c.end_jobs.ensures.kept.looked_kept calm) (first_settles _ _ g.start t ok _ _ _ begun given.0 given.1))
