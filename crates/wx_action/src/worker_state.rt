@@ -31,7 +31,7 @@ use wx_text::{List, Memory};
 /// What an engine keeps between turns: its settings, the queue, how many events have a name, the window, the moment at
 /// which the window's first event was taken, in nanoseconds, the jobs that a handler sees, by rising name, whether a graceful quit
 /// was asked for, and whether the end of the keyboard's input was read since keyboard events last went on, or since the start.
-#[derive(Drop, Debug)]
+#[derive(Debug)]
 pub struct Worker {
     pub config: Config,
     pub queue: PrioQueue<Named>,
@@ -41,6 +41,22 @@ pub struct Worker {
     pub jobs: JobList,
     pub graceful: bool,
     pub ended: bool,
+}
+
+// Its parts are dropped by one call: docs/DESIGN.md, "What proofs cost".
+impl Drop for Worker {
+    fn drop(self) {
+        let Worker {
+            config: _,
+            queue: _,
+            named: _,
+            batch: _,
+            first: _,
+            jobs: _,
+            graceful: _,
+            ended: _,
+        } = self;
+    }
 }
 
 /// The room for so many entries, besides what the end of so many jobs takes.

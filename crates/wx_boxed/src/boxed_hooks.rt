@@ -27,7 +27,6 @@ use wx_words::TextPath;
 /// directory is to be watched, nothing is asked for or wished, a function is ready, and what is spawned stays as it was. They
 /// tell their entries. Where there is no memory to tell an error of a filter, they answer the error `Memory`. Where there is
 /// none to tell what a spawn hook leaves, they answer that, and what is spawned stays as it was.
-#[derive(Drop)]
 pub struct BoxedHooks {
     alloc: Global,
     filters: Vec<Box<dyn Filterer + Drop>>,
@@ -37,6 +36,22 @@ pub struct BoxedHooks {
     hooks: Vec<Box<dyn OnSpawn + Drop>>,
     faults: Vec<Box<dyn OnFault + Drop>>,
     told: Told,
+}
+
+// Its parts are dropped by one call: docs/DESIGN.md, "What proofs cost".
+impl Drop for BoxedHooks {
+    fn drop(self) {
+        let BoxedHooks {
+            alloc: _,
+            filters: _,
+            actions: _,
+            errors: _,
+            functions: _,
+            hooks: _,
+            faults: _,
+            told: _,
+        } = self;
+    }
 }
 
 impl BoxedHooks {

@@ -112,10 +112,19 @@ impl Between {
 
 /// A world between whose turns this happens, and which hands a flag along with each ask, as a handle does. Of two fields it is
 /// dropped by a short proof.
-#[derive(Drop)]
 struct Polls<W> {
     inner: W,
     between: Between,
+}
+
+// Its parts are dropped by one call: docs/DESIGN.md, "What proofs cost".
+impl<W: Drop> Drop for Polls<W> {
+    fn drop(self) {
+        let Polls {
+            inner: _,
+            between: _,
+        } = self;
+    }
 }
 
 impl<W: World> Outside for Polls<W> {

@@ -11,7 +11,7 @@ use std::alloc::Global;
 use wx_text::Text;
 
 /// A sink into memory.
-#[derive(Drop, Debug)]
+#[derive(Debug)]
 pub struct MemSink {
     text: Text,
     piece: usize,
@@ -19,6 +19,19 @@ pub struct MemSink {
     calls: u64,
     faults: u64,
     ghost some: { 0 < piece },
+}
+
+// Its parts are dropped by one call: docs/DESIGN.md, "What proofs cost".
+impl Drop for MemSink {
+    fn drop(self) {
+        let MemSink {
+            text: _,
+            piece: _,
+            failing: _,
+            calls: _,
+            faults: _,
+        } = self;
+    }
 }
 
 impl MemSink {

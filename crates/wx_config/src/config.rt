@@ -61,7 +61,7 @@ pub type ChangeableFn = Changeable<u32>;
 pub type ChangeableFilterer = Changeable<u32>;
 
 /// The settings of an engine. Handlers and filters are named by the numbers under which the caller handed them in.
-#[derive(Drop, Debug)]
+#[derive(Debug)]
 pub struct Config {
     /// The revision: how often a setting was changed.
     pub change_signal: u64,
@@ -89,6 +89,27 @@ pub struct Config {
     pub event_channel_size: u32,
     /// Raised when the watching of files first settles after a change of the settings. Nothing raises it yet.
     pub fs_ready: Flag,
+}
+
+// Its parts are dropped by one call: docs/DESIGN.md, "What proofs cost".
+impl Drop for Config {
+    fn drop(self) {
+        let Config {
+            change_signal: _,
+            action_handler: _,
+            error_handler: _,
+            pathset: _,
+            file_watcher: _,
+            follow_symlinks: _,
+            signal_job_control: _,
+            keyboard_events: _,
+            throttle: _,
+            filterer: _,
+            error_channel_size: _,
+            event_channel_size: _,
+            fs_ready: _,
+        } = self;
+    }
 }
 
 /// Each setter sets one value and raises the revision by one. `RevisionSpent` comes exactly where the revision is 2^64 − 1;

@@ -10,7 +10,7 @@ use wx_watch::{FsWatcherError, KeyboardWatcherError, Watcher};
 use wx_words::{Escaped, Spelled, Words, put_row, put_word, read_rows};
 
 /// An error that a run may go on after. It is shown by its words.
-#[derive(Drop, Debug, Error)]
+#[derive(Debug, Error)]
 pub enum RuntimeError {
     /// No error: the run is to end.
     #[error("exit")]
@@ -89,6 +89,41 @@ pub enum RuntimeError {
     /// There was no memory.
     #[error("memory")]
     Memory,
+}
+
+// Its parts are dropped by one call: docs/DESIGN.md, "What proofs cost".
+impl Drop for RuntimeError {
+    fn drop(self) {
+        match self {
+            RuntimeError::Exit => {}
+            RuntimeError::External(_) => {}
+            RuntimeError::IoError { about: _, err: _ } => {}
+            RuntimeError::FsWatcher { kind: _, err: _ } => {}
+            RuntimeError::KeyboardWatcher { err: _ } => {}
+            RuntimeError::InternalSupervisor(_) => {}
+            RuntimeError::EventChannelSend {
+                ctx: _,
+                event: _,
+                priority: _,
+            } => {}
+            RuntimeError::EventChannelTrySend {
+                ctx: _,
+                fault: _,
+                event: _,
+                priority: _,
+            } => {}
+            RuntimeError::Handler { ctx: _, err: _ } => {}
+            RuntimeError::HandlerLockHeld(_) => {}
+            RuntimeError::Process(_) => {}
+            RuntimeError::ProcessDeadOnArrival => {}
+            RuntimeError::UnsupportedSignal(_) => {}
+            RuntimeError::NoCommands => {}
+            RuntimeError::CommandShellEmptyCommand => {}
+            RuntimeError::CommandShellEmptyShell => {}
+            RuntimeError::Filterer { kind: _, err: _ } => {}
+            RuntimeError::Memory => {}
+        }
+    }
 }
 
 /// Why an event wasn't sent at once.

@@ -23,7 +23,6 @@ ghost use Rattle.wx_file_turns.specs.Stepping.{IsWatching, StaysBrought};
 use crate::files::{Files, Watching};
 use crate::making::make_backend;
 use std::alloc::Global;
-use std::mem;
 use wx_action::{Worker, World};
 use wx_config::Config;
 use wx_error::CriticalError;
@@ -194,13 +193,7 @@ fn begin<W: World>(
     let follow = *worker.config.follow_symlinks.get();
     let (back, made) = make_backend(alloc, worker, kind, follow, world, journal)?;
     let mut recursor = Recursor::new(alloc, made, kind, follow, cwd)?;
-    match recursor.reconcile(worker.config.pathset.get(), worker.config.filterer) {
-        Ok(()) => {}
-        Err(want) => {
-            drop(recursor);
-            return Err(want.into());
-        }
-    }
+    recursor.reconcile(worker.config.pathset.get(), worker.config.filterer)?;
     Ok(Watching { back, recursor })
 }
 
@@ -227,9 +220,9 @@ fn watch<W: World>(
     if files.serves(&worker.config) {
         return Ok(files.refresh(&worker.config)?);
     }
-    drop(mem::replace(&mut files.source, None));
+    files.source = None;
     let watching = begin(files.alloc, &files.folder, worker, world, journal)?;
-    drop(mem::replace(&mut files.source, Some(watching)));
+    files.source = Some(watching);
     Ok(())
 }
 
@@ -262,7 +255,7 @@ pub(crate) fn apply<W: World>(
     files.applied = Some(revision);
     files.intake.begin(revision, same, backs, items);
     if worker.config.pathset.get().is_empty() {
-        drop(mem::replace(&mut files.source, None));
+        files.source = None;
         return Ok(());
     }
     watch(files, worker, world, journal)

@@ -15,21 +15,42 @@ use wx_text::Memory;
 use wx_words::TextPath;
 
 /// What keeps watches, over a backend of this name.
-#[derive(Drop)]
 pub struct Watching<B: Backend + Drop> {
     pub back: u64,
     pub recursor: Recursor<B>,
 }
 
+// Its parts are dropped by one call: docs/DESIGN.md, "What proofs cost".
+impl<B: Backend + Drop> Drop for Watching<B> {
+    fn drop(self) {
+        let Watching {
+            back: _,
+            recursor: _,
+        } = self;
+    }
+}
+
 /// What an engine keeps of what is watched: the folder from which paths are taken, the revision of the settings that were applied
 /// last, what keeps watches, where some path is to be watched, and what backends brought.
-#[derive(Drop)]
 pub struct Files<B: Backend + Drop> {
     pub alloc: Global,
     pub folder: TextPath,
     pub applied: Option<u64>,
     pub source: Option<Watching<B>>,
     pub intake: Intake,
+}
+
+// Its parts are dropped by one call: docs/DESIGN.md, "What proofs cost".
+impl<B: Backend + Drop> Drop for Files<B> {
+    fn drop(self) {
+        let Files {
+            alloc: _,
+            folder: _,
+            applied: _,
+            source: _,
+            intake: _,
+        } = self;
+    }
 }
 
 impl<B: Backend + Drop> Files<B> {

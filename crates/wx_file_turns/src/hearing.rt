@@ -123,20 +123,8 @@ fn show_owed<H: Hooks>(
     ensures adds { MayShow journal.old.past journal.new.past }
     ensures breaks { IfErr result (λ error. BreaksHere start journal.new.past error) }
 {
-    match worker.reserve(1, journal) {
-        Ok(()) => {}
-        Err(want) => {
-            drop(error);
-            return Err(want.into());
-        }
-    }
-    match hooks.reserve(1) {
-        Ok(()) => {}
-        Err(want) => {
-            drop(error);
-            return Err(want.into());
-        }
-    }
+    worker.reserve(1, journal)?;
+    hooks.reserve(1)?;
     worker.call_show(alloc, error, hooks, journal)
 }
 

@@ -54,20 +54,8 @@ fn show_error<H: Hooks>(
         drop(error);
         return Ok(());
     }
-    match worker.reserve(1, journal) {
-        Ok(()) => {}
-        Err(want) => {
-            drop(error);
-            return Err(want.into());
-        }
-    }
-    match hooks.reserve(1) {
-        Ok(()) => {}
-        Err(want) => {
-            drop(error);
-            return Err(want.into());
-        }
-    }
+    worker.reserve(1, journal)?;
+    hooks.reserve(1)?;
     worker.call_show(alloc, error, hooks, journal)
 }
 

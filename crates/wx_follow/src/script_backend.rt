@@ -18,7 +18,7 @@ use wx_words::TextPath;
 
 /// A backend that polls, and of which those calls fail that a script says. They are counted from its make, `watch`, `unwatch` and
 /// `next` together. It is exact where links aren't followed and no call is to fail.
-#[derive(Drop, Debug)]
+#[derive(Debug)]
 pub struct ScriptBackend {
     alloc: Global,
     poller: Poller,
@@ -26,6 +26,20 @@ pub struct ScriptBackend {
     calls: u64,
     faults: u64,
     past: Past,
+}
+
+// Its parts are dropped by one call: docs/DESIGN.md, "What proofs cost".
+impl Drop for ScriptBackend {
+    fn drop(self) {
+        let ScriptBackend {
+            alloc: _,
+            poller: _,
+            failing: _,
+            calls: _,
+            faults: _,
+            past: _,
+        } = self;
+    }
 }
 
 /// The code with which a call fails, by the first of these that is about it.

@@ -33,7 +33,7 @@ use wx_words::TextPath;
 /// short, quit, and leave out the acts behind it. Where it is wanted for an answer they are short, and answer the error
 /// `Memory`. Where it is wanted for a wish they are short, and wish nothing. Where it is wanted for what is spawned they are
 /// short, leave that as it was, and answer `Memory`. They tell their entries.
-#[derive(Drop, Debug)]
+#[derive(Debug)]
 pub struct ScriptHooks {
     alloc: Global,
     actions: List<List<ScriptAct>>,
@@ -50,6 +50,29 @@ pub struct ScriptHooks {
     hooked: usize,
     told: Journal,
     is_short: bool,
+}
+
+// Its parts are dropped by one call: docs/DESIGN.md, "What proofs cost".
+impl Drop for ScriptHooks {
+    fn drop(self) {
+        let ScriptHooks {
+            alloc: _,
+            actions: _,
+            used: _,
+            filters: _,
+            asked: _,
+            dirs: _,
+            judged: _,
+            errors: _,
+            shown: _,
+            polls: _,
+            polled: _,
+            hooks: _,
+            hooked: _,
+            told: _,
+            is_short: _,
+        } = self;
+    }
 }
 
 impl ScriptHooks {

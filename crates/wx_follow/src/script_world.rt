@@ -46,7 +46,7 @@ use wx_words::TextPath;
 /// The changes before the first turn are made ahead, with the world. Where memory is wanted for a later one it is short, and leaves
 /// out the others that are made with it. Where it is wanted for a backend, to say why there is none, or to say what a backend brought,
 /// it is short, and answers `Memory`.
-#[derive(Drop, Debug)]
+#[derive(Debug)]
 pub struct ScriptWorld {
     alloc: Global,
     turns: List<ScriptTurn>,
@@ -74,6 +74,31 @@ pub struct ScriptWorld {
     ghost rest: { left ≡ drop (length (turns_of told.past)) turns },
     ghost come: { list_all comes left ≡ true },
     ghost rises: { risen moment left ≡ Some last },
+}
+
+// Its parts are dropped by one call: docs/DESIGN.md, "What proofs cost".
+impl Drop for ScriptWorld {
+    fn drop(self) {
+        let ScriptWorld {
+            alloc: _,
+            turns: _,
+            last: _,
+            answers: _,
+            used: _,
+            edits: _,
+            changed: _,
+            tree: _,
+            ahead: _,
+            failing_watches: _,
+            left: _,
+            told: _,
+            moment: _,
+            faults: _,
+            host_faults: _,
+            maker_faults: _,
+            is_short: _,
+        } = self;
+    }
 }
 
 impl ScriptWorld {

@@ -18,11 +18,21 @@ use wx_watch::{NotifyFault, Watcher};
 use wx_words::{Spelled, TextPath};
 
 /// A world, and the backend that it made last.
-#[derive(Drop)]
 struct Trial {
     alloc: Global,
     world: ScriptWorld,
     back: Option<ScriptBackend>,
+}
+
+// Its parts are dropped by one call: docs/DESIGN.md, "What proofs cost".
+impl Drop for Trial {
+    fn drop(self) {
+        let Trial {
+            alloc: _,
+            world: _,
+            back: _,
+        } = self;
+    }
 }
 
 fn path(alloc: Global, bytes: &str) -> Result<TextPath, Memory> {

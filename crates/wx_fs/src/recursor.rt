@@ -45,7 +45,6 @@ pub struct StepResult {
 /// Keeps watches on trees of directories, as its roots ask, by steps. A step, a replay, a preparation or an installation that
 /// found no memory has spent it. Then the calls that it made stand, each later call that can answer want of memory does so and
 /// calls nothing, and it has no work.
-#[derive(Drop)]
 pub struct Recursor<B: Backend + Drop> {
     pub(crate) alloc: Global,
     pub held: Held,
@@ -60,6 +59,22 @@ pub struct Recursor<B: Backend + Drop> {
     pub at_rest: bool,
     pub ghost keeps: { ∥ (spent ≡ false → IsKept (state_of held)) ∥₁ },
     pub ghost rests: { ∥ (spent ≡ false → at_rest ≡ true → IsAtRest (state_of held)) ∥₁ },
+}
+
+// Its parts are dropped by one call: docs/DESIGN.md, "What proofs cost".
+impl<B: Backend + Drop> Drop for Recursor<B> {
+    fn drop(self) {
+        let Recursor {
+            alloc: _,
+            held: _,
+            back: _,
+            kind: _,
+            follow: _,
+            cwd: _,
+            spent: _,
+            at_rest: _,
+        } = self;
+    }
 }
 
 impl<B: Backend + Drop> Recursor<B> {

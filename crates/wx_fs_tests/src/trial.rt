@@ -90,7 +90,6 @@ fn is_absolute(path: &TextPath) -> bool
 }
 
 /// A recursor, its outside, what its steps showed so far, and how often they asked for a rebuild.
-#[derive(Drop)]
 pub struct Trial<B: Backend + Drop> {
     pub alloc: Global,
     pub recursor: Recursor<B>,
@@ -98,6 +97,20 @@ pub struct Trial<B: Backend + Drop> {
     pub dirs: Refusing,
     pub shown: String,
     pub rebuilds: u64,
+}
+
+// Its parts are dropped by one call: docs/DESIGN.md, "What proofs cost".
+impl<B: Backend + Drop> Drop for Trial<B> {
+    fn drop(self) {
+        let Trial {
+            alloc: _,
+            recursor: _,
+            tree: _,
+            dirs: _,
+            shown: _,
+            rebuilds: _,
+        } = self;
+    }
 }
 
 impl<B: Backend + Drop> Trial<B> {

@@ -10,7 +10,7 @@ use wx_recursor::{BackendPlace, GuardWatch, Retry, ShownError, Work};
 use wx_tree::{Place, Root};
 
 /// What a recursor holds beside its backend.
-#[derive(Drop, Debug)]
+#[derive(Debug)]
 pub struct Held {
     pub roots: Vec<Root>,
     pub filter: u32,
@@ -32,6 +32,34 @@ pub struct Held {
     pub asks_rebuild: bool,
     pub shown: Vec<ShownError>,
     pub backend: BackendPlace,
+}
+
+// Its parts are dropped by one call: docs/DESIGN.md, "What proofs cost".
+impl Drop for Held {
+    fn drop(self) {
+        let Held {
+            roots: _,
+            filter: _,
+            queue: _,
+            sweep_due: _,
+            owners: _,
+            known: _,
+            guards: _,
+            registrations: _,
+            waiting: _,
+            retries: _,
+            failed: _,
+            skipped: _,
+            stopped: _,
+            excluded: _,
+            tombstones: _,
+            lost: _,
+            deferred: _,
+            asks_rebuild: _,
+            shown: _,
+            backend: _,
+        } = self;
+    }
 }
 
 impl Held {

@@ -8,10 +8,20 @@ use wx_text::{Memory, Text};
 
 /// Where the entries of a list are, by their keys: of each key where the last one ends, and of each entry where the one of its
 /// key before it ends. An end is 0 where there is none.
-#[derive(Drop, Debug)]
+#[derive(Debug)]
 pub(crate) struct Chains {
     heads: BTreeMap<Text, usize>,
     before: Vec<usize>,
+}
+
+// Its parts are dropped by one call: docs/DESIGN.md, "What proofs cost".
+impl Drop for Chains {
+    fn drop(self) {
+        let Chains {
+            heads: _,
+            before: _,
+        } = self;
+    }
 }
 
 impl Chains {

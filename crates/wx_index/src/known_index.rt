@@ -17,10 +17,20 @@ use wx_tree::Place;
 use wx_words::TextPath;
 
 /// Where what is known stands in its list, by path and by identity.
-#[derive(Drop, Debug)]
+#[derive(Debug)]
 pub(crate) struct KnownIndex {
     paths: Chains,
     identities: Chains,
+}
+
+// Its parts are dropped by one call: docs/DESIGN.md, "What proofs cost".
+impl Drop for KnownIndex {
+    fn drop(self) {
+        let KnownIndex {
+            paths: _,
+            identities: _,
+        } = self;
+    }
 }
 
 /// The bytes by which an identity is found. It fails only for want of memory.

@@ -18,10 +18,17 @@ use wx_text::{Copies, Memory, Text};
 use wx_tree::{Place, Root};
 
 /// Where owners stand in their list, by path, and their paths and all paths above them.
-#[derive(Drop, Debug)]
+#[derive(Debug)]
 pub(crate) struct OwnerIndex {
     paths: Chains,
     above: BTreeSet<Text>,
+}
+
+// Its parts are dropped by one call: docs/DESIGN.md, "What proofs cost".
+impl Drop for OwnerIndex {
+    fn drop(self) {
+        let OwnerIndex { paths: _, above: _ } = self;
+    }
 }
 
 /// Adds the path so many levels up. It fails only for want of memory.

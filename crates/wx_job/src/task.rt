@@ -28,7 +28,7 @@ use wx_machine::{Choice, CommandState, Stepped, child_of};
 use wx_text::{Copies, Memory};
 
 /// A job, with the child that it drives. It stands for its job in a journal where it keeps what the journal says of it.
-#[derive(Drop, Debug)]
+#[derive(Debug)]
 pub struct JobTask {
     pub(crate) id: Id,
     pub(crate) command: SharedCommand,
@@ -56,6 +56,30 @@ pub struct JobTask {
     pub(crate) mirror: Mirror,
     /// The tickets that are raised when the child ends, in the order in which they were picked.
     pub(crate) parked: Parking,
+}
+
+// Its parts are dropped by one call: docs/DESIGN.md, "What proofs cost".
+impl Drop for JobTask {
+    fn drop(self) {
+        let JobTask {
+            id: _,
+            command: _,
+            flag: _,
+            waiting: _,
+            state: _,
+            previous: _,
+            kept: _,
+            gone: _,
+            hook: _,
+            handler: _,
+            tag: _,
+            grace: _,
+            begun: _,
+            closed: _,
+            mirror: _,
+            parked: _,
+        } = self;
+    }
 }
 
 /// A job of this name that runs this command, and a handle on it. It stands for its job behind the entry that it was

@@ -80,13 +80,24 @@ pub(crate) struct Given {
 }
 
 /// Job 0, which runs the program `a`, in a world of its own, with a handle on it and the tickets that were given.
-#[derive(Drop)]
 pub(crate) struct One {
     pub(crate) handle: Job,
     pub(crate) tickets: Vec<Given>,
     pub(crate) task: JobTask,
     pub(crate) world: World,
     ghost stands: { TaskStands task world.journal.past },
+}
+
+// Its parts are dropped by one call: docs/DESIGN.md, "What proofs cost".
+impl Drop for One {
+    fn drop(self) {
+        let One {
+            handle: _,
+            tickets: _,
+            task: _,
+            world: _,
+        } = self;
+    }
 }
 
 /// Job 0 as it was made, with this host.

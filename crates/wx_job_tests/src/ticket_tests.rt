@@ -266,12 +266,23 @@ fn flags_of_the_caller(rt: HostRuntime) {
 
 /// Does one turn of its job at each poll, at the moments from 1 on, and then polls the ticket of this place. It is ready once
 /// that is, or the job is gone, and gives the moment of the last turn.
-#[derive(Drop)]
 struct Turns {
     alloc: Global,
     job: One,
     at: u64,
     awaited: usize,
+}
+
+// Its parts are dropped by one call: docs/DESIGN.md, "What proofs cost".
+impl Drop for Turns {
+    fn drop(self) {
+        let Turns {
+            alloc: _,
+            job: _,
+            at: _,
+            awaited: _,
+        } = self;
+    }
 }
 
 impl Future for Turns {

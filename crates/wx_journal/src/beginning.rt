@@ -10,7 +10,7 @@ use wx_watch::{WatchedPath, Watcher};
 use wx_words::{Fields, Spelled, TextPath, Words, named, take_literal};
 
 /// What a run begins with: the settings that are listed, and its folder.
-#[derive(Drop, Debug)]
+#[derive(Debug)]
 pub struct Beginning {
     /// How long events are collected, in nanoseconds.
     pub throttle: u64,
@@ -30,6 +30,23 @@ pub struct Beginning {
     pub cwd: TextPath,
     /// The paths that are watched.
     pub paths: List<WatchedPath>,
+}
+
+// Its parts are dropped by one call: docs/DESIGN.md, "What proofs cost".
+impl Drop for Beginning {
+    fn drop(self) {
+        let Beginning {
+            throttle: _,
+            size: _,
+            errors: _,
+            keyboard: _,
+            follow: _,
+            jobsignals: _,
+            watcher: _,
+            cwd: _,
+            paths: _,
+        } = self;
+    }
 }
 
 /// The throttle, and the sizes of the queue and of the channel of errors.

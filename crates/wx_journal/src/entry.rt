@@ -44,10 +44,17 @@ pub enum TurnKind {
 }
 
 /// One turn: its moment in nanoseconds, and what it brings.
-#[derive(Drop, Debug)]
+#[derive(Debug)]
 pub struct Turn {
     pub at: u64,
     pub kind: TurnKind,
+}
+
+// Its parts are dropped by one call: docs/DESIGN.md, "What proofs cost".
+impl Drop for Turn {
+    fn drop(self) {
+        let Turn { at: _, kind: _ } = self;
+    }
 }
 
 /// What became of an event that was offered to the queue.
@@ -87,7 +94,7 @@ pub enum LetGoCause {
 }
 
 /// What a handler asks of the engine. A `J` says which job is to be created: in a journal that is its name.
-#[derive(Drop, Debug)]
+#[derive(Debug)]
 pub enum Act<J = Id> {
     /// This job is to be made, which runs this command.
     Create(J, Command),
@@ -102,6 +109,22 @@ pub enum Act<J = Id> {
     QuitGracefully { signal: Signal, grace: u64 },
 }
 
+// Its parts are dropped by one call: docs/DESIGN.md, "What proofs cost".
+impl<J: Drop> Drop for Act<J> {
+    fn drop(self) {
+        match self {
+            Act::Create(_, _) => {}
+            Act::Ask(_, _) => {}
+            Act::Change(_) => {}
+            Act::Quit => {}
+            Act::QuitGracefully {
+                signal: _,
+                grace: _,
+            } => {}
+        }
+    }
+}
+
 /// An event with its name, which is its place in the order of the entries that list events.
 #[derive(Drop, Debug)]
 pub struct Named {
@@ -110,7 +133,7 @@ pub struct Named {
 }
 
 /// What happened in a run.
-#[derive(Drop, Debug)]
+#[derive(Debug)]
 pub enum Entry {
     /// The run begins with these settings.
     Begin(Beginning),
@@ -261,6 +284,116 @@ pub enum Entry {
     },
     /// The world was told that what the settings of this revision ask for is watched.
     Ready(u64),
+}
+
+// Its parts are dropped by one call: docs/DESIGN.md, "What proofs cost".
+impl Drop for Entry {
+    fn drop(self) {
+        match self {
+            Entry::Begin(_) => {}
+            Entry::Sent {
+                name: _,
+                event: _,
+                priority: _,
+            } => {}
+            Entry::Turn(_) => {}
+            Entry::TurnFault(_) => {}
+            Entry::Offer {
+                name: _,
+                item: _,
+                result: _,
+                event: _,
+                priority: _,
+            } => {}
+            Entry::Word(_) => {}
+            Entry::Take(_) => {}
+            Entry::Filter {
+                n: _,
+                name: _,
+                answer: _,
+            } => {}
+            Entry::Show {
+                n: _,
+                error: _,
+                wish: _,
+            } => {}
+            Entry::Hand {
+                n: _,
+                names: _,
+                acts: _,
+            } => {}
+            Entry::Made(_) => {}
+            Entry::Asked {
+                ticket: _,
+                job: _,
+                level: _,
+                control: _,
+            } => {}
+            Entry::Changed(_) => {}
+            Entry::Pick { job: _, ticket: _ } => {}
+            Entry::GraceOver(_) => {}
+            Entry::Spawn {
+                child: _,
+                job: _,
+                tag: _,
+                what: _,
+                answer: _,
+            } => {}
+            Entry::Signal {
+                child: _,
+                number: _,
+                answer: _,
+            } => {}
+            Entry::Kill {
+                child: _,
+                answer: _,
+            } => {}
+            Entry::Wait {
+                child: _,
+                answer: _,
+            } => {}
+            Entry::Dropped(_) => {}
+            Entry::Raise(_) => {}
+            Entry::Gone(_) => {}
+            Entry::Run { job: _, n: _ } => {}
+            Entry::Begun { job: _, n: _ } => {}
+            Entry::Poll {
+                job: _,
+                n: _,
+                ready: _,
+            } => {}
+            Entry::Hook {
+                job: _,
+                n: _,
+                answer: _,
+            } => {}
+            Entry::JobError {
+                job: _,
+                n: _,
+                code: _,
+            } => {}
+            Entry::Dir {
+                n: _,
+                path: _,
+                answer: _,
+            } => {}
+            Entry::Make {
+                back: _,
+                watcher: _,
+                follow: _,
+                answer: _,
+            } => {}
+            Entry::Applied(_) => {}
+            Entry::Heard(_) => {}
+            Entry::Brought {
+                item: _,
+                back: _,
+                answer: _,
+            } => {}
+            Entry::LetGo { item: _, cause: _ } => {}
+            Entry::Ready(_) => {}
+        }
+    }
 }
 
 impl Copies for TurnKind {

@@ -6,7 +6,7 @@ use wx_text::{Copies, Memory, Text};
 use wx_words::{Spelled, Words, put_row, put_word, read_rows};
 
 /// What an error handler wishes, of an error that it was shown.
-#[derive(Drop, Debug)]
+#[derive(Debug)]
 pub enum Wish {
     /// Nothing: the run goes on.
     Nothing,
@@ -14,6 +14,17 @@ pub enum Wish {
     Elevate,
     /// The run is to end with that error. `Exit` is to end it without one.
     Critical(CriticalError),
+}
+
+// Its parts are dropped by one call: docs/DESIGN.md, "What proofs cost".
+impl Drop for Wish {
+    fn drop(self) {
+        match self {
+            Wish::Nothing => {}
+            Wish::Elevate => {}
+            Wish::Critical(_) => {}
+        }
+    }
 }
 
 impl Copies for Wish {

@@ -12,7 +12,7 @@ use wx_text::Memory;
 use wx_watch::NotifyFault;
 
 /// What a backend brought.
-#[derive(Drop, Debug)]
+#[derive(Debug)]
 pub struct LaneItem {
     pub name: u64,
     /// The number of the backend.
@@ -23,6 +23,19 @@ pub struct LaneItem {
     pub heard: bool,
     /// Whether it is an event for which there was no room.
     pub full: bool,
+}
+
+// Its parts are dropped by one call: docs/DESIGN.md, "What proofs cost".
+impl Drop for LaneItem {
+    fn drop(self) {
+        let LaneItem {
+            name: _,
+            back: _,
+            item: _,
+            heard: _,
+            full: _,
+        } = self;
+    }
 }
 
 /// What backends brought, in order, until each is done with. Contracts see the items, and how many events may wait.

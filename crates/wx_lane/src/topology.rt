@@ -9,7 +9,7 @@ use wx_text::{Copies, List, Memory};
 use wx_words::TextPath;
 
 /// What happened to the tree.
-#[derive(Drop, Debug, PartialEq, Eq)]
+#[derive(Debug, PartialEq, Eq)]
 pub enum Topology {
     /// Something came to be at this path.
     Create(TextPath),
@@ -21,6 +21,19 @@ pub enum Topology {
     Ambiguous(TextPath),
     /// Something was missed, so that all is to be looked at again.
     Rescan,
+}
+
+// Its parts are dropped by one call: docs/DESIGN.md, "What proofs cost".
+impl Drop for Topology {
+    fn drop(self) {
+        match self {
+            Topology::Create(_) => {}
+            Topology::Remove(_) => {}
+            Topology::Rename { from: _, to: _ } => {}
+            Topology::Ambiguous(_) => {}
+            Topology::Rescan => {}
+        }
+    }
 }
 
 /// What is said of each of some paths.

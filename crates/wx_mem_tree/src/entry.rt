@@ -9,10 +9,17 @@ use wx_tree::{Node, Place};
 use wx_words::TextPath;
 
 /// What stands at a path.
-#[derive(Drop, Debug)]
+#[derive(Debug)]
 pub struct MemEntry {
     pub path: Place,
     pub node: Node,
+}
+
+// Its parts are dropped by one call: docs/DESIGN.md, "What proofs cost".
+impl Drop for MemEntry {
+    fn drop(self) {
+        let MemEntry { path: _, node: _ } = self;
+    }
 }
 
 /// What stands at this path.

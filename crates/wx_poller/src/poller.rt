@@ -26,7 +26,7 @@ use wx_words::TextPath;
 
 /// A backend that polls. It keeps what it saw last: each registered path, and the direct entries of a directory. When it is asked
 /// what happened, it looks again at all of these, and tells what differs. It is exact where links aren't followed.
-#[derive(Drop, Debug)]
+#[derive(Debug)]
 pub struct Poller {
     alloc: Global,
     follow: bool,
@@ -35,6 +35,21 @@ pub struct Poller {
     pending: List<Notify>,
     faults: u64,
     past: Past,
+}
+
+// Its parts are dropped by one call: docs/DESIGN.md, "What proofs cost".
+impl Drop for Poller {
+    fn drop(self) {
+        let Poller {
+            alloc: _,
+            follow: _,
+            registered: _,
+            listing: _,
+            pending: _,
+            faults: _,
+            past: _,
+        } = self;
+    }
 }
 
 /// Registers a path that shows this, where it is new. It fails only for want of memory, and changes nothing then.

@@ -12,11 +12,21 @@ use wx_watch::NotifyFault;
 use wx_words::{Spelled, TextPath};
 
 /// The tree and the poller that looks at it.
-#[derive(Drop)]
 struct Trial {
     alloc: Global,
     tree: MemTree,
     poller: Poller,
+}
+
+// Its parts are dropped by one call: docs/DESIGN.md, "What proofs cost".
+impl Drop for Trial {
+    fn drop(self) {
+        let Trial {
+            alloc: _,
+            tree: _,
+            poller: _,
+        } = self;
+    }
 }
 
 fn path(alloc: Global, bytes: &str) -> Result<TextPath, Memory> {

@@ -46,10 +46,20 @@ pub enum GuardFound {
 }
 
 /// What a call of watch answers, and after its Ok the second look.
-#[derive(Drop, Debug)]
+#[derive(Debug)]
 pub enum Watched {
     Kept(Look),
     Failed(NotifyFault),
+}
+
+// Its parts are dropped by one call: docs/DESIGN.md, "What proofs cost".
+impl Drop for Watched {
+    fn drop(self) {
+        match self {
+            Watched::Kept(_) => {}
+            Watched::Failed(_) => {}
+        }
+    }
 }
 
 /// How it ends that a path is to be registered.

@@ -10,7 +10,6 @@ use std::alloc::Global;
 use wx_text::{Memory, Text};
 
 /// A script that is being drawn.
-#[derive(Drop)]
 pub(crate) struct Draft {
     rng: Pcg32,
     pub(crate) text: Text,
@@ -21,6 +20,21 @@ pub(crate) struct Draft {
     // the jobs that the action lines so far create
     created: u32,
     pub(crate) rules: Rules,
+}
+
+// Its parts are dropped by one call: docs/DESIGN.md, "What proofs cost".
+impl Drop for Draft {
+    fn drop(self) {
+        let Draft {
+            rng: _,
+            text: _,
+            moment: _,
+            is_urgent: _,
+            actions: _,
+            created: _,
+            rules: _,
+        } = self;
+    }
 }
 
 impl Draft {

@@ -74,7 +74,6 @@ pub(crate) enum Turn {
 
 /// What is due where each event that passes is handed at once, and each spawn, kill and wait goes well. Of the events that wait
 /// some are urgent. Either each other event has a tag, or none has.
-#[derive(Drop)]
 pub(crate) struct Rules {
     pub(crate) size: u32,
     waiting: u32,
@@ -93,6 +92,29 @@ pub(crate) struct Rules {
     // how many jobs were made again
     pub(crate) again: u32,
     pub(crate) world: World,
+}
+
+// Its parts are dropped by one call: docs/DESIGN.md, "What proofs cost".
+impl Drop for Rules {
+    fn drop(self) {
+        let Rules {
+            size: _,
+            waiting: _,
+            urgent: _,
+            is_tagged: _,
+            verdicts: _,
+            wishes: _,
+            is_closed: _,
+            actions: _,
+            jobs: _,
+            outcome: _,
+            quit: _,
+            is_ending: _,
+            is_over: _,
+            again: _,
+            world: _,
+        } = self;
+    }
 }
 
 impl Rules {

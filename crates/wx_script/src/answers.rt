@@ -9,7 +9,7 @@ use wx_text::{Copies, List, Memory};
 use wx_watch::NotifyFault;
 
 /// The answers to the calls of each kind, in order.
-#[derive(Drop, Debug)]
+#[derive(Debug)]
 pub struct Answers {
     /// To the spawns of children.
     pub spawns: List<Result<(), HostFault>>,
@@ -21,6 +21,19 @@ pub struct Answers {
     pub waits: List<Result<ProcessEnd, HostFault>>,
     /// To the makes of backends.
     pub makes: List<Result<(), NotifyFault>>,
+}
+
+// Its parts are dropped by one call: docs/DESIGN.md, "What proofs cost".
+impl Drop for Answers {
+    fn drop(self) {
+        let Answers {
+            spawns: _,
+            signals: _,
+            kills: _,
+            waits: _,
+            makes: _,
+        } = self;
+    }
 }
 
 impl Answers {

@@ -93,12 +93,22 @@ impl Spelled for Wanted {
 }
 
 /// An act of a script.
-#[derive(Drop, Debug)]
+#[derive(Debug)]
 pub enum ScriptAct {
     /// The handler asks for this.
     One(Act<Wanted>),
     /// The job of this id is asked for, and where it isn't there it is made again and runs this command.
     GetOrCreate(Id, Command),
+}
+
+// Its parts are dropped by one call: docs/DESIGN.md, "What proofs cost".
+impl Drop for ScriptAct {
+    fn drop(self) {
+        match self {
+            ScriptAct::One(_) => {}
+            ScriptAct::GetOrCreate(_, _) => {}
+        }
+    }
 }
 
 impl Copies for ScriptAct {
@@ -138,7 +148,7 @@ impl Spelled for ScriptAct {
 }
 
 /// A run written down in advance: what the engine starts from, and what its world and its hooks do.
-#[derive(Drop, Debug)]
+#[derive(Debug)]
 pub struct Script {
     /// How long events are collected, in nanoseconds.
     pub throttle: u64,
@@ -186,4 +196,35 @@ pub struct Script {
     pub failing_watches: List<FailingCall>,
     /// The moment of the last turn that is written down, in nanoseconds, 0 where there is none.
     pub last: u64,
+}
+
+// Its parts are dropped by one call: docs/DESIGN.md, "What proofs cost".
+impl Drop for Script {
+    fn drop(self) {
+        let Script {
+            throttle: _,
+            size: _,
+            error_size: _,
+            keyboard: _,
+            follow: _,
+            job_signals: _,
+            watcher: _,
+            folder: _,
+            paths: _,
+            sends: _,
+            turns: _,
+            edits: _,
+            pending: _,
+            actions: _,
+            filters: _,
+            dirs: _,
+            errors: _,
+            polls: _,
+            hooks: _,
+            answers: _,
+            failing_looks: _,
+            failing_watches: _,
+            last: _,
+        } = self;
+    }
 }

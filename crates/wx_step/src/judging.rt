@@ -1,6 +1,8 @@
 // What a look at a candidate finds, and what judges it.
 ghost use Rattle.wx_holding.specs.Calm.{IsReadable, IsStill};
+ghost use Rattle.wx_error.specs.declared.runtime.RuntimeError.TheVariants.{Memory as WantOfMemory};
 ghost use Rattle.wx_recursor.specs.Seen.{try_found};
+ghost use Rattle.wx_recursor.specs.declared.answers.Found.TheVariants.{Refused};
 ghost use Rattle.wx_step.specs.Calmly.{judged_found};
 ghost use Rattle.wx_tree.specs.Trees.{Tree};
 ghost use Rattle.std.specs.Prelude.{◌≡◌, Bool, false, true, IfOk, OnOk};
@@ -19,6 +21,17 @@ use wx_recursor_lists::has_path;
 use wx_scan::Scanner;
 use wx_text::{Copies, Memory};
 use wx_tree::{Place, Root};
+
+/// What is found where what judges directories fails. Want of memory is not found, but answered.
+fn refused(error: RuntimeError) -> Result<Found, Memory>
+    ensures found { IfOk result (λ found. found ≡ Refused error) }
+    ensures want { error ≡ WantOfMemory → IfOk result (λ _. ⊥) }
+{
+    if matches!(&error, RuntimeError::Memory) {
+        return Err(Memory);
+    }
+    Ok(Found::Refused(error))
+}
 
 /// Asks about each path below the root down to this one, the topmost first. It fails only for want of memory.
 pub fn check_dirs<D: DirCheck>(
@@ -44,8 +57,7 @@ pub fn check_dirs<D: DirCheck>(
         match dirs.check_dir(&spelled) {
             Ok(true) => {}
             Ok(false) => return Ok(Found::Rejected),
-            Err(RuntimeError::Memory) => return Err(Memory),
-            Err(error) => return Ok(Found::Refused(error)),
+            Err(error) => return refused(error),
         }
     }
     Ok(Found::Here(identity))

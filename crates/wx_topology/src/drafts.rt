@@ -16,7 +16,7 @@ use wx_text::{Copies, Memory};
 use wx_tree::Place;
 
 /// What a call makes of what is held.
-#[derive(Drop, Debug)]
+#[derive(Debug)]
 pub struct Draft {
     /// Nothing is owned at or below these any more.
     pub cleared: Vec<Place>,
@@ -27,6 +27,19 @@ pub struct Draft {
     /// This is put at the end of the queue.
     pub queued: VecDeque<Work>,
     pub sweep_due: bool,
+}
+
+// Its parts are dropped by one call: docs/DESIGN.md, "What proofs cost".
+impl Drop for Draft {
+    fn drop(self) {
+        let Draft {
+            cleared: _,
+            lifted: _,
+            tombstones: _,
+            queued: _,
+            sweep_due: _,
+        } = self;
+    }
 }
 
 /// Whether the path lies at or below one of these.

@@ -8,11 +8,18 @@ use wx_text::{Copies, List, Memory, Text};
 use wx_words::{Escaped, Spelled, TextPath, Words, put_row, put_word, read_rows};
 
 /// A fault of a backend that watches files, with the paths that it is about. It is shown by its words.
-#[derive(Drop, Debug, Error)]
+#[derive(Debug, Error)]
 #[error("{kind} {paths}", paths = Paths(.paths))]
 pub struct NotifyFault {
     pub kind: NotifyFaultKind,
     pub paths: List<TextPath>,
+}
+
+// Its parts are dropped by one call: docs/DESIGN.md, "What proofs cost".
+impl Drop for NotifyFault {
+    fn drop(self) {
+        let NotifyFault { kind: _, paths: _ } = self;
+    }
 }
 
 /// What failed.

@@ -6,12 +6,22 @@ use wx_text::{Copies, Memory, Text};
 use wx_words::{Escaped, Spelled, TextPath, Words, put_row, put_word, read_rows};
 
 /// As what a path is known.
-#[derive(Drop, Debug)]
+#[derive(Debug)]
 pub enum Identity {
     /// A directory, by its canonical path.
     Directory(TextPath),
     /// Anything else, by the path itself.
     Lexical(TextPath),
+}
+
+// Its parts are dropped by one call: docs/DESIGN.md, "What proofs cost".
+impl Drop for Identity {
+    fn drop(self) {
+        match self {
+            Identity::Directory(_) => {}
+            Identity::Lexical(_) => {}
+        }
+    }
 }
 
 /// What is found at a path.
@@ -25,7 +35,7 @@ pub enum EntryKind {
 }
 
 /// A fault where a path is looked at. It is shown by its words.
-#[derive(Drop, Debug, Error)]
+#[derive(Debug, Error)]
 pub enum ScanFault {
     /// Nothing is there.
     #[error("notfound")]
@@ -36,6 +46,20 @@ pub enum ScanFault {
     /// Something else was found there before.
     #[error("changed {identity} {now}")]
     Changed { identity: Identity, now: EntryKind },
+}
+
+// Its parts are dropped by one call: docs/DESIGN.md, "What proofs cost".
+impl Drop for ScanFault {
+    fn drop(self) {
+        match self {
+            ScanFault::NotFound => {}
+            ScanFault::Io(_) => {}
+            ScanFault::Changed {
+                identity: _,
+                now: _,
+            } => {}
+        }
+    }
 }
 
 impl fmt::Display for Identity {

@@ -52,7 +52,7 @@ returns-then-is_empty-clause-alone g c = alone g (goal.at.returns-then-is_empty-
 pub returns-then-is_empty-clause-files : goal.returns-then-is_empty-clause-files
 returns-then-is_empty-clause-files g c =
     let grown : c.push.new.self.past ≡ Applied c.args.worker.now.config.change_signal ∷ c.args.journal.now.past = rw c.reserve.ensures.same at c.push.ensures.past in
-    rw c.replace.ensures.after (none_watched g.start c.args.files.now _ c.args.journal.now.past _ c.args.worker.now.config c.requires.1.1.1.1 c.requires.1.1.0.stands.config_kept grown refl refl refl (waits g (goal.at.returns-then-is_empty-clause-files g c).After-begin) (empty_known c.args.worker.now.config.pathset c.get.result.now c.is_empty.result true c.get.ensures c.is_empty.ensures c.if-is_empty.true))
+    none_watched g.start c.args.files.now _ c.args.journal.now.past _ c.args.worker.now.config c.requires.1.1.1.1 c.requires.1.1.0.stands.config_kept grown refl refl refl (waits g (goal.at.returns-then-is_empty-clause-files g c).After-begin) (empty_known c.args.worker.now.config.pathset c.get.result.now c.is_empty.result true c.get.ensures c.is_empty.ensures c.if-is_empty.true)
 
 pub returns-clause-alone : goal.returns-clause-alone
 returns-clause-alone g c = alone_then g.start c.args.worker.now c.args.journal.now c.push.new.self _ _ _ _ (alone g (goal.at.returns-clause-alone g c).After-push) c.watch.ensures.alone
@@ -79,7 +79,7 @@ watch-requires g c = λ κs lives.
 pub returns-then-is_empty-clause-settles : goal.returns-then-is_empty-clause-settles
 returns-then-is_empty-clause-settles g c =
     let grown : c.push.new.self.past ≡ Applied c.args.worker.now.config.change_signal ∷ c.args.journal.now.past = rw c.reserve.ensures.same at c.push.ensures.past in
-    rw c.replace.ensures.after (applied_none _ _ g.start c.args.files.now _ c.args.journal.now.past c.push.new.self.past c.args.worker.now.config _ _ c.requires.1.1.0.stands.config_kept grown (same_lane c.args.files.now.intake c.begin.new.self (ap (λ (x : Intake). x.lane) c.begin.ensures)) refl)
+    applied_none _ _ g.start c.args.files.now _ c.args.journal.now.past c.push.new.self.past c.args.worker.now.config _ _ c.requires.1.1.0.stands.config_kept grown (same_lane c.args.files.now.intake c.begin.new.self (ap (λ (x : Intake). x.lane) c.begin.ensures)) refl
 
 pub returns-clause-settles : goal.returns-clause-settles
 returns-clause-settles g c =

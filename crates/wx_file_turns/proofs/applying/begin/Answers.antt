@@ -25,4 +25,4 @@ returns-clause-walks g c = λ t ok named foresees just.
     let made = c.in_ok-back.ensures.exact foresees.exact links in
     let given = c.in_ok-recursor.ensures.given in
     let folder = given.2 ∙ c.in_ok-cwd.ensures ∙ c.requires.1.1.1.1.1.0 in
-    begun_walks _ _ t ok g.start c.args.journal.now.past c.make_backend.new.journal.past c.args.worker.now.config _ _ _ _ c.in_ok-recursor.recursor _ just c.in_ok-back.ensures.made (record { links = given.1 ∙ links; folder = folder; stands = c.in_ok-recursor.ensures.stands t made.0 (made.1 t named) }) (c.in_ok-recursor.ensures.reached t) (rw c.get.ensures at c.in-Ok.ensures.state) c.reconcile.ensures.others.0 c.reconcile.ensures.others.2 c.reconcile.ensures.others.3
+    begun_walks _ _ t ok g.start c.args.journal.now.past c.make_backend.new.journal.past c.args.worker.now.config _ _ _ _ c.in_ok-recursor.recursor _ just c.in_ok-back.ensures.made (record { links = given.1 ∙ links; folder = folder; stands = c.in_ok-recursor.ensures.stands t made.0 (made.1 t named) }) (c.in_ok-recursor.ensures.reached t) (rw c.get.ensures at c.in_ok-reconcile.ensures.state) c.reconcile.ensures.others.0 c.reconcile.ensures.others.2 c.reconcile.ensures.others.3

@@ -19,7 +19,7 @@ pub returns-in_err-watching-clause-walks : goal.returns-in_err-watching-clause-w
 returns-in_err-watching-clause-walks g c = λ t ok named foresees just before. ok_never c.from_residual-in_err-watching.result _ _ c.from_residual-in_err-watching.ensures.1
 
 pub returns-clause-walks : goal.returns-clause-walks
-returns-clause-walks g c = λ t ok named foresees just before. rw c.replace-2.ensures.after (c.in_ok-watching.ensures.walks t ok named foresees just)
+returns-clause-walks g c = λ t ok named foresees just before. c.in_ok-watching.ensures.walks t ok named foresees just
 
 same_revision : (c d : Config) → d ≡ c → Some c.change_signal ≡ Some d.change_signal
 same_revision c d same = sym (ap (λ (x : Config). Some x.change_signal) same)
@@ -30,4 +30,4 @@ returns-clause-files g c =
     let before : Config = settings g.start c.args.journal.now.past in
     let after : Config = settings g.start c.begin.new.journal.past in
     let same : after ≡ before = (c.begin.ensures.alone.serves None).settings_kept in
-    rw c.replace-2.ensures.after (watch_files g.start _ _ c.begin.new.journal.past c.in_ok-watching.ensures.watching refl (behind.revision_kept ∙ same_revision before after same) behind.folder_kept behind.absolute (intake_on g.start c.args.files.now.intake c.args.journal.now.past _ c.begin.ensures.brought behind.intake_kept))
+    watch_files g.start _ _ c.begin.new.journal.past c.in_ok-watching.ensures.watching refl (behind.revision_kept ∙ same_revision before after same) behind.folder_kept behind.absolute (intake_on g.start c.args.files.now.intake c.args.journal.now.past _ c.begin.ensures.brought behind.intake_kept)

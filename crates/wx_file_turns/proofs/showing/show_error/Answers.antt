@@ -8,8 +8,8 @@ use Rattle.wx_machine.specs.Added.{Same}
 use Rattle.wx_file_turns.proofs.showing.show_error.Goals as goal
 
 -- there was no room in the hooks
-pub returns-in-Err-reserve-clause-hand : goal.returns-in-Err-reserve-clause-hand
-returns-in-Err-reserve-clause-hand g c = steps_hand_room _ _ _ g.start _ _ _ _ _ c.requires.1.0 c.reserve.ensures.same c.reserve.ensures.kept c.reserve-2.ensures.rest
+pub returns-in_err-reserve-2-clause-hand : goal.returns-in_err-reserve-2-clause-hand
+returns-in_err-reserve-2-clause-hand g c = steps_hand_room _ _ _ g.start _ _ _ _ _ c.requires.1.0 c.reserve.ensures.same c.reserve.ensures.kept c.reserve-2.ensures.rest
 
 -- it is due
 pub call_show-requires : goal.call_show-requires
@@ -17,7 +17,7 @@ call_show-requires g c = λ κs lives. (
   lives,
   (
     error_owed g.start c.args.worker.now c.reserve.new.journal.past c.args.error (rw c.reserve.ensures.same c.requires.1.0) (rw c.reserve.ensures.same c.requires.1.1) (sym c.is_closed.ensures ∙ c.if-is_closed.false),
-    record { in_journal = omega (arith, c.in-Ok.ensures.room); in_hooks = c.in-Ok-reserve.ensures.room },
+    record { in_journal = omega (arith, c.in_ok-reserve.ensures.room); in_hooks = c.in_ok-reserve-2.ensures.room },
   ),
 )
 
@@ -25,7 +25,7 @@ call_show-requires g c = λ κs lives. (
 pub returns-clause-hand : goal.returns-clause-hand
 returns-clause-hand g c =
     steps_hand_then _ _ _ g.start _ _ _ _ _ _ _ _ _ (steps_hand_room _ _ _ g.start c.args.worker.now c.args.journal.now c.reserve.new.journal c.args.hooks.now c.reserve-2.new.self c.requires.1.0 c.reserve.ensures.same c.reserve.ensures.kept c.reserve-2.ensures.rest)
-    (shown_hand _ _ _ g.start _ _ _ _ _ _ c.call_show.ensures.within c.call_show.ensures.adds c.in-Ok.ensures.room)
+    (shown_hand _ _ _ g.start _ _ _ _ _ _ c.call_show.ensures.within c.call_show.ensures.adds c.in_ok-reserve.ensures.room)
 
 pub returns-then-is_closed-clause-shows : goal.returns-then-is_closed-clause-shows
 returns-then-is_closed-clause-shows g c = Same
