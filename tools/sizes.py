@@ -1,5 +1,5 @@
 #!/usr/bin/env python3
-"""Prints the sizes of each crate: lines without comments, blank ones and imports, must-fail edits, and functions.
+"""Prints the sizes of each crate: lines without comments, blank ones and imports, edits (of the gate and beside it), and functions.
 
 Call it at the top of the repository. Definitions and laws are the files of specs/, laws those whose name says so; proofs are
 the files of proofs/. Tests are the files of src/ with `test`, `random` or `own_hooks` in their names; a test that stands in a
@@ -44,7 +44,7 @@ def sizes_of(crate):
             sizes[column_of(path)] += len(lines)
             if column_of(path) == "code":
                 sizes["functions"] += sum(1 for line in lines if re.match(r"(pub(\(crate\))? )?fn ", line))
-    sizes["edits"] = len(glob.glob(f"{crate}/must-fail/*.edit"))
+    sizes["edits"] = len(glob.glob(f"{crate}/must-fail/*.edit") + glob.glob(f"{crate}/more-edits/*.edit"))
     return sizes
 
 
