@@ -1,11 +1,15 @@
-//! Replays each script in the folder that it runs in, and compares what is written with the journal beside the script.
+//! Replays each script in the folder that it runs in, and compares what is written with the journal beside the script. So it does
+//! with the cases of files that have many.
 #![tactic(auto)]
 
+mod cases;
+mod comparing;
+
+use cases::{Case, read_cases};
+use comparing::{first_other_line, part_of, replayed};
 use std::fs;
 use std::io::{self, Error, ErrorKind};
 use std::process::ExitCode;
-use wx_bytes::{MemSink, MemSource};
-use wx_replay::replay;
 use wx_text::Memory;
 
 /// The error that stands for want of memory.
@@ -30,27 +34,11 @@ fn name_of(rt: &HostRuntime, stem: &str, ending: &str) -> io::Result<String> {
     Ok(name)
 }
 
-/// The number of the first line in which two texts differ, counted from 1.
-fn first_other_line(text: &[u8], other: &[u8]) -> u64 {
-    let mut line = 1u64;
-    for (a, b) in text.iter().zip(other.iter()) {
-        if a != b {
-            return line;
-        }
-        if *a == b'\n' {
-            line = line.saturating_add(1);
-        }
-    }
-    line
-}
-
 /// Replays the script of this stem, prints what came of it in one line, and answers whether its journal is the one that
 /// stands beside it.
 fn compare(rt: &HostRuntime, stem: &str) -> io::Result<bool> {
     let script = fs::read(rt, name_of(rt, stem, ".txt")?.as_str())?;
-    let mut source = MemSource::new(rt.alloc(), script.as_slice()).map_err(no_memory)?;
-    let mut sink = MemSink::new(rt.alloc());
-    let status = replay(rt.alloc(), &mut source, &mut sink);
+    let (sink, status) = replayed(rt.alloc(), script.as_slice()).map_err(no_memory)?;
     let written = sink.text().as_slice();
     let Ok(journal) = fs::read(rt, name_of(rt, stem, ".journal")?.as_str()) else {
         println!(rt; "{stem}: there is no journal to compare with")?;
@@ -66,13 +54,62 @@ fn compare(rt: &HostRuntime, stem: &str) -> io::Result<bool> {
     Ok(same)
 }
 
-/// Compares each script, and answers whether all journals are as they should be. Each journal has its script.
+/// Replays this case of this file, and answers whether what is written and how the run ends is as it should be. If not it
+/// prints what isn't, in one line.
+fn compare_case(rt: &HostRuntime, name: &str, case: &Case) -> io::Result<bool> {
+    let shows = case.shows.as_str();
+    let (sink, status) = replayed(rt.alloc(), case.script.as_bytes()).map_err(no_memory)?;
+    let part = part_of(rt.alloc(), case, sink.text().as_slice())?;
+    let wanted = case.wanted.as_bytes();
+    if part.as_slice() != wanted {
+        let line = first_other_line(wanted, part.as_slice());
+        println!(rt; "{name}: another line {line} than in `{shows}`")?;
+        return Ok(false);
+    }
+    if status != case.status {
+        println!(rt;
+            "{name}: status {} in place of {} in `{shows}`",
+            status.code(),
+            case.status.code()
+        )?;
+        return Ok(false);
+    }
+    Ok(true)
+}
+
+/// Replays the cases of this file, prints how many are as they should be, and answers whether all are.
+fn compare_cases(rt: &HostRuntime, name: &str) -> io::Result<bool> {
+    let text = fs::read_to_string(rt, name)?;
+    let cases = match read_cases(rt.alloc(), text.as_str())? {
+        Ok(cases) => cases,
+        Err(line) => {
+            println!(rt; "{name}: it has another form than a file of cases, from line {line} on")?;
+            return Ok(false);
+        }
+    };
+    let mut others = 0u64;
+    for case in &cases {
+        if !compare_case(rt, name, case)? {
+            others = others.saturating_add(1);
+        }
+    }
+    let all = cases.len() as u64;
+    println!(rt;
+        "{name}: {} of {all} cases are as they should be",
+        all.saturating_sub(others)
+    )?;
+    Ok(others == 0)
+}
+
+/// Compares each script and each case, and answers whether all are as they should be. Each journal has its script.
 fn compare_all(rt: &HostRuntime) -> io::Result<bool> {
     let names = names(rt)?;
     let mut same = true;
     for name in &names {
         if let Some(stem) = name.strip_suffix(".txt") {
             same = compare(rt, stem)? && same;
+        } else if name.ends_with(".cases") {
+            same = compare_cases(rt, name.as_str())? && same;
         } else {
             let stem = name.strip_suffix(".journal").unwrap_or("");
             if !names.contains(&name_of(rt, stem, ".txt")?) {

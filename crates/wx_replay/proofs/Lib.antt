@@ -1,3 +1,4 @@
 pub mod ReplayLaws
 mod LinkLaws
 mod StillLaws
+mod WordLaws

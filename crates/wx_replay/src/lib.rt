@@ -3,6 +3,8 @@
 
 mod replaying;
 mod status;
+mod top;
 
 pub use replaying::replay;
 pub use status::Status;
+pub use top::wx_main;

@@ -14,6 +14,8 @@ mod file_words;
 #[cfg(test)]
 mod item_rules;
 #[cfg(test)]
+mod main_tests;
+#[cfg(test)]
 mod random;
 #[cfg(test)]
 mod random_counts;
@@ -25,3 +27,5 @@ mod random_jobs;
 mod random_rules;
 #[cfg(test)]
 mod random_tests;
+#[cfg(test)]
+mod step_tests;

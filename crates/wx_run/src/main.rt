@@ -1,42 +1,16 @@
 //! Runs scripts of events, and writes the journal of each run.
 #![tactic(auto)]
 
-#[cfg(test)]
-mod again_tests;
-#[cfg(test)]
-mod brought_tests;
-#[cfg(test)]
-mod file_tests;
-#[cfg(test)]
-mod function_tests;
-#[cfg(test)]
-mod grace_tests;
-mod keeping;
-#[cfg(test)]
-mod key_tests;
-#[cfg(test)]
-mod listen_tests;
-#[cfg(test)]
-mod quit_tests;
-#[cfg(test)]
-mod settings_tests;
 mod standard;
-#[cfg(test)]
-mod still_tests;
-#[cfg(test)]
-mod tests;
-mod top;
 
-use keeping::KeepingSource;
 use log::{Log, warn};
 use standard::{StdSink, StdSource};
 use std::alloc::Global;
 use std::io::ErrorKind;
 use std::process::ExitCode;
 use std::{env, io};
-use top::wx_main;
-use wx_refusal::{Refusal, refusal};
-use wx_replay::Status;
+use wx_refusal::{KeepingSource, Refusal, refusal};
+use wx_replay::{Status, wx_main};
 use wx_text::{Memory, Text};
 
 /// The words of the command line, without the program's name. There are none where one of them is no text.

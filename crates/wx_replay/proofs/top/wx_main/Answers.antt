@@ -1,7 +1,7 @@
 use Rattle.std.proofs.Common.{rules, ◌≡◌, codes}
-use Rattle.wx_run.specs.Asked.{replay_words}
-use Rattle.wx_run.proofs.WordLaws.{one_word}
-use Rattle.wx_run.proofs.top.wx_main.Goals as goal
+use Rattle.wx_replay.specs.Asked.{replay_words}
+use Rattle.wx_replay.proofs.WordLaws.{one_word}
+use Rattle.wx_replay.proofs.top.wx_main.Goals as goal
 
 pub returns-in-len1-clause-usage : goal.returns-in-len1-clause-usage
 returns-in-len1-clause-usage g c =

@@ -1,11 +1,12 @@
 // What the program does for its words.
 ghost use Rattle.std.specs.Prelude.{◌≡◌, ◌≢◌, ◌↔◌};
+ghost use Rattle.wx_replay.specs.Asked.{replay_words};
 ghost use Rattle.wx_replay.specs.Replays.{HasRead, HasWritten};
-ghost use Rattle.wx_run.specs.Asked.{replay_words};
 
+use crate::replaying::replay;
+use crate::status::Status;
 use std::alloc::Global;
 use wx_bytes::{LIMIT, Sink, Source};
-use wx_replay::{Status, replay};
 use wx_text::Text;
 
 /// Does what the words ask for: `replay` reads a script from the source to its end, runs it, and writes the journal of

@@ -1,9 +1,11 @@
 // How many steps runs take behind each line `applied`, and how many are enough where a script is still. That is worked out by hand: four
 // times the sum of 1, the roots applied before, the roots, the roots times the paths, and the roots applied before times the paths.
 // The paths are those of the tree at the first turn.
-use crate::tests::{expect_so, run};
+use crate::main_tests::{expect_so, run};
 use std::alloc::Global;
 use std::process::Abort;
+use wx_text::{Memory, Text};
+use wx_words::cut;
 
 /// A script, and the steps that are enough behind lines of its journal.
 type Row = (&'static [u8], &'static [(&'static [u8], u64)]);
@@ -78,4 +80,60 @@ fn few_steps_are_enough_where_a_script_is_still(rt: HostRuntime) {
 #[test]
 fn more_steps_come_where_the_tree_changes(rt: HostRuntime) {
     expect_steps(&rt, rt.alloc(), &MOVES, false);
+}
+
+/// These lines, and thirty turns about files behind them.
+fn with_turns(alloc: Global, lines: &[u8]) -> Result<Text, Memory> {
+    let mut text = Text::from_slice(alloc, lines)?;
+    for _ in 0..30 {
+        text.append(b"turn 1 file\n")?;
+    }
+    Ok(text)
+}
+
+/// What begins so, and goes on with 29 turns about files: so many do a step, in one it is told that all is watched, and then there is
+/// nothing to do.
+fn with_steps(alloc: Global, front: &[u8], steps: u32) -> Result<Text, Memory> {
+    let mut text = Text::from_slice(alloc, front)?;
+    for _ in 0..steps {
+        text.append(b"turn 1 file\nword stepped\n")?;
+    }
+    text.append(b"turn 1 file\nready 1\n")?;
+    for _ in steps..28 {
+        text.append(b"turn 1 file\nword quiet\n")?;
+    }
+    text.append(b"turn 1 last\nend ok lost 0\n")?;
+    Ok(text)
+}
+
+/// Whether thirty turns behind these lines bring what begins so, and then at least one step, at most 16, that all is watched, and
+/// nothing more to do.
+fn settles(alloc: Global, lines: &[u8], front: &[u8]) -> Result<bool, Memory> {
+    let script = with_turns(alloc, lines)?;
+    let (sink, _) = run(alloc, b"replay", script.as_slice())?;
+    let journal = cut(sink.text().as_slice(), 10).map_or(b"".as_slice(), |parts| parts.1);
+    for steps in 1..17 {
+        if journal == with_steps(alloc, front, steps)?.as_slice() {
+            return Ok(true);
+        }
+    }
+    Ok(false)
+}
+
+#[test]
+fn few_steps_are_enough(rt: HostRuntime) {
+    let lines = b"set follow off\nnode dir /\nnode dir /w\nturn 0 change paths 1 r /w\n";
+    let front =
+        b"turn 0 change paths 1 r /w\nchanged 1\nturn 1 file\napplied 1\nmake 0 native off ok\n";
+    assert!(rt;
+        settles(rt.alloc(), lines, front) == Ok(true),
+        "links not followed"
+    );
+    let lines = b"node dir /\nnode dir /w\nturn 0 change paths 1 r /w\n";
+    let front =
+        b"turn 0 change paths 1 r /w\nchanged 1\nturn 1 file\napplied 1\nmake 0 native on ok\n";
+    assert!(rt;
+        settles(rt.alloc(), lines, front) == Ok(true),
+        "links followed"
+    );
 }
