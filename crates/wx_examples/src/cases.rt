@@ -90,18 +90,18 @@ impl Case {
     /// Takes the next line of its file, and answers whether such a line may stand there.
     fn take(&mut self, alloc: Global, line: &str) -> io::Result<bool> {
         let divides = line.starts_with("--");
-        if self.part.is_none() && divides {
-            return self.divide(alloc, line);
+        match self.part {
+            None if divides => self.divide(alloc, line),
+            None if self.left_out.is_empty() => {
+                push_line(&mut self.script, line)?;
+                Ok(true)
+            }
+            Some(_) if !divides && !is_silent(line) => {
+                push_line(&mut self.wanted, line)?;
+                Ok(true)
+            }
+            _ => Ok(is_silent(line)),
         }
-        if self.part.is_none() && self.left_out.is_empty() {
-            push_line(&mut self.script, line)?;
-            return Ok(true);
-        }
-        if is_silent(line) {
-            return Ok(true);
-        }
-        push_line(&mut self.wanted, line)?;
-        Ok(self.part.is_some() && !divides)
     }
 }
 

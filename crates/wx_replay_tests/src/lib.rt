@@ -28,4 +28,6 @@ mod random_rules;
 #[cfg(test)]
 mod random_tests;
 #[cfg(test)]
+mod standard_tests;
+#[cfg(test)]
 mod step_tests;

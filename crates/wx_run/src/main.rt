@@ -1,14 +1,12 @@
 //! Runs scripts of events, and writes the journal of each run.
 #![tactic(auto)]
 
-mod standard;
-
 use log::{Log, warn};
-use standard::{StdSink, StdSource};
 use std::alloc::Global;
 use std::io::ErrorKind;
 use std::process::ExitCode;
 use std::{env, io};
+use wx_bytes::{StdSink, StdSource};
 use wx_refusal::{KeepingSource, Refusal, refusal};
 use wx_replay::{Status, wx_main};
 use wx_text::{Memory, Text};
