@@ -4,7 +4,7 @@ use std::fmt;
 use std::num::{NonZeroI32, NonZeroI64};
 use std::process::Abort;
 use wx_text::{Copies, List, Memory, Text, copy_twice};
-use wx_words::{Spelled, TextPath, Words, read_made, take_literal};
+use wx_words::{Spelled, TextPath, Words, take_literal};
 
 /// The words of this value with one space between them.
 fn line_of<T: Spelled>(alloc: Global, value: &T) -> Result<Text, Memory> {
@@ -330,14 +330,6 @@ fn takes_one_after_the_other(rt: HostRuntime) {
     expect_next(&rt, alloc, &mut words, Some(true));
     assert!(rt; texts_in(&rt, alloc, &mut words) == 1);
     assert!(rt; words.is_done());
-}
-
-#[test]
-fn makes_a_value_of_the_one_that_is_read(rt: HostRuntime) {
-    let alloc = rt.alloc();
-    let mut words = Words::new(b"9 x");
-    assert!(rt; read_made(alloc, &mut words, |n: u64| n > 8) == Ok(Some(true)));
-    assert!(rt; read_made(alloc, &mut words, |n: u64| n > 8) == Ok(None));
 }
 
 const COMPARED: [(&[u8], &[u8], bool); 5] = [
