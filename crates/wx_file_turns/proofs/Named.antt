@@ -6,7 +6,7 @@ use Rattle.wx_notify.specs.declared.notify.Notify.{Notify}
 use Rattle.wx_watch.specs.declared.notify_fault.NotifyFault.{NotifyFault}
 use Rattle.wx_lane.specs.declared.lane.LaneItem.{LaneItem}
 use Rattle.wx_lane.specs.Lanes.{LaneState, fenced, has_changes, hear, hear_first, is_full, is_unheard, is_waiting, put_item}
-use Rattle.wx_file_events.specs.FileEvents.{event_of}
+use Rattle.wx_lane.specs.FileEvents.{event_of}
 use Rattle.wx_journal.specs.declared.entry.Entry.{Entry}
 use Rattle.wx_journal.specs.declared.entry.Entry.TheVariants.{Offer, Word as Said, Make, Applied, Heard, Brought, LetGo}
 use Rattle.wx_journal.specs.declared.entry.LetGoCause.{LetGoCause}

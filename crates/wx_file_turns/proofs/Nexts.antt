@@ -4,7 +4,7 @@ use Rattle.std.specs.Prelude.{IfOk, Option, None, Some, Result, Ok, Err, â—Œ||â—
 use Rattle.wx_scan.specs.declared.backend.Backend.{Ghosts}
 use Rattle.wx_notify.specs.declared.notify.Notify.{Notify}
 use Rattle.wx_watch.specs.declared.notify_fault.NotifyFault.{NotifyFault}
-use Rattle.wx_file_events.specs.FileEvents.{event_of}
+use Rattle.wx_lane.specs.FileEvents.{event_of}
 use Rattle.wx_holding.specs.Holding.{state_of}
 use Rattle.wx_holding.proofs.Results.{if_map}
 use Rattle.wx_lane.specs.declared.lane.LaneItem.{LaneItem}

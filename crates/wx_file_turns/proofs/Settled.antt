@@ -37,10 +37,9 @@ use Rattle.wx_machine.specs.Files.{is_deaf}
 use Rattle.wx_machine.specs.Steps.{step_count}
 use Rattle.wx_machine.specs.Steady.{StaysLooked}
 use Rattle.wx_machine.specs.Added.{Same, More}
-use Rattle.wx_calm.specs.Calm.{AreCalm, Foresees, IsCalmTurn}
-use Rattle.wx_calm.specs.FewSteps.{AddsBeside, FewSteps, IsBeside, TurnShowsAbsent, earlier_roots}
-use Rattle.wx_calm.specs.Walking.{AreHarmless, IsHarmless, IsWalking}
-use Rattle.wx_calm.proofs.Journals.{Adds, beside_no_step, calm_before, few_over, few_still, no_rise_then}
+use Rattle.wx_file_turns.specs.Calm.{AreCalm, Foresees, IsCalmTurn}
+use Rattle.wx_file_turns.specs.FewSteps.{AddsBeside, FewSteps, IsBeside, TurnShowsAbsent, earlier_roots}
+use Rattle.wx_file_turns.specs.Walking.{AreHarmless, IsHarmless, IsWalking}
 use Rattle.wx_file_turns.specs.declared.files.Files.{Files}
 use Rattle.wx_file_turns.specs.declared.files.Watching.{Watching}
 use Rattle.wx_file_turns.specs.declared.hearing.Hearing.{Hearing}
@@ -52,6 +51,7 @@ use Rattle.wx_file_turns.specs.Intake.{brought, heard, is_live_by, left, listed,
 use Rattle.wx_file_turns.specs.Resting.{next_asked, next_event, next_fenced, next_of}
 use Rattle.wx_file_turns.specs.Settling.{AnyOf, AreSettling, GoesOnSettling, GoesOnWalking, IsJustApplied, Walked, Walks}
 use Rattle.wx_lane.proofs.MessageLemmas.{tells_where_messages}
+use Rattle.wx_file_turns.proofs.Journals.{Adds, beside_no_step, calm_before, few_over, few_still, no_rise_then}
 use Rattle.wx_file_turns.proofs.Walks.{any_walked, stands_at, walks_beside}
 
 -- ---- what waits says nothing of the tree

@@ -6,7 +6,7 @@ use Rattle.wx_notify.specs.declared.notify.Notify.{Notify}
 use Rattle.wx_watch.specs.declared.notify_fault.NotifyFault.{NotifyFault}
 use Rattle.wx_lane.specs.declared.lane.LaneItem.{LaneItem}
 use Rattle.wx_lane.specs.Lanes.{fenced, has_changes, is_event, is_unheard}
-use Rattle.wx_file_events.specs.FileEvents.{event_of}
+use Rattle.wx_lane.specs.FileEvents.{event_of}
 use Rattle.wx_journal.specs.declared.entry.Entry.{Entry}
 use Rattle.wx_journal.specs.declared.entry.Entry.TheVariants.{Offer, Word as Said, Show, Hand, Dir, Make, Heard, Brought, LetGo, Ready}
 use Rattle.wx_journal.specs.declared.entry.LetGoCause.TheVariants.{Obsolete, Uncovered}

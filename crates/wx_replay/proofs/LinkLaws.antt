@@ -17,7 +17,7 @@ use Rattle.wx_machine.specs.Last.{without_last}
 use Rattle.wx_machine.specs.Quits.{is_quit}
 use Rattle.wx_machine.specs.Settings.{changes, first_changed, later, pending, settings, turn_changes}
 use Rattle.wx_machine.specs.Start.{Start}
-use Rattle.wx_calm.specs.Calm.{AreCalm}
+use Rattle.wx_file_turns.specs.Calm.{AreCalm}
 use Rattle.wx_script.specs.declared.script.ScriptAct.{ScriptAct}
 use Rattle.wx_script.specs.declared.script.ScriptAct.TheVariants.{One, GetOrCreate}
 use Rattle.wx_script.specs.declared.script.ScriptTurn.{ScriptTurn}

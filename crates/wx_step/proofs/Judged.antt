@@ -7,7 +7,7 @@ use Rattle.wx_tree.specs.Paths.{Path, holds, holds_below, same}
 use Rattle.wx_tree.specs.Places.{place}
 use Rattle.wx_tree.specs.declared.root.Root.{Root}
 use Rattle.wx_tree.proofs.PathLemmas.{holds-length, or_left, or_right, same-true}
-use Rattle.wx_dir_check.specs.Checks.{is_below_any}
+use Rattle.wx_scan.specs.Checks.{is_below_any}
 use Rattle.wx_recursor.specs.Owners.{has_path}
 use Rattle.wx_recursor.specs.Seen.{passes}
 use Rattle.wx_recursor.specs.declared.answers.Found.TheVariants.{Here, Rejected}

@@ -1,6 +1,6 @@
 use Rattle.std.proofs.Common.{sym, ◌∙◌}
 use Rattle.wx_file_turns.specs.Standing.{owing}
-use Rattle.wx_calm.proofs.Journals.{follows_adds}
+use Rattle.wx_file_turns.proofs.Journals.{follows_adds}
 use Rattle.wx_file_turns.proofs.Settled.{ok_never, settling_beside}
 use Rattle.wx_engine.proofs.SettleLemmas.{aside_beside}
 use Rattle.wx_engine.proofs.TurnLemmas.{serves_other}

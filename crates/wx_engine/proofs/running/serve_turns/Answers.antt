@@ -1,8 +1,8 @@
 use Rattle.std.proofs.Common.{ℕ, Bool, ◌+◌, ◌≤◌, ◌∷◌, Ok, ap, arith, refl, sym, ◌∙◌}
 use Rattle.wx_tree.specs.Paths.{Path}
 use Rattle.wx_tree.specs.Trees.{Tree}
-use Rattle.wx_calm.specs.Calm.{StaysCalm}
-use Rattle.wx_calm.specs.FewSteps.{FewSteps}
+use Rattle.wx_file_turns.specs.Calm.{StaysCalm}
+use Rattle.wx_file_turns.specs.FewSteps.{FewSteps}
 use Rattle.wx_file_turns.specs.Settling.{AreSettling}
 use Rattle.wx_action.specs.declared.work_turn.Worked.TheVariants as worked
 use Rattle.wx_journal.specs.declared.entry.Entry.TheVariants.{Turn as Turned, TurnFault}
@@ -24,7 +24,7 @@ use Rattle.wx_action.proofs.TurnLaws.{next_turn}
 use Rattle.wx_machine.specs.Told.{is_last}
 use Rattle.wx_engine.specs.Run.{Rests, ServesTurns}
 use Rattle.wx_engine.proofs.TurnLemmas.{Drawn, turn_drawn, fault_drawn, drawn_follows, drawn_quiet, drawn_counts, early_drawn, served, turn_stands, fault_stands, turns_then}
-use Rattle.wx_calm.proofs.Journals.{follows_adds}
+use Rattle.wx_file_turns.proofs.Journals.{follows_adds}
 use Rattle.wx_engine.proofs.SettleLemmas.{SettlesInTurn, fault_beside, few_between, few_turned, same_beside, since_served, since_turn, turn_settles}
 use Rattle.wx_engine.proofs.WatchLemmas.{files_over, pays_over, pays_none}
 use Rattle.wx_engine.proofs.running.serve_turns.Goals.{After-push-in-turns, After-serve}

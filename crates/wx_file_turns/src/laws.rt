@@ -10,8 +10,8 @@ ghost use Rattle.wx_journal.specs.declared.entry.Entry.{Entry};
 ghost use Rattle.wx_journal.specs.declared.entry.Entry.TheVariants.{Word as Said};
 ghost use Rattle.wx_journal.specs.declared.entry.Word.TheVariants.{Stepped};
 ghost use Rattle.wx_machine.specs.Start.{Start};
-ghost use Rattle.wx_calm.specs.FewSteps.{FewSteps, IsFewMore, TurnShowsAbsent};
-ghost use Rattle.wx_calm.specs.Walking.{IsWalking};
+ghost use Rattle.wx_file_turns.specs.FewSteps.{FewSteps, IsFewMore, TurnShowsAbsent};
+ghost use Rattle.wx_file_turns.specs.Walking.{IsWalking};
 
 /// Where a recursor does a step, behind which the word is said, its epoch goes on, and there were few steps, where the turn showed just
 /// what the step did.

@@ -1,8 +1,8 @@
 // What judges directories.
 ghost use Rattle.std.specs.Prelude.{◌≡◌, ℕ, Bool, true, List, []};
-ghost use Rattle.wx_dir_check.specs.Checks.{IsAnswerOf, is_below_any};
 ghost use Rattle.wx_tree.specs.Paths.{Path};
 ghost use Rattle.wx_tree.specs.Places.{place as place_of};
+ghost use Rattle.wx_scan.specs.Checks.{IsAnswerOf, is_below_any};
 
 use wx_error::RuntimeError;
 use wx_words::TextPath;

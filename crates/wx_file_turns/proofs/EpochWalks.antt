@@ -29,8 +29,8 @@ use Rattle.wx_fs.specs.Kept.{keep_root, keep_roots, kept_root, kept_roots}
 use Rattle.wx_fs.specs.Settling.{GoesOn, first_call}
 use Rattle.wx_journal.specs.declared.entry.Entry.{Entry}
 use Rattle.wx_machine.specs.Start.{Start}
-use Rattle.wx_calm.specs.FewSteps.{IsFewMore, SamePlace, TurnShowsAbsent, earlier_roots, newest_roots, steps_since}
-use Rattle.wx_calm.specs.Walking.{InEpoch, IsWalking, WalksStep, WasWalking}
+use Rattle.wx_file_turns.specs.FewSteps.{IsFewMore, SamePlace, TurnShowsAbsent, earlier_roots, newest_roots, steps_since}
+use Rattle.wx_file_turns.specs.Walking.{InEpoch, IsWalking, WalksStep, WasWalking}
 
 -- ---- the bound grows with its parts
 

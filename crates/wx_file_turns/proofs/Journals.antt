@@ -16,8 +16,8 @@ use Rattle.wx_machine.specs.Files.{AddsNoFiles, is_about_files}
 use Rattle.wx_machine.specs.Added.{Added, Each, Same, More}
 use Rattle.wx_machine.specs.Leads.{Follows, Here, Leads, Then}
 use Rattle.wx_machine.proofs.PaidLaws.{no_step}
-use Rattle.wx_calm.specs.Calm.{AreCalm}
-use Rattle.wx_calm.specs.FewSteps.{AddsBeside, FewSteps, IsBeside, IsFewMore, SamePlace, ShowsAbsent, TurnShowsAbsent, earlier_roots, is_applied, newest_roots, steps_since}
+use Rattle.wx_file_turns.specs.Calm.{AreCalm}
+use Rattle.wx_file_turns.specs.FewSteps.{AddsBeside, FewSteps, IsBeside, IsFewMore, SamePlace, ShowsAbsent, TurnShowsAbsent, earlier_roots, is_applied, newest_roots, steps_since}
 
 -- ---- entries on top
 

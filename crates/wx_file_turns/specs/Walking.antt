@@ -18,7 +18,7 @@ use Rattle.wx_journal.specs.declared.entry.Entry.{Entry}
 use Rattle.wx_journal.specs.declared.entry.Entry.TheVariants.{Word as Said}
 use Rattle.wx_journal.specs.declared.entry.Word.TheVariants.{Stepped}
 use Rattle.wx_machine.specs.Start.{Start}
-use Rattle.wx_calm.specs.FewSteps.{SaysAbsent, earlier_roots, newest_roots, steps_since}
+use Rattle.wx_file_turns.specs.FewSteps.{SaysAbsent, earlier_roots, newest_roots, steps_since}
 
 -- An epoch goes on, whose filter is the test of the one that stands.
 pub record InEpoch (t : Tree) (ok : ℕ → Path → Bool) (u : RecursorState) : Type 0 where

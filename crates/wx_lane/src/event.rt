@@ -1,6 +1,6 @@
 // The event that a notification becomes.
 ghost use Rattle.std.specs.Prelude.{◌≡◌, ◌++◌, IfOk, OnOk};
-ghost use Rattle.wx_file_events.specs.FileEvents.{event_of, path_tags, process_tags};
+ghost use Rattle.wx_lane.specs.FileEvents.{event_of, path_tags, process_tags};
 
 use std::alloc::Global;
 use wx_events::{Event, Source, Tag};
