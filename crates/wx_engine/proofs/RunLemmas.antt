@@ -126,9 +126,6 @@ stops_wanting s p (Ok u) is cut = absurd is
 stops_wanting s p (Err e) is cut = rw is (inr cut)
 
 -- nothing is to be shown or handed where a turn may come, nor while events are listed as sent
-pub none_when_open : (s : Start) (p : List Entry) → agenda s p ≡ Open → NoneIsToGo (agenda s p)
-none_when_open s p is = rw is tt
-
 none_of_sends : (xs : List (Event × Priority)) → NoneIsToGo (sends xs)
 none_of_sends [] = tt
 none_of_sends (x ∷ xs) = tt

@@ -58,9 +58,6 @@ turn_beside t = record { none_applied = refl; none_done = refl }
 pub fault_beside : (code : ℕ) (p p' : List Entry) → p' ≡ TurnFault code ∷ p → AddsBeside p p'
 fault_beside code p p' grown = rw grown (More (TurnFault code) p Same (record { none_applied = refl; none_done = refl }))
 
-pub same_beside : (p p' : List Entry) → p' ≡ p → AddsBeside p p'
-same_beside p p' same = rw same Same
-
 -- ---- what is known of the tree
 
 foresees_on : (t : Tree) (a b : Looked) → StaysLooked a b → Foresees t a → Foresees t b

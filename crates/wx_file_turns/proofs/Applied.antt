@@ -14,6 +14,7 @@ use Rattle.wx_tree.specs.declared.root.Root.{Root}
 use Rattle.wx_recursor.specs.Owners.{has_root}
 use Rattle.wx_recursor.specs.Calls.{needs_retry, reconciled}
 use Rattle.wx_recursor.specs.States.{RecursorState}
+use Rattle.wx_recursor.proofs.Coverage.{has_root_in}
 use Rattle.wx_holding.specs.Holding.{state_of}
 use Rattle.wx_fs.specs.Kept.{kept_roots}
 use Rattle.wx_journal.specs.declared.entry.Entry.{Entry}
@@ -49,13 +50,9 @@ root_first : (r s : Root) (rs : List Root) → (has_root r rs ≡ true → In r 
 root_first r s rs more (inl same) = inl (same_root-true s r same)
 root_first r s rs more (inr later) = inr (more later)
 
-pub root_in : (r : Root) (rs : List Root) → has_root r rs ≡ true → In r rs
-root_in r [] is = absurd cc
-root_in r (s ∷ rs) is = root_first r s rs (λ later. root_in r rs later) (or_cases (same_root s r) (has_root r rs) is)
-
 pub all_in : (rs qs : List Root) → are_all_in rs qs ≡ true → (r : Root) → In r rs → In r qs
 all_in [] qs is r m = absurd m
-all_in (s ∷ rs) qs is r (inl same) = let parts = and_parts (has_root s qs) (are_all_in rs qs) is in subst (λ (x : Root). In x qs) same (root_in s qs parts.0)
+all_in (s ∷ rs) qs is r (inl same) = let parts = and_parts (has_root s qs) (are_all_in rs qs) is in subst (λ (x : Root). In x qs) same (has_root_in s qs parts.0)
 all_in (s ∷ rs) qs is r (inr m) = let parts = and_parts (has_root s qs) (are_all_in rs qs) is in all_in rs qs parts.1 r m
 
 pub roots_same : (rs qs : List Root) → are_same_roots rs qs ≡ true → SameRoots qs rs

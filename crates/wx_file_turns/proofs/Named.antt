@@ -20,16 +20,13 @@ use Rattle.wx_machine.specs.Journal.{offered}
 use Rattle.wx_machine.specs.Files.{Source, first_item, has_paths, is_deaf, is_live, is_public, leave, let_go, offer_item, said, source, stand}
 use Rattle.wx_machine.specs.Due.{asks_entry, event_entry, fence_entry, lane_entry, rest_entry}
 use Rattle.wx_machine.proofs.Owners.{either}
+use Rattle.wx_machine.proofs.LaneLaws.{stand_keeps, said_keeps}
 
 -- ---- what entries leave of it
 
 kept_where : (x : Source) (b : Bool) (fence : ℕ) → ((cond b x (record x { fence = fence })).lane ≡ x.lane) × ((cond b x (record x { fence = fence })).current ≡ x.current)
 kept_where x true fence = (refl, refl)
 kept_where x false fence = (refl, refl)
-
-said_keeps : (items : ℕ) (word : Word) (x : Source) → ((said items word x).lane ≡ x.lane) × ((said items word x).current ≡ x.current)
-said_keeps items Stepped x = kept_where x x.fenced items
-said_keeps items (_) x = (refl, refl)
 
 offer_keeps : (item : Option ℕ) (x : Source) → (offer_item item x).current ≡ x.current
 offer_keeps None x = refl
@@ -39,10 +36,6 @@ let_go_keeps : (cause : LetGoCause) (item : ℕ) (x : Source) → (let_go cause 
 let_go_keeps Full item x = refl
 let_go_keeps Obsolete item x = refl
 let_go_keeps Uncovered item x = refl
-
-stand_keeps : (back : ℕ) (answer : Result (Unit {0}) NotifyFault) (x : Source) → (stand back answer x).lane ≡ x.lane
-stand_keeps back (Ok done) x = refl
-stand_keeps back (Err fault) x = refl
 
 -- ---- the backend that stands
 

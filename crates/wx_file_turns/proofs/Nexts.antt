@@ -18,6 +18,7 @@ use Rattle.wx_machine.specs.Start.{Start}
 use Rattle.wx_machine.specs.Files.{source, first_item, is_deaf, is_live, is_public, item_fault, item_named}
 use Rattle.wx_machine.specs.Due.{asks_entry, lane_entry, rest_entry}
 use Rattle.wx_machine.proofs.Stepping.{deaf_rests, fenced_rests, obsolete_rests, offer_rests, ready_rests, uncovered_rests}
+use Rattle.wx_machine.proofs.RestLaws.{fault_is_deaf}
 use Rattle.wx_file_turns.specs.declared.files.Watching.{Watching}
 use Rattle.wx_file_turns.specs.declared.intake.Intake.{Intake}
 use Rattle.wx_file_turns.specs.declared.resting.Next.{Next}
@@ -46,9 +47,6 @@ is_to_hear s p live i lives comes found = record {
 is_first : (s : Start) (p : List Entry) (i : LaneItem) → first_item (source s p).lane ≡ Some i → IsFirst s i.name p
 is_first s p i there = rw there refl
 
-fault_deaf : (item : Result Notify NotifyFault) (fault : NotifyFault) (heard : Bool) → item ≡ Err fault → (not (is_event item) || (has_changes item && not heard)) ≡ true
-fault_deaf item fault heard is = rw is refl
-
 -- ---- of the first item
 
 module _ {B : Type 0} {G : Ghosts B} (s : Start) (w : Watching B G) (p : List Entry) (i : LaneItem) (asks : (source s p).asks ≡ None) (there : first_item (source s p).lane ≡ Some i) where
@@ -62,7 +60,7 @@ module _ {B : Type 0} {G : Ghosts B} (s : Start) (w : Watching B G) (p : List En
 
   by_item : (live : Bool) (item : Result Notify NotifyFault) → IsWatching s w p → is_deaf i ≡ false → i.item ≡ item → is_live (source s p) i.back ≡ live → IsNext s (next_of w live i item) p
   by_item live (Ok n) h deaf is lives = by_live n live (event_is_public w.recursor.cwd (state_of w.recursor.held).roots n) deaf is lives (public_known s w p n h)
-  by_item live (Err fault) h deaf is lives = let both : true ≡ false = sym (fault_deaf i.item fault i.heard is) ∙ deaf in absurd cc
+  by_item live (Err fault) h deaf is lives = let both : true ≡ false = sym (fault_is_deaf i.item fault i.heard is) ∙ deaf in absurd cc
 
   by_deaf : (live deaf : Bool) → IsWatching s w p → is_deaf i ≡ deaf → is_live (source s p) i.back ≡ live → IsNext s (cond deaf (next.Hear (hearing_of live i)) (next_of w live i i.item)) p
   by_deaf live true h deaf lives = is_to_hear s p live i lives (deaf_rests s p i asks there deaf) (first_named (source s p).lane i there)

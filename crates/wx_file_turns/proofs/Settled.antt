@@ -24,6 +24,7 @@ use Rattle.wx_recursor.specs.declared.known.Known.{Known}
 use Rattle.wx_holding.specs.Backed.{AreRegistered, AreWatched}
 use Rattle.wx_holding.specs.Calm.{IsReadable, StandsBy}
 use Rattle.wx_holding.specs.Holding.{state_of}
+use Rattle.wx_holding.proofs.StandingBy.{all_spell, reads_registered}
 use Rattle.wx_fs.specs.Settling.{BackendStands}
 use Rattle.wx_hooks.specs.Given.{GivesNext, IsAnswered, unheard}
 use Rattle.wx_machine.specs.Seen.{Seen}
@@ -158,15 +159,6 @@ answer_harmless None result answer answered none is = absurd (let no : None ≡ 
 answer_harmless (Some item) result answer (inl same) none is = let e : item ≡ answer = (let f : Some item ≡ Some answer = sym same ∙ is in cc) in subst IsHarmless e (unchanged item none)
 answer_harmless (Some item) result answer (inr short) none is = let e : unheard ≡ answer = (let f : Some unheard ≡ Some answer = sym short ∙ is in cc) in subst IsHarmless e tt
 
-all_spell : (t : Tree) (paths : List (List ℕ)) → ((bytes : List ℕ) → In bytes paths → (p : Path) × SpellsPath t p bytes) → AllSpellPaths t paths
-all_spell t [] h = tt
-all_spell t (bytes ∷ more) h = (h bytes (inl refl), all_spell t more (λ b m. h b (inr m)))
-
-registered_spell : (t : Tree) (ks : List Known) (paths : List (List ℕ)) → AreRegistered ks paths → ((k : Known) → In k ks → IsReadable t k.path) → (bytes : List ℕ) → In bytes paths → (p : Path) × SpellsPath t p bytes
-registered_spell t ks paths registered readable bytes m =
-    let x = registered bytes m in
-    (x.0.path, subst (SpellsPath t x.0.path) (sym x.2) (readable x.0 x.1))
-
 lent_back : (u : RecursorState) → u.backend ≡ Installed → installed (lent u) ≡ u
 lent_back u is = ap (λ (x : BackendPlace). record u { backend = x }) (sym is)
 
@@ -175,7 +167,7 @@ module _ {B : Type 0} (backing : B → Backing) (fits : B → Tree → Type 0) w
   asked_stands : {Plan : Type 0} (t : Tree) (ks : List Known) (item back : ℕ) (result : Option (Result Notify NotifyFault)) (old new : B) (a b : Seen Plan) → StandsBy t ks (backing old) (fits old t) → (gives : GivesNext backing fits item back result old new a b) → a.looked.tree ≡ Some t → (Rose a.looked.faults b.looked.faults → ⊥) → StandsBy t ks (backing new) (fits new t) × BringsNoChange gives.next
   asked_stands t ks item back result old new a b h gives tree calm =
       let exact : IsExact (backing old) a.looked b.looked t = record { exact = h.exact; told = tree; no_fault = calm } in
-      let still = gives.fits_still t exact (all_spell t (backing old).registrations (registered_spell t ks (backing old).registrations h.registered h.readable)) h.seen in (
+      let still = gives.fits_still t exact (all_spell t (backing old).registrations (reads_registered t ks (backing old).registrations h.registered h.readable)) h.seen in (
         record {
           exact = gives.brings.exact ∙ h.exact;
           watched = subst (AreWatched ks) (sym gives.brings.registrations) h.watched;
@@ -236,10 +228,6 @@ none_empty {A} xs tested none isnt tells = let is : false ≡ true = sym isnt �
 pub ok_never : {X E : Type 0} (result : Result X E) (P : E → Type 0) (Q : Type 0) → IsErrAnd result P → OnOk result Q
 ok_never (Ok x) P Q is = absurd is
 ok_never (Err e) P Q is = tt
-
-pub ok_anyway : {X E : Type 0} (result : Result X E) (P : Type 0) → P → OnOk result P
-ok_anyway (Ok x) P h = h
-ok_anyway (Err e) P h = tt
 
 -- a word is said, where there was room
 pub said_beside : {X E : Type 0} (result : Result X E) (e : Entry) (p p' : List Entry) → IsBeside e → OnOk result (p' ≡ e ∷ p) → OnErr result (p' ≡ p) → AddsBeside p p'

@@ -3,7 +3,7 @@ use Rattle.std.proofs.Common.{◌≡◌, ℕ, Bool, true, false, cond, ◌||◌,
 use mathlib.Core.Bool.{or-false}
 use Rattle.std.specs.Prelude.{Option, None, Some, OnOk, ◌==◌, ◌&&◌, not}
 use Rattle.std.specs.List.{find, list_any}
-use Rattle.std.proofs.lemmas.Bool.{eqb-true, or_right}
+use Rattle.std.proofs.lemmas.Bool.{eqb-true, or_right, true_from_ne_false}
 use Rattle.wx_command.specs.declared.command.Command.{Command}
 use Rattle.wx_config.specs.declared.change.Change.{Change as AChange}
 use Rattle.wx_control.specs.declared.ask.Ask.{Ask as AnAsk}
@@ -131,12 +131,8 @@ got_by p made acts id command job true there its given is = record { done = rw (
     and_none false = refl
 got_by p made acts id command job false there its given is = record { done = rw (there, given_made (creates id acts) (is_seen id p) (was_made id p) there given) refl; are = made_create p made acts job id command its is }
 
-not_refused : (given : Bool) → (given ≡ false → ⊥) → given ≡ true
-not_refused true h = refl
-not_refused false h = absurd (h refl)
-
 pub got : (p : List Entry) (made : List Job) (acts : List Act) (id : Id) (command : Command) (job : Job) → job.id ≡ id → (is_given p acts id ≡ false → ⊥) → AreMade p made acts → (with_job p id command acts ≡ with_get p acts id command) × AreMade p (made ++ job ∷ []) (with_job p id command acts)
-got p made acts id command job its given is = let g = got_by p made acts id command job (is_there p acts id) refl its (not_refused (is_given p acts id) given) is in (g.done, g.are)
+got p made acts id command job its given is = let g = got_by p made acts id command job (is_there p acts id) refl its (true_from_ne_false (is_given p acts id) given) is in (g.done, g.are)
 
 -- of none that was given nothing is asked for
 ungiven : (created was seen : Bool) → (created || was) ≡ false → (was && not (created || seen)) ≡ false

@@ -19,6 +19,7 @@ use Rattle.wx_machine.specs.declared.state.CommandState.TheVariants.{Pending, Ru
 use Rattle.wx_machine.specs.History.{same, lives, has_above, without, waits, child, unless, reaped_child, ended_child, still_running, state, finish, owner}
 use Rattle.wx_machine.specs.States.{child_of}
 use Rattle.wx_machine.specs.JobLaws.{unreaped, NamesChildren}
+use Rattle.wx_machine.proofs.Tickets.{asked_new}
 
 pub self : (id : Id) → same id id ≡ true
 self id = eq-eqb id.0 id.0 refl
@@ -42,13 +43,9 @@ children_named [] own = tt
 children_named (Spawn c job tag what answer ∷ p) own = (own.0, children_named p own.1)
 children_named (_ ∷ p) own = children_named p own.1
 
-new_below : (c d : ℕ) (job id : Id) (n : ℕ) (o : Option Id) (b : Bool) → (d == c) ≡ b → d ≡ n → (o ≡ Some id → c < n) → cond b (Some job) o ≡ Some id → c < n + 1
-new_below c d job id n o true is name below e = let found : d ≡ c = eqb-true _ _ is in omega arith
-new_below c d job id n o false is name below e = let lt : c < n = below e in omega arith
-
 pub owner_below : (c : ℕ) (id : Id) (p : List Entry) → NamesChildren p → owner c p ≡ Some id → c < child_count p
 owner_below c id [] own e = cc
-owner_below c id (Spawn d job tag what answer ∷ p) own e = new_below c d job id (child_count p) (owner c p) (d == c) refl own.0 (λ h. owner_below c id p own.1 h) e
+owner_below c id (Spawn d job tag what answer ∷ p) own e = asked_new c d job id (child_count p) (owner c p) (d == c) refl own.0 (λ h. owner_below c id p own.1 h) e
 owner_below c id (_ ∷ p) own e = owner_below c id p own e
 
 -- a new child takes none from its owner

@@ -28,7 +28,7 @@ tickets_named [] own = tt
 tickets_named (Asked ticket job level control ∷ p) own = (own.0, tickets_named p own.1)
 tickets_named (_ ∷ p) own = tickets_named p own.1
 
-asked_new : (t u : ℕ) (job id : Id) (n : ℕ) (o : Option Id) (b : Bool) → (u == t) ≡ b → u ≡ n → (o ≡ Some id → t < n) → cond b (Some job) o ≡ Some id → t < n + 1
+pub asked_new : (t u : ℕ) (job id : Id) (n : ℕ) (o : Option Id) (b : Bool) → (u == t) ≡ b → u ≡ n → (o ≡ Some id → t < n) → cond b (Some job) o ≡ Some id → t < n + 1
 asked_new t u job id n o true is name below e = let found : u ≡ t = eqb-true _ _ is in omega arith
 asked_new t u job id n o false is name below e = let lt : t < n = below e in omega arith
 

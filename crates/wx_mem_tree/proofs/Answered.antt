@@ -14,9 +14,6 @@ use Rattle.wx_mem_tree.specs.Entries.{are_once, entries_of, found_at, stamp_at, 
 use Rattle.wx_mem_tree.proofs.Found.{found_node, found_path}
 use Rattle.wx_mem_tree.proofs.Once.{is_listing, there}
 
-pub not_followed : (follow link : Bool) → follow ≡ false → (follow && link) ≡ false
-not_followed follow link e = rw e refl
-
 pub kind_directory : (p : Path) (es : List MemEntry) (x : MemEntry) (bytes : List ℕ) → found_at p es ≡ Some x → x.node ≡ Dir → bytes ≡ spelled x.path → kind_of p (node_at (tree_of es) p) ≡ Some (Directory bytes)
 kind_directory p es x bytes f n b = rw (found_node p es (Some x) f, n, b, found_path p es x f) refl
 

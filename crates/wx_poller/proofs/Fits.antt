@@ -3,7 +3,7 @@ use Rattle.std.proofs.Common.{◌≡◌, ℕ, ◌+◌, length-append, Bool, true
 use Rattle.std.proofs.Math.Seq.{take-append_seam}
 use Rattle.std.specs.Prelude.{◌-◌, take, ◌&&◌, ◌||◌, ◌==◌, IfNone, IfOk, IfSome, OnOk, filter, is_some, length, map, not, option_map}
 use Rattle.std.specs.Option.{option_or}
-use Rattle.std.proofs.lemmas.Bool.{both_ways, cases_Bool, eqb-true}
+use Rattle.std.proofs.lemmas.Bool.{both_ways, cases_Bool, eqb-true, not-true}
 use Rattle.wx_events.specs.declared.file_type.FileType.{FileType}
 use Rattle.wx_events.specs.declared.file_type.FileType.TheVariants as type
 use Rattle.wx_notify.specs.declared.notify.Notify.{Notify}
@@ -20,6 +20,7 @@ use Rattle.wx_scan.specs.Looked.{Looked, Rose}
 use Rattle.wx_scan.specs.Told.{IsNamed, SpellsPath}
 use Rattle.wx_scan.specs.declared.scanner.ScanError.{ScanError}
 use Rattle.wx_scan.specs.declared.scanner.ScanError.TheVariants.{Memory as OutOfMemory}
+use Rattle.wx_scan.proofs.Looks.{registered_in}
 use Rattle.wx_watch.specs.declared.notify_fault.NotifyFault.{NotifyFault}
 use Rattle.wx_watch.specs.declared.notify_fault.NotifyFaultKind.{NotifyFaultKind}
 use Rattle.wx_watch.specs.declared.notify_fault.NotifyFaultKind.TheVariants.{Generic, InvalidConfig, Io, MaxFilesWatch, Memory, PathNotFound, WatchNotFound}
@@ -38,13 +39,9 @@ Kind = Option FileType
 abbrev kind_of_seen : Option Seen → Kind
 kind_of_seen x = option_map (λ s. s.file_type) x
 
-not_true : (b : Bool) → not b ≡ true → b ≡ false
-not_true true e = absurd cc
-not_true false e = refl
-
 -- an exact poller follows no links
 pub exact_told : (backing : Backing) (follow : Bool) (a b : Looked) (t : Tree) → backing.exact ≡ not follow → IsExact backing a b t → IsTold t follow a b
-exact_told backing follow a b t e x = record { no_links = not_true follow (sym e ∙ x.exact); told = x.told; no_fault = x.no_fault }
+exact_told backing follow a b t e x = record { no_links = not-true follow (sym e ∙ x.exact); told = x.told; no_fault = x.no_fault }
 
 pub new_fits : (t : Tree) (rs : List (List ℕ)) (events : List Notify) (seen : List Sight) → IsNamed t → rs ≡ [] → events ≡ [] → seen ≡ [] → FitsTree t rs events seen
 new_fits t rs events seen named r e s = record {
@@ -165,10 +162,6 @@ covered_shown t p (k ∷ ks) rs seen h s f =
     let c : covers seen k p ≡ shows t k p = covers_shown t w.0 k p rs seen h w.1 i in
     let m : is_covered seen ks p ≡ any_shows t ks p = covered_shown t p ks rs seen h s (λ r j. f r (inr j)) in
     rw (c, m) refl
-
-registered_in : (r : List ℕ) (rs : List (List ℕ)) → is_registered r rs ≡ true → In r rs
-registered_in r [] h = absurd cc
-registered_in r (k ∷ rs) h = elim (cases_Bool (same_part k r)) [ inl a ↦ inl (same_part-true k r a) | inr a ↦ inr (registered_in r rs (rw a at h)) ]
 
 shows_apart : (t : Tree) (r p : List ℕ) (rs : List (List ℕ)) → any_shows t rs p ≡ (any_shows t (unregister r rs) p || (is_registered r rs && shows t r p))
 shows_apart t r p [] = refl

@@ -3,6 +3,7 @@ use Rattle.std.proofs.Common.{◌≡◌, ℕ, Bool, true, false, cond, Option, N
 use Rattle.std.specs.Prelude.{◌&&◌, ◌||◌, map, option_map}
 use Rattle.std.specs.Option.{option_or}
 use Rattle.std.proofs.lemmas.Bool.{and_parts, both_ways, cases_Bool}
+use Rattle.std.proofs.Math.Bool.{or-false}
 use Rattle.wx_events.specs.declared.file_type.FileType.{FileType}
 use Rattle.wx_events.specs.declared.file_type.FileType.TheVariants as type
 use Rattle.wx_watch.specs.declared.scan_fault.EntryKind.{EntryKind}
@@ -19,13 +20,10 @@ use Rattle.wx_scan.specs.Backings.{AllSpellPaths, is_registered}
 use Rattle.wx_scan.specs.Told.{AreNames, IsNamed, SpellsPath, has_link_above, is_fault, is_link_node, kind_of}
 use Rattle.wx_scan.specs.declared.scanner.ScanError.{ScanError}
 use Rattle.wx_scan.specs.declared.scanner.ScanError.TheVariants.{Io, Memory as OutOfMemory, NotFound}
+use Rattle.wx_scan.proofs.Looks.{names_parts}
 use Rattle.wx_poller.specs.declared.seen.Seen.{Seen}
 use Rattle.wx_poller.specs.Fitting.{Agrees, Answers, IsKnown, any_shows, is_spelled, shown, shows, type_of}
 use Rattle.wx_poller.specs.Listings.{Sight, is_dir, seen_at, type_at}
-
-names_parts : (p : Path) → AreNames p → AreParts p
-names_parts [] h = tt
-names_parts (x ∷ p) h = ((and_parts (is_part x) _ h.0).0, names_parts p h.1)
 
 pub place_of : (t : Tree) (q : Path) (bytes : List ℕ) → SpellsPath t q bytes → place bytes ≡ q
 place_of t q bytes s = ap place s.spelled ∙ place_spelled q (names_parts q s.names)
@@ -70,14 +68,6 @@ in_registered (x ∷ cs) c (inr h) = (let k = in_registered cs c h in or_true (s
     or_true : (a b : Bool) → b ≡ true → (a || b) ≡ true
     or_true true b e = refl
     or_true false b e = e
-
-or_none : (b : Bool) → (b || false) ≡ b
-or_none true = refl
-or_none false = refl
-
-and_none : (b : Bool) → (b && false) ≡ false
-and_none true = refl
-and_none false = refl
 
 abbrev Kind : Type 0
 Kind = Option FileType
@@ -127,8 +117,8 @@ shown_directory t q bytes p cs named s d l =
             | inl b ↦ (let r = registered_in cs p b in
                 let sp : SpellsPath t r.0 p = subst (SpellsPath t r.0) r.2 (entry_spelled t q r.0 named s.no_link d (l.each r.0 r.1) (l.there r.0 r.1)) in
                 let z : (has_entry q (place p) && is_spelled p) ≡ true = entry_shown t q r.0 p sp (l.each r.0 r.1) in
-                rw (a, b, m, n, or_none (has_entry q (place p)), z) refl)
-            | inr b ↦ rw (a, b, m, n, or_none (has_entry q (place p))) (hidden t q cs p l b (has_entry q (place p)) (is_spelled p) refl refl)
+                rw (a, b, m, n, or-false (has_entry q (place p)), z) refl)
+            | inr b ↦ rw (a, b, m, n, or-false (has_entry q (place p))) (hidden t q cs p l b (has_entry q (place p)) (is_spelled p) refl refl)
           ])
     ]
 

@@ -1,11 +1,12 @@
 -- A rebuild keeps it.
 use Rattle.std.proofs.Common.{◌≡◌, Bool, true, false, cond, List, [], ◌∷◌, ◌++◌, refl, ap, sym, ◌∙◌, inl, inr, subst}
 use Rattle.std.specs.Prelude.{◌||◌, ◌⊎◌, not, filter, map}
-use Rattle.std.proofs.lemmas.Bool.{cases_Bool, or_cases, both_ways}
+use Rattle.std.proofs.lemmas.Bool.{cases_Bool, or_cases, both_ways, or_left, or_right}
+use Rattle.std.proofs.lemmas.List.{append-nil}
 use Rattle.wx_tree.specs.Lists.{In}
 use Rattle.wx_tree.specs.Paths.{Path, same}
 use Rattle.wx_tree.proofs.ListLemmas.{In-cases, In-filter, In-left, In-right}
-use Rattle.wx_tree.proofs.PathLemmas.{or_left, or_right, same-true}
+use Rattle.wx_tree.proofs.PathLemmas.{same-true}
 use Rattle.wx_recursor.specs.Holding.{show, still_known}
 use Rattle.wx_recursor.specs.Identities.{guard_known, has_identity, has_known, is_path_gone, named, same_identity}
 use Rattle.wx_recursor.specs.Owners.{has_owner, has_path}
@@ -20,8 +21,9 @@ use Rattle.wx_recursor.specs.declared.known.Identity.{Identity}
 use Rattle.wx_recursor.specs.declared.known.Known.{Known}
 use Rattle.wx_recursor.specs.declared.owner.GuardWatch.{GuardWatch}
 use Rattle.wx_recursor.specs.declared.owner.Owner.{Owner}
-use Rattle.wx_recursor.proofs.OwnerLemmas.{append_third, nil_right}
+use Rattle.wx_recursor.proofs.OwnerLemmas.{append_third}
 use Rattle.wx_recursor.proofs.SoundLemmas.{has_there, identity_true, in_map_filter, once_filter, once_push}
+use Rattle.wx_recursor.proofs.SoundSteps.{cond_things}
 
 -- what holds while a rebuild is under way: no path and no identity twice
 pub record Tidy (h : Things) : Type 0 where
@@ -332,11 +334,7 @@ tidy_waits g gs s u e t =
 
 tidy_drops : (g : Known) (gs : List Known) (s u : RecursorState) → things u ≡ things s → Tidy (with_rest (g ∷ gs) s) → Tidy (with_rest gs u)
 tidy_drops g gs s u e t =
-    stays s u g gs [] (λ k m. subst (λ h. In k h.known) e m) (λ k m. subst (λ h. In k (map guard_known h.guards)) e m) (ap (λ h. h.registrations) e) (ap (λ h. h.waiting) e ∙ sym (nil_right s.waiting)) tt (λ x m. absurd m) (λ k m. absurd m) t
-
-cond_same : (b : Bool) (x y s : RecursorState) → things x ≡ things s → things y ≡ things s → things (cond b x y) ≡ things s
-cond_same true x y s e f = e
-cond_same false x y s e f = f
+    stays s u g gs [] (λ k m. subst (λ h. In k h.known) e m) (λ k m. subst (λ h. In k (map guard_known h.guards)) e m) (ap (λ h. h.registrations) e) (ap (λ h. h.waiting) e ∙ sym (append-nil s.waiting)) tt (λ x m. absurd m) (λ k m. absurd m) t
 
 one_tidy : (g : Known) (w : Watched) (gs : List Known) (s : RecursorState) → Tidy (with_rest (g ∷ gs) s) → Tidy (with_rest gs (replayed_one g w s))
 one_tidy g (Kept look) gs s t = lands s g gs t
@@ -351,10 +349,10 @@ one_tidy g (Failed f) gs s t =
     (λ k m. let a = first_in g.identity (ks ++ map guard_known u.guards) k m in elim (In-cases k ks (map guard_known u.guards) a.0) [ inl b ↦ inl (still_in u.owners s.known k b) | inr b ↦ inr (inl (guards k b)) ])
     t)
     (tidy_cond (is_resource_fault f) _ _ gs
-    (tidy_waits g gs s (stop f s) (cond_same s.stopped _ _ s refl refl) t)
+    (tidy_waits g gs s (stop f s) (cond_things s.stopped _ _ s refl refl) t)
     (tidy_cond (has_path g.path s.failed) _ _ gs
-    (tidy_drops g gs s (failed_watch g.path f s) (cond_same (has_path g.path s.failed) _ _ s refl refl) t)
-    (tidy_waits g gs s (failed_watch g.path f s) (cond_same (has_path g.path s.failed) _ _ s refl refl) t)))
+    (tidy_drops g gs s (failed_watch g.path f s) (cond_things (has_path g.path s.failed) _ _ s refl refl) t)
+    (tidy_waits g gs s (failed_watch g.path f s) (cond_things (has_path g.path s.failed) _ _ s refl refl) t)))
 
 all_tidy : (gs : List Known) (ws : List Watched) (s : RecursorState) → Tidy (with_rest gs s) → Tidy (things (replayed_all gs ws s))
 all_tidy [] ws s t = t
@@ -364,5 +362,5 @@ all_tidy (g ∷ gs) (w ∷ ws) s t =
 
 pub replayed_sound : (ws : List Watched) (s : RecursorState) → AreSound (things s) → AreSound (things (replayed ws s))
 replayed_sound ws s sound =
-    let t : Tidy (with_rest s.waiting (record s { waiting = [] })) = subst (λ y. Tidy (record (things s) { waiting = y })) (sym (nil_right s.waiting)) (sound_tidy (things s) sound) in
+    let t : Tidy (with_rest s.waiting (record s { waiting = [] })) = subst (λ y. Tidy (record (things s) { waiting = y })) (sym (append-nil s.waiting)) (sound_tidy (things s) sound) in
     upheld_sound (replayed_all s.waiting ws (record s { waiting = [] })) (all_tidy s.waiting ws (record s { waiting = [] }) t)

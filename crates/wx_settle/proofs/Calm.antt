@@ -16,6 +16,7 @@ use Rattle.wx_settle.specs.Plain.{plain}
 use Rattle.wx_settle.specs.Runs.{RecursorReached, RecursorShows, RecursorSteps}
 use Rattle.wx_settle.proofs.Reach.{Stands, call_stands, full_reached, full_steps}
 use Rattle.wx_settle.proofs.Shows.{ShowsAbsentRoot, Tells, reached_quiet, steps_show}
+use Rattle.wx_settle.proofs.EpochLemmas.{or-false}
 
 steps_more : (t : Tree) (ok : Path → Bool) (n : ℕ) (s u : RecursorState) (e : Evidence) → RecursorSteps t ok n s u → has_work u.queue u.sweep_due ≡ true → SeesFirst t ok u.queue e → NoneRefused e.releases → RecursorSteps t ok (suc n) s (told (stepped e u))
 steps_more t ok zero s u e same work sees releases =
@@ -31,10 +32,6 @@ full_stands t c cs u (n, s, before, steps) =
     let a = full_reached t cs s before in
     let b = full_steps t c.ok c.steps (reconciled c.roots n s) u (call_stands t c.ok c.roots n cs s a.0 a.1) steps in
     b.0
-
-or-false : (b : Bool) → b ≡ (b || false)
-or-false true = refl
-or-false false = refl
 
 -- what it shows, and that it asks for no rebuild
 pub step_calm : (t : Tree) (c : Call) (cs : List Call) (u : RecursorState) (e : Evidence) → RecursorReached t (c ∷ cs) u → has_work u.queue u.sweep_due ≡ true → SeesFirst t c.ok u.queue e → NoneRefused e.releases

@@ -22,7 +22,7 @@ shows_steps : (t : Tree) (ok : Path → Bool) (n : ℕ) (s u : RecursorState) (e
 shows_steps t ok zero s u errors asks (same, none, quiet) = same
 shows_steps t ok (suc n) s u errors asks (e, more, later, work, sees, releases, shown, asked, rest) = (e, work, sees, releases, shows_steps t ok n (told (stepped e s)) u more later rest)
 
-or-false : (b : Bool) → b ≡ (b || false)
+pub or-false : (b : Bool) → b ≡ (b || false)
 or-false true = refl
 or-false false = refl
 

@@ -1,6 +1,6 @@
 -- The bytes of a path lead back to it, and the place that bytes name has parts.
 use Rattle.std.proofs.Common.{◌≡◌, ℕ, zero, suc, true, false, List, [], ◌∷◌, ◌++◌, refl, ap, sym, ◌∙◌, inl, inr, append_assoc}
-use Rattle.std.specs.Prelude.{◌==◌, not, drop, take, ◌&&◌}
+use Rattle.std.specs.Prelude.{◌==◌, not, drop, take}
 use Rattle.std.proofs.lemmas.Bool.{cases_Bool, and_parts, and_from}
 use Rattle.wx_tree.specs.Paths.{Part, Path}
 use Rattle.wx_tree.specs.Places.{slash, push_part, place_from, place, parts_spelled, spelled, has_no_slash, is_part, AreParts}
@@ -9,7 +9,7 @@ nil_right : (xs : List ℕ) → xs ++ [] ≡ xs
 nil_right [] = refl
 nil_right (y ∷ xs) = ap (λ z. y ∷ z) (nil_right xs)
 
-part-read : (x bytes part : List ℕ) (path : Path) → has_no_slash x ≡ true → place_from (x ++ bytes) part path ≡ place_from bytes (part ++ x) path
+pub part-read : (x bytes part : List ℕ) (path : Path) → has_no_slash x ≡ true → place_from (x ++ bytes) part path ≡ place_from bytes (part ++ x) path
 part-read [] bytes part path h = ap (λ c. place_from bytes c path) (sym (nil_right part))
 part-read (b ∷ x) bytes part path h =
     let a = and_parts (not (b == slash)) (has_no_slash x) h in
@@ -18,11 +18,11 @@ part-read (b ∷ x) bytes part path h =
       | inr e ↦ rw e (part-read x bytes (part ++ b ∷ []) path a.1 ∙ ap (λ c. place_from bytes c path) (append_assoc part (b ∷ []) x))
     ]
 
-part-pushed : (x : Part) (path : Path) → is_part x ≡ true → push_part x path ≡ x ∷ path
+pub part-pushed : (x : Part) (path : Path) → is_part x ≡ true → push_part x path ≡ x ∷ path
 part-pushed [] path h = cc
 part-pushed (b ∷ x) path h = refl
 
-part-clean : (x : Part) → is_part x ≡ true → has_no_slash x ≡ true
+pub part-clean : (x : Part) → is_part x ≡ true → has_no_slash x ≡ true
 part-clean [] h = cc
 part-clean (b ∷ x) h = h
 

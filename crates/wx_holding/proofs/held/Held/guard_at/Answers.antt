@@ -5,8 +5,9 @@ use Rattle.std.proofs.Common.{ap, sym, ◌∙◌}
 use Rattle.wx_holding.proofs.Watching.{keeps_same}
 use Rattle.wx_holding.proofs.LettingGo.{retry_registrations}
 use Rattle.wx_tree.specs.Trees.{guard_of}
-use Rattle.wx_holding.proofs.CalmActs.{guards_calm_nowhere, never_faulty, stands_same}
+use Rattle.wx_holding.proofs.CalmActs.{guards_calm_nowhere, never_faulty}
 use Rattle.wx_holding.proofs.held.Held.guard_at.Goals as goal
+use Rattle.wx_holding.proofs.StandingBy.{stands_same}
 
 pub returns-in-Nowhere-clause-state : goal.returns-in-Nowhere-clause-state
 returns-in-Nowhere-clause-state g c =
