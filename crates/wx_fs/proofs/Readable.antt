@@ -11,7 +11,7 @@ use Rattle.wx_tree.specs.declared.node.Node.TheVariants.{Dir, File, Link}
 use Rattle.wx_tree.specs.declared.root.Root.{Root}
 use Rattle.wx_tree.proofs.Reaching.{entry-chain, reaches-chain, there_from_dir}
 use Rattle.wx_scan.specs.Told.{AreNames, IsNamed, has_link_above, is_link_node}
-use Rattle.wx_scan.proofs.Looks.{directory_no_link, no_link_above}
+use Rattle.wx_scan.proofs.LookLemmas.{directory_no_link, no_link_above}
 use Rattle.wx_recursor.specs.States.{RecursorState}
 use Rattle.wx_recursor.specs.declared.errors.ShownError.{ShownError}
 use Rattle.wx_recursor.specs.declared.work.Item.{Item}

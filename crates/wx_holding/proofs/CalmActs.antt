@@ -12,7 +12,7 @@ use Rattle.wx_tree.proofs.Reaching.{fit_from_dir, chain_dir, last_chain, guard_d
 use Rattle.wx_scan.specs.Backings.{Backing}
 use Rattle.wx_scan.specs.Looked.{Looked, OnlyLooks}
 use Rattle.wx_scan.specs.Told.{AreNames, has_link_above, is_link_node}
-use Rattle.wx_scan.proofs.Looks.{directory_no_link, no_link_above}
+use Rattle.wx_scan.proofs.LookLemmas.{directory_no_link, no_link_above}
 use Rattle.wx_recursor.specs.Guarding.{guard_placed, guarded, guarded_at, looked_again, unguarded}
 use Rattle.wx_recursor.specs.Identities.{is_of_directory}
 use Rattle.wx_recursor.specs.Owning.{added_result, owned}

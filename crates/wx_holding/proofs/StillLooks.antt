@@ -12,7 +12,7 @@ use Rattle.wx_tree.proofs.PlaceLemmas.{place_spelled}
 use Rattle.wx_tree.proofs.Reaching.{chain_here}
 use Rattle.wx_scan.specs.Looked.{Looked, OnlyLooks}
 use Rattle.wx_scan.specs.Told.{AreNames, IsListed, IsNamed, Unlinked, has_link_above, is_link_node}
-use Rattle.wx_scan.proofs.Looks.{directory_no_link, no_link_above, names_parts}
+use Rattle.wx_scan.proofs.LookLemmas.{directory_no_link, no_link_above, names_parts}
 use Rattle.wx_recursor.specs.Seen.{guard_found_at, identity_at, is_gap, look_at_node, root_found}
 use Rattle.wx_recursor.specs.declared.answers.Found.{Found}
 use Rattle.wx_recursor.specs.declared.answers.Found.TheVariants.{Barred, Entries, Here, Missing}

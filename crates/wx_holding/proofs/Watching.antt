@@ -12,7 +12,7 @@ use Rattle.wx_tree.proofs.PathLemmas.{same_part-true}
 use Rattle.wx_recursor.specs.declared.known.Known.{Known}
 use Rattle.wx_scan.specs.Backings.{Backing, Changes, is_registered, register}
 use Rattle.wx_scan.specs.Looked.{Rose}
-use Rattle.wx_scan.proofs.Looks.{registered_in}
+use Rattle.wx_scan.proofs.LookLemmas.{registered_in}
 use Rattle.wx_holding.specs.Backed.{AreRegistered, AreWatched, KeepsWatches}
 
 -- what is registered is in the list

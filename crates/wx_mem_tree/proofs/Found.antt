@@ -9,7 +9,7 @@ use Rattle.wx_tree.specs.declared.node.Node.{Node}
 use Rattle.wx_tree.proofs.PathLemmas.{same-true}
 use Rattle.wx_tree.proofs.PlaceLemmas.{place_spelled}
 use Rattle.wx_scan.specs.Told.{AreNames, SpellsPath, has_link_above, is_link_node, is_name}
-use Rattle.wx_scan.proofs.Looks.{names_parts}
+use Rattle.wx_scan.proofs.LookLemmas.{names_parts}
 use Rattle.wx_mem_tree.specs.declared.entry.MemEntry.{MemEntry}
 use Rattle.wx_mem_tree.specs.Entries.{found_at, has_link_on, is_link_at, node_found, tree_of}
 

@@ -20,7 +20,7 @@ use Rattle.wx_scan.specs.Looked.{Looked, Rose}
 use Rattle.wx_scan.specs.Told.{IsNamed, SpellsPath}
 use Rattle.wx_scan.specs.declared.scanner.ScanError.{ScanError}
 use Rattle.wx_scan.specs.declared.scanner.ScanError.TheVariants.{Memory as OutOfMemory}
-use Rattle.wx_scan.proofs.Looks.{registered_in}
+use Rattle.wx_scan.proofs.LookLemmas.{registered_in}
 use Rattle.wx_watch.specs.declared.notify_fault.NotifyFault.{NotifyFault}
 use Rattle.wx_watch.specs.declared.notify_fault.NotifyFaultKind.{NotifyFaultKind}
 use Rattle.wx_watch.specs.declared.notify_fault.NotifyFaultKind.TheVariants.{Generic, InvalidConfig, Io, MaxFilesWatch, Memory, PathNotFound, WatchNotFound}

@@ -20,7 +20,7 @@ use Rattle.wx_scan.specs.Backings.{AllSpellPaths, is_registered}
 use Rattle.wx_scan.specs.Told.{AreNames, IsNamed, SpellsPath, has_link_above, is_fault, is_link_node, kind_of}
 use Rattle.wx_scan.specs.declared.scanner.ScanError.{ScanError}
 use Rattle.wx_scan.specs.declared.scanner.ScanError.TheVariants.{Io, Memory as OutOfMemory, NotFound}
-use Rattle.wx_scan.proofs.Looks.{names_parts}
+use Rattle.wx_scan.proofs.LookLemmas.{names_parts}
 use Rattle.wx_poller.specs.declared.seen.Seen.{Seen}
 use Rattle.wx_poller.specs.Fitting.{Agrees, Answers, IsKnown, any_shows, is_spelled, shown, shows, type_of}
 use Rattle.wx_poller.specs.Listings.{Sight, is_dir, seen_at, type_at}

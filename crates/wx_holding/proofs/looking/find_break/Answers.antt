@@ -1,7 +1,7 @@
 use Rattle.std.proofs.Common.{ℕ, arith, refl, ◌-◌, ◌∙◌}
 use Rattle.wx_tree.specs.Paths.{Path}
 use Rattle.wx_scan.specs.Looked.{Looked}
-use Rattle.wx_scan.proofs.Looks.{more_looks}
+use Rattle.wx_scan.proofs.LookLemmas.{more_looks}
 use Rattle.wx_holding.proofs.StillLooks.{breaks_absent, breaks_barred, finds_above, never_broken, way_goes_on}
 use Rattle.wx_holding.proofs.looking.find_break.Goals as goal
 use Rattle.wx_holding.proofs.StandingBy.{still_before}

@@ -1,7 +1,7 @@
 use Rattle.std.proofs.Common.{ℕ, arith, refl, ◌-◌, ◌∙◌}
 use Rattle.wx_tree.specs.Paths.{Path}
 use Rattle.wx_scan.specs.Looked.{Looked}
-use Rattle.wx_scan.proofs.Looks.{more_looks}
+use Rattle.wx_scan.proofs.LookLemmas.{more_looks}
 use Rattle.wx_holding.proofs.Watching.{rose_sooner}
 use Rattle.wx_holding.proofs.StillLooks.{finds_above, last_ends, last_goes_on}
 use Rattle.wx_holding.proofs.looking.find_last.Goals as goal

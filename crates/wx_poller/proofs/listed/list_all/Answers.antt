@@ -1,7 +1,7 @@
 use Rattle.std.proofs.Common.{None, refl, ap, sym, subst, ◌∙◌}
 use Rattle.std.specs.Option.{option_or}
 use Rattle.wx_scan.specs.Backings.{AllSpellPaths}
-use Rattle.wx_scan.proofs.Looks.{no_looks, more_looks}
+use Rattle.wx_scan.proofs.LookLemmas.{no_looks, more_looks}
 use Rattle.wx_poller.specs.Fitting.{shown}
 use Rattle.wx_poller.specs.Listings.{type_at}
 use Rattle.wx_poller.proofs.Looks.{told_after, told_before}

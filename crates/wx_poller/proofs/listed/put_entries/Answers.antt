@@ -3,7 +3,7 @@ use Rattle.std.specs.Option.{option_or}
 use Rattle.wx_tree.specs.Places.{place}
 use Rattle.wx_tree.specs.Trees.{node_at}
 use Rattle.wx_scan.specs.Backings.{AllSpellPaths, is_registered}
-use Rattle.wx_scan.proofs.Looks.{no_looks, more_looks}
+use Rattle.wx_scan.proofs.LookLemmas.{no_looks, more_looks}
 use Rattle.wx_poller.specs.Fitting.{type_of}
 use Rattle.wx_poller.specs.Listings.{type_at}
 use Rattle.wx_poller.proofs.Looks.{told_after, told_before}

@@ -1,7 +1,7 @@
 use Rattle.std.proofs.Common.{refl, sym, ◌∙◌}
 use Rattle.wx_poller.proofs.Fits.{next_fits, none_pending, not_pending, ok_map, pending_given, take_gives}
 use Rattle.wx_poller.proofs.poller.Poller.find_next.Goals as goal
-use Rattle.wx_scan.proofs.Looks.{no_looks}
+use Rattle.wx_scan.proofs.LookLemmas.{no_looks}
 
 pub returns-then-is_empty-clause-looked : goal.returns-then-is_empty-clause-looked
 returns-then-is_empty-clause-looked g c = c.find_new.ensures.looked
