@@ -20,7 +20,7 @@ use Rattle.wx_machine.specs.Journal.{ending}
 use Rattle.wx_file_turns.specs.Serves.{ends_unmade}
 use Rattle.wx_machine.specs.Start.{Start}
 use Rattle.wx_machine.specs.Jobs.{jobs}
-use Rattle.wx_machine.specs.Due.{Hands, Agenda, Comes, agenda, Open, Ends, sends, rest, after_show, settle, IsRun}
+use Rattle.wx_machine.specs.Due.{Hands, Agenda, Comes, agenda, Ends, sends, rest, after_show, settle, IsRun}
 use Rattle.wx_machine.specs.Answer.{Dying, Alive, IsComplete, IsBroken, IsBehindTurn, NoneIsToGo, MemoryCuts, Wishes, BreaksOff, Answers}
 use Rattle.wx_machine.specs.RunLaws.{NoneUrgentWaits}
 use Rattle.wx_machine.proofs.BatchLaws.{is_to_hand, none_waits, run_is_served}

@@ -1,8 +1,7 @@
 -- What the turns of a run leave of what is watched.
-use Rattle.std.proofs.Common.{◌≡◌, ℕ, ◌+◌, ◌≤◌, Bool, true, false, Option, List, ◌∷◌, Ok, Err, inl, inr, refl, arith}
+use Rattle.std.proofs.Common.{◌≡◌, ℕ, ◌+◌, ◌≤◌, Bool, true, false, Option, List, ◌∷◌, inl, inr, refl, arith}
 use Rattle.std.proofs.lemmas.Bool.{leb-true, leb-false}
-use Rattle.std.specs.Prelude.{◌-◌, ◌^◌, nat_le, Result, OnOk}
-use Rattle.wx_scan.specs.declared.backend.Backend.{Ghosts}
+use Rattle.std.specs.Prelude.{◌-◌, ◌^◌, nat_le}
 use Rattle.wx_journal.specs.declared.entry.Entry.{Entry}
 use Rattle.wx_journal.specs.declared.entry.Entry.TheVariants.{Turn as Turned, Make}
 use Rattle.wx_journal.specs.declared.entry.Turn.{Turn}
@@ -25,9 +24,7 @@ use Rattle.wx_machine.proofs.NoFiles.{turn_adds_none, source_kept}
 use Rattle.wx_machine.proofs.PaidLaws.{paid_less, paid_kept}
 use Rattle.wx_action.specs.declared.worker_state.Worker.{Worker}
 use Rattle.wx_action.specs.Stands.{AtTurn}
-use Rattle.wx_file_turns.specs.declared.files.Files.{Files}
 use Rattle.wx_file_turns.specs.Serves.{is_unmade, ends_unmade, PaysOn}
-use Rattle.wx_file_turns.specs.Standing.{FilesStand}
 use Rattle.wx_engine.specs.Run.{AreFewSteps}
 
 -- what holds anyway holds where a call went well

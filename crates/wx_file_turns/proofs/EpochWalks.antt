@@ -1,7 +1,8 @@
 -- What a recursor reaches, as settings are applied and steps are done.
 use Rattle.std.proofs.Common.{◌≡◌, ℕ, suc, zero, ◌+◌, ◌*◌, ◌≤◌, Bool, true, false, cond, List, [], ◌∷◌, ◌++◌, length, arith, refl, ap, sym, subst, ◌∙◌, inl, inr}
-use Rattle.std.specs.Prelude.{◌||◌, map}
+use Rattle.std.specs.Prelude.{map}
 use Rattle.std.proofs.Math.Nat.{suc-mul}
+use Rattle.std.proofs.lemmas.Bool.{or_parts}
 use Rattle.wx_watch.specs.declared.watched.WatchedPath.{WatchedPath}
 use Rattle.wx_watch.specs.declared.watched.Watcher.{Watcher}
 use Rattle.wx_error.specs.declared.runtime.RuntimeError.{RuntimeError}
@@ -47,11 +48,7 @@ settle_more g h r q n o guards roots = let more = times_more r q n roots in omeg
 not_in : (r : Root) (rs : List Root) → has_root r rs ≡ false → In r rs → ⊥
 not_in r [] none m = m
 not_in r (q ∷ rs) none (inl same) = let is : same_root q r ≡ true = subst (λ (x : Root). same_root q x ≡ true) same (same_root-refl q) in let no : true ≡ false = rw is at none in cc
-not_in r (q ∷ rs) none (inr m) = not_in r rs (later (same_root q r) (has_root r rs) none) m
-  where
-    later : (a b : Bool) → (a || b) ≡ false → b ≡ false
-    later true b is = absurd cc
-    later false b is = is
+not_in r (q ∷ rs) none (inr m) = not_in r rs (or_parts (same_root q r) (has_root r rs) none).1 m
 
 once_more : {X : Type 0} (x : X) (xs : List X) → (In x xs → ⊥) → AllOnce xs → AllOnce (xs ++ x ∷ [])
 once_more x [] none once = (λ m. m, tt)

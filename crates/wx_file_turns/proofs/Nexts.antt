@@ -1,14 +1,14 @@
 -- What comes where there is no step to take, by what is kept.
 use Rattle.std.proofs.Common.{◌≡◌, ℕ, Bool, true, false, cond, List, [], ◌∷◌, refl, ap, sym, subst, ◌∙◌}
-use Rattle.std.specs.Prelude.{IfOk, Option, None, Some, Result, Ok, Err, ◌||◌, ◌&&◌, not, slice_get}
+use Rattle.std.specs.Prelude.{IfOk, Option, None, Some, Result, Ok, Err, not, slice_get}
+use Rattle.std.proofs.lemmas.Result.{IfOk-weaker}
 use Rattle.wx_scan.specs.declared.backend.Backend.{Ghosts}
 use Rattle.wx_notify.specs.declared.notify.Notify.{Notify}
 use Rattle.wx_watch.specs.declared.notify_fault.NotifyFault.{NotifyFault}
 use Rattle.wx_lane.specs.FileEvents.{event_of}
 use Rattle.wx_holding.specs.Holding.{state_of}
-use Rattle.wx_holding.proofs.Results.{if_map}
 use Rattle.wx_lane.specs.declared.lane.LaneItem.{LaneItem}
-use Rattle.wx_lane.specs.Lanes.{LaneState, fenced, has_changes, is_event}
+use Rattle.wx_lane.specs.Lanes.{LaneState, fenced}
 use Rattle.wx_lane.specs.Public.{event_is_public}
 use Rattle.wx_journal.specs.declared.entry.Entry.{Entry}
 use Rattle.wx_journal.specs.declared.entry.Entry.TheVariants.{Heard}
@@ -101,4 +101,4 @@ first_got (i ∷ items) = refl
 pub first_drafted : {B E : Type 0} {G : Ghosts B} (w : Watching B G) (i : Intake) (x : LaneItem) (live : Bool) (result : Result Next E) → i.asks ≡ None → slice_get i.lane.items 0 ≡ Some x → live ≡ is_live_by w i.since x.back → IfOk result (λ n. n ≡ next_item w live x) → IfOk result (λ n. n ≡ next_asked w i i.asks)
 first_drafted w i x live result none there lives drafted =
     let same : next_asked w i i.asks ≡ next_item w live x = ap (next_asked w i) none ∙ ap (next_first w i.since) (sym (first_got i.lane.items) ∙ there) ∙ ap (λ (b : Bool). next_item w b x) (sym lives) in
-    if_map result (λ n. n ≡ next_item w live x) (λ n. n ≡ next_asked w i i.asks) (λ n e. e ∙ sym same) drafted
+    IfOk-weaker result (λ n. n ≡ next_item w live x) (λ n. n ≡ next_asked w i i.asks) (λ n e. e ∙ sym same) drafted

@@ -2,7 +2,7 @@
 use Rattle.std.proofs.Common.{◌≡◌, ◌≤◌, ◌+◌, ℕ, Bool, true, false, List, ◌∷◌, inl, inr, arith, refl, ap, sym, ◌∙◌}
 use Rattle.std.specs.Prelude.{is_some, Result, Ok, Err, OnOk, IfOk}
 use Rattle.wx_scan.specs.declared.backend.Backend.{Ghosts}
-use Rattle.wx_scan.specs.Looked.{Looked, OnlyLooks, Rose}
+use Rattle.wx_scan.specs.Looked.{Looked, OnlyLooks}
 use Rattle.wx_watch.specs.declared.watched.Watcher.{Watcher}
 use Rattle.wx_error.specs.declared.runtime.RuntimeError.{RuntimeError}
 use Rattle.wx_recursor.specs.Calls.{has_work}

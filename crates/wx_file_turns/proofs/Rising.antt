@@ -1,6 +1,6 @@
 -- Names rise in the lane of each journal that names its own.
-use Rattle.std.proofs.Common.{◌≡◌, ℕ, ◌+◌, ◌<◌, ◌≤◌, Bool, true, false, cond, List, [], ◌∷◌, ◌++◌, arith, refl, ap, subst, eq-eqb, ne_eqb}
-use Rattle.std.specs.Prelude.{Option, None, Some, Result, Ok, Err, ◌==◌, ◌&&◌, not}
+use Rattle.std.proofs.Common.{◌≡◌, ℕ, ◌+◌, ◌<◌, ◌≤◌, Bool, true, false, cond, List, [], ◌∷◌, ◌++◌, arith, refl, subst, ne_eqb}
+use Rattle.std.specs.Prelude.{Option, None, Some, Result, ◌==◌, ◌&&◌, not}
 use Rattle.wx_events.specs.declared.event.Event.{Event}
 use Rattle.wx_events.specs.declared.priority.Priority.{Priority}
 use Rattle.wx_notify.specs.declared.notify.Notify.{Notify}
@@ -16,7 +16,7 @@ use Rattle.wx_journal.specs.declared.entry.Word.{Word}
 use Rattle.wx_journal.specs.declared.entry.Word.TheVariants.{Stepped}
 use Rattle.wx_journal.specs.Names.{item_count, names_item, NamesItsOwn}
 use Rattle.wx_machine.specs.Start.{Start}
-use Rattle.wx_machine.specs.Files.{Source, source, first_item, item_named, leave, said, stand}
+use Rattle.wx_machine.specs.Files.{Source, source, first_item, item_named, leave, said}
 use Rattle.wx_machine.proofs.LaneLaws.{stand_keeps, rises}
 use Rattle.wx_machine.proofs.RestLaws.{same_there}
 

@@ -7,10 +7,9 @@ use Rattle.wx_watch.specs.declared.notify_fault.NotifyFault.{NotifyFault}
 use Rattle.wx_config.specs.declared.config.Config.{Config}
 use Rattle.wx_tree.specs.Paths.{Path}
 use Rattle.wx_tree.specs.Trees.{Tree}
-use Rattle.wx_scan.specs.Backings.{AllSpellPaths, Backing, BringsNoChange, IsExact}
+use Rattle.wx_scan.specs.Backings.{Backing, BringsNoChange, IsExact}
 use Rattle.wx_scan.specs.Looked.{Looked, Rose}
-use Rattle.wx_scan.specs.Told.{IsNamed, SpellsPath}
-use Rattle.wx_tree.specs.Lists.{In}
+use Rattle.wx_scan.specs.Told.{IsNamed}
 use Rattle.wx_lane.specs.declared.lane.LaneItem.{LaneItem}
 use Rattle.wx_lane.specs.declared.topology.Topology.{Topology}
 use Rattle.wx_lane.specs.Lanes.{LaneState, fenced, has_changes as item_has_changes, hear, hear_first, is_full, is_unheard, is_waiting, put_item}
@@ -22,7 +21,7 @@ use Rattle.wx_recursor.specs.declared.answers.BackendPlace.{BackendPlace}
 use Rattle.wx_recursor.specs.declared.answers.BackendPlace.TheVariants.{Installed}
 use Rattle.wx_recursor.specs.declared.known.Known.{Known}
 use Rattle.wx_holding.specs.Backed.{AreRegistered, AreWatched}
-use Rattle.wx_holding.specs.Calm.{IsReadable, StandsBy}
+use Rattle.wx_holding.specs.Calm.{StandsBy}
 use Rattle.wx_holding.specs.Holding.{state_of}
 use Rattle.wx_holding.proofs.StandingBy.{all_spell, reads_registered}
 use Rattle.wx_fs.specs.Settling.{BackendStands}

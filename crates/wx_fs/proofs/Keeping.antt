@@ -3,12 +3,12 @@ use Rattle.std.proofs.Common.{◌≡◌, ◌∙◌, ◌++◌, ℕ, Bool, true, f
 use Rattle.std.specs.Prelude.{◌&&◌, OnErr, OnOk}
 use Rattle.std.specs.Coded.{Coded-set, coded_bool}
 use Rattle.std.proofs.Math.Logic.{∥∥₁_elim, ∥∥₁_map}
-use Rattle.std.proofs.lemmas.Bool.{and_from, and_parts, false≢true, or_cases, or_left, or_right}
+use Rattle.std.proofs.lemmas.Bool.{and_from, and_parts, false≢true, or_left, or_right}
 use Rattle.wx_error.specs.declared.runtime.RuntimeError.{RuntimeError}
 use Rattle.wx_watch.specs.declared.watched.Watcher.{Watcher}
 use Rattle.wx_tree.specs.Lists.{In}
 use Rattle.wx_tree.specs.Paths.{Path, holds, same}
-use Rattle.wx_tree.proofs.PathLemmas.{same-refl, same-true}
+use Rattle.wx_tree.proofs.PathLemmas.{same-refl}
 use Rattle.wx_tree.specs.declared.root.Root.{Root}
 use Rattle.wx_recursor.specs.Calls.{aliases, created, created_one, for_each, fresh, reconciled, removed, removed_one, renamed, rescanned, unsure, unsure_one}
 use Rattle.wx_recursor.specs.Owners.{has_path}

@@ -1,5 +1,5 @@
 -- Roots that are kept have names for parts: a normal path has no empty part, and neither `.` nor `..`.
-use Rattle.std.proofs.Common.{◌≡◌, ℕ, zero, suc, Bool, true, false, cond, List, [], ◌∷◌, ◌++◌, length, refl, ap, sym, ◌∙◌, inl, inr, subst, append_assoc, codes}
+use Rattle.std.proofs.Common.{◌≡◌, ℕ, zero, suc, Bool, true, false, cond, List, [], ◌∷◌, ◌++◌, length, refl, ap, sym, ◌∙◌, inl, inr, subst, codes}
 use Rattle.std.specs.Prelude.{◌==◌, ◌||◌, not, take}
 use Rattle.std.specs.List.{fold, join_with_byte, onto_first}
 use Rattle.std.specs.Str.{bytes_eq}

@@ -1,11 +1,10 @@
 -- What a step may ask about.
 use Rattle.std.proofs.Common.{◌≡◌, true, false, Bool, List, [], ◌∷◌, inl, inr, subst}
 use Rattle.std.specs.Prelude.{◌||◌, not}
-use Rattle.std.proofs.lemmas.Bool.{and_parts, or_cases}
+use Rattle.std.proofs.lemmas.Bool.{and_parts}
 use Rattle.wx_tree.specs.Lists.{In}
-use Rattle.wx_tree.specs.Paths.{Path, same}
+use Rattle.wx_tree.specs.Paths.{Path}
 use Rattle.wx_tree.specs.declared.root.Root.{Root}
-use Rattle.wx_tree.proofs.PathLemmas.{same-true}
 use Rattle.wx_recursor.specs.Owners.{has_path}
 use Rattle.wx_recursor.proofs.OwnerLemmas.{has_path_in}
 use Rattle.wx_step.specs.Asking.{AreAllowed}

@@ -1,18 +1,16 @@
 -- What the acts of a step make where nothing fails.
 use Rattle.std.proofs.Common.{◌≡◌, ℕ, Bool, true, false, List, [], ◌∷◌, refl, ap, sym, ◌∙◌, inl, inr, subst}
-use Rattle.std.specs.Prelude.{◌&&◌, ◌||◌, Option, Some, None, if◌then◌else◌}
-use Rattle.std.proofs.lemmas.Bool.{cases_Bool, and_parts, or_from}
+use Rattle.std.specs.Prelude.{◌&&◌, Option, Some, None, if◌then◌else◌}
+use Rattle.std.proofs.lemmas.Bool.{cases_Bool, and_parts}
+use Rattle.std.proofs.lemmas.Option.{same_Some}
 use Rattle.wx_tree.specs.Paths.{Path}
-use Rattle.wx_tree.specs.Trees.{Tree, guard_of, is_chain, is_chain_above, is_directory, is_directory_node, is_fit_node, is_safe, is_there, last_of_chain, node_at}
-use Rattle.wx_tree.specs.declared.node.Node.{Node}
-use Rattle.wx_tree.specs.declared.node.Node.TheVariants.{Dir, File, Link}
+use Rattle.wx_tree.specs.Trees.{Tree, guard_of, is_chain, is_chain_above, is_directory, is_fit_node, is_safe, is_there, last_of_chain, node_at}
 use Rattle.wx_tree.specs.declared.root.Root.{Root}
-use Rattle.wx_tree.proofs.PathLemmas.{some_is}
 use Rattle.wx_tree.proofs.Reaching.{fit_from_dir, chain_dir, last_chain, guard_dir}
 use Rattle.wx_scan.specs.Backings.{Backing}
 use Rattle.wx_scan.specs.Looked.{Looked, OnlyLooks}
-use Rattle.wx_scan.specs.Told.{AreNames, has_link_above, is_link_node}
-use Rattle.wx_scan.proofs.LookLemmas.{directory_no_link, no_link_above}
+use Rattle.wx_scan.specs.Told.{AreNames}
+use Rattle.wx_scan.proofs.LookLemmas.{no_link_above}
 use Rattle.wx_recursor.specs.Guarding.{guard_placed, guarded, guarded_at, looked_again, unguarded}
 use Rattle.wx_recursor.specs.Identities.{is_of_directory}
 use Rattle.wx_recursor.specs.Owning.{added_result, owned}
@@ -32,7 +30,7 @@ use Rattle.wx_recursor.specs.declared.known.Identity.TheVariants.{Canonical}
 use Rattle.wx_recursor.specs.declared.known.Known.{Known}
 use Rattle.wx_recursor.specs.declared.work.Item.TheVariants.{Visit}
 use Rattle.wx_recursor.specs.declared.work.Work.TheVariants.{Plain}
-use Rattle.wx_holding.specs.Calm.{AddsCalmly, GuardsCalmly, IsCalm, IsFit, IsReadable, IsStill, StandsBy, TriesCalmly, VisitsCalmly}
+use Rattle.wx_holding.specs.Calm.{AddsCalmly, GuardsCalmly, IsCalm, IsFit, IsReadable, IsStill, TriesCalmly, VisitsCalmly}
 use Rattle.wx_holding.proofs.Watching.{rose_later, rose_sooner}
 
 -- a part of a still time is still
@@ -62,12 +60,12 @@ chain_above t (x ∷ p) h = let a = and_parts (is_directory t (x ∷ p)) (is_cha
 last_names : (t : Tree) (q p : Path) → AreNames q → last_of_chain t q ≡ Some p → AreNames p
 last_names t [] p n e =
     elim (cases_Bool (is_directory t [])) [
-      | inl a ↦ subst AreNames (some_is [] p (rw a at e)) n
+      | inl a ↦ subst AreNames (same_Some [] p (rw a at e)) n
       | inr a ↦ (let f : None ≡ Some p = rw a at e in cc)
     ]
 last_names t (x ∷ q) p n e =
     elim (cases_Bool (is_chain t (x ∷ q))) [
-      | inl a ↦ subst AreNames (some_is (x ∷ q) p (rw a at e)) n
+      | inl a ↦ subst AreNames (same_Some (x ∷ q) p (rw a at e)) n
       | inr a ↦ last_names t q p n.1 (rw a at e)
     ]
 
@@ -169,7 +167,7 @@ abbrev calm_root : Tree → Root → Watched → Evidence
 calm_root t r w = record { found = root_found t r.path; guard_found = guard_found_at (guard_of t r.path); watched = w; undone = None; root_is_safe = is_safe t r.path; releases = [] }
 
 -- what was found isn't read where a guard is set
-found_free : (r : Root) (g : GuardFound) (f : Found) (e : Evidence) (s : RecursorState) → guarded_at r g (record e { found = f }) s ≡ guarded_at r g e s
+pub found_free : (r : Root) (g : GuardFound) (f : Found) (e : Evidence) (s : RecursorState) → guarded_at r g (record e { found = f }) s ≡ guarded_at r g e s
 found_free r Nowhere f e s = refl
 found_free r (At p i) f e s = refl
 found_free r (Faulty p c) f e s = refl

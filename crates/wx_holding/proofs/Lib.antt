@@ -7,4 +7,4 @@ mod Added
 mod Released
 mod Acts
 pub mod StandingBy
-mod CalmActs
+pub mod CalmActs

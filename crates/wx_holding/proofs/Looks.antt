@@ -1,8 +1,7 @@
 -- Looks one after the other are looks.
-use Rattle.std.proofs.Common.{◌≡◌, ◌≤◌, ℕ, zero, suc, arith, refl, ◌∙◌}
+use Rattle.std.proofs.Common.{◌≡◌, ◌≤◌, ℕ, zero, suc, arith, refl}
 use Rattle.wx_recursor.specs.declared.answers.GuardFound.{GuardFound}
 use Rattle.wx_recursor.specs.declared.answers.GuardFound.TheVariants.{Nowhere}
-use Rattle.wx_scan.specs.Looked.{Looked, OnlyLooks}
 
 -- A search for a guard raised the looks, where something lies above the path. Where nothing does it finds nothing, and what is done
 -- then raises them.

@@ -1,17 +1,18 @@
 -- Looks at a told tree, where no look fails: each finds what the tree says.
-use Rattle.std.proofs.Common.{arith, ◌≡◌, ◌≤◌, ◌<◌, ℕ, zero, suc, Bool, true, false, List, [], ◌∷◌, Ok, Some, None, inl, inr, refl, ap, sym, ◌∙◌, subst, length, drop}
-use Rattle.std.specs.Prelude.{IfOk, Option, Result, ◌⊎◌, map, not, ◌&&◌, if◌then◌else◌}
-use Rattle.std.proofs.lemmas.Bool.{cases_Bool, and_parts, and_from, and_right}
+use Rattle.std.proofs.Common.{arith, ◌≡◌, ◌≤◌, ◌<◌, ℕ, zero, suc, true, false, List, [], ◌∷◌, Ok, Some, None, inl, inr, refl, ap, sym, ◌∙◌, subst, length, drop}
+use Rattle.std.specs.Prelude.{IfOk, Option, Result, ◌⊎◌, map, not, if◌then◌else◌}
+use Rattle.std.proofs.lemmas.Bool.{cases_Bool, and_right}
+use Rattle.std.proofs.lemmas.Result.{IfOk-weaker}
 use Rattle.wx_tree.specs.Lists.{In}
-use Rattle.wx_tree.specs.Paths.{Part, Path}
-use Rattle.wx_tree.specs.Places.{AreParts, is_part, place, spelled}
+use Rattle.wx_tree.specs.Paths.{Path}
+use Rattle.wx_tree.specs.Places.{AreParts, place, spelled}
 use Rattle.wx_tree.specs.Trees.{Tree, guard_of, is_chain, is_chain_above, is_directory, is_directory_node, is_fit_node, is_safe, is_there, is_there_node, last_of_chain, node_at}
 use Rattle.wx_tree.specs.declared.node.Node.{Node}
 use Rattle.wx_tree.specs.declared.node.Node.TheVariants.{Dir, File, Link}
 use Rattle.wx_tree.proofs.PlaceLemmas.{place_spelled}
 use Rattle.wx_tree.proofs.Reaching.{chain_here}
 use Rattle.wx_scan.specs.Looked.{Looked, OnlyLooks}
-use Rattle.wx_scan.specs.Told.{AreNames, IsListed, IsNamed, Unlinked, has_link_above, is_link_node}
+use Rattle.wx_scan.specs.Told.{AreNames, IsListed, IsNamed, Unlinked}
 use Rattle.wx_scan.proofs.LookLemmas.{directory_no_link, no_link_above, names_parts}
 use Rattle.wx_recursor.specs.Seen.{guard_found_at, identity_at, is_gap, look_at_node, root_found}
 use Rattle.wx_recursor.specs.declared.answers.Found.{Found}
@@ -23,8 +24,6 @@ use Rattle.wx_recursor.specs.declared.answers.Look.TheVariants.{Absent, Broken, 
 use Rattle.wx_recursor.specs.declared.known.Identity.{Identity}
 use Rattle.wx_recursor.specs.declared.known.Identity.TheVariants.{Canonical, Lexical}
 use Rattle.wx_holding.specs.Calm.{FindsEntries, IsReadable, IsStill, break_found, here_found}
-use Rattle.wx_holding.proofs.Results.{if_map}
-use Rattle.wx_holding.proofs.Watching.{rose_later, rose_sooner}
 use Rattle.wx_holding.proofs.StandingBy.{still_after}
 
 -- ---- where no look fails, none of its parts does
@@ -266,7 +265,7 @@ here_is_root t p h = rw (h, gap_here t p h) (here_root p (node_at t p))
 pub root_unbroken : {E : Type 0} (t : Tree) (p : Path) (r : Result Found E) → None ≡ break_found t p → AreNames p → (IsReadable t p → IfOk r (λ found. found ≡ here_found p (node_at t p))) → IfOk r (λ found. found ≡ root_found t p)
 root_unbroken t p r none names told =
     let way = way_unbroken t p none in
-    if_map r (λ found. found ≡ here_found p (node_at t p)) (λ found. found ≡ root_found t p) (λ found e. e ∙ here_is_root t p way) (told (readable_below t p names way))
+    IfOk-weaker r (λ found. found ≡ here_found p (node_at t p)) (λ found. found ≡ root_found t p) (λ found e. e ∙ here_is_root t p way) (told (readable_below t p names way))
 
 -- a root at which something else was found isn't safe
 pub unsafe_found : (t : Tree) (p : Path) (f g : Found) → f ≡ root_found t p → f ≡ g → ((i : Identity) → g ≡ Here i → ⊥) → false ≡ is_safe t p

@@ -1,14 +1,11 @@
 -- How calls on a backend change what it watches.
-use Rattle.std.proofs.Common.{◌≡◌, ◌≤◌, ℕ, Bool, true, false, List, [], ◌∷◌, ◌++◌, Ok, Err, inl, inr, refl, ap, sym, ◌∙◌, subst, arith}
-use Rattle.std.specs.Prelude.{◌⊎◌, if◌then◌else◌, ◌||◌}
-use Rattle.std.proofs.lemmas.Bool.{cases_Bool}
+use Rattle.std.proofs.Common.{◌≡◌, ◌≤◌, ℕ, Bool, true, false, List, [], ◌∷◌, ◌++◌, Ok, Err, inl, inr, refl, sym, ◌∙◌, subst, arith}
+use Rattle.std.specs.Prelude.{◌⊎◌, if◌then◌else◌}
 use Rattle.wx_watch.specs.declared.notify_fault.NotifyFault.{NotifyFault}
 use Rattle.wx_watch.specs.declared.notify_fault.NotifyFaultKind.{NotifyFaultKind}
 use Rattle.wx_tree.specs.Lists.{In}
-use Rattle.wx_tree.specs.Paths.{same_part}
 use Rattle.wx_tree.specs.Places.{place, spelled}
 use Rattle.wx_tree.proofs.ListLemmas.{In-left, In-right, In-cases}
-use Rattle.wx_tree.proofs.PathLemmas.{same_part-true}
 use Rattle.wx_recursor.specs.declared.known.Known.{Known}
 use Rattle.wx_scan.specs.Backings.{Backing, Changes, is_registered, register}
 use Rattle.wx_scan.specs.Looked.{Rose}

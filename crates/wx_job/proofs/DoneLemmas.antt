@@ -1,6 +1,6 @@
 -- How a case that may spawn was done, by how its parts were.
 use Rattle.std.proofs.Common.{◌≡◌, ℕ, Bool, true, false, cond, List, ◌∷◌, Option, Some, Result, Ok, Err, refl}
-use Rattle.std.specs.Prelude.{is_err, OnOk, OnErr, not, option_map}
+use Rattle.std.specs.Prelude.{is_err, OnOk, OnErr, option_map}
 use Rattle.std.specs.Result.{IsErr}
 use Rattle.std.proofs.lemmas.Bool.{not-true}
 use Rattle.wx_command.specs.declared.command.Command.{Command}

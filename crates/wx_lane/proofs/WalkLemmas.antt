@@ -1,9 +1,9 @@
 -- The place that a normalised path names is where its parts lead to.
-use Rattle.std.proofs.Common.{◌≡◌, ℕ, suc, ◌+◌, ◌-◌, ◌≤◌, ◌<◌, Bool, true, false, List, [], ◌∷◌, ◌++◌, length, take, drop, arith, refl, ap, sym, ◌∙◌, inl, inr, append_assoc, codes}
-use Rattle.std.specs.Prelude.{◌==◌, not}
+use Rattle.std.proofs.Common.{◌≡◌, ℕ, suc, ◌+◌, ◌-◌, ◌≤◌, ◌<◌, Bool, true, false, List, [], ◌∷◌, ◌++◌, length, take, drop, arith, refl, ap, sym, ◌∙◌, inl, inr, codes}
+use Rattle.std.specs.Prelude.{◌==◌}
 use Rattle.std.specs.Str.{bytes_eq}
 use Rattle.std.specs.List.{filter, fold, join_with_byte, onto_first}
-use Rattle.std.proofs.lemmas.Bool.{cases_Bool, and_parts, not-true}
+use Rattle.std.proofs.lemmas.Bool.{cases_Bool}
 use Rattle.std.proofs.lemmas.List.{append-nil}
 use Rattle.std.proofs.lemmas.List.Elements.{filter-append}
 use Rattle.wx_words.specs.Line.{parts}
@@ -11,7 +11,7 @@ use Rattle.wx_words.specs.LineLaws.{some_part}
 use Rattle.wx_paths.specs.Paths.{is_absolute, is_named, kept, normalize, path_parts, spelled, with_part, without_last}
 use Rattle.wx_paths.proofs.ComponentLemmas.{split-append}
 use Rattle.wx_tree.specs.Paths.{Part, Path}
-use Rattle.wx_tree.specs.Places.{AreParts, has_no_slash, is_part, place, place_from, push_part, slash}
+use Rattle.wx_tree.specs.Places.{AreParts, has_no_slash, is_part, place, place_from}
 use Rattle.wx_tree.proofs.PlaceLemmas.{parts-taken, part-read, part-clean, part-pushed}
 use Rattle.wx_lane.proofs.MeetLemmas.{walk_part, walked}
 
@@ -118,10 +118,6 @@ normal-walked path =
     ∙ (joined-read (kept (path_parts path)) [] (kept-parts [] (path_parts path) tt (path-parts path)) ∙ kept-walked [] (path_parts path))
 
 -- ---- a path behind a folder
-
-onto_first-append : (b : ℕ) (xs more : List Part) → 0 < length xs → onto_first b (xs ++ more) ≡ onto_first b xs ++ more
-onto_first-append b [] more h = absurd (omega (arith, h))
-onto_first-append b (x ∷ xs) more h = refl
 
 pub parts-behind : (folder path : List ℕ) → path_parts (folder ++ 47 ∷ path) ≡ path_parts folder ++ path_parts path
 parts-behind folder path = ap (filter is_named) (split-append folder path) ∙ filter-append is_named (parts 47 folder) (parts 47 path)

@@ -1,5 +1,5 @@
 -- What a plan of a job brings comes after faults as it must.
-use Rattle.std.proofs.Common.{◌≡◌, ℕ, ◌+◌, ◌<◌, Bool, true, false, cond, List, [], ◌∷◌, ◌++◌, Option, Some, None, Ok, Err, refl, arith, ap, sym, ◌∙◌, eq-eqb, ne_eqb}
+use Rattle.std.proofs.Common.{◌≡◌, ℕ, ◌+◌, ◌<◌, Bool, true, false, cond, List, [], ◌∷◌, ◌++◌, Option, Some, None, Ok, Err, refl, arith, sym, ◌∙◌, eq-eqb, ne_eqb}
 use Rattle.std.specs.Prelude.{◌==◌, ◌&&◌, ◌||◌, not}
 use Rattle.std.specs.List.{AllByRecursion}
 use Rattle.std.proofs.lemmas.Bool.{eqb-true, false_from_ne_true, or_left, or_right, and_from}
@@ -23,9 +23,8 @@ use Rattle.wx_machine.specs.declared.grace.Grace.{Grace}
 use Rattle.wx_machine.specs.History.{same, lives, has_above, without, waits, found, picked_control, child, is_child, ended_child, is_ended, with_ticket, picked_last, begins, begins_by, grace, owner}
 use Rattle.wx_machine.specs.JobLaws.{is_owner, NamesChildren, NamesTickets}
 use Rattle.wx_machine.specs.Afterwards.{is_unborn, is_graceful, is_signalling, asks_grace, picks_grace, may_be_over, IsAtLevel, AreAtTheirLevels, MayBeOver}
-use Rattle.wx_machine.proofs.Owners.{self, same-is, either, still_some, owner_below, child_owner}
+use Rattle.wx_machine.proofs.Owners.{self, same-is, either, still_some, owner_below, child_owner, is_child_some}
 use Rattle.wx_machine.proofs.Tickets.{raised_was, asked_below, waits_of, AreWaitsOf}
-use Rattle.wx_machine.proofs.AllJobs.{is_child_some}
 
 -- ---- a child that runs was spawned
 

@@ -1,6 +1,6 @@
 -- Which jobs a handler sees, and under which ids one may be created.
 use Rattle.std.proofs.Common.{◌≡◌, ℕ, ◌<◌, Bool, true, false, cond, List, [], ◌∷◌, inl, inr, arith, refl, ap, sym, subst, ◌∙◌}
-use Rattle.std.specs.Prelude.{◌||◌, ◌&&◌, not, nat_lt, ◌⊎◌}
+use Rattle.std.specs.Prelude.{◌||◌, not, nat_lt, ◌⊎◌}
 use Rattle.std.specs.List.{AllByRecursion, filter, list_any}
 use Rattle.std.proofs.Math.Arith.{lt_of_le-ne}
 use Rattle.std.proofs.lemmas.Bool.{eqb-false, ltb-true, ltb-false, and_parts, or_right, not-true, and_from}

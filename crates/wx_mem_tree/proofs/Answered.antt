@@ -1,6 +1,6 @@
 -- What is found is what the tree answers.
-use Rattle.std.proofs.Common.{◌≡◌, ℕ, true, false, List, refl, ap, sym, ◌∙◌}
-use Rattle.std.specs.Prelude.{◌&&◌, Bool, Some, map}
+use Rattle.std.proofs.Common.{◌≡◌, ℕ, true, List, refl, ap, sym, ◌∙◌}
+use Rattle.std.specs.Prelude.{Some, map}
 use Rattle.std.proofs.lemmas.Bool.{both_ways}
 use Rattle.wx_watch.specs.declared.scan_fault.EntryKind.TheVariants.{Directory, NonFollowedSymlink, Other}
 use Rattle.wx_tree.specs.Paths.{Path}

@@ -1,15 +1,12 @@
 -- What is found in the list of entries is what the tree has.
 use Rattle.std.proofs.Common.{◌≡◌, ℕ, suc, zero, ◌≤◌, Bool, true, false, cond, List, [], ◌∷◌, length, drop, arith, refl, ap, sym, ◌∙◌, inl, inr}
-use Rattle.std.specs.Prelude.{◌&&◌, ◌||◌, Option, None, Some}
-use Rattle.std.proofs.lemmas.Bool.{and_parts, cases_Bool, both_ways, or_parts}
+use Rattle.std.specs.Prelude.{◌&&◌, Option, None, Some}
+use Rattle.std.proofs.lemmas.Bool.{cases_Bool, both_ways, or_parts}
 use Rattle.wx_tree.specs.Paths.{Path, same}
-use Rattle.wx_tree.specs.Places.{AreParts, is_part, place, spelled}
 use Rattle.wx_tree.specs.Trees.{Tree, node_at}
 use Rattle.wx_tree.specs.declared.node.Node.{Node}
 use Rattle.wx_tree.proofs.PathLemmas.{same-true}
-use Rattle.wx_tree.proofs.PlaceLemmas.{place_spelled}
-use Rattle.wx_scan.specs.Told.{AreNames, SpellsPath, has_link_above, is_link_node, is_name}
-use Rattle.wx_scan.proofs.LookLemmas.{names_parts}
+use Rattle.wx_scan.specs.Told.{SpellsPath, has_link_above, is_link_node, is_name}
 use Rattle.wx_mem_tree.specs.declared.entry.MemEntry.{MemEntry}
 use Rattle.wx_mem_tree.specs.Entries.{found_at, has_link_on, is_link_at, node_found, tree_of}
 
@@ -33,18 +30,7 @@ pub no_link_up : (t : Tree) (p : Path) (n : ℕ) → has_link_above t p ≡ fals
 no_link_up t [] n h lo hi = absurd (omega arith)
 no_link_up t (x ∷ p) zero h lo hi = absurd (omega arith)
 no_link_up t (x ∷ p) (suc zero) h lo hi = (or_parts (is_link_node (node_at t p)) (has_link_above t p) h).0
-  where
-    or_parts : (a b : Bool) → (a || b) ≡ false → (a ≡ false) × (b ≡ false)
-    or_parts true b e = absurd cc
-    or_parts false b e = (refl, e)
 no_link_up t (x ∷ p) (suc (suc n)) h lo hi = no_link_up t p (suc n) (or_parts (is_link_node (node_at t p)) (has_link_above t p) h).1 (omega arith) (omega arith)
-  where
-    or_parts : (a b : Bool) → (a || b) ≡ false → (a ≡ false) × (b ≡ false)
-    or_parts true b e = absurd cc
-    or_parts false b e = (refl, e)
-
-pub spells_place : (t : Tree) (p : Path) (bytes : List ℕ) → SpellsPath t p bytes → place bytes ≡ p
-spells_place t p bytes s = ap place s.spelled ∙ place_spelled p (names_parts p s.names)
 
 pub no_link_on : (t : Tree) (p : Path) (bytes : List ℕ) (with_last : Bool) → SpellsPath t p bytes → (with_last && is_link_at t p) ≡ false → has_link_on with_last t p ≡ false
 no_link_on t p bytes with_last s e = rw (s.no_link, e) refl

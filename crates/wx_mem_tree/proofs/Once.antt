@@ -1,6 +1,6 @@
 -- Each path comes once, and the entries of a directory are its listing.
 use Rattle.std.proofs.Common.{◌≡◌, Bool, true, false, cond, Result, Ok, Err, List, [], ◌∷◌, ◌++◌, refl, ap, sym, ◌∙◌, inl, inr}
-use Rattle.std.specs.Prelude.{◌⊎◌, ◌||◌, OnErr, OnOk, Some, filter, not}
+use Rattle.std.specs.Prelude.{◌⊎◌, OnErr, OnOk, Some, filter, not}
 use Rattle.wx_text.specs.declared.list.Memory.{Memory}
 use Rattle.std.proofs.lemmas.Bool.{and_parts, cases_Bool, both_ways, not-true, or_parts}
 use Rattle.wx_tree.specs.Lists.{In, AllOnce}

@@ -1,5 +1,5 @@
 -- Looks one after the other are looks.
-use Rattle.std.proofs.Common.{◌≡◌, ◌≤◌, ℕ, Bool, arith, refl, ◌∙◌, inl, inr}
+use Rattle.std.proofs.Common.{◌≡◌, ◌≤◌, ℕ, Bool, arith, ◌∙◌, inl, inr}
 use Rattle.std.specs.Prelude.{◌⊎◌}
 use Rattle.wx_tree.specs.Trees.{Tree}
 use Rattle.wx_scan.specs.Looked.{Looked, LooksOnce, OnlyLooks, Rose}

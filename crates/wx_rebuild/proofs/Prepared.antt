@@ -1,12 +1,8 @@
 -- What is made of the state, part by part, before a replay.
-use Rattle.std.proofs.Common.{◌≡◌, true, false, List, [], ◌∷◌, ◌++◌, inl, inr, refl, ap, ◌∙◌}
-use Rattle.std.proofs.lemmas.Bool.{cases_Bool}
-use Rattle.wx_recursor.specs.Identities.{has_identity, same_identity}
+use Rattle.std.proofs.Common.{◌≡◌, [], ap, ◌∙◌}
 use Rattle.wx_recursor.specs.Rebuilds.{guards_to_replay, known_to_replay, prepared, replays, upheld}
 use Rattle.wx_recursor.specs.States.{RecursorState}
 use Rattle.wx_recursor.specs.declared.answers.BackendPlace.TheVariants.{Dropped}
-use Rattle.wx_recursor.specs.declared.known.Identity.{Identity}
-use Rattle.wx_recursor.specs.declared.known.Known.{Known}
 
 -- where the first list doesn't have an identity, the second decides
 pub prepared_from : (s a b d t : RecursorState) → a ≡ record s { known = known_to_replay s; guards = guards_to_replay s } → b ≡ record a { registrations = []; waiting = replays a a.known a.guards } → d ≡ record b { excluded = []; lost = []; backend = Dropped } → t ≡ upheld d → t ≡ prepared s

@@ -1,5 +1,5 @@
 -- Lists of owners.
-use Rattle.std.proofs.Common.{◌≡◌, Bool, true, false, List, [], ◌∷◌, ◌++◌, refl, ap, sym, inl, inr}
+use Rattle.std.proofs.Common.{◌≡◌, Bool, true, false, List, [], ◌∷◌, refl, ap, sym, inl, inr}
 use Rattle.std.specs.Prelude.{◌⊎◌, ◌&&◌, ◌||◌, filter}
 use Rattle.std.proofs.lemmas.Bool.{cases_Bool, or_cases, or_left, or_right}
 use Rattle.std.proofs.Math.Bool.{and-false}
@@ -16,10 +16,6 @@ abbrev pub saw : Root → Path → Owner
 saw r p = record { root = r; path = p; seen = true }
 
 -- lists
-
-pub append_third : {X : Type 0} → (xs ys zs : List X) → (xs ++ ys) ++ zs ≡ xs ++ (ys ++ zs)
-append_third [] ys zs = refl
-append_third (x ∷ xs) ys zs = ap (λ us. x ∷ us) (append_third xs ys zs)
 
 -- owning
 

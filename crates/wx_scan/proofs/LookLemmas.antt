@@ -1,17 +1,18 @@
 -- What looks leave, and what is known of nodes and of chains above a path.
-use Rattle.std.proofs.Common.{◌≡◌, ℕ, Bool, true, false, List, [], ◌∷◌, Some, None, inl, inr, refl, ◌∙◌, arith}
+use Rattle.std.proofs.Common.{◌≡◌, ℕ, true, false, List, [], ◌∷◌, Some, None, inl, inr, refl, ◌∙◌, arith, ap}
 use Rattle.std.specs.Prelude.{Option}
 use Rattle.std.proofs.lemmas.Bool.{cases_Bool, and_parts}
 use Rattle.wx_tree.specs.Lists.{In}
 use Rattle.wx_tree.specs.Paths.{Part, Path, same_part}
-use Rattle.wx_tree.specs.Places.{AreParts, is_part}
+use Rattle.wx_tree.specs.Places.{AreParts, is_part, place}
 use Rattle.wx_tree.specs.Trees.{Tree, is_chain, is_chain_above, is_directory, is_directory_node, node_at}
 use Rattle.wx_tree.specs.declared.node.Node.{Node}
 use Rattle.wx_tree.specs.declared.node.Node.TheVariants.{Dir, File, Link}
 use Rattle.wx_tree.proofs.PathLemmas.{same_part-true}
+use Rattle.wx_tree.proofs.PlaceLemmas.{place_spelled}
 use Rattle.wx_scan.specs.Backings.{is_registered}
 use Rattle.wx_scan.specs.Looked.{Looked, OnlyLooks}
-use Rattle.wx_scan.specs.Told.{AreNames, has_link_above, is_link_node}
+use Rattle.wx_scan.specs.Told.{AreNames, has_link_above, is_link_node, SpellsPath}
 
 pub directory_no_link : (n : Option Node) → is_directory_node n ≡ true → is_link_node n ≡ false
 directory_no_link None h = cc
@@ -46,3 +47,6 @@ more_looks a b c h k = record {
 pub registered_in : (r : List ℕ) (rs : List (List ℕ)) → is_registered r rs ≡ true → In r rs
 registered_in r [] h = absurd cc
 registered_in r (k ∷ rs) h = elim (cases_Bool (same_part k r)) [ inl a ↦ inl (same_part-true k r a) | inr a ↦ inr (registered_in r rs (rw a at h)) ]
+
+pub spells_place : (t : Tree) (p : Path) (bytes : List ℕ) → SpellsPath t p bytes → place bytes ≡ p
+spells_place t p bytes s = ap place s.spelled ∙ place_spelled p (names_parts p s.names)

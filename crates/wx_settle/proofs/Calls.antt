@@ -1,16 +1,15 @@
 -- So is a reconcile.
 use Rattle.std.proofs.Common.{◌≡◌, ℕ, true, List, [], ◌∷◌, ◌++◌, refl, ap, sym, ◌∙◌, inl, inr}
-use Rattle.std.specs.Prelude.{◌||◌, map}
+use Rattle.std.specs.Prelude.{map}
 use Rattle.std.proofs.lemmas.Bool.{cases_Bool}
 use Rattle.wx_tree.specs.Paths.{Path, same}
 use Rattle.wx_tree.specs.declared.root.Root.{Root}
 use Rattle.wx_tree.proofs.ListLemmas.{In-filter}
 use Rattle.wx_recursor.specs.Calls.{fresh, kept_guard_watches, queued_guards, queued_retries, queued_roots, reconciled}
-use Rattle.wx_recursor.specs.Owners.{has_owner, has_root, unseen}
+use Rattle.wx_recursor.specs.Owners.{has_root, unseen}
 use Rattle.wx_recursor.specs.States.{RecursorState}
 use Rattle.wx_recursor.specs.declared.known.Identity.{Identity}
 use Rattle.wx_recursor.specs.declared.owner.GuardWatch.{GuardWatch}
-use Rattle.wx_recursor.specs.declared.owner.Owner.{Owner}
 use Rattle.wx_recursor.specs.declared.work.Item.TheVariants.{Guard, Visit}
 use Rattle.wx_recursor.specs.declared.work.Retry.{Retry}
 use Rattle.wx_recursor.proofs.SoundLemmas.{unseen_has}

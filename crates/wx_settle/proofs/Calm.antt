@@ -1,7 +1,7 @@
 -- One step more.
 use Rattle.std.proofs.Common.{◌≡◌, ℕ, suc, zero, Bool, true, false, List, [], ◌∷◌, refl, sym, subst}
-use Rattle.std.specs.Prelude.{◌||◌}
 use Rattle.std.proofs.lemmas.List.{append-nil}
+use Rattle.std.proofs.Math.Bool.{or-false}
 use Rattle.wx_tree.specs.Lists.{In}
 use Rattle.wx_tree.specs.Paths.{Path}
 use Rattle.wx_tree.specs.Trees.{Tree}
@@ -16,7 +16,6 @@ use Rattle.wx_settle.specs.Plain.{plain}
 use Rattle.wx_settle.specs.Runs.{RecursorReached, RecursorShows, RecursorSteps}
 use Rattle.wx_settle.proofs.Reach.{Stands, call_stands, full_reached, full_steps}
 use Rattle.wx_settle.proofs.Shows.{ShowsAbsentRoot, Tells, reached_quiet, steps_show}
-use Rattle.wx_settle.proofs.EpochLemmas.{or-false}
 
 steps_more : (t : Tree) (ok : Path → Bool) (n : ℕ) (s u : RecursorState) (e : Evidence) → RecursorSteps t ok n s u → has_work u.queue u.sweep_due ≡ true → SeesFirst t ok u.queue e → NoneRefused e.releases → RecursorSteps t ok (suc n) s (told (stepped e u))
 steps_more t ok zero s u e same work sees releases =
@@ -39,6 +38,6 @@ pub step_calm : (t : Tree) (c : Call) (cs : List Call) (u : RecursorState) (e : 
 step_calm t c cs u e r work sees releases =
     let a = full_reached t (c ∷ cs) u r in
     let k = full_stands t c cs u r in
-    let one : RecursorShows t c.ok 1 u (told (stepped e u)) (stepped e u).shown (stepped e u).asks_rebuild = (e, [], false, work, sees, releases, sym (append-nil (stepped e u).shown), or-false (stepped e u).asks_rebuild, (refl, refl, refl)) in
+    let one : RecursorShows t c.ok 1 u (told (stepped e u)) (stepped e u).shown (stepped e u).asks_rebuild = (e, [], false, work, sees, releases, sym (append-nil (stepped e u).shown), sym (or-false (stepped e u).asks_rebuild), (refl, refl, refl)) in
     let d : Tells t c.roots u (told (stepped e u)) (stepped e u).shown (stepped e u).asks_rebuild = steps_show t c.ok 1 c.roots u (told (stepped e u)) (stepped e u).shown (stepped e u).asks_rebuild (reached_roots t (c ∷ cs) (plain u) a.1) (reached_quiet t (c ∷ cs) u r) k one in
     (d.calm, d.only)

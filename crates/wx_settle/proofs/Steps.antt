@@ -1,7 +1,7 @@
 -- A step in which nothing fails is one of the plain machine.
 use Rattle.std.proofs.Common.{◌≡◌, Bool, true, false, cond, List, [], ◌∷◌, ◌++◌, refl, ap, sym, ◌∙◌, inl, inr, subst}
 use Rattle.std.specs.Prelude.{◌&&◌, not, Option, Some, None, filter, map}
-use Rattle.std.proofs.lemmas.List.{append-nil}
+use Rattle.std.proofs.lemmas.List.{append-nil, map-append}
 use Rattle.wx_tree.specs.Lists.{In}
 use Rattle.wx_tree.specs.Paths.{Path, has_entry, holds}
 use Rattle.wx_tree.specs.Roots.{same_root}
@@ -35,7 +35,7 @@ use Rattle.wx_walk.specs.Machine.{State, did, scan_entries, scan_new, set_guard,
 use Rattle.wx_walk.specs.declared.plain.Guarded.{Guarded}
 use Rattle.wx_walk.specs.declared.plain.Saw.TheVariants.{Held, Leaf, Listed, Lost, Unsafe}
 use Rattle.wx_settle.specs.Plain.{plain, plain_guard, plain_queue}
-use Rattle.wx_settle.proofs.Pieces.{added_is, added_stands, is_plain_append, is_plain_map, know_all, know_right, left, map_append, plain_append, plain_map, put_reg_plain, put_reg_right, registers, registers_quiet, release_plain, released_is, trimmed_plain, trimmed_simple}
+use Rattle.wx_settle.proofs.Pieces.{added_is, added_stands, is_plain_append, is_plain_map, know_all, know_right, left, plain_append, plain_map, put_reg_plain, put_reg_right, registers, registers_quiet, release_plain, released_is, trimmed_plain, trimmed_simple}
 use Rattle.wx_settle.proofs.Right.{Tells, met_seen, unserved_plain}
 use Rattle.wx_settle.proofs.Simple.{IsClear, IsClearFirst, IsClearRoot, IsClearScan, IsClearSpot, IsClearTry, IsKept, Simple, first_saw, first_shows, is_plain, item_saw, item_shows, scan_saw, spot_path, try_saw, visit_saw, visit_shows}
 
@@ -148,7 +148,7 @@ serves_makes id tells r p root_is_safe s k = record {
   };
   same = states s.roots _ _ s.owners _ _ _ _ s.sweep_due
       (plain_append s.queue _ ∙ ap (λ x. plain_queue s.queue ++ x) (again_plain root_is_safe r))
-      (map_append plain_guard (guards_of_others r s.guards) (the_guard r p (id p) ∷ []) ∙ ap (λ x. x ++ record { root = r; path = p } ∷ []) (unserved_plain r s.guards))
+      (map-append plain_guard (guards_of_others r s.guards) (the_guard r p (id p) ∷ []) ∙ ap (λ x. x ++ record { root = r; path = p } ∷ []) (unserved_plain r s.guards))
       (put_reg_plain id tells p s.registrations k.right.registrations);
   shown = refl;
 }

@@ -3,12 +3,12 @@ use Rattle.std.proofs.Common.{◌≡◌, Bool, true, false, cond, List, [], ◌�
 use Rattle.std.specs.Prelude.{◌&&◌, Option, Some, None}
 use Rattle.std.proofs.lemmas.Bool.{cases_Bool, and_parts}
 use Rattle.wx_tree.specs.Paths.{Path, has_entry, same}
-use Rattle.wx_tree.specs.Trees.{Tree, guard_of, is_chain, is_chain_above, is_directory, is_directory_node, is_fit_node, is_safe, is_there, last_of_chain, node_at, reaches}
+use Rattle.wx_tree.specs.Trees.{Tree, guard_of, is_chain_above, is_directory, is_directory_node, is_fit_node, is_safe, is_there, node_at, reaches}
 use Rattle.wx_tree.specs.declared.node.Node.{Node}
 use Rattle.wx_tree.specs.declared.node.Node.TheVariants.{Dir, File, Link}
 use Rattle.wx_tree.specs.declared.root.Root.{Root}
-use Rattle.wx_tree.proofs.PathLemmas.{same-refl, same-true, some_is}
-use Rattle.wx_tree.proofs.Reaching.{entry-apart, reaches-inside, chain_dir, guard_dir}
+use Rattle.wx_tree.proofs.PathLemmas.{same-refl, same-true}
+use Rattle.wx_tree.proofs.Reaching.{entry-apart, reaches-inside, guard_dir}
 use Rattle.wx_recursor.specs.Identities.{is_of_directory}
 use Rattle.wx_recursor.specs.Seen.{Sees, SeesCandidate, SeesRoot, Watches, guard_found_at, identity_at, is_gap, passes, watch_of_node, watched_at}
 use Rattle.wx_recursor.specs.States.{Evidence}

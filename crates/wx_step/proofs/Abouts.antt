@@ -1,6 +1,6 @@
 -- Each call keeps that what is queued and guarded is about the roots of the last reconcile.
 use Rattle.std.proofs.Common.{◌≡◌, ℕ, Bool, true, false, cond, List, [], ◌∷◌, ◌++◌, refl, sym, ◌∙◌, inl, inr, subst}
-use Rattle.std.specs.Prelude.{◌&&◌, ◌||◌, not, Option, Some, None, filter}
+use Rattle.std.specs.Prelude.{◌&&◌, not, Option, Some, None, filter}
 use Rattle.std.proofs.lemmas.Bool.{and_parts, or_cases}
 use Rattle.wx_watch.specs.declared.notify_fault.NotifyFault.{NotifyFault}
 use Rattle.wx_tree.specs.Lists.{In}
@@ -8,7 +8,7 @@ use Rattle.wx_tree.specs.Paths.{Path, has_entry, holds, holds_below, same}
 use Rattle.wx_tree.specs.Roots.{same_root}
 use Rattle.wx_tree.specs.declared.root.Root.{Root}
 use Rattle.wx_tree.proofs.ListLemmas.{In-cases, In-filter}
-use Rattle.wx_tree.proofs.PathLemmas.{holds-refl, same-true, same_root-true}
+use Rattle.wx_tree.proofs.PathLemmas.{holds-refl, same-true}
 use Rattle.wx_recursor.specs.declared.answers.AddResult.{AddResult}
 use Rattle.wx_recursor.specs.declared.answers.AddResult.TheVariants.{LeftOut, Stands, TryAgain, Vanished}
 use Rattle.wx_recursor.specs.declared.answers.Found.{Found}

@@ -1,15 +1,13 @@
 -- Who owns the parent of a path, where what is cleared is owned no more.
-use Rattle.std.proofs.Common.{◌≡◌, ◌≤◌, Bool, true, false, not, ◌&&◌, ◌||◌, List, [], ◌∷◌, length, drop, get_or, arith, refl, ap, sym, ◌∙◌, inl, inr}
+use Rattle.std.proofs.Common.{◌≡◌, ◌≤◌, true, false, not, ◌&&◌, ◌||◌, List, [], ◌∷◌, length, drop, get_or, arith, refl, sym, ◌∙◌, inl, inr}
 use Rattle.std.proofs.lemmas.Bool.{cases_Bool}
-use Rattle.std.proofs.Math.Bool.{and-false}
-use Rattle.wx_tree.specs.Paths.{Path, has_entry, same}
+use Rattle.wx_tree.specs.Paths.{Path, has_entry}
 use Rattle.wx_tree.specs.Roots.{same_root}
 use Rattle.wx_tree.specs.declared.root.Root.{Root}
-use Rattle.wx_tree.proofs.PathLemmas.{same-refl, same-true, same_truth, same-sym}
 use Rattle.wx_recursor.specs.Rebuilds.{is_under_any}
 use Rattle.wx_recursor.specs.Steps.{owns_parent}
 use Rattle.wx_recursor.specs.declared.owner.Owner.{Owner}
-use Rattle.wx_recursor.proofs.OwnerLemmas.{owns_none, owns_more}
+use Rattle.wx_recursor.proofs.OwnerLemmas.{owns_more}
 use Rattle.wx_topology.specs.Drafts.{spared}
 
 spared_owns : (r : Root) (p : Path) (cs : List Path) (o : Owner) (os : List Owner) → owns_parent r p (spared cs (o ∷ os)) ≡ ((not (is_under_any o.path cs) && (same_root r o.root && has_entry o.path p)) || owns_parent r p (spared cs os))

@@ -1,5 +1,5 @@
 -- Which paths are the same, and which hold others.
-use Rattle.std.proofs.Common.{◌≡◌, suc, ◌≤◌, Bool, true, false, [], ◌∷◌, Some, length, arith, refl, ap, sym, ◌∙◌, eq-eqb, inl, inr}
+use Rattle.std.proofs.Common.{◌≡◌, suc, ◌≤◌, Bool, true, false, [], ◌∷◌, length, arith, refl, ap, sym, ◌∙◌, eq-eqb, inl, inr}
 use Rattle.std.specs.Prelude.{◌==◌}
 use Rattle.std.proofs.lemmas.Bool.{and_parts, and_from, or_cases, eqb-true, both_ways, or_left, or_right}
 use Rattle.wx_tree.specs.Paths.{Part, Path, same_part, has_entry, holds, holds_below, same}
@@ -120,9 +120,6 @@ pub same_truth : (a b : Bool) → (a ≡ true → b ≡ true) → (b ≡ true �
 same_truth true b f g = sym (f refl)
 same_truth false true f g = g refl
 same_truth false false f g = refl
-
-pub some_is : (p q : Path) → Some p ≡ Some q → p ≡ q
-some_is p q e = cc
 
 pub same-turned : (p q : Path) → same p q ≡ true → same q p ≡ true
 same-turned p q h = let e : p ≡ q = same-true p q h in rw e (same-refl q)

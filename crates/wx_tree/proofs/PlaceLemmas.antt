@@ -2,15 +2,12 @@
 use Rattle.std.proofs.Common.{◌≡◌, ℕ, zero, suc, true, false, List, [], ◌∷◌, ◌++◌, refl, ap, sym, ◌∙◌, inl, inr, append_assoc}
 use Rattle.std.specs.Prelude.{◌==◌, not, drop, take}
 use Rattle.std.proofs.lemmas.Bool.{cases_Bool, and_parts, and_from}
+use Rattle.std.proofs.lemmas.List.{append-nil}
 use Rattle.wx_tree.specs.Paths.{Part, Path}
 use Rattle.wx_tree.specs.Places.{slash, push_part, place_from, place, parts_spelled, spelled, has_no_slash, is_part, AreParts}
 
-nil_right : (xs : List ℕ) → xs ++ [] ≡ xs
-nil_right [] = refl
-nil_right (y ∷ xs) = ap (λ z. y ∷ z) (nil_right xs)
-
 pub part-read : (x bytes part : List ℕ) (path : Path) → has_no_slash x ≡ true → place_from (x ++ bytes) part path ≡ place_from bytes (part ++ x) path
-part-read [] bytes part path h = ap (λ c. place_from bytes c path) (sym (nil_right part))
+part-read [] bytes part path h = ap (λ c. place_from bytes c path) (sym (append-nil part))
 part-read (b ∷ x) bytes part path h =
     let a = and_parts (not (b == slash)) (has_no_slash x) h in
     elim (cases_Bool (b == slash)) [
@@ -37,7 +34,7 @@ place_spelled [] g = refl
 place_spelled (x ∷ p) g =
     let a : has_no_slash x ≡ true = part-clean x g.0 in
     let b : place_from (x ++ []) [] p ≡ place_from [] x p = part-read x [] [] p a in
-    parts-read p x g.1 ∙ (ap (λ y. place_from y [] p) (sym (nil_right x)) ∙ (b ∙ part-pushed x p g.0))
+    parts-read p x g.1 ∙ (ap (λ y. place_from y [] p) (sym (append-nil x)) ∙ (b ∙ part-pushed x p g.0))
 
 clean-more : (x : Part) (b : ℕ) → has_no_slash x ≡ true → (b == slash) ≡ false → has_no_slash (x ++ b ∷ []) ≡ true
 clean-more [] b h e = rw e refl

@@ -2,12 +2,13 @@
 use Rattle.std.proofs.Common.{◌≡◌, suc, ◌≤◌, ◌<◌, Bool, true, false, [], ◌∷◌, Some, None, length, arith, refl, ap, subst, inl, inr}
 use Rattle.std.specs.Prelude.{Option, ◌&&◌}
 use Rattle.std.proofs.lemmas.Bool.{cases_Bool, and_parts, and_from, or_cases}
+use Rattle.std.proofs.lemmas.Option.{same_Some}
 use Rattle.wx_tree.specs.Paths.{Part, Path, has_entry, holds, same}
 use Rattle.wx_tree.specs.Trees.{Tree, guard_of, is_chain, is_chain_above, is_directory, is_directory_node, is_fit_node, is_safe, is_there_node, last_of_chain, node_at, reaches}
 use Rattle.wx_tree.specs.declared.node.Node.{Node}
 use Rattle.wx_tree.specs.declared.node.Node.TheVariants.{Dir, File, Link}
 use Rattle.wx_tree.specs.declared.root.Root.{Root}
-use Rattle.wx_tree.proofs.PathLemmas.{entry-length, holds-length, same-refl, same-true, some_is}
+use Rattle.wx_tree.proofs.PathLemmas.{entry-length, holds-length, same-refl, same-true}
 
 -- what a path below its root owes
 pub record Inside (t : Tree) (ok : Path → Bool) (r : Root) (c p : Path) : Type 0 where
@@ -133,27 +134,15 @@ chain_dir t (x ∷ p) h = let a = and_parts (is_directory t (x ∷ p)) (is_chain
 pub last_chain : (t : Tree) (q p : Path) → last_of_chain t q ≡ Some p → is_chain t p ≡ true
 last_chain t [] p e =
     elim (cases_Bool (is_directory t [])) [
-      | inl a ↦ subst (λ y. is_chain t y ≡ true) (some_is [] p (rw a at e)) a
+      | inl a ↦ subst (λ y. is_chain t y ≡ true) (same_Some [] p (rw a at e)) a
       | inr a ↦ absurd (let f : None ≡ Some p = rw a at e in cc)
     ]
 last_chain t (x ∷ q) p e =
     elim (cases_Bool (is_chain t (x ∷ q))) [
-      | inl a ↦ subst (λ y. is_chain t y ≡ true) (some_is (x ∷ q) p (rw a at e)) a
+      | inl a ↦ subst (λ y. is_chain t y ≡ true) (same_Some (x ∷ q) p (rw a at e)) a
       | inr a ↦ last_chain t q p (rw a at e)
-    ]
-
-last_dir : (t : Tree) (q p : Path) → last_of_chain t q ≡ Some p → is_directory t p ≡ true
-last_dir t [] p e =
-    elim (cases_Bool (is_directory t [])) [
-      | inl a ↦ subst (λ x. is_directory t x ≡ true) (some_is [] p (rw a at e)) a
-      | inr a ↦ (let f : None ≡ Some p = rw a at e in cc)
-    ]
-last_dir t (x ∷ q) p e =
-    elim (cases_Bool (is_chain t (x ∷ q))) [
-      | inl a ↦ subst (λ y. is_directory t y ≡ true) (some_is (x ∷ q) p (rw a at e)) (chain_dir t (x ∷ q) a)
-      | inr a ↦ last_dir t q p (rw a at e)
     ]
 
 pub guard_dir : (t : Tree) (q p : Path) → guard_of t q ≡ Some p → is_directory t p ≡ true
 guard_dir t [] p e = cc
-guard_dir t (x ∷ q) p e = last_dir t q p e
+guard_dir t (x ∷ q) p e = chain_dir t p (last_chain t q p e)

@@ -1,13 +1,11 @@
 -- Each step keeps it.
 use Rattle.std.proofs.Common.{◌≡◌, ℕ, suc, zero, ◌≤◌, ◌<◌, Bool, true, false, cond, List, [], ◌∷◌, ◌++◌, length, arith, refl, ap, sym, inl, inr, subst}
-use Rattle.std.specs.Prelude.{◌&&◌, ◌⊎◌, Option, Some, None}
-use Rattle.std.proofs.lemmas.Bool.{cases_Bool, and_parts, and_from, or_cases, both_ways}
+use Rattle.std.specs.Prelude.{◌&&◌, ◌⊎◌, Option}
+use Rattle.std.proofs.lemmas.Bool.{cases_Bool, and_parts, and_from, both_ways}
 use Rattle.wx_tree.specs.Lists.{In}
 use Rattle.wx_tree.specs.Paths.{Path, has_entry, holds, same}
 use Rattle.wx_tree.specs.Roots.{same_root}
-use Rattle.wx_tree.specs.Trees.{IsListing, Tree, guard_of, is_directory, is_directory_node, is_safe, is_there_node, node_at, reaches}
-use Rattle.wx_tree.specs.declared.node.Node.{Node}
-use Rattle.wx_tree.specs.declared.node.Node.TheVariants.{Dir, File, Link}
+use Rattle.wx_tree.specs.Trees.{IsListing, Tree, guard_of, is_directory, is_safe, node_at, reaches}
 use Rattle.wx_tree.specs.declared.root.Root.{Root}
 use Rattle.wx_tree.proofs.ListLemmas.{In-cases, In-filter, In-left, In-right}
 use Rattle.wx_tree.proofs.PathLemmas.{entry-length, holds-refl, same-refl, same-true, same_root-true}

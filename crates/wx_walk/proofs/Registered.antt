@@ -1,5 +1,5 @@
 -- What is known of registered paths at every step.
-use Rattle.std.proofs.Common.{◌≡◌, Bool, true, false, cond, List, [], ◌∷◌, ◌++◌, refl, ap, sym, ◌∙◌, inl, inr, subst}
+use Rattle.std.proofs.Common.{◌≡◌, Bool, true, false, cond, List, [], ◌∷◌, ◌++◌, refl, sym, ◌∙◌, inl, inr, subst}
 use Rattle.std.specs.Prelude.{◌&&◌, ◌||◌, ◌⊎◌, not, Option, Some, None, filter}
 use Rattle.std.proofs.lemmas.Bool.{cases_Bool, both_ways, or_cases, or_left, or_right}
 use Rattle.wx_tree.specs.Lists.{AllOnce, In}
@@ -8,7 +8,7 @@ use Rattle.wx_tree.specs.Roots.{same_root}
 use Rattle.wx_tree.specs.declared.root.Root.{Root}
 use Rattle.wx_tree.proofs.ListLemmas.{In-cases, In-filter, In-kept, In-left, In-right}
 use Rattle.wx_tree.proofs.PathLemmas.{same-refl, same-true}
-use Rattle.wx_recursor.specs.Owners.{disown, has_owner, has_path, has_root, is_owner, own, sweep, unseen}
+use Rattle.wx_recursor.specs.Owners.{disown, has_owner, has_path, has_root, own, sweep, unseen}
 use Rattle.wx_recursor.specs.declared.owner.Owner.{Owner}
 use Rattle.wx_recursor.specs.declared.work.Item.{Item}
 use Rattle.wx_recursor.specs.declared.work.Item.TheVariants.{Candidate, Guard, Scan, Visit}

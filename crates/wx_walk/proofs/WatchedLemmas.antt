@@ -5,12 +5,10 @@ use Rattle.std.proofs.lemmas.Bool.{cases_Bool, and_parts, and_from, both_ways, n
 use Rattle.wx_tree.specs.Lists.{AllOnce, In}
 use Rattle.wx_tree.specs.Paths.{Path, same}
 use Rattle.wx_tree.specs.Roots.{same_root}
-use Rattle.wx_tree.specs.Trees.{Tree, guard_of, is_chain, is_chain_above, is_directory, is_directory_node, is_fit_node, is_safe, last_of_chain, node_at, reaches, settle}
-use Rattle.wx_tree.specs.declared.node.Node.{Node}
-use Rattle.wx_tree.specs.declared.node.Node.TheVariants.{Dir, File, Link}
+use Rattle.wx_tree.specs.Trees.{Tree, guard_of, is_chain, is_chain_above, is_directory, is_fit_node, is_safe, node_at, reaches, settle}
 use Rattle.wx_tree.specs.declared.root.Root.{Root}
 use Rattle.wx_tree.proofs.ListLemmas.{In-cases, In-filter, In-left, In-right}
-use Rattle.wx_tree.proofs.PathLemmas.{same_root-refl, some_is}
+use Rattle.wx_tree.proofs.PathLemmas.{same_root-refl}
 use Rattle.wx_tree.proofs.Reaching.{entry-reached, reaches-chain, reaches-inside, reaches-root, fit_from_dir, last_chain}
 use Rattle.wx_recursor.specs.Owners.{has_owner, has_path, has_root, sweep}
 use Rattle.wx_recursor.specs.declared.owner.Owner.{Owner}

@@ -1,4 +1,5 @@
 use Rattle.std.proofs.Common.{sym, ◌∙◌}
+use Rattle.wx_words.proofs.ResultLemmas.{ok_always}
 use Rattle.wx_file_turns.specs.Standing.{owing}
 use Rattle.wx_file_turns.proofs.Journals.{follows_adds}
 use Rattle.wx_file_turns.proofs.Settled.{ok_never, settling_beside}
@@ -8,7 +9,6 @@ use Rattle.wx_engine.proofs.TurnLemmas.{serves_other}
 use Rattle.wx_engine.proofs.WatchLemmas.{Aside, about_files, aside, aside_source, aside_pays, aside_makes_none}
 use Rattle.wx_engine.proofs.running.serve.Goals.{After-serve_other}
 use Rattle.wx_engine.proofs.running.serve.Goals as goal
-use Rattle.wx_holding.proofs.Results.{ok_always}
 
 -- ---- a turn about what is watched
 

@@ -1,5 +1,6 @@
 use Rattle.std.proofs.Common.{arith, refl}
 use Rattle.std.specs.Prelude.{true, None}
+use Rattle.wx_words.proofs.ResultLemmas.{ok_always}
 use Rattle.wx_journal.specs.declared.entry.Word.TheVariants.{Quiet}
 use Rattle.wx_machine.specs.Due.{Open}
 use Rattle.wx_machine.proofs.WordLaws.{steps_alone}
@@ -10,7 +11,6 @@ use Rattle.wx_file_turns.proofs.Steps.{quiet_due}
 use Rattle.wx_file_turns.proofs.Settled.{beside_none, beside_one, heard_harmless, left_harmless, next_silent, walking_left, walking_same, walking_well}
 use Rattle.wx_file_turns.proofs.Telling.{rests_heard, rests_silent}
 use Rattle.wx_file_turns.proofs.resting.rest.Goals as goal
-use Rattle.wx_holding.proofs.Results.{ok_always}
 
 -- ---- there is nothing to do
 
