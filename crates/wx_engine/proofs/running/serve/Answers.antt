@@ -1,5 +1,5 @@
 use Rattle.std.proofs.Common.{sym, ◌∙◌}
-use Rattle.wx_words.proofs.ResultLemmas.{ok_always}
+use Rattle.wx_tree.proofs.ResultLemmas.{ok_always}
 use Rattle.wx_file_turns.specs.Standing.{owing}
 use Rattle.wx_file_turns.proofs.Journals.{follows_adds}
 use Rattle.wx_file_turns.proofs.Settled.{ok_never, settling_beside}

@@ -1,5 +1,5 @@
 use Rattle.std.proofs.Common.{List, None, inr, refl, subst}
-use Rattle.wx_words.proofs.ResultLemmas.{ok_always}
+use Rattle.wx_tree.proofs.ResultLemmas.{ok_always}
 use Rattle.wx_journal.specs.declared.entry.Entry.{Entry}
 use Rattle.wx_action.specs.Stands.{MayShow}
 use Rattle.wx_file_turns.proofs.Journals.{adds_then, beside_of, follows_adds}

@@ -1,6 +1,6 @@
 use Rattle.std.proofs.Common.{arith, refl}
 use Rattle.std.specs.Prelude.{true, None}
-use Rattle.wx_words.proofs.ResultLemmas.{ok_always}
+use Rattle.wx_tree.proofs.ResultLemmas.{ok_always}
 use Rattle.wx_journal.specs.declared.entry.Word.TheVariants.{Quiet}
 use Rattle.wx_machine.specs.Due.{Open}
 use Rattle.wx_machine.proofs.WordLaws.{steps_alone}

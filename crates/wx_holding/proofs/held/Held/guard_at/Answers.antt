@@ -2,7 +2,7 @@ use Rattle.wx_holding.specs.Holding.{state_of}
 use Rattle.wx_holding.proofs.Results.{ok_map}
 use Rattle.wx_holding.proofs.Acts.{guards_faulty, guards_nowhere, not_at, not_faulty}
 use Rattle.std.proofs.Common.{ap, sym, ◌∙◌}
-use Rattle.wx_words.proofs.ResultLemmas.{ok_always}
+use Rattle.wx_tree.proofs.ResultLemmas.{ok_always}
 use Rattle.wx_holding.proofs.Watching.{keeps_same}
 use Rattle.wx_holding.proofs.LettingGo.{retry_registrations}
 use Rattle.wx_tree.specs.Trees.{guard_of}
