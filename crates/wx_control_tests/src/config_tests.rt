@@ -3,49 +3,32 @@
 //
 // Cases stand in tables that are texts, a case a line. Where a line has a value, ` = ` and the beginning of the value's
 // fields follow.
+use crate::command_tests::{hash_of, text};
 use std::alloc::Global;
 use std::fmt;
-use std::hash::{DefaultHasher, Hash, Hasher};
 use std::process::Abort;
-use wx_config::{Changeable, Config, Filterer};
+use wx_config::{Changeable, ChangeableFilterer, ChangeableFn, Config, Filterer};
 use wx_error::{CriticalError, RuntimeError};
 use wx_events::{Event, Priority};
 use wx_text::{Copies, List, Memory, Text};
 use wx_watch::{EntryKind, FsWatcherError, NotifyFault, ScanFault, WatchedPath, Watcher};
-use wx_words::{Spelled, TextPath, Words};
-
-/// The value whose words are this whole line.
-pub(crate) fn read_line<T: Spelled>(alloc: Global, line: &[u8]) -> Result<Option<T>, Memory> {
-    let mut words = Words::new(line);
-    let found = T::take(alloc, &mut words)?;
-    if words.is_done() { Ok(found) } else { Ok(None) }
-}
-
-/// Whether the words of this value, with one space between them, are this line.
-pub(crate) fn is_spelled<T: Spelled>(alloc: Global, value: &T, line: &str) -> Result<bool, Memory> {
-    let mut written = Text::new(alloc);
-    value.put(&mut written)?;
-    Ok(written.as_slice() == line.as_bytes())
-}
-
-/// Whether this value is shown by this line.
-fn is_shown<T: fmt::Display>(alloc: Global, value: &T, line: &str) -> Result<bool, Memory> {
-    let shown = format!(in alloc; "{value}")?;
-    Ok(shown.as_str() == line)
-}
+use wx_words::{Spelled, TextPath};
+use wx_words_trial::{
+    begins, each_is_read, each_is_refused, each_value, expect_yes, is_shown, is_written, read_line,
+};
 
 /// Whether this value is written and shown by this line.
-fn is_written<T: Spelled + fmt::Display>(
+fn is_written_and_shown<T: Spelled + fmt::Display>(
     alloc: Global,
     value: &T,
     line: &str,
 ) -> Result<bool, Memory> {
-    Ok(is_spelled(alloc, value, line)? && is_shown(alloc, value, line)?)
+    Ok(is_written(alloc, value, line.as_bytes())? && is_shown(alloc, value, line)?)
 }
 
 /// The same of a value that is handed in: this function drops it, since to drop a long enum by name is slow to prove.
 fn is_made<T: Spelled + fmt::Display>(alloc: Global, value: T, line: &str) -> Result<bool, Memory> {
-    is_written(alloc, &value, line)
+    is_written_and_shown(alloc, &value, line)
 }
 
 /// Whether the copy of this value is written and shown by this line.
@@ -57,61 +40,18 @@ fn is_copied<T: Spelled + Copies + fmt::Display>(
     is_made(alloc, value.copy(alloc)?, line)
 }
 
-/// Whether the fields of this value are shown by a text that begins so.
-pub(crate) fn begins<T: fmt::Debug>(
+/// Whether this value has such fields, and is written and shown by this line, as is its copy.
+fn is_told<T: Spelled + Copies + fmt::Display + fmt::Debug>(
     alloc: Global,
     value: &T,
+    line: &str,
     fields: &str,
 ) -> Result<bool, Memory> {
-    let shown = format!(in alloc; "{value:?}")?;
-    Ok(shown.as_str().starts_with(fields))
-}
-
-/// Whether the line of this case is read as a value with such fields, which is written and shown by the line, as is its copy.
-fn is_case<T: Spelled + Copies + fmt::Display + fmt::Debug>(
-    alloc: Global,
-    case: &str,
-) -> Result<bool, Memory> {
-    let Some((line, fields)) = case.split_once(" = ") else {
-        return Ok(false);
-    };
-    match read_line::<T>(alloc, line.as_bytes())? {
-        Some(value) => Ok(
-            begins(alloc, &value, fields)?
-                && is_written(alloc, &value, line)?
-                && is_copied(alloc, &value, line)?,
-        ),
-        None => Ok(false),
-    }
-}
-
-/// Ends the test where the answer isn't yes, and says at which case.
-pub(crate) fn expect_yes(rt: &impl Abort, answer: Result<bool, Memory>, case: &str) {
-    assert!(rt; answer == Ok(true), "at {case}");
-}
-
-/// Each line of the table is read as a value with such fields, which is written and shown by the line, as is its copy.
-fn each_is_read<T: Spelled + Copies + fmt::Display + fmt::Debug>(
-    rt: &impl Abort,
-    alloc: Global,
-    table: &str,
-) {
-    for case in table.lines() {
-        expect_yes(rt, is_case::<T>(alloc, case), case);
-    }
-}
-
-/// Whether this line is no value of this type.
-fn is_refused<T: Spelled>(alloc: Global, line: &str) -> Result<bool, Memory> {
-    let found: Option<T> = read_line(alloc, line.as_bytes())?;
-    Ok(found.is_none())
-}
-
-/// No line of the table is a value of this type.
-pub(crate) fn each_is_refused<T: Spelled>(rt: &impl Abort, alloc: Global, table: &str) {
-    for line in table.lines() {
-        expect_yes(rt, is_refused::<T>(alloc, line), line);
-    }
+    Ok(
+        begins(alloc, value, fields)?
+            && is_written_and_shown(alloc, value, line)?
+            && is_copied(alloc, value, line)?,
+    )
 }
 
 const DEFAULTS: &str = "Config { change_signal: 0, action_handler: 0, error_handler: 0, \
@@ -127,36 +67,10 @@ fn the_default_settings(rt: HostRuntime) {
     drop(config);
 }
 
-#[test]
-fn a_value_is_replaced(rt: HostRuntime) {
-    let mut throttle = Changeable::new(5u64);
-    throttle.replace(7);
-    assert!(rt; *throttle.get() == 7);
-}
-
-/// Whether this line is read as a value with these fields, which is written by the line.
-fn is_read<T: Spelled + fmt::Debug>(
-    alloc: Global,
-    line: &str,
-    fields: &str,
-) -> Result<bool, Memory> {
-    match read_line::<T>(alloc, line.as_bytes())? {
-        Some(value) => { Ok(begins(alloc, &value, fields)? && is_spelled(alloc, &value, line)?) }
-        None => Ok(false),
-    }
-}
-
-#[test]
-fn how_files_are_watched(rt: HostRuntime) {
-    let alloc = rt.alloc();
-    expect_yes(&rt, is_read::<Watcher>(alloc, "native", "Native"), "native");
-    expect_yes(
-        &rt,
-        is_read::<Watcher>(alloc, "poll 5", "Poll(5)"),
-        "poll 5",
-    );
-    each_is_refused::<Watcher>(&rt, alloc, "poll");
-}
+const WATCHERS: &str = "\
+native = Native
+poll 5 = Poll(5)
+";
 
 /// The watched path whose words are this line.
 fn watched_path(rt: &impl Abort, alloc: Global, line: &[u8]) -> WatchedPath {
@@ -164,10 +78,10 @@ fn watched_path(rt: &impl Abort, alloc: Global, line: &[u8]) -> WatchedPath {
     found.expect(rt, "a path")
 }
 
-/// Whether a copy of this value is spelled by this line.
-fn is_spelled_by_a_copy(alloc: Global, path: &WatchedPath, line: &str) -> Result<bool, Memory> {
+/// Whether a copy of this path is written by this line.
+fn is_written_by_a_copy(alloc: Global, path: &WatchedPath, line: &[u8]) -> Result<bool, Memory> {
     let copy = path.copy(alloc)?;
-    is_spelled(alloc, &copy, line)
+    is_written(alloc, &copy, line)
 }
 
 #[test]
@@ -175,13 +89,10 @@ fn what_is_watched(rt: HostRuntime) {
     let alloc = rt.alloc();
     let tree = watched_path(&rt, alloc, b"r /a%20b");
     assert!(rt; tree.recursive);
-    expect_yes(
-        &rt,
-        is_spelled_by_a_copy(alloc, &tree, "r /a%20b"),
-        "a tree",
-    );
+    let copied = is_written_by_a_copy(alloc, &tree, b"r /a%20b");
+    expect_yes(&rt, copied, "a tree");
     let folder = WatchedPath::non_recursive(tree.path);
-    expect_yes(&rt, is_spelled(alloc, &folder, "n /a%20b"), "a folder");
+    expect_yes(&rt, is_written(alloc, &folder, b"n /a%20b"), "a folder");
     drop(folder);
 }
 
@@ -205,12 +116,6 @@ nopath 2 /a
 nopaths 0
 maxwatches 1
 ";
-
-#[test]
-fn faults_of_backends(rt: HostRuntime) {
-    each_is_read::<NotifyFault>(&rt, rt.alloc(), FAULTS_OF_BACKENDS);
-    each_is_refused::<NotifyFault>(&rt, rt.alloc(), NO_FAULTS_OF_BACKENDS);
-}
 
 const FAULTS_OF_SCANS: &str = "\
 notfound = NotFound
@@ -236,13 +141,6 @@ changed dir other
 changed link dir /a
 ";
 
-#[test]
-fn faults_of_scans(rt: HostRuntime) {
-    each_is_read::<ScanFault>(&rt, rt.alloc(), FAULTS_OF_SCANS);
-    each_is_read::<EntryKind>(&rt, rt.alloc(), ENTRIES);
-    each_is_refused::<ScanFault>(&rt, rt.alloc(), NO_FAULTS_OF_SCANS);
-}
-
 const FILE_ERRORS: &str = "\
 create generic x 0 = Create(
 toomanywatches maxwatches 1 /a = TooManyWatches(
@@ -262,12 +160,6 @@ pathadd nopath 0
 pathscan /a nopath 0
 pathremove /a memory 0 0
 ";
-
-#[test]
-fn errors_of_the_watching_of_files(rt: HostRuntime) {
-    each_is_read::<FsWatcherError>(&rt, rt.alloc(), FILE_ERRORS);
-    each_is_refused::<FsWatcherError>(&rt, rt.alloc(), NO_FILE_ERRORS);
-}
 
 const RUNTIME_ERRORS: &str = "\
 exit = Exit
@@ -290,13 +182,6 @@ emptyshell = CommandShellEmptyShell
 filterer glob bad%20rule = Filterer {
 memory = Memory
 ";
-
-#[test]
-fn errors_that_a_run_goes_on_after(rt: HostRuntime) {
-    let memory = RuntimeError::from(Memory);
-    expect_yes(&rt, is_made(rt.alloc(), memory, "memory"), "memory");
-    each_is_read::<RuntimeError>(&rt, rt.alloc(), RUNTIME_ERRORS);
-}
 
 const NO_RUNTIME_ERRORS: &str = "
 Exit
@@ -333,12 +218,6 @@ init create memory 0
 memories
 ";
 
-#[test]
-fn refuses_bad_errors(rt: HostRuntime) {
-    each_is_refused::<RuntimeError>(&rt, rt.alloc(), NO_RUNTIME_ERRORS);
-    each_is_refused::<CriticalError>(&rt, rt.alloc(), NO_CRITICAL_ERRORS);
-}
-
 /// Whether an error about this, of the code 5, is written and shown by this line.
 fn is_about(alloc: Global, about: &[u8], line: &str) -> Result<bool, Memory> {
     let about = Text::from_slice(alloc, about)?;
@@ -357,13 +236,42 @@ memory = Memory
 ";
 
 #[test]
-fn errors_that_end_a_run(rt: HostRuntime) {
+fn faults_and_errors_and_their_words(rt: HostRuntime) {
     let alloc = rt.alloc();
-    each_is_read::<CriticalError>(&rt, alloc, CRITICAL_ERRORS);
+    each_value(
+        &rt,
+        alloc,
+        FAULTS_OF_BACKENDS,
+        " = ",
+        is_told::<NotifyFault>,
+    );
+    each_value(&rt, alloc, FAULTS_OF_SCANS, " = ", is_told::<ScanFault>);
+    each_value(&rt, alloc, ENTRIES, " = ", is_told::<EntryKind>);
+    each_value(&rt, alloc, FILE_ERRORS, " = ", is_told::<FsWatcherError>);
+    each_value(&rt, alloc, RUNTIME_ERRORS, " = ", is_told::<RuntimeError>);
+    each_value(&rt, alloc, CRITICAL_ERRORS, " = ", is_told::<CriticalError>);
+}
+
+#[test]
+fn lines_that_are_no_values(rt: HostRuntime) {
+    let alloc = rt.alloc();
+    each_is_refused::<Watcher>(&rt, alloc, "poll");
+    each_is_refused::<NotifyFault>(&rt, alloc, NO_FAULTS_OF_BACKENDS);
+    each_is_refused::<ScanFault>(&rt, alloc, NO_FAULTS_OF_SCANS);
+    each_is_refused::<FsWatcherError>(&rt, alloc, NO_FILE_ERRORS);
+    each_is_refused::<RuntimeError>(&rt, alloc, NO_RUNTIME_ERRORS);
+    each_is_refused::<CriticalError>(&rt, alloc, NO_CRITICAL_ERRORS);
+}
+
+#[test]
+fn errors_that_are_made(rt: HostRuntime) {
+    let alloc = rt.alloc();
+    let memory = RuntimeError::from(Memory);
+    expect_yes(&rt, is_made(alloc, memory, "memory"), "one of a run");
     let memory = CriticalError::from(Memory);
-    expect_yes(&rt, is_made(alloc, memory, "memory"), "memory");
+    expect_yes(&rt, is_made(alloc, memory, "memory"), "one at its end");
     let about = is_about(alloc, b"\xff\n", "io %FF%0A 5");
-    expect_yes(&rt, about, "an error about bytes");
+    expect_yes(&rt, about, "one about bytes");
 }
 
 /// A filter that lets urgent events pass, and any folder but one.
@@ -440,18 +348,6 @@ fn watched(rt: &impl Abort, alloc: Global, path: &[u8], recursive: bool) -> Watc
     WatchedPath { path, recursive }
 }
 
-/// The text of these bytes.
-fn text(rt: &impl Abort, alloc: Global, bytes: &[u8]) -> Text {
-    Text::from_slice(alloc, bytes).expect(rt, "a text")
-}
-
-/// The hash of this value.
-fn hash_of<T: Hash>(value: &T) -> u64 {
-    let mut state = DefaultHasher::new();
-    value.hash(&mut state);
-    state.finish()
-}
-
 #[test]
 fn watched_paths_compare_by_path_and_then_depth(rt: HostRuntime) {
     let alloc = rt.alloc();
@@ -485,9 +381,16 @@ fn paths_are_watched_with_all_below_them(rt: HostRuntime) {
 }
 
 #[test]
-fn a_default_is_that_of_the_value(rt: HostRuntime) {
-    let throttle: Changeable<u64> = Changeable::default();
-    assert!(rt; *throttle.get() == 0);
+fn what_can_be_replaced_and_its_default(rt: HostRuntime) {
+    each_is_read::<Watcher>(&rt, rt.alloc(), WATCHERS);
     let watcher: Changeable<Watcher> = Changeable::default();
     assert!(rt; *watcher.get() == Watcher::Native);
+    let mut throttle: Changeable<u64> = Changeable::default();
+    assert!(rt; *throttle.get() == 0);
+    throttle.replace(7);
+    assert!(rt; *throttle.get() == 7);
+    let mut function = ChangeableFn::new(1);
+    function.replace(2);
+    let filter = ChangeableFilterer::default();
+    assert!(rt; *function.get() == 2 && *filter.get() == 0);
 }

@@ -1,9 +1,9 @@
 // What a lane does: the expected values are worked out by hand.
-use crate::shown::{expect_yes, notify};
 use std::alloc::Global;
 use wx_lane::{Lane, LaneItem, Notify, NotifyFault};
 use wx_text::{List, Memory};
 use wx_watch::NotifyFaultKind;
+use wx_words_trial::{each_pair, expect_yes, read_line};
 
 // For each case the calls on a new lane for two events, and what each answers. `t N` puts an event that says something of the tree,
 // `d N` one that doesn't, and `f N` a fault, each named N: the answer is whether there was room. `<N` asks for the fence, `hN` says
@@ -48,7 +48,7 @@ fn shown(alloc: Global, item: Option<&LaneItem>) -> Result<String, Memory> {
 }
 
 fn event(alloc: Global, line: &str) -> Result<Result<Notify, NotifyFault>, Memory> {
-    match notify(alloc, line)? {
+    match read_line::<Notify>(alloc, line.as_bytes())? {
         Some(notification) => Ok(Ok(notification)),
         None => Err(Memory),
     }
@@ -110,11 +110,8 @@ fn answer(alloc: Global, lane: &mut Lane, call: &str) -> Result<String, Memory> 
     shown(alloc, lane.first())
 }
 
-/// Whether the calls at the front of this case have the answers behind ` =`.
-fn is_case(alloc: Global, case: &str) -> Result<bool, Memory> {
-    let Some((calls, wanted)) = case.split_once(" =") else {
-        return Ok(false);
-    };
+/// Whether these calls have these answers.
+fn has_answers(alloc: Global, calls: &str, wanted: &str) -> Result<bool, Memory> {
     let mut lane = Lane::new(alloc, 2)?;
     let mut all = String::new(alloc);
     for call in calls.split(" ") {
@@ -126,9 +123,7 @@ fn is_case(alloc: Global, case: &str) -> Result<bool, Memory> {
 
 #[test]
 fn lanes_answer(rt: HostRuntime) {
-    for case in CALLS.lines() {
-        expect_yes(&rt, is_case(rt.alloc(), case), case);
-    }
+    each_pair(&rt, rt.alloc(), CALLS, " =", has_answers);
 }
 
 /// Whether an event in a lane for none is refused, and is kept where it says something of the tree.

@@ -5,30 +5,11 @@ use std::num::{NonZeroI32, NonZeroI64};
 use std::process::Abort;
 use wx_text::{Copies, List, Memory, Text, copy_twice};
 use wx_words::{Spelled, TextPath, Words, take_literal};
-
-/// The words of this value with one space between them.
-fn line_of<T: Spelled>(alloc: Global, value: &T) -> Result<Text, Memory> {
-    let mut line = Text::new(alloc);
-    value.put(&mut line)?;
-    Ok(line)
-}
-
-/// The value whose words are this whole line.
-fn read_line<T: Spelled>(alloc: Global, line: &[u8]) -> Result<Option<T>, Memory> {
-    let mut words = Words::new(line);
-    let found = T::take(alloc, &mut words)?;
-    if words.is_done() { Ok(found) } else { Ok(None) }
-}
+use wx_words_trial::{each_is_refused, expect_next, is_written, read_line};
 
 /// Ends the test where the answer isn't yes, and says at which line.
 fn expect_yes(rt: &impl Abort, answer: Result<bool, Memory>, line: &[u8]) {
     assert!(rt; answer == Ok(true), "at {line:?}");
-}
-
-/// Whether the words of this value are this line.
-fn is_written<T: Spelled>(alloc: Global, value: &T, line: &[u8]) -> Result<bool, Memory> {
-    let written = line_of(alloc, value)?;
-    Ok(written.as_slice() == line)
 }
 
 /// Holds the words of this value to be this line.
@@ -56,19 +37,6 @@ fn expect_read<T: Spelled + PartialEq>(
     expect_yes(rt, is_read_as(alloc, line, &want), line);
 }
 
-/// Whether this line is no value of this type.
-fn is_refused<T: Spelled>(alloc: Global, line: &[u8]) -> Result<bool, Memory> {
-    let found: Option<T> = read_line(alloc, line)?;
-    Ok(found.is_none())
-}
-
-/// No line of the table is a value of this type.
-fn each_is_refused<T: Spelled>(rt: &impl Abort, alloc: Global, table: &[&[u8]]) {
-    for line in table {
-        expect_yes(rt, is_refused::<T>(alloc, line), line);
-    }
-}
-
 /// The text of these bytes.
 fn text(rt: &impl Abort, alloc: Global, bytes: &[u8]) -> Text {
     Text::from_slice(alloc, bytes).expect(rt, "a text")
@@ -90,13 +58,6 @@ fn expect_word(rt: &impl Abort, alloc: Global, bytes: &[u8], word: &[u8]) {
     expect_written(rt, alloc, TextPath::new(text(rt, alloc, bytes)), word);
 }
 
-#[test]
-fn spells_texts(rt: HostRuntime) {
-    for (bytes, word) in &SPELLED {
-        expect_word(&rt, rt.alloc(), bytes, word);
-    }
-}
-
 // Words and their texts.
 const READ: [(&[u8], &[u8]); 6] = [
     (b"%", b""),
@@ -115,41 +76,26 @@ fn expect_bytes(rt: &impl Abort, alloc: Global, word: &[u8], bytes: &[u8]) {
 }
 
 #[test]
-fn reads_texts(rt: HostRuntime) {
+fn texts_and_their_words(rt: HostRuntime) {
+    for (bytes, word) in &SPELLED {
+        expect_word(&rt, rt.alloc(), bytes, word);
+    }
     for (word, bytes) in &READ {
         expect_bytes(&rt, rt.alloc(), word, bytes);
     }
 }
 
-const NO_TEXTS: [&[u8]; 8] = [b"", b"a b", b"a%", b"%2", b"%2g", b"%%", b"a\tb", b"\x7f"];
-
-#[test]
-fn refuses_bad_texts(rt: HostRuntime) {
-    each_is_refused::<Text>(&rt, rt.alloc(), &NO_TEXTS);
+/// Holds this value to be written by this line, and read from it.
+fn expect_value<T: Spelled + PartialEq>(rt: &impl Abort, alloc: Global, value: T, line: &[u8]) {
+    expect_yes(rt, is_written(alloc, &value, line), line);
+    expect_read(rt, alloc, line, Some(value));
 }
 
-const NUMBERS: [(&[u8], Option<u64>); 10] = [
-    (b"0", Some(0)),
-    (b"7", Some(7)),
-    (b"007", None),
-    (b"00", None),
-    (b"", None),
-    (b"-1", None),
-    (b"+1", None),
-    (b"1a", None),
-    (b"18446744073709551615", Some(18_446_744_073_709_551_615)),
-    (b"18446744073709551616", None),
+const UNSIGNED: [(&[u8], u64); 3] = [
+    (b"0", 0),
+    (b"7", 7),
+    (b"18446744073709551615", 18_446_744_073_709_551_615),
 ];
-
-#[test]
-fn reads_numbers(rt: HostRuntime) {
-    let alloc = rt.alloc();
-    for (word, n) in &NUMBERS {
-        expect_read(&rt, alloc, word, *n);
-    }
-    expect_read(&rt, alloc, b"4294967295", Some(4_294_967_295u32));
-    expect_read::<u32>(&rt, alloc, b"4294967296", None);
-}
 
 const SIGNED: [(&[u8], i64); 6] = [
     (b"0", 0),
@@ -160,58 +106,106 @@ const SIGNED: [(&[u8], i64); 6] = [
     (b"-9223372036854775808", -9_223_372_036_854_775_808),
 ];
 
-/// Whether this value is read from its own words.
-fn is_read_again<T: Spelled + PartialEq>(alloc: Global, value: T) -> Result<bool, Memory> {
-    let line = line_of(alloc, &value);
-    let want = Some(value);
-    is_read_as(alloc, line?.as_slice(), &want)
-}
-
 #[test]
-fn signed_numbers(rt: HostRuntime) {
+fn numbers_and_their_words(rt: HostRuntime) {
     let alloc = rt.alloc();
-    for (word, n) in &SIGNED {
-        expect_written(&rt, alloc, *n, word);
-        expect_read(&rt, alloc, word, Some(*n));
+    for (word, n) in &UNSIGNED {
+        expect_value(&rt, alloc, *n, word);
     }
-    expect_yes(&rt, is_read_again(alloc, 2_147_483_647i32), b"the last");
-    expect_yes(&rt, is_read_again(alloc, -2_147_483_648i32), b"the first");
-}
-
-const NO_SIGNED: [&[u8]; 10] = [
-    b"",
-    b"-",
-    b"-0",
-    b"--1",
-    b"+1",
-    b"-01",
-    b"01",
-    b"1-",
-    b"9223372036854775808",
-    b"-9223372036854775809",
-];
-
-const NO_SMALL: [&[u8]; 2] = [b"2147483648", b"-2147483649"];
-
-#[test]
-fn refuses_bad_signed_numbers(rt: HostRuntime) {
-    each_is_refused::<i64>(&rt, rt.alloc(), &NO_SIGNED);
-    each_is_refused::<i32>(&rt, rt.alloc(), &NO_SMALL);
+    for (word, n) in &SIGNED {
+        expect_value(&rt, alloc, *n, word);
+    }
+    expect_value(&rt, alloc, 0u32, b"0");
+    expect_value(&rt, alloc, 4_294_967_295u32, b"4294967295");
+    expect_value(&rt, alloc, 2_147_483_647i32, b"2147483647");
+    expect_value(&rt, alloc, -2_147_483_648i32, b"-2147483648");
 }
 
 #[test]
-fn numbers_other_than_zero(rt: HostRuntime) {
+fn numbers_other_than_zero_and_their_words(rt: HostRuntime) {
     let alloc = rt.alloc();
     let one = NonZeroI64::new(1).expect(&rt, "no zero");
-    expect_read(&rt, alloc, b"1", Some(one));
-    let low = NonZeroI32::new(-2_147_483_648).expect(&rt, "no zero");
-    expect_read(&rt, alloc, b"-2147483648", Some(low));
-    let three = NonZeroI32::new(-3).expect(&rt, "no zero");
-    expect_written(&rt, alloc, three, b"-3");
+    expect_value(&rt, alloc, one, b"1");
     let four = NonZeroI64::new(-4).expect(&rt, "no zero");
-    expect_written(&rt, alloc, four, b"-4");
-    expect_read::<NonZeroI64>(&rt, alloc, b"0", None);
-    expect_read::<NonZeroI32>(&rt, alloc, b"0", None);
+    expect_value(&rt, alloc, four, b"-4");
+    let three = NonZeroI32::new(-3).expect(&rt, "no zero");
+    expect_value(&rt, alloc, three, b"-3");
+    let low = NonZeroI32::new(-2_147_483_648).expect(&rt, "no zero");
+    expect_value(&rt, alloc, low, b"-2147483648");
+}
+
+#[test]
+fn switches_and_what_may_be_absent(rt: HostRuntime) {
+    let alloc = rt.alloc();
+    expect_value(&rt, alloc, true, b"on");
+    expect_value(&rt, alloc, false, b"off");
+    expect_value(&rt, alloc, Some(12u64), b"12");
+    expect_value::<Option<u64>>(&rt, alloc, None, b"-");
+}
+
+// The first line is empty, here and in the next two tables.
+const NO_TEXTS: &str = "
+a b
+a%
+%2
+%2g
+%%
+a\tb
+\x7f
+";
+
+const NO_UNSIGNED: &str = "
+007
+00
+-1
++1
+1a
+18446744073709551616
+";
+
+const NO_SIGNED: &str = "
+-
+-0
+--1
++1
+-01
+01
+1-
+9223372036854775808
+-9223372036854775809
+";
+
+const NO_SMALL: &str = "\
+2147483648
+-2147483649
+";
+
+const NOT_OPTIONAL: &str = "\
+--
+012
+";
+
+const NO_LISTS: &str = "\
+3 5 6
+1 5 6
+2 5  6
+2 5 x
+5 6
+";
+
+#[test]
+fn lines_that_are_no_values(rt: HostRuntime) {
+    let alloc = rt.alloc();
+    each_is_refused::<Text>(&rt, alloc, NO_TEXTS);
+    each_is_refused::<u64>(&rt, alloc, NO_UNSIGNED);
+    each_is_refused::<i64>(&rt, alloc, NO_SIGNED);
+    each_is_refused::<i32>(&rt, alloc, NO_SMALL);
+    each_is_refused::<u32>(&rt, alloc, "4294967296");
+    each_is_refused::<NonZeroI64>(&rt, alloc, "0");
+    each_is_refused::<NonZeroI32>(&rt, alloc, "0");
+    each_is_refused::<Option<u64>>(&rt, alloc, NOT_OPTIONAL);
+    each_is_refused::<List<u64>>(&rt, alloc, NO_LISTS);
+    each_is_refused::<bool>(&rt, alloc, "On");
 }
 
 /// Takes the next part, and holds it to be this one.
@@ -241,30 +235,6 @@ fn a_list_and_its_items(rt: HostRuntime) {
     assert!(rt; items.as_slice() == [3, 1, 2].as_slice());
 }
 
-#[test]
-fn spells_numbers(rt: HostRuntime) {
-    let alloc = rt.alloc();
-    let last = 18_446_744_073_709_551_615u64;
-    expect_written(&rt, alloc, last, b"18446744073709551615");
-    expect_written(&rt, alloc, 0u32, b"0");
-    expect_written(&rt, alloc, Some(12u64), b"12");
-    expect_written::<Option<u64>>(&rt, alloc, None, b"-");
-}
-
-const OPTIONAL: [(&[u8], Option<Option<u64>>); 4] = [
-    (b"-", Some(None)),
-    (b"12", Some(Some(12))),
-    (b"--", None),
-    (b"012", None),
-];
-
-#[test]
-fn reads_optional_numbers(rt: HostRuntime) {
-    for (word, n) in &OPTIONAL {
-        expect_read(&rt, rt.alloc(), word, *n);
-    }
-}
-
 /// The list of 5 and 6.
 fn five_and_six(alloc: Global) -> Result<List<u64>, Memory> {
     let mut numbers = List::new(alloc);
@@ -280,8 +250,6 @@ fn expect_items(rt: &impl Abort, alloc: Global, line: &[u8], want: &[u64]) {
     assert!(rt; list.as_slice() == want && list.is_empty() == want.is_empty());
 }
 
-const NO_LISTS: [&[u8]; 5] = [b"3 5 6", b"1 5 6", b"2 5  6", b"2 5 x", b"5 6"];
-
 #[test]
 fn lists_and_their_items(rt: HostRuntime) {
     let alloc = rt.alloc();
@@ -289,28 +257,6 @@ fn lists_and_their_items(rt: HostRuntime) {
     expect_written(&rt, alloc, numbers, b"2 5 6");
     expect_items(&rt, alloc, b"2 5 6", &[5, 6]);
     expect_items(&rt, alloc, b"0", &[]);
-    each_is_refused::<List<u64>>(&rt, alloc, &NO_LISTS);
-}
-
-#[test]
-fn switches(rt: HostRuntime) {
-    let alloc = rt.alloc();
-    expect_written(&rt, alloc, true, b"on");
-    expect_read(&rt, alloc, b"on", Some(true));
-    expect_written(&rt, alloc, false, b"off");
-    expect_read(&rt, alloc, b"off", Some(false));
-    expect_read::<bool>(&rt, alloc, b"On", None);
-}
-
-/// Takes the value at the front of these words, and holds it to be this one, or none.
-fn expect_next<T: Spelled + PartialEq>(
-    rt: &impl Abort,
-    alloc: Global,
-    words: &mut Words,
-    want: Option<T>,
-) {
-    let found = T::take(alloc, words).expect(rt, "a word");
-    assert!(rt; found == want);
 }
 
 /// How many texts the list at the front of these words has.

@@ -1,9 +1,10 @@
 // Which notifications are public: the expected values are worked out by hand.
-use crate::shown::{expect_yes, notify, path};
 use std::alloc::Global;
-use wx_lane::event_is_public;
-use wx_text::Memory;
+use wx_lane::{Notify, event_is_public};
+use wx_text::{Memory, Text};
 use wx_tree::{Place, Root};
+use wx_words::TextPath;
+use wx_words_trial::{each_pair, each_value, read_line};
 
 // Roots, and below each the paths that are of it (`yes`) or aren't (`no`), seen from /w/d.
 const PATHS: &str = "\
@@ -48,6 +49,11 @@ n /w | yes %
 n /w | no a
 ";
 
+/// The path that this text spells.
+fn path(alloc: Global, text: &str) -> Result<TextPath, Memory> {
+    Ok(TextPath::new(Text::from_slice(alloc, text.as_bytes())?))
+}
+
 /// The root of these words: whether it is recursive, and its path.
 fn root(alloc: Global, words: &str) -> Result<Option<Root>, Memory> {
     let Some((way, at)) = words.split_once(" ") else {
@@ -60,11 +66,8 @@ fn root(alloc: Global, words: &str) -> Result<Option<Root>, Memory> {
     }))
 }
 
-/// Whether a notification of this path is public for the root exactly where the case says so.
-fn is_case(alloc: Global, case: &str) -> Result<bool, Memory> {
-    let Some((root_words, more)) = case.split_once(" | ") else {
-        return Ok(false);
-    };
+/// Whether a notification of a path is public for this root exactly where the case says so.
+fn is_of_root(alloc: Global, root_words: &str, more: &str) -> Result<bool, Memory> {
     let Some((wanted, at)) = more.split_once(" ") else {
         return Ok(false);
     };
@@ -72,7 +75,7 @@ fn is_case(alloc: Global, case: &str) -> Result<bool, Memory> {
         return Ok(false);
     };
     let line = format!(in alloc; "create.file 1 {at} file - -")?;
-    let Some(notification) = notify(alloc, line.as_str())? else {
+    let Some(notification) = read_line::<Notify>(alloc, line.as_bytes())? else {
         return Ok(false);
     };
     let folder = path(alloc, "/w/d")?;
@@ -82,9 +85,7 @@ fn is_case(alloc: Global, case: &str) -> Result<bool, Memory> {
 
 #[test]
 fn paths_are_of_roots(rt: HostRuntime) {
-    for case in PATHS.lines() {
-        expect_yes(&rt, is_case(rt.alloc(), case), case);
-    }
+    each_pair(&rt, rt.alloc(), PATHS, " | ", is_of_root);
 }
 
 // Notifications, and whether they are public for /a with all below it and for /b with its entries.
@@ -102,26 +103,23 @@ modify.name.both 3 /c none /d none /b/e none - - | yes
 create.file 1 /c file rescan - | no
 ";
 
-/// Whether the notification of this case is public exactly where the case says so.
-fn is_public(alloc: Global, case: &str) -> Result<bool, Memory> {
-    let Some((line, wanted)) = case.split_once(" | ") else {
-        return Ok(false);
-    };
-    let Some(notification) = notify(alloc, line)? else {
-        return Ok(false);
-    };
+/// Whether this notification is public exactly where the case says so.
+fn is_public(
+    alloc: Global,
+    notification: &Notify,
+    _line: &str,
+    wanted: &str,
+) -> Result<bool, Memory> {
     let (Some(first), Some(second)) = (root(alloc, "r /a")?, root(alloc, "n /b")?) else {
         return Ok(false);
     };
     let folder = path(alloc, "/")?;
-    let public = event_is_public(&notification, &folder, &[first, second]);
-    let without = event_is_public(&notification, &folder, &[]);
+    let public = event_is_public(notification, &folder, &[first, second]);
+    let without = event_is_public(notification, &folder, &[]);
     Ok(public == (wanted == "yes") && without == notification.paths.is_empty())
 }
 
 #[test]
 fn one_path_suffices(rt: HostRuntime) {
-    for case in NOTIFICATIONS.lines() {
-        expect_yes(&rt, is_public(rt.alloc(), case), case);
-    }
+    each_value(&rt, rt.alloc(), NOTIFICATIONS, " | ", is_public);
 }

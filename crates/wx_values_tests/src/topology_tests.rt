@@ -1,9 +1,9 @@
 // What notifications say of the tree: the expected values are worked out by hand.
-use crate::shown::{expect_yes, notify};
 use std::alloc::Global;
-use wx_lane::{Topology, topology_messages};
+use wx_lane::{Notify, Topology, topology_messages};
 use wx_text::Memory;
 use wx_words::Escaped;
+use wx_words_trial::each_value;
 
 // A notification by its words, and its messages.
 const MESSAGES: &str = "\
@@ -52,15 +52,14 @@ fn shown(alloc: Global, message: &Topology) -> Result<String, Memory> {
     })
 }
 
-/// Whether the notification at the front of this case has the messages behind ` =`.
-fn is_case(alloc: Global, case: &str) -> Result<bool, Memory> {
-    let Some((line, wanted)) = case.split_once(" =") else {
-        return Ok(false);
-    };
-    let Some(notification) = notify(alloc, line)? else {
-        return Ok(false);
-    };
-    let messages = topology_messages(alloc, &notification)?;
+/// Whether this notification has these messages.
+fn has_messages(
+    alloc: Global,
+    notification: &Notify,
+    _line: &str,
+    wanted: &str,
+) -> Result<bool, Memory> {
+    let messages = topology_messages(alloc, notification)?;
     let mut all = String::new(alloc);
     for message in messages.as_slice() {
         let one = shown(alloc, message)?;
@@ -71,7 +70,5 @@ fn is_case(alloc: Global, case: &str) -> Result<bool, Memory> {
 
 #[test]
 fn notifications_have_their_messages(rt: HostRuntime) {
-    for case in MESSAGES.lines() {
-        expect_yes(&rt, is_case(rt.alloc(), case), case);
-    }
+    each_value(&rt, rt.alloc(), MESSAGES, " =", has_messages);
 }

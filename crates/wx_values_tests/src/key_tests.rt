@@ -1,10 +1,10 @@
 // Signals and keys as events, and what tags hold, by their rules: the expected values are worked out by hand.
-use crate::cases::{expect_yes, put_words, read_line};
 use std::alloc::Global;
 use wx_events::{Event, KeyCode, Keyboard, Priority, Signal};
 use wx_keys::{Tagged, byte_to_keyboard, ends_input, hears_signal, key_events, signal_event};
 use wx_text::{List, Memory, Text};
 use wx_words::{Spelled, number_of};
+use wx_words_trial::{each_pair, each_value, expect_yes};
 
 /// What each byte from 0 to 255 is as a key, sixteen in a row: the end of the input at 3 and 4, Enter at 13, Escape at 27,
 /// `^` and a letter for this letter with Ctrl, and the character itself from 32, the space, to 126.
@@ -98,18 +98,25 @@ fn bytes_in(alloc: Global, text: &str) -> Result<Text, Memory> {
     Ok(bytes)
 }
 
-/// Whether the case is the bytes of a read and the events of it.
-fn is_read_case(alloc: Global, case: &str) -> Result<bool, Memory> {
-    let Some((text, expected)) = case.split_once('|') else {
-        return Ok(false);
-    };
+/// Appends the words of this value, with one space between each two and a semicolon before the first where something
+/// stands before it.
+fn put_words<T: Spelled>(value: &T, out: &mut Text) -> Result<(), Memory> {
+    if out.len() > 0 {
+        out.append(b"; ")?;
+    }
+    value.put(out)
+}
+
+/// Whether a read of these bytes makes these events, and is said to hold the end of the input just where they end with it.
+fn is_read(alloc: Global, text: &str, expected: &str) -> Result<bool, Memory> {
     let bytes = bytes_in(alloc, text)?;
+    let ends = ends_input(bytes.as_slice());
     let events = key_events(alloc, bytes.as_slice())?;
     let mut line = Text::new(alloc);
     for event in events.as_slice() {
         put_words(event, &mut line)?;
     }
-    Ok(line.as_slice() == expected.as_bytes())
+    Ok(line.as_slice() == expected.as_bytes() && ends == expected.ends_with("key eof"))
 }
 
 /// Each line: the bytes that were read, and the events, with a semicolon between each two.
@@ -128,37 +135,13 @@ const READS: &str = "\
 ";
 
 #[test]
-fn reads_as_events(rt: HostRuntime) {
-    for case in READS.lines() {
-        expect_yes(&rt, is_read_case(rt.alloc(), case), case);
-    }
+fn reads_as_events_and_their_end(rt: HostRuntime) {
+    each_pair(&rt, rt.alloc(), READS, "|", is_read);
 }
 
-/// Whether a read is said to hold the end of the input just where the events of the case end with it.
-fn is_end_case(alloc: Global, case: &str) -> Result<bool, Memory> {
-    let Some((text, expected)) = case.split_once('|') else {
-        return Ok(false);
-    };
-    let bytes = bytes_in(alloc, text)?;
-    Ok(ends_input(bytes.as_slice()) == expected.ends_with("key eof"))
-}
-
-#[test]
-fn reads_that_hold_the_end(rt: HostRuntime) {
-    for case in READS.lines() {
-        expect_yes(&rt, is_end_case(rt.alloc(), case), case);
-    }
-}
-
-/// Whether the case is a signal, and when it is heard.
-fn is_heard_case(alloc: Global, case: &str) -> Result<bool, Memory> {
-    let Some((text, expected)) = case.split_once('|') else {
-        return Ok(false);
-    };
-    let Some(signal) = read_line::<Signal>(alloc, text)? else {
-        return Ok(false);
-    };
-    let when = match (hears_signal(signal, false), hears_signal(signal, true)) {
+/// Whether this signal is heard then.
+fn is_heard(_alloc: Global, signal: &Signal, _line: &str, expected: &str) -> Result<bool, Memory> {
+    let when = match (hears_signal(*signal, false), hears_signal(*signal, true)) {
         (true, true) => "always",
         (false, true) => "with job control",
         (false, false) => "never",
@@ -183,22 +166,9 @@ custom.18|never
 custom.-7|never
 ";
 
-#[test]
-fn signals_that_are_heard(rt: HostRuntime) {
-    for case in HEARD.lines() {
-        expect_yes(&rt, is_heard_case(rt.alloc(), case), case);
-    }
-}
-
-/// Whether the case is a signal, and its event with the priority.
-fn is_signal_case(alloc: Global, case: &str) -> Result<bool, Memory> {
-    let Some((text, expected)) = case.split_once('|') else {
-        return Ok(false);
-    };
-    let Some(signal) = read_line::<Signal>(alloc, text)? else {
-        return Ok(false);
-    };
-    let (event, priority): (Event, Priority) = signal_event(alloc, signal)?;
+/// Whether this signal has this event with its priority.
+fn has_event(alloc: Global, signal: &Signal, _line: &str, expected: &str) -> Result<bool, Memory> {
+    let (event, priority): (Event, Priority) = signal_event(alloc, *signal)?;
     let mut line = Text::new(alloc);
     event.put(&mut line)?;
     priority.put_after(&mut line)?;
@@ -221,10 +191,9 @@ custom.-7|2 source os signal custom.-7 high
 ";
 
 #[test]
-fn signals_as_events(rt: HostRuntime) {
-    for case in SIGNALS.lines() {
-        expect_yes(&rt, is_signal_case(rt.alloc(), case), case);
-    }
+fn signals_that_are_heard_and_their_events(rt: HostRuntime) {
+    each_value(&rt, rt.alloc(), HEARD, "|", is_heard);
+    each_value(&rt, rt.alloc(), SIGNALS, "|", has_event);
 }
 
 /// Appends the words of this value behind what stands there, or `none`.
@@ -300,7 +269,7 @@ fn is_field(text: Option<Text>, field: &str) -> bool {
 }
 
 /// Whether the tags hold what these fields say: signals, paths, ends.
-fn holds<T: Tagged>(alloc: Global, tagged: &T, fields: &str) -> Result<bool, Memory> {
+fn holds<T: Tagged>(alloc: Global, tagged: &T, _line: &str, fields: &str) -> Result<bool, Memory> {
     let Some((signals, rest)) = fields.split_once('|') else {
         return Ok(false);
     };
@@ -312,17 +281,6 @@ fn holds<T: Tagged>(alloc: Global, tagged: &T, fields: &str) -> Result<bool, Mem
             && is_field(paths_of(alloc, tagged)?, paths)
             && is_field(completions_of(alloc, tagged)?, completions),
     )
-}
-
-/// Whether the case is a value with tags, and what these hold.
-fn is_tagged_case<T: Tagged + Spelled>(alloc: Global, case: &str) -> Result<bool, Memory> {
-    let Some((line, fields)) = case.split_once('|') else {
-        return Ok(false);
-    };
-    match read_line::<T>(alloc, line)? {
-        Some(tagged) => holds(alloc, &tagged, fields),
-        None => Ok(false),
-    }
 }
 
 /// Each line: an event, its signals, its paths, its ends of processes.
@@ -337,13 +295,6 @@ const TAGGED: &str = "\
 3 source keyboard key eof kind create.file|||
 ";
 
-#[test]
-fn held_by_events(rt: HostRuntime) {
-    for case in TAGGED.lines() {
-        expect_yes(&rt, is_tagged_case::<Event>(rt.alloc(), case), case);
-    }
-}
-
 /// Each line: events, and the same of all of them.
 const BATCHES: &str = "\
 0|||
@@ -354,8 +305,7 @@ const BATCHES: &str = "\
 ";
 
 #[test]
-fn held_by_batches(rt: HostRuntime) {
-    for case in BATCHES.lines() {
-        expect_yes(&rt, is_tagged_case::<List<Event>>(rt.alloc(), case), case);
-    }
+fn what_events_and_batches_hold(rt: HostRuntime) {
+    each_value(&rt, rt.alloc(), TAGGED, "|", holds::<Event>);
+    each_value(&rt, rt.alloc(), BATCHES, "|", holds::<List<Event>>);
 }

@@ -1,9 +1,9 @@
 // Paths by the rules of their components: the expected values are worked out by hand.
-use crate::cases::expect_yes;
 use std::alloc::Global;
 use wx_paths::{common_prefix, components, normalize, parent, path_of, starts_with};
 use wx_text::{List, Memory, Text};
 use wx_words::TextPath;
+use wx_words_trial::each_pair;
 
 /// The path of this text.
 fn path_in(alloc: Global, text: &str) -> Result<TextPath, Memory> {
@@ -29,11 +29,8 @@ fn put_path(path: &Option<TextPath>, out: &mut Text) -> Result<(), Memory> {
     }
 }
 
-/// Whether the case is its path, the components of it, its normal form and its parent.
-fn is_path_case(alloc: Global, case: &str) -> Result<bool, Memory> {
-    let Some((text, expected)) = case.split_once('|') else {
-        return Ok(false);
-    };
+/// Whether this path has these components, this normal form and this parent.
+fn is_path(alloc: Global, text: &str, expected: &str) -> Result<bool, Memory> {
     let path = path_in(alloc, text)?;
     let mut line = Text::new(alloc);
     let parts = components(alloc, &path)?;
@@ -99,17 +96,12 @@ a/../b/../c|a .. b .. c|c|a/../b/..
 ";
 
 #[test]
-fn paths(rt: HostRuntime) {
-    for case in PATHS.lines() {
-        expect_yes(&rt, is_path_case(rt.alloc(), case), case);
-    }
+fn components_normal_paths_and_parents(rt: HostRuntime) {
+    each_pair(&rt, rt.alloc(), PATHS, "|", is_path);
 }
 
-/// Whether the case is two paths, and whether the first starts with the second.
-fn is_start_case(alloc: Global, case: &str) -> Result<bool, Memory> {
-    let Some((text, rest)) = case.split_once('|') else {
-        return Ok(false);
-    };
+/// Whether this path starts with the other one of the case just where it says so.
+fn is_start(alloc: Global, text: &str, rest: &str) -> Result<bool, Memory> {
     let Some((other, answer)) = rest.split_once('|') else {
         return Ok(false);
     };
@@ -153,13 +145,6 @@ a|A|no
 /a/b/c|/a/c|no
 ";
 
-#[test]
-fn starts(rt: HostRuntime) {
-    for case in STARTS.lines() {
-        expect_yes(&rt, is_start_case(rt.alloc(), case), case);
-    }
-}
-
 /// The paths of this text, which has a space between each two. The empty text has none.
 fn paths_in(alloc: Global, text: &str) -> Result<List<TextPath>, Memory> {
     let mut list = List::new(alloc);
@@ -171,11 +156,8 @@ fn paths_in(alloc: Global, text: &str) -> Result<List<TextPath>, Memory> {
     Ok(list)
 }
 
-/// Whether the case is paths and their common prefix.
-fn is_common_case(alloc: Global, case: &str) -> Result<bool, Memory> {
-    let Some((text, expected)) = case.split_once('|') else {
-        return Ok(false);
-    };
+/// Whether these paths have this common prefix.
+fn is_common(alloc: Global, text: &str, expected: &str) -> Result<bool, Memory> {
     let paths = paths_in(alloc, text)?;
     let common = common_prefix(alloc, &paths)?;
     let mut line = Text::new(alloc);
@@ -205,17 +187,13 @@ a/b/c a/b a|a
 ";
 
 #[test]
-fn common_prefixes(rt: HostRuntime) {
-    for case in COMMON.lines() {
-        expect_yes(&rt, is_common_case(rt.alloc(), case), case);
-    }
+fn starts_and_common_prefixes(rt: HostRuntime) {
+    each_pair(&rt, rt.alloc(), STARTS, "|", is_start);
+    each_pair(&rt, rt.alloc(), COMMON, "|", is_common);
 }
 
-/// Whether the case is components and the path that they spell.
-fn is_spelled_case(alloc: Global, case: &str) -> Result<bool, Memory> {
-    let Some((text, expected)) = case.split_once('|') else {
-        return Ok(false);
-    };
+/// Whether these components spell this path.
+fn is_spelled(alloc: Global, text: &str, expected: &str) -> Result<bool, Memory> {
     let mut parts = List::new(alloc);
     for word in text.split(' ') {
         parts.push(Text::from_slice(alloc, word.as_bytes())?)?;
@@ -235,7 +213,5 @@ a b c|a/b/c
 
 #[test]
 fn spelled_paths(rt: HostRuntime) {
-    for case in SPELLED.lines() {
-        expect_yes(&rt, is_spelled_case(rt.alloc(), case), case);
-    }
+    each_pair(&rt, rt.alloc(), SPELLED, "|", is_spelled);
 }

@@ -1,9 +1,10 @@
 // Summaries of events by their rules: the expected values are worked out by hand.
-use crate::cases::{expect_yes, read_line};
 use std::alloc::Global;
+use std::process::Abort;
 use wx_events::Event;
 use wx_summary::{PATH_SEPARATOR, Summary, summarise_events_to_env};
 use wx_text::{Copies, List, Memory, Text};
+use wx_words_trial::{each_value, expect_yes, read_line};
 
 /// All names that a summary may have.
 const NAMES: &str = "COMMON CREATED META_CHANGED OTHERWISE_CHANGED REMOVED RENAMED WRITTEN";
@@ -33,21 +34,15 @@ fn line_of(alloc: Global, summary: &Summary) -> Result<Option<Text>, Memory> {
 }
 
 /// Whether these events come to this line.
-fn comes_to(alloc: Global, events: &List<Event>, expected: &str) -> Result<bool, Memory> {
+fn comes_to(
+    alloc: Global,
+    events: &List<Event>,
+    _line: &str,
+    expected: &str,
+) -> Result<bool, Memory> {
     let summary = summarise_events_to_env(alloc, events)?;
     match line_of(alloc, &summary)? {
         Some(line) => Ok(line.as_slice() == expected.as_bytes()),
-        None => Ok(false),
-    }
-}
-
-/// Whether the case is events and what they come to.
-fn is_summary_case(alloc: Global, case: &str) -> Result<bool, Memory> {
-    let Some((line, expected)) = case.split_once('|') else {
-        return Ok(false);
-    };
-    match read_line::<List<Event>>(alloc, line)? {
-        Some(events) => comes_to(alloc, &events, expected),
         None => Ok(false),
     }
 }
@@ -95,9 +90,7 @@ const SUMMARIES: &str = "\
 
 #[test]
 fn summaries(rt: HostRuntime) {
-    for case in SUMMARIES.lines() {
-        expect_yes(&rt, is_summary_case(rt.alloc(), case), case);
-    }
+    each_value(&rt, rt.alloc(), SUMMARIES, "|", comes_to);
 }
 
 /// Four events, two of which are about one path.
@@ -123,30 +116,30 @@ fn in_order(alloc: Global, events: &List<Event>, order: &str) -> Result<List<Eve
     Ok(ordered)
 }
 
-/// Whether the four events in this order come to the same.
-fn is_order_case(alloc: Global, order: &str) -> Result<bool, Memory> {
-    match read_line::<List<Event>>(alloc, FOUR)? {
-        Some(events) => {
-            let ordered = in_order(alloc, &events, order)?;
-            Ok(ordered.len() == 4 && comes_to(alloc, &ordered, TOGETHER)?)
-        }
-        None => Ok(false),
-    }
+/// Whether these four events in this order come to the same.
+fn is_order(alloc: Global, events: &List<Event>, order: &str) -> Result<bool, Memory> {
+    let ordered = in_order(alloc, events, order)?;
+    Ok(ordered.len() == 4 && comes_to(alloc, &ordered, order, TOGETHER)?)
+}
+
+/// The four events.
+fn four(rt: &impl Abort, alloc: Global) -> List<Event> {
+    let found = read_line(alloc, FOUR.as_bytes()).expect(rt, "a line");
+    found.expect(rt, "four events")
 }
 
 #[test]
 fn summaries_in_each_order(rt: HostRuntime) {
+    let events = four(&rt, rt.alloc());
     for order in ORDERS.split(' ') {
-        expect_yes(&rt, is_order_case(rt.alloc(), order), order);
+        expect_yes(&rt, is_order(rt.alloc(), &events, order), order);
     }
+    drop(events);
 }
 
-/// Whether a summary has no text for another name.
-fn has_no_other(alloc: Global) -> Result<bool, Memory> {
-    let Some(events) = read_line::<List<Event>>(alloc, FOUR)? else {
-        return Ok(false);
-    };
-    let summary = summarise_events_to_env(alloc, &events)?;
+/// Whether a summary of these events has no text for another name.
+fn has_no_other(alloc: Global, events: &List<Event>) -> Result<bool, Memory> {
+    let summary = summarise_events_to_env(alloc, events)?;
     let written = Text::from_slice(alloc, b"written")?;
     let empty = Text::new(alloc);
     Ok(summary.get(&written).is_none() && summary.get(&empty).is_none())
@@ -154,6 +147,8 @@ fn has_no_other(alloc: Global) -> Result<bool, Memory> {
 
 #[test]
 fn other_names(rt: HostRuntime) {
-    expect_yes(&rt, has_no_other(rt.alloc()), "other names");
+    let events = four(&rt, rt.alloc());
+    expect_yes(&rt, has_no_other(rt.alloc(), &events), "other names");
+    drop(events);
     assert!(&rt; PATH_SEPARATOR == ":", "the separator");
 }

@@ -7,98 +7,35 @@ use std::process::Abort;
 use wx_events::{
     Event, FileEventKind, FileType, Keyboard, Modifiers, Priority, ProcessEnd, Signal, Source, Tag,
 };
-use wx_text::{Copies, List, Memory, Text};
-use wx_words::{Spelled, Words};
+use wx_text::{Copies, List, Memory};
+use wx_words::Spelled;
+use wx_words_trial::{
+    each_is_refused, each_value, equals_its_copy, expect_yes, has_fields, is_shown, is_written,
+    read_line,
+};
 
-/// The value whose words are this whole line.
-fn read_line<T: Spelled>(alloc: Global, line: &[u8]) -> Result<Option<T>, Memory> {
-    let mut words = Words::new(line);
-    let found = T::take(alloc, &mut words)?;
-    if words.is_done() { Ok(found) } else { Ok(None) }
-}
-
-/// Whether the words of this value, with one space between them, are this line.
-fn is_written<T: Spelled>(alloc: Global, value: &T, line: &str) -> Result<bool, Memory> {
-    let mut written = Text::new(alloc);
-    value.put(&mut written)?;
-    Ok(written.as_slice() == line.as_bytes())
-}
-
-/// Whether this value is shown by this line.
-fn is_shown<T: fmt::Display>(alloc: Global, value: &T, line: &str) -> Result<bool, Memory> {
-    let shown = format!(in alloc; "{value}")?;
-    Ok(shown.as_str() == line)
-}
-
-/// Whether the fields of this value are shown by this text.
-fn has_fields<T: fmt::Debug>(alloc: Global, value: &T, fields: &str) -> Result<bool, Memory> {
-    let shown = format!(in alloc; "{value:?}")?;
-    Ok(shown.as_str() == fields)
-}
-
-/// Whether the value at the front of this case has the fields behind ` = `, and is written and shown by its line.
-fn is_case<T: Spelled + fmt::Display + fmt::Debug>(
+/// Whether this value has these fields, and is written and shown by this line.
+fn is_named<T: Spelled + fmt::Display + fmt::Debug>(
     alloc: Global,
-    case: &str,
+    value: &T,
+    line: &str,
+    fields: &str,
 ) -> Result<bool, Memory> {
-    let Some((line, fields)) = case.split_once(" = ") else {
-        return Ok(false);
-    };
-    match read_line::<T>(alloc, line.as_bytes())? {
-        Some(value) => Ok(
-            has_fields(alloc, &value, fields)?
-                && is_written(alloc, &value, line)?
-                && is_shown(alloc, &value, line)?,
-        ),
-        None => Ok(false),
-    }
+    Ok(
+        has_fields(alloc, value, fields)?
+            && is_written(alloc, value, line.as_bytes())?
+            && is_shown(alloc, value, line)?,
+    )
 }
 
-/// Ends the test where the answer isn't yes, and says at which case.
-fn expect_yes(rt: &impl Abort, answer: Result<bool, Memory>, case: &str) {
-    assert!(rt; answer == Ok(true), "at {case}");
-}
-
-/// Each line of the table is read as its value, which is written and shown by the line.
-fn each_is_read<T: Spelled + fmt::Display + fmt::Debug>(
-    rt: &impl Abort,
+/// The same, and whether the value equals its copy.
+fn is_copied<T: Spelled + Copies + PartialEq + fmt::Display + fmt::Debug>(
     alloc: Global,
-    table: &str,
-) {
-    for case in table.lines() {
-        expect_yes(rt, is_case::<T>(alloc, case), case);
-    }
-}
-
-/// Whether the value at the front of this case equals its copy.
-fn is_copied<T: Spelled + Copies + PartialEq>(alloc: Global, case: &str) -> Result<bool, Memory> {
-    let Some((line, _)) = case.split_once(" = ") else {
-        return Ok(false);
-    };
-    match read_line::<T>(alloc, line.as_bytes())? {
-        Some(value) => Ok(value.copy(alloc)? == value),
-        None => Ok(false),
-    }
-}
-
-/// The value at each line of the table equals its copy.
-fn each_is_copied<T: Spelled + Copies + PartialEq>(rt: &impl Abort, alloc: Global, table: &str) {
-    for case in table.lines() {
-        expect_yes(rt, is_copied::<T>(alloc, case), case);
-    }
-}
-
-/// Whether this line is no value of this type.
-fn is_refused<T: Spelled>(alloc: Global, line: &str) -> Result<bool, Memory> {
-    let found: Option<T> = read_line(alloc, line.as_bytes())?;
-    Ok(found.is_none())
-}
-
-/// No line of the table is a value of this type.
-fn each_is_refused<T: Spelled>(rt: &impl Abort, alloc: Global, table: &str) {
-    for line in table.lines() {
-        expect_yes(rt, is_refused::<T>(alloc, line), line);
-    }
+    value: &T,
+    line: &str,
+    fields: &str,
+) -> Result<bool, Memory> {
+    Ok(is_named(alloc, value, line, fields)? && equals_its_copy(alloc, value)?)
 }
 
 const PRIORITIES: &str = "\
@@ -107,11 +44,6 @@ normal = Normal
 high = High
 urgent = Urgent
 ";
-
-#[test]
-fn priorities(rt: HostRuntime) {
-    each_is_read::<Priority>(&rt, rt.alloc(), PRIORITIES);
-}
 
 const TAGS: &str = "\
 path /a%20b none = Path { path: TextPath { text: Text { bytes: [47, 97, 32, 98] } }, file_type: None }
@@ -125,11 +57,6 @@ end success = ProcessCompletion(Some(Success))
 unknown = Unknown
 ";
 
-#[test]
-fn tags(rt: HostRuntime) {
-    each_is_read::<Tag>(&rt, rt.alloc(), TAGS);
-}
-
 const EVERY_TAG: &str =
     "8 path /a%20b file kind modify.data.content source filesystem key ctrl.char.a process 7 signal custom.-3 end error.-1 unknown";
 
@@ -139,17 +66,9 @@ fn event_of(rt: &impl Abort, alloc: Global, line: &str) -> Event {
     found.expect(rt, "an event")
 }
 
-/// Whether a copy of this event equals it.
-fn equals_its_copy(alloc: Global, event: &Event) -> Result<bool, Memory> {
-    let copy = event.copy(alloc)?;
-    let so = copy == *event;
-    drop(copy);
-    Ok(so)
-}
-
 /// An event is written and shown by this line, and equals its copy.
 fn expect_event(rt: &impl Abort, alloc: Global, event: &Event, line: &str) {
-    expect_yes(rt, is_written(alloc, event, line), line);
+    expect_yes(rt, is_written(alloc, event, line.as_bytes()), line);
     expect_yes(rt, is_shown(alloc, event, line), line);
     expect_yes(rt, equals_its_copy(alloc, event), line);
 }
@@ -191,12 +110,6 @@ time = Time
 internal = Internal
 ";
 
-#[test]
-fn file_types_and_sources(rt: HostRuntime) {
-    each_is_read::<FileType>(&rt, rt.alloc(), FILE_TYPES);
-    each_is_read::<Source>(&rt, rt.alloc(), SOURCES);
-}
-
 const KINDS: &str = "\
 any = Any
 other = Other
@@ -223,11 +136,6 @@ remove.folder = Remove(Folder)
 remove.other = Remove(Other)
 ";
 
-#[test]
-fn accesses_creations_and_removals(rt: HostRuntime) {
-    each_is_read::<FileEventKind>(&rt, rt.alloc(), KINDS);
-}
-
 const MODIFICATIONS: &str = "\
 modify.any = Modify(Any)
 modify.other = Modify(Other)
@@ -249,11 +157,6 @@ modify.name.both = Modify(Name(Both))
 modify.name.other = Modify(Name(Other))
 ";
 
-#[test]
-fn modifications(rt: HostRuntime) {
-    each_is_read::<FileEventKind>(&rt, rt.alloc(), MODIFICATIONS);
-}
-
 const KEYS: &str = "\
 eof = Eof
 enter = Key { key: Enter, modifiers: Modifiers { ctrl: false } }
@@ -269,30 +172,19 @@ char.%C3%A9 = Key { key: Char('\u{e9}'), modifiers: Modifiers { ctrl: false } }
 char.%F4%8F%BF%BF = Key { key: Char('\\u{10ffff}'), modifiers: Modifiers { ctrl: false } }
 ";
 
-#[test]
-fn keys(rt: HostRuntime) {
-    assert!(rt; Modifiers::default() == Modifiers { ctrl: false });
-    each_is_read::<Keyboard>(&rt, rt.alloc(), KEYS);
-}
+const ESCAPES: &str = "\
+char.%c3%a9 = Key { key: Char('\u{e9}'), modifiers: Modifiers { ctrl: false } }
+ctrl.char.%2E = Key { key: Char('.'), modifiers: Modifiers { ctrl: true } }
+";
 
-/// Whether this word is read as the key with these fields, which is written otherwise.
-fn is_key(alloc: Global, word: &[u8], fields: &str) -> Result<bool, Memory> {
-    match read_line::<Keyboard>(alloc, word)? {
-        Some(key) => has_fields(alloc, &key, fields),
-        None => Ok(false),
-    }
+/// Whether this key has these fields, and isn't written by this line.
+fn is_not_written(alloc: Global, key: &Keyboard, line: &str, fields: &str) -> Result<bool, Memory> {
+    Ok(has_fields(alloc, key, fields)? && !is_written(alloc, key, line.as_bytes())?)
 }
 
 #[test]
 fn escapes_that_are_not_written(rt: HostRuntime) {
-    let lower = "Key { key: Char('\u{e9}'), modifiers: Modifiers { ctrl: false } }";
-    expect_yes(&rt, is_key(rt.alloc(), b"char.%c3%a9", lower), lower);
-    let needless = "Key { key: Char('.'), modifiers: Modifiers { ctrl: true } }";
-    expect_yes(
-        &rt,
-        is_key(rt.alloc(), b"ctrl.char.%2E", needless),
-        needless,
-    );
+    each_value(&rt, rt.alloc(), ESCAPES, " = ", is_not_written);
 }
 
 // The first line is empty, here and in the other tables that begin so.
@@ -328,13 +220,6 @@ const BAD_EVENTS: &str = "
 01 unknown
 ";
 
-#[test]
-fn refuses_bad_tags(rt: HostRuntime) {
-    each_is_refused::<Tag>(&rt, rt.alloc(), BAD_TAGS);
-    each_is_refused::<Event>(&rt, rt.alloc(), BAD_EVENTS);
-    each_is_refused::<Priority>(&rt, rt.alloc(), "Low");
-}
-
 const BAD_KINDS: &str = "\
 Any
 any.
@@ -357,11 +242,6 @@ modify.metadata.any
 remove.folders
 ";
 
-#[test]
-fn refuses_bad_kinds(rt: HostRuntime) {
-    each_is_refused::<FileEventKind>(&rt, rt.alloc(), BAD_KINDS);
-}
-
 const BAD_KEYS: &str = "
 Eof
 eof.
@@ -382,11 +262,6 @@ char.%ED%A0%80
 char.\u{e9}
 ";
 
-#[test]
-fn refuses_bad_keys(rt: HostRuntime) {
-    each_is_refused::<Keyboard>(&rt, rt.alloc(), BAD_KEYS);
-}
-
 const SIGNALS: &str = "\
 hangup = Hangup
 forcestop = ForceStop
@@ -404,12 +279,6 @@ custom.2147483647 = Custom(2147483647)
 custom.-2147483648 = Custom(-2147483648)
 ";
 
-#[test]
-fn signals(rt: HostRuntime) {
-    each_is_read::<Signal>(&rt, rt.alloc(), SIGNALS);
-    each_is_copied::<Signal>(&rt, rt.alloc(), SIGNALS);
-}
-
 const BAD_SIGNALS: &str = "
 Hangup
 hangup.
@@ -425,11 +294,6 @@ custom.1.1
 custom.2147483648
 custom.-2147483649
 ";
-
-#[test]
-fn refuses_bad_signals(rt: HostRuntime) {
-    each_is_refused::<Signal>(&rt, rt.alloc(), BAD_SIGNALS);
-}
 
 const NATIVES: &str = "\
 hangup = Some(1)
@@ -450,22 +314,9 @@ custom.2147483647 = None
 custom.-2147483648 = None
 ";
 
-/// Whether the signal at the front of this case has the number behind ` = `.
-fn has_number(alloc: Global, case: &str) -> Result<bool, Memory> {
-    let Some((line, number)) = case.split_once(" = ") else {
-        return Ok(false);
-    };
-    match read_line::<Signal>(alloc, line.as_bytes())? {
-        Some(signal) => has_fields(alloc, &signal.native(), number),
-        None => Ok(false),
-    }
-}
-
-#[test]
-fn numbers_of_signals(rt: HostRuntime) {
-    for case in NATIVES.lines() {
-        expect_yes(&rt, has_number(rt.alloc(), case), case);
-    }
+/// Whether this signal has this number.
+fn has_number(alloc: Global, signal: &Signal, _line: &str, number: &str) -> Result<bool, Memory> {
+    has_fields(alloc, &signal.native(), number)
 }
 
 const ENDS: &str = "\
@@ -483,12 +334,6 @@ exception.-1 = Exception(-1)
 exception.-2147483648 = Exception(-2147483648)
 continued = Continued
 ";
-
-#[test]
-fn ends(rt: HostRuntime) {
-    each_is_read::<ProcessEnd>(&rt, rt.alloc(), ENDS);
-    each_is_copied::<ProcessEnd>(&rt, rt.alloc(), ENDS);
-}
 
 const BAD_ENDS: &str = "\
 Success
@@ -514,6 +359,37 @@ continued.continued
 ";
 
 #[test]
-fn refuses_bad_ends(rt: HostRuntime) {
-    each_is_refused::<ProcessEnd>(&rt, rt.alloc(), BAD_ENDS);
+fn values_and_their_words(rt: HostRuntime) {
+    let alloc = rt.alloc();
+    each_value(&rt, alloc, PRIORITIES, " = ", is_named::<Priority>);
+    each_value(&rt, alloc, TAGS, " = ", is_named::<Tag>);
+    each_value(&rt, alloc, FILE_TYPES, " = ", is_named::<FileType>);
+    each_value(&rt, alloc, SOURCES, " = ", is_named::<Source>);
+    each_value(&rt, alloc, KINDS, " = ", is_named::<FileEventKind>);
+    each_value(&rt, alloc, MODIFICATIONS, " = ", is_named::<FileEventKind>);
+    each_value(&rt, alloc, KEYS, " = ", is_named::<Keyboard>);
+    each_value(&rt, alloc, SIGNALS, " = ", is_copied::<Signal>);
+    each_value(&rt, alloc, ENDS, " = ", is_copied::<ProcessEnd>);
+}
+
+#[test]
+fn lines_that_are_no_values(rt: HostRuntime) {
+    let alloc = rt.alloc();
+    each_is_refused::<Priority>(&rt, alloc, "Low");
+    each_is_refused::<Tag>(&rt, alloc, BAD_TAGS);
+    each_is_refused::<Event>(&rt, alloc, BAD_EVENTS);
+    each_is_refused::<FileEventKind>(&rt, alloc, BAD_KINDS);
+    each_is_refused::<Keyboard>(&rt, alloc, BAD_KEYS);
+    each_is_refused::<Signal>(&rt, alloc, BAD_SIGNALS);
+    each_is_refused::<ProcessEnd>(&rt, alloc, BAD_ENDS);
+}
+
+#[test]
+fn signals_have_their_numbers(rt: HostRuntime) {
+    each_value(&rt, rt.alloc(), NATIVES, " = ", has_number);
+}
+
+#[test]
+fn keys_are_without_modifiers_by_default(rt: HostRuntime) {
+    assert!(rt; Modifiers::default() == Modifiers { ctrl: false });
 }

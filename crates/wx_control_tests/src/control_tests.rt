@@ -1,7 +1,6 @@
 // Words, asks, levels and lists: the expected values are worked out by hand.
 use std::alloc::Global;
 use std::cmp::Ordering;
-use std::fmt;
 use std::process::Abort;
 use wx_control::{
     Ask, Control, Flag, Id, Level, Picked, ThreeLists, are_equal_ids, are_equal_levels,
@@ -9,68 +8,14 @@ use wx_control::{
 };
 use wx_text::{Copies, Memory, Text};
 use wx_words::{Spelled, Words};
-
-/// The words of this value with one space between them.
-pub fn line_of<T: Spelled>(alloc: Global, value: &T) -> Result<Text, Memory> {
-    let mut line = Text::new(alloc);
-    value.put(&mut line)?;
-    Ok(line)
-}
-
-/// The value whose words are this whole line.
-fn read_line<T: Spelled>(alloc: Global, line: &[u8]) -> Result<Option<T>, Memory> {
-    let mut words = Words::new(line);
-    let found = T::take(alloc, &mut words)?;
-    if words.is_done() { Ok(found) } else { Ok(None) }
-}
+use wx_words_trial::{
+    each_is_read, each_is_refused, each_pair, each_value, expect_next, is_refused, is_spelled,
+    line_of, read_line,
+};
 
 /// Ends the test where this isn't so, and says what was looked at.
 pub fn expect_so(rt: &impl Abort, so: bool, what: &str) {
     assert!(rt; so, "{what}");
-}
-
-/// Ends the test where the answer isn't yes, and says what was asked.
-pub fn expect_yes(rt: &impl Abort, answer: Result<bool, Memory>, what: &str) {
-    assert!(rt; answer == Ok(true), "at {what}");
-}
-
-/// The case of a value: its words, and its fields behind ` = `.
-fn case_of<T: Spelled + fmt::Debug>(alloc: Global, value: &T) -> Result<Text, Memory> {
-    let fields = format!(in alloc; " = {value:?}")?;
-    let mut case = line_of(alloc, value)?;
-    case.append(fields.as_bytes())?;
-    Ok(case)
-}
-
-/// Whether the line of this case is read as the value with its fields, which is written by the line.
-fn is_case<T: Spelled + fmt::Debug>(alloc: Global, case: &str) -> Result<bool, Memory> {
-    let Some((line, _)) = case.split_once(" = ") else {
-        return Ok(false);
-    };
-    match read_line::<T>(alloc, line.as_bytes())? {
-        Some(value) => Ok(case_of(alloc, &value)?.as_slice() == case.as_bytes()),
-        None => Ok(false),
-    }
-}
-
-/// Each line of the table is read as the value with the fields behind ` = `, and is what it is written as.
-fn each_is_read<T: Spelled + fmt::Debug>(rt: &impl Abort, alloc: Global, table: &str) {
-    for case in table.lines() {
-        expect_yes(rt, is_case::<T>(alloc, case), case);
-    }
-}
-
-/// Whether this line is no value of this type.
-fn is_refused<T: Spelled>(alloc: Global, line: &str) -> Result<bool, Memory> {
-    let found: Option<T> = read_line(alloc, line.as_bytes())?;
-    Ok(found.is_none())
-}
-
-/// No line of the table is a value of this type.
-fn each_is_refused<T: Spelled>(rt: &impl Abort, alloc: Global, table: &str) {
-    for line in table.lines() {
-        expect_yes(rt, is_refused::<T>(alloc, line), line);
-    }
 }
 
 const LEVELS: &str = "\
@@ -86,12 +31,6 @@ Normal
 
 normal\x20
 ";
-
-#[test]
-fn levels_as_words(rt: HostRuntime) {
-    each_is_read::<Level>(&rt, rt.alloc(), LEVELS);
-    each_is_refused::<Level>(&rt, rt.alloc(), BAD_LEVELS);
-}
 
 const CONTROLS: &str = "\
 start = Start
@@ -115,11 +54,6 @@ setchild 4294967295 = SetSpawnChildFn(4294967295)
 clearspawn = ClearSpawnFn
 ";
 
-#[test]
-fn controls_as_words(rt: HostRuntime) {
-    each_is_read::<Control>(&rt, rt.alloc(), CONTROLS);
-}
-
 const ASKS: &str = "\
 restart = Restart
 restartsignal interrupt 18446744073709551615 = RestartWithSignal { signal: Interrupt, grace: 18446744073709551615 }
@@ -128,21 +62,10 @@ deletenow = DeleteNow
 towait = ToWait
 ";
 
-/// Whether the line of this case of a control is an ask too, of that control alone.
-fn is_one(alloc: Global, case: &str) -> Result<bool, Memory> {
-    let Some((line, fields)) = case.split_once(" = ") else {
-        return Ok(false);
-    };
-    let one = format!(in alloc; "{line} = One({fields})")?;
-    is_case::<Ask>(alloc, one.as_str())
-}
-
-#[test]
-fn asks_as_words(rt: HostRuntime) {
-    each_is_read::<Ask>(&rt, rt.alloc(), ASKS);
-    for case in CONTROLS.lines() {
-        expect_yes(&rt, is_one(rt.alloc(), case), case);
-    }
+/// Whether this ask has the fields of this control, and is written by this line.
+fn is_one(alloc: Global, ask: &Ask, line: &str, fields: &str) -> Result<bool, Memory> {
+    let one = format!(in alloc; "One({fields})")?;
+    is_spelled(alloc, ask, line, one.as_str())
 }
 
 const BAD_ASKS: &str = "
@@ -189,23 +112,6 @@ deletenow 0
 towait 1
 ";
 
-/// Whether the line of this case of an ask is no control.
-fn is_no_control(alloc: Global, case: &str) -> Result<bool, Memory> {
-    match case.split_once(" = ") {
-        Some((line, _)) => is_refused::<Control>(alloc, line),
-        None => Ok(false),
-    }
-}
-
-#[test]
-fn refuses_bad_controls_and_asks(rt: HostRuntime) {
-    each_is_refused::<Ask>(&rt, rt.alloc(), BAD_ASKS);
-    each_is_refused::<Control>(&rt, rt.alloc(), BAD_ASKS);
-    for case in ASKS.lines() {
-        expect_yes(&rt, is_no_control(rt.alloc(), case), case);
-    }
-}
-
 const NAMES: &str = "\
 0 = Id(0)
 4294967295 = Id(4294967295)
@@ -217,20 +123,25 @@ const BAD_NAMES: &str = "\
 ";
 
 #[test]
-fn names_as_words(rt: HostRuntime) {
-    each_is_read::<Id>(&rt, rt.alloc(), NAMES);
-    each_is_refused::<Id>(&rt, rt.alloc(), BAD_NAMES);
+fn values_and_their_words(rt: HostRuntime) {
+    let alloc = rt.alloc();
+    each_is_read::<Level>(&rt, alloc, LEVELS);
+    each_is_read::<Control>(&rt, alloc, CONTROLS);
+    each_is_read::<Ask>(&rt, alloc, ASKS);
+    each_value(&rt, alloc, CONTROLS, " = ", is_one);
+    each_is_read::<Id>(&rt, alloc, NAMES);
 }
 
-/// Takes the value at the front of these words, and holds it to be this one.
-fn expect_next<T: Spelled + PartialEq + fmt::Debug>(
-    rt: &impl Abort,
-    alloc: Global,
-    words: &mut Words,
-    want: Option<T>,
-) {
-    let found = T::take(alloc, words).expect(rt, "a word");
-    assert_eq!(rt; found, want);
+#[test]
+fn lines_that_are_no_values(rt: HostRuntime) {
+    let alloc = rt.alloc();
+    each_is_refused::<Level>(&rt, alloc, BAD_LEVELS);
+    each_is_refused::<Ask>(&rt, alloc, BAD_ASKS);
+    each_is_refused::<Control>(&rt, alloc, BAD_ASKS);
+    each_pair(&rt, alloc, ASKS, " = ", |alloc, line, _| {
+        is_refused::<Control>(alloc, line.as_bytes())
+    });
+    each_is_refused::<Id>(&rt, alloc, BAD_NAMES);
 }
 
 #[test]
@@ -271,29 +182,15 @@ fn sends_of(alloc: Global, ask: &Ask) -> Result<Text, Memory> {
     Ok(sent)
 }
 
-/// Whether the ask that this line spells sends what this text says.
-fn is_sent(alloc: Global, line: &str, text: &str) -> Result<bool, Memory> {
-    match read_line::<Ask>(alloc, line.as_bytes())? {
-        Some(ask) => Ok(sends_of(alloc, &ask)?.as_slice() == text.as_bytes()),
-        None => Ok(false),
-    }
+/// Whether this ask sends these controls.
+fn is_sent(alloc: Global, ask: &Ask, _line: &str, sends: &str) -> Result<bool, Memory> {
+    Ok(sends_of(alloc, ask)?.as_slice() == sends.as_bytes())
 }
 
-/// Whether the ask of this case sends the controls behind ` = `.
-fn is_sent_so(alloc: Global, case: &str) -> Result<bool, Memory> {
-    match case.split_once(" = ") {
-        Some((line, text)) => is_sent(alloc, line, text),
-        None => Ok(false),
-    }
-}
-
-/// Whether the control of this case, as an ask, sends itself alone.
-fn is_sent_alone(alloc: Global, case: &str) -> Result<bool, Memory> {
-    let Some((line, _)) = case.split_once(" = ") else {
-        return Ok(false);
-    };
+/// Whether this ask, which is one control, sends itself alone.
+fn is_sent_alone(alloc: Global, ask: &Ask, line: &str, _fields: &str) -> Result<bool, Memory> {
     let alone = format!(in alloc; "{line}; normal")?;
-    is_sent(alloc, line, alone.as_str())
+    is_sent(alloc, ask, line, alone.as_str())
 }
 
 const SENDS: &str = "\
@@ -306,12 +203,8 @@ towait = nextending; high
 
 #[test]
 fn asks_and_their_controls(rt: HostRuntime) {
-    for case in SENDS.lines() {
-        expect_yes(&rt, is_sent_so(rt.alloc(), case), case);
-    }
-    for case in CONTROLS.lines() {
-        expect_yes(&rt, is_sent_alone(rt.alloc(), case), case);
-    }
+    each_value(&rt, rt.alloc(), SENDS, " = ", is_sent);
+    each_value(&rt, rt.alloc(), CONTROLS, " = ", is_sent_alone);
 }
 
 /// Whether these levels compare as their places do, and the rank of the first is its place.
