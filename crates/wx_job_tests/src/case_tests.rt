@@ -1,9 +1,7 @@
 // Each case of a job: what a step lists and what the job is then, worked out by hand from the table of cases.
 //
-// A block begins with the moves that come before each of its cases. A case is a line, as `expect_line` reads it.
-use crate::player::{expect_line, job_with};
-use std::alloc::Global;
-use std::process::Abort;
+// A block begins with the moves that come before each of its cases, whose form `seen.rt` tells.
+use crate::seen::each_block;
 
 /// No child runs: none was spawned, one has ended, and the last spawn failed.
 const WITHOUT_A_CHILD: &str = "\
@@ -90,7 +88,7 @@ runasync 5,step 2 = pick 0 1, begun 0 5 | did pending parks 1";
 
 #[test]
 fn cases_without_a_child(rt: HostRuntime) {
-    each_case(&rt, rt.alloc(), WITHOUT_A_CHILD);
+    each_block(&rt, rt.alloc(), WITHOUT_A_CHILD);
 }
 
 /// Child 0 runs, and no grace stands: no ticket is parked, and those of the numbers 1 and 2.
@@ -173,7 +171,7 @@ end = drop 0, gone 0 | left 0 from 1";
 
 #[test]
 fn cases_with_a_child(rt: HostRuntime) {
-    each_case(&rt, rt.alloc(), WITH_A_CHILD);
+    each_block(&rt, rt.alloc(), WITH_A_CHILD);
 }
 
 /// Child 0 runs in a grace of a stop, whose ticket is 1: no ticket is parked, and those of the numbers 2 and 3.
@@ -226,7 +224,7 @@ deletenow,step 4,step 5 ! 1 = pick 0 5, raise 5, drop 0, gone 0 | gone left 0 fr
 
 #[test]
 fn cases_in_a_grace_of_a_stop(rt: HostRuntime) {
-    each_case(&rt, rt.alloc(), IN_A_GRACE_OF_A_STOP);
+    each_block(&rt, rt.alloc(), IN_A_GRACE_OF_A_STOP);
 }
 
 /// Child 0 runs in a grace of a restart, whose ticket is 1: no ticket is parked, and those of the numbers 2 and 3.
@@ -280,7 +278,7 @@ deletenow,step 4 = pick 0 4, kill 0 ok, wait 0 success, raise 2, raise 3, raise 
 
 #[test]
 fn cases_in_a_grace_of_a_restart(rt: HostRuntime) {
-    each_case(&rt, rt.alloc(), IN_A_GRACE_OF_A_RESTART);
+    each_block(&rt, rt.alloc(), IN_A_GRACE_OF_A_RESTART);
 }
 
 /// Child 0 runs, and a spawn hook is set. That of the number 9 has no memory, and then the case is given up.
@@ -303,7 +301,7 @@ stop,step 3 = pick 0 3, kill 0 ok, wait 0 success, raise 2, raise 3 | did succes
 
 #[test]
 fn cases_with_a_hook(rt: HostRuntime) {
-    each_case(&rt, rt.alloc(), WITH_A_HOOK);
+    each_block(&rt, rt.alloc(), WITH_A_HOOK);
 }
 
 /// A function was begun, whose ticket is 0 where no child was spawned, and else 1 or 2. While it isn't ready nothing else is
@@ -403,7 +401,7 @@ end = gone 0 | success from 1 to 2";
 
 #[test]
 fn cases_with_a_function(rt: HostRuntime) {
-    each_case(&rt, rt.alloc(), WITH_A_FUNCTION);
+    each_block(&rt, rt.alloc(), WITH_A_FUNCTION);
 }
 
 /// The error handler 6 is set, or was, and each call on the child fails in turn.
@@ -497,7 +495,7 @@ signal quit,step 4 ! 0 = pick 0 3, signal 0 3 fault 7, raise 3 | did runs 0 from
 
 #[test]
 fn cases_with_an_error_handler(rt: HostRuntime) {
-    each_case(&rt, rt.alloc(), WITH_AN_ERROR_HANDLER);
+    each_block(&rt, rt.alloc(), WITH_AN_ERROR_HANDLER);
 }
 
 /// There are no more handles: a step does what can be picked, is idle while a grace stands, and else ends the job.
@@ -613,28 +611,5 @@ end = gone 0 | pending";
 
 #[test]
 fn cases_after_a_close(rt: HostRuntime) {
-    each_case(&rt, rt.alloc(), CLOSED);
-}
-
-/// Plays each case of the table with a job of its own.
-fn each_case(rt: &impl Abort, alloc: Global, table: &str) {
-    for block in table.split("\n\n") {
-        let (before, cases) = block.split_once(":\n").expect(rt, "moves and cases");
-        each_behind(rt, alloc, before, cases);
-    }
-}
-
-/// Plays each of these cases behind these moves.
-fn each_behind(rt: &impl Abort, alloc: Global, before: &str, cases: &str) {
-    for case in cases.lines() {
-        expect_case(rt, alloc, before, case);
-    }
-}
-
-/// Plays a case behind these moves, with a job of its own.
-fn expect_case(rt: &impl Abort, alloc: Global, before: &str, case: &str) {
-    let mut job = job_with(rt, alloc, None);
-    job.play_line(rt, alloc, before);
-    expect_line(rt, alloc, &mut job, case);
-    drop(job);
+    each_block(&rt, rt.alloc(), CLOSED);
 }

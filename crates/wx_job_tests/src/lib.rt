@@ -4,12 +4,14 @@
 #[cfg(test)]
 mod case_tests;
 #[cfg(test)]
-mod grace_tests;
-#[cfg(test)]
 mod player;
 #[cfg(test)]
-mod test_world;
+mod seen;
 #[cfg(test)]
-mod tests;
+mod state_tests;
+#[cfg(test)]
+mod story_tests;
+#[cfg(test)]
+mod test_world;
 #[cfg(test)]
 mod ticket_tests;

@@ -1,13 +1,12 @@
 // What the tests run jobs over: a host that fails at a call of their choice, hooks that add words, and a journal.
-ghost use Rattle.std.specs.Prelude.{◌≡◌, ◌≢◌, ◌≤◌, ◌+◌, ◌^◌, [], false, Some, None, OnOk, IfOk, is_err};
-ghost use Rattle.wx_journal.specs.Names.{NamesItsOwn, moment};
+ghost use Rattle.std.specs.Prelude.{◌≡◌, ◌≤◌, ◌+◌, ◌^◌, [], false, Some, None, OnOk, IfOk, is_err};
+ghost use Rattle.wx_journal.specs.Names.{moment};
 ghost use Rattle.wx_journal.specs.Told.{Counts};
-ghost use Rattle.wx_job.specs.declared.task.JobTask.{JobTask as the-JobTask};
-ghost use Rattle.wx_job.specs.Stands.{TaskStands, id_of, parked_count};
+ghost use Rattle.wx_job.specs.Stands.{TaskStands, parked_count};
 
 use std::alloc::Global;
 use wx_command::{Command, Program, SpawnOptions, Spawnable};
-use wx_control::{Ask, Flag, Id, Job, Ticket};
+use wx_control::{Flag, Id, Job};
 use wx_events::ProcessEnd;
 use wx_job::{Host, JobHooks, JobTask, JobTaskContext, Outside, start_job};
 use wx_journal::{Act, Entry, HostFault, Journal, SpawnTag, Turn, TurnKind};
@@ -21,23 +20,19 @@ pub(crate) struct TestHost {
     told: Journal,
     calls: u64,
     bad: Option<u64>,
-    ends: Vec<ProcessEnd>,
+    pub(crate) ends: Vec<ProcessEnd>,
     faults: u64,
 }
 
 impl TestHost {
     /// A host before its first call.
-    pub(crate) fn new(
-        alloc: Global,
-        bad: Option<u64>,
-        ends: Vec<ProcessEnd>,
-    ) -> Result<TestHost, Memory> {
+    fn new(alloc: Global) -> Result<TestHost, Memory> {
         let told = Journal::new(alloc)?;
         Ok(TestHost {
             told,
             calls: 0,
-            bad,
-            ends,
+            bad: None,
+            ends: Vec::new(alloc),
             faults: 0,
         })
     }
@@ -140,7 +135,7 @@ impl Host for TestHost {
 }
 
 /// What a context showed: the first letter of the program, the state and the one before.
-pub(crate) type Shown = (Option<char>, CommandState, Option<CommandState>);
+pub(crate) type Shown = (char, CommandState, Option<CommandState>);
 
 /// Hooks that tell nothing. A spawn hook adds the last of these words to what is spawned, but the one of the number 9 has
 /// no memory. A poll answers the first of `polls`, or else that the function is ready. What the last context showed is kept.
@@ -163,10 +158,11 @@ impl TestHooks {
 
     /// Keeps what a context shows.
     fn keep(&mut self, cx: &JobTaskContext<'_>) {
-        let letter = match &cx.command.program {
-            Program::Exec { prog, .. } => prog.as_slice().first().map(|byte| *byte as char),
+        let first = match &cx.command.program {
+            Program::Exec { prog, .. } => prog.as_slice().first(),
             Program::Shell { .. } => None,
         };
+        let letter = *first.unwrap_or(&b'?') as char;
         self.shown = Some((letter, *cx.current, cx.previous.copied()));
     }
 }
@@ -245,10 +241,9 @@ impl Drop for World {
     }
 }
 
-/// The world of a run before its first entry, with this host.
-pub(crate) fn new_world(alloc: Global, host: TestHost) -> Result<World, Memory>
-    ensures { IfOk result (λ world. world.journal.past ≡ []) }
-{
+/// The world of a run before its first entry.
+pub(crate) fn new_world(alloc: Global) -> Result<World, Memory> {
+    let host = TestHost::new(alloc)?;
     match Journal::new(alloc) {
         Ok(journal) => Ok(World {
             host,
@@ -262,33 +257,9 @@ pub(crate) fn new_world(alloc: Global, host: TestHost) -> Result<World, Memory>
     }
 }
 
-/// Appends the line of an entry. A hand that creates jobs has none.
-fn put_line(entry: &Entry, text: &mut Text) -> Result<(), Memory> {
-    if matches!(entry, Entry::Hand { .. }) {
-        return Ok(());
-    }
-    entry.put(text)?;
-    text.append(b"\n")
-}
-
-/// Appends the lines of these entries.
-fn put_all(entries: &[Entry], text: &mut Text) -> Result<(), Memory> {
-    for entry in entries {
-        put_line(entry, text)?;
-    }
-    Ok(())
-}
-
-/// The journal's lines, without those of the hands that create jobs.
-pub(crate) fn lines_of(alloc: Global, world: &World) -> Result<Text, Memory> {
-    let mut text = Text::new(alloc);
-    put_all(world.journal.as_slice(), &mut text)?;
-    Ok(text)
-}
-
-/// The command that runs this program.
-pub(crate) fn command_of(alloc: Global, prog: &[u8]) -> Result<Command, Memory> {
-    let prog = Text::from_slice(alloc, prog)?;
+/// The command that runs the program `a`.
+pub(crate) fn command_a(alloc: Global) -> Result<Command, Memory> {
+    let prog = Text::from_slice(alloc, b"a")?;
     let args = List::new(alloc);
     Ok(Command {
         program: Program::Exec { prog, args },
@@ -296,20 +267,12 @@ pub(crate) fn command_of(alloc: Global, prog: &[u8]) -> Result<Command, Memory> 
     })
 }
 
-/// A job of this name is created, which runs this program, and made. It answers a handle on it too.
-pub(crate) fn make_job(
-    alloc: Global,
-    id: Id,
-    prog: &[u8],
-    world: &mut World,
-) -> Result<(Job, JobTask), Memory>
-    ensures id { IfOk result (λ made. id_of made.1 ≡ id) }
+/// A job of this name is created, which runs the program `a`, and made. It answers a handle on it too.
+pub(crate) fn make_job(alloc: Global, id: Id, world: &mut World) -> Result<(Job, JobTask), Memory>
     ensures stands { IfOk result (λ made. TaskStands made.1 world.new.journal.past) }
-    ensures names { NamesItsOwn world.old.journal.past → NamesItsOwn world.new.journal.past }
-    ensures others { NamesItsOwn world.old.journal.past → (k : the-JobTask) → id_of k ≢ id → TaskStands k world.old.journal.past → TaskStands k world.new.journal.past }
 {
     world.journal.reserve(2)?;
-    let command = command_of(alloc, prog)?;
+    let command = command_a(alloc)?;
     let acts = vec![in alloc; Act::Create(id, command.copy(alloc)?)]?;
     let (handle, task) = start_job(alloc, id, command)?;
     world.journal.push(Entry::Hand {
@@ -319,35 +282,6 @@ pub(crate) fn make_job(
     });
     world.journal.push(Entry::Made(id));
     Ok((handle, task))
-}
-
-/// A job of this name, which runs the program `a`, is made. Its entry is the journal's first, and nothing lists that it was
-/// created.
-pub(crate) fn make_first(alloc: Global, id: Id, world: &mut World) -> Result<(Job, JobTask), Memory>
-    requires empty { world.old.journal.past ≡ [] }
-    ensures stands { IfOk result (λ made. TaskStands made.1 world.new.journal.past) }
-{
-    world.journal.reserve(1)?;
-    let command = command_of(alloc, b"a")?;
-    let made = start_job(alloc, id, command)?;
-    world.journal.push(Entry::Made(id));
-    Ok(made)
-}
-
-/// This is asked of the job.
-pub(crate) fn ask(
-    task: &mut JobTask,
-    alloc: Global,
-    wish: Ask,
-    world: &mut World,
-) -> Result<Ticket, Memory>
-    requires stands { TaskStands task.old world.old.journal.past }
-    ensures stands { TaskStands task.new world.new.journal.past }
-    ensures id { id_of task.new ≡ id_of task.old }
-    ensures names { NamesItsOwn world.old.journal.past → NamesItsOwn world.new.journal.past }
-    ensures others { NamesItsOwn world.old.journal.past → (k : the-JobTask) → id_of k ≢ id_of task.old → TaskStands k world.old.journal.past → TaskStands k world.new.journal.past }
-{
-    task.send(alloc, wish, None, &mut world.journal)
 }
 
 /// Room for one move of this job.
@@ -374,9 +308,6 @@ fn step_now(
     requires journal_room { 16 + parked_count task.old ≤ world.old.journal.spare }
     requires host_room { 16 + parked_count task.old ≤ world.old.host.told.spare }
     ensures stands { TaskStands task.new world.new.journal.past }
-    ensures id { id_of task.new ≡ id_of task.old }
-    ensures names { NamesItsOwn world.old.journal.past → NamesItsOwn world.new.journal.past }
-    ensures others { NamesItsOwn world.old.journal.past → (k : the-JobTask) → id_of k ≢ id_of task.old → TaskStands k world.old.journal.past → TaskStands k world.new.journal.past }
 {
     let World {
         host,
@@ -397,9 +328,6 @@ pub(crate) fn step(
 ) -> Result<Stepped, Memory>
     requires stands { TaskStands task.old world.old.journal.past }
     ensures stands { TaskStands task.new world.new.journal.past }
-    ensures id { id_of task.new ≡ id_of task.old }
-    ensures names { NamesItsOwn world.old.journal.past → NamesItsOwn world.new.journal.past }
-    ensures others { NamesItsOwn world.old.journal.past → (k : the-JobTask) → id_of k ≢ id_of task.old → TaskStands k world.old.journal.past → TaskStands k world.new.journal.past }
 {
     make_room(task, world)?;
     let kind = TurnKind::Job(id);
@@ -417,7 +345,6 @@ pub(crate) fn end_child(
 ) -> Result<Stepped, Memory>
     requires stands { TaskStands task.old world.old.journal.past }
     ensures stands { TaskStands task.new world.new.journal.past }
-    ensures id { id_of task.new ≡ id_of task.old }
 {
     let Some(child) = task.running_child() else {
         return Ok(Stepped::Idle);
@@ -439,9 +366,6 @@ pub(crate) fn end_child(
 pub(crate) fn end_job(task: &mut JobTask, world: &mut World) -> Result<(), Memory>
     requires stands { TaskStands task.old world.old.journal.past }
     ensures stands { TaskStands task.new world.new.journal.past }
-    ensures id { id_of task.new ≡ id_of task.old }
-    ensures names { NamesItsOwn world.old.journal.past → NamesItsOwn world.new.journal.past }
-    ensures others { NamesItsOwn world.old.journal.past → (k : the-JobTask) → id_of k ≢ id_of task.old → TaskStands k world.old.journal.past → TaskStands k world.new.journal.past }
 {
     world.journal.reserve(2)?;
     world.host.reserve(2)?;

@@ -1,74 +1,59 @@
 // Tickets of jobs as futures, and what handles tell of jobs: worked out by hand, move by move.
 //
-// A block is the story of one job. Each of its lines goes on from the one before: it is a line as `expect_line` reads it,
-// and behind ` => ` what one poll of each ticket finds, in the order of the asks, and what the handle tells then.
-use crate::player::{Given, Move, One, expect_at, expect_line, host, job_with, made_job};
-use crate::test_world::lines_of;
+// Behind ` => ` in a line stands what one poll of each ticket finds, in the order of the asks, and what the handle tells then.
+use crate::player::{One, new_job};
+use crate::seen::expect_line;
+use crate::test_world::command_a;
 use futures::Future;
 use futures::executor::block_on;
 use futures::task::{Context, Poll};
 use futures::test::MockTask;
 use std::alloc::Global;
 use std::process::Abort;
-use wx_control::{Ask, Control, Flag, Ticket};
-use wx_machine::Stepped;
-use wx_text::{Copies, Memory, Text};
+use wx_control::{Ask, Control, Flag, Id, Job, Ticket};
+use wx_job::start_job;
+use wx_machine::{Stepped, children_are_reaped};
+use wx_text::{Copies, Memory};
+use wx_words_trial::expect_yes;
 
 /// Whether one poll by this task finds the ticket ready.
 fn is_ready(task: &MockTask, ticket: &mut Ticket) -> bool {
     matches!(task.poll(ticket), Poll::Ready(()))
 }
 
-/// Whether a ticket is seen done, and its job gone.
-fn seen_of(ticket: &Ticket) -> (bool, bool) {
-    (ticket.done.seen(), ticket.gone.seen())
-}
-
-/// The word of a poll that finds a ticket ready or not, by what is seen of it then.
-fn word_of(ready: bool, seen: (bool, bool)) -> &'static str {
-    match (ready, seen) {
-        (false, (false, false)) => "pending",
-        (true, (true, false)) => "done",
-        (true, (false, true)) => "gone",
-        (true, (true, true)) => "both",
+/// The word of a poll that finds a ticket ready or not: the flags that are seen raised then.
+fn word_of(ready: bool, ticket: &Ticket) -> &'static str {
+    match (ready, ticket.done.seen(), ticket.gone.seen()) {
+        (false, false, false) => "pending",
+        (true, true, false) => "done",
+        (true, false, true) => "gone",
+        (true, true, true) => "both",
         _ => "wrong",
     }
 }
 
-/// The word of what one poll finds: the flags that are seen raised then. A copy that is made behind it has to find the same.
-fn poll_word(task: &MockTask, alloc: Global, ticket: &mut Ticket) -> Result<&'static str, Memory> {
-    let ready = is_ready(task, ticket);
-    let mut copy = ticket.copy(alloc)?;
-    let seen = seen_of(ticket);
-    let same = seen_of(&copy) == seen;
-    let apart = !same || is_ready(task, &mut copy) != ready;
-    drop(copy);
-    Ok(if apart { "apart" } else { word_of(ready, seen) })
+/// Whether a copy of a ticket is shown by the same text.
+fn is_same(alloc: Global, ticket: &Ticket, copy: &Ticket) -> Result<bool, Memory> {
+    let shown = format!(in alloc; "{ticket:?}")?;
+    let again = format!(in alloc; "{copy:?}")?;
+    Ok(shown.as_str() == again.as_str())
 }
 
-/// Appends what one poll of a ticket finds.
-fn put_poll(
+/// Whether one poll of a ticket finds this, and one of a copy that is made behind it finds the same.
+fn is_polled(
     task: &MockTask,
     alloc: Global,
     ticket: &mut Ticket,
-    text: &mut Text,
-) -> Result<(), Memory> {
-    let word = poll_word(task, alloc, ticket)?;
-    text.append(word.as_bytes())?;
-    text.append(b" ")
-}
-
-/// Appends what one poll of each ticket finds.
-fn put_polls(
-    task: &MockTask,
-    alloc: Global,
-    tickets: &mut [Given],
-    text: &mut Text,
-) -> Result<(), Memory> {
-    for given in tickets.iter_mut() {
-        put_poll(task, alloc, &mut given.ticket, text)?;
-    }
-    Ok(())
+    want: &str,
+) -> Result<bool, Memory> {
+    let ready = is_ready(task, ticket);
+    let found = word_of(ready, ticket) == want;
+    let mut copy = ticket.copy(alloc)?;
+    let same = is_same(alloc, ticket, &copy);
+    let again = is_ready(task, &mut copy);
+    let found_again = word_of(again, &copy) == want;
+    drop(copy);
+    Ok(same? && found && found_again)
 }
 
 /// The words of whether the job is dead and whether its child runs, as the handle tells.
@@ -82,27 +67,38 @@ fn life_of(job: &mut One) -> &'static str {
 }
 
 /// Whether this is what one poll of each ticket finds, and then what the handle tells.
-fn is_told(task: &MockTask, alloc: Global, job: &mut One, want: &str) -> Result<bool, Memory> {
-    let mut text = Text::new(alloc);
-    put_polls(task, alloc, &mut job.tickets, &mut text)?;
-    text.append(life_of(job).as_bytes())?;
-    Ok(text.as_slice() == want.as_bytes())
+fn are_polled(task: &MockTask, alloc: Global, job: &mut One, want: &str) -> Result<bool, Memory> {
+    let mut rest = want;
+    for given in job.tickets.iter_mut() {
+        let Some((word, behind)) = rest.split_once(" ") else {
+            return Ok(false);
+        };
+        if !is_polled(task, alloc, &mut given.ticket, word)? {
+            return Ok(false);
+        }
+        rest = behind;
+    }
+    Ok(rest == life_of(job))
 }
 
-/// Plays a line, and holds what comes of it and what is told then to what stands there.
+/// Plays a line, and holds what is seen of the job, and what one poll of each ticket finds and the handle tells then, to what
+/// stands there.
 fn expect_told(rt: &impl Abort, task: &MockTask, alloc: Global, job: &mut One, line: &str) {
     let (played, want) = line
         .split_once(" => ")
         .expect(rt, "a line and what is told");
     expect_line(rt, alloc, job, played);
-    let told = is_told(task, alloc, job, want).expect(rt, "what is told");
-    expect_at(rt, told, "what is told", line);
+    expect_yes(rt, are_polled(task, alloc, job, want), line);
 }
 
-/// Plays a story, line by line.
-fn expect_story(rt: &impl Abort, task: &MockTask, alloc: Global, job: &mut One, story: &str) {
-    for line in story.lines() {
-        expect_told(rt, task, alloc, job, line);
+/// Plays each story with a job of its own.
+fn each_told(rt: &impl Abort, task: &MockTask, alloc: Global, stories: &str) {
+    for story in stories.split("\n\n") {
+        let mut job = new_job(rt, alloc);
+        for line in story.lines() {
+            expect_told(rt, task, alloc, &mut job, line);
+        }
+        drop(job);
     }
 }
 
@@ -115,31 +111,10 @@ step 3 = word idle | idle runs 0 from 1 until 12 => done pending alive runs
 step 12 = grace 0, kill 0 ok, wait 0 success, raise 1 | did success from 1 to 12 => done done alive rests
 step 13 = gone 0 | gone success from 1 to 12 => both both dead rests";
 
-/// Its journal, which begins with the making of the job.
-const CLOSED_LINES: &str =
-    "made 0\nasked 0 0 normal start\nasked 1 0 normal gracefulstop terminate 10\n\
-    turn 1 job 0\npick 0 0\nspawn 0 0 default ---- 1 a ok\nraise 0\n\
-    turn 2 job 0\npick 0 1\nsignal 0 15 ok\n\
-    turn 3 job 0\nword idle\n\
-    turn 12 job 0\ngrace 0\nkill 0 ok\nwait 0 success\nraise 1\n\
-    turn 13 job 0\ngone 0\n";
-
-/// Holds the lines of the journal to be these.
-fn expect_lines(rt: &impl Abort, alloc: Global, job: &One, want: &str) {
-    let lines = lines_of(alloc, &job.world).expect(rt, "lines");
-    assert!(rt; lines.as_slice() == want.as_bytes());
-}
-
 #[test]
 fn a_closed_job_ends_behind_its_grace(rt: HostRuntime) {
-    let alloc = rt.alloc();
     let task = MockTask::new(&rt).expect(&rt, "a task");
-    let host = host(alloc, None).expect(&rt, "a host");
-    let mut job = made_job(alloc, host).expect(&rt, "a job");
-    expect_story(&rt, &task, alloc, &mut job, CLOSED);
-    expect_lines(&rt, alloc, &job, CLOSED_LINES);
-    drop(job);
-    drop(task);
+    each_told(&rt, &task, rt.alloc(), CLOSED);
 }
 
 /// Of two asks one is done, and the end of the job tells of both; what is asked then is over at once. A spawn that fails, a
@@ -180,88 +155,81 @@ ended 4 ! 0 = wait 0 fault 7, joberror 0 5 7 | did runs 0 from 2 until 12 => don
 ended 5 = wait 0 success, spawn 1 0 default ---- 1 a ok, raise 2 | did runs 1 from 5 => done done done alive runs
 tryrestart,step 6 ! 2 = pick 0 3, kill 1 ok, wait 1 success, spawn 2 0 default ---- 1 a fault 7, joberror 0 5 7, raise 3 | did pending => done done done done alive rests";
 
-/// Plays each story with a job of its own.
-fn each_story(rt: &impl Abort, task: &MockTask, alloc: Global, stories: &str) {
-    for story in stories.split("\n\n") {
-        let mut job = job_with(rt, alloc, None);
-        expect_story(rt, task, alloc, &mut job, story);
-        drop(job);
-    }
-}
-
 #[test]
 fn tickets_and_handles_tell_of_a_run(rt: HostRuntime) {
     let task = MockTask::new(&rt).expect(&rt, "a task");
-    each_story(&rt, &task, rt.alloc(), TOLD);
-    drop(task);
+    each_told(&rt, &task, rt.alloc(), TOLD);
+}
+
+/// Asks this over a flag of the caller.
+fn ask_over(rt: &impl Abort, alloc: Global, job: &mut One, wish: Ask, last: &Flag) -> Ticket {
+    let ticket = job.ask_over(alloc, wish, last);
+    ticket.expect(rt, "a ticket")
+}
+
+/// Polls a ticket, and holds whether it is ready, and whether the flag of the caller is raised, to be so.
+fn expect_poll(
+    rt: &impl Abort,
+    task: &MockTask,
+    ticket: &mut Ticket,
+    flag: &Flag,
+    want: (bool, bool),
+) {
+    let raised = flag.raised();
+    assert!(rt; (is_ready(task, ticket), raised) == want);
+}
+
+/// Makes a turn of the job.
+fn step(rt: &impl Abort, alloc: Global, job: &mut One, at: u64) {
+    let answer = job.step(alloc, at);
+    answer.expect(rt, "a turn");
+}
+
+/// A flag of the caller is raised by the last control of its ask.
+fn expect_raised(rt: &impl Abort, task: &MockTask, alloc: Global, job: &mut One, flag: &Flag) {
+    let mut restart = ask_over(rt, alloc, job, Ask::Restart, flag);
+    step(rt, alloc, job, 1);
+    expect_poll(rt, task, &mut restart, flag, (false, false));
+    step(rt, alloc, job, 2);
+    expect_poll(rt, task, &mut restart, flag, (true, true));
+    assert!(rt; !restart.gone.raised());
+    drop(restart);
 }
 
 const START: Ask = Ask::One(Control::Start);
+
+/// A flag that the caller raises ends the wait for its ticket alone.
+fn expect_ended(rt: &impl Abort, task: &MockTask, alloc: Global, job: &mut One, flag: &Flag) {
+    let mut start = ask_over(rt, alloc, job, START, flag);
+    expect_poll(rt, task, &mut start, flag, (false, false));
+    flag.raise();
+    expect_poll(rt, task, &mut start, flag, (true, true));
+    assert!(rt; !start.gone.raised());
+    drop(start);
+}
+
+/// The flag of an ask of a job that is gone is left alone.
+fn expect_late(rt: &impl Abort, task: &MockTask, alloc: Global, job: &mut One, flag: &Flag) {
+    job.end().expect(rt, "the end");
+    let mut late = ask_over(rt, alloc, job, START, flag);
+    expect_poll(rt, task, &mut late, flag, (true, false));
+    drop(late);
+}
 
 /// A flag that isn't raised.
 fn new_flag(rt: &impl Abort, alloc: Global) -> Flag {
     Flag::new(alloc, false).expect(rt, "a flag")
 }
 
-/// Asks this over a flag of the caller.
-fn ask_over(rt: &impl Abort, alloc: Global, job: &mut One, wish: Ask, last: &Flag) -> Ticket {
-    job.ask_over(alloc, wish, last).expect(rt, "a ticket")
-}
-
-/// Makes one move.
-fn play(rt: &impl Abort, alloc: Global, job: &mut One, with: Move) {
-    let answer = job.play(alloc, with);
-    answer.expect(rt, "a move");
-}
-
-/// Polls a ticket, and holds whether it is ready and the flag of the caller is raised to be so.
-fn expect_poll(
-    rt: &impl Abort,
-    task: &MockTask,
-    ticket: &mut Ticket,
-    ready: bool,
-    flag: &Flag,
-    raised: bool,
-) {
-    assert!(rt; flag.raised() == raised && is_ready(task, ticket) == ready);
-}
-
-/// A flag of the caller is raised by the last control of its ask. One that the caller raises ends the wait for its ticket
-/// alone.
-fn expect_flags(rt: &impl Abort, task: &MockTask, alloc: Global, job: &mut One) {
-    let first = new_flag(rt, alloc);
-    let second = new_flag(rt, alloc);
-    let mut restart = ask_over(rt, alloc, job, Ask::Restart, &first);
-    let mut start = ask_over(rt, alloc, job, START, &second);
-    play(rt, alloc, job, Move::Step(1));
-    expect_poll(rt, task, &mut restart, false, &first, false);
-    play(rt, alloc, job, Move::Step(2));
-    expect_poll(rt, task, &mut restart, true, &first, true);
-    expect_poll(rt, task, &mut start, false, &second, false);
-    second.raise();
-    expect_poll(rt, task, &mut start, true, &second, true);
-    assert!(rt; !restart.gone.raised() && !start.gone.raised());
-    drop(start);
-    drop(restart);
-}
-
-/// The flag of an ask of a job that is gone is left alone.
-fn expect_late(rt: &impl Abort, task: &MockTask, alloc: Global, job: &mut One) {
-    play(rt, alloc, job, Move::End);
-    let flag = new_flag(rt, alloc);
-    let mut late = ask_over(rt, alloc, job, START, &flag);
-    expect_poll(rt, task, &mut late, true, &flag, false);
-    drop(late);
-}
-
 #[test]
 fn flags_of_the_caller(rt: HostRuntime) {
+    let alloc = rt.alloc();
     let task = MockTask::new(&rt).expect(&rt, "a task");
-    let mut job = job_with(&rt, rt.alloc(), None);
-    expect_flags(&rt, &task, rt.alloc(), &mut job);
-    expect_late(&rt, &task, rt.alloc(), &mut job);
+    let mut job = new_job(&rt, alloc);
+    expect_raised(&rt, &task, alloc, &mut job, &new_flag(&rt, alloc));
+    expect_ended(&rt, &task, alloc, &mut job, &new_flag(&rt, alloc));
+    expect_late(&rt, &task, alloc, &mut job, &new_flag(&rt, alloc));
     drop(job);
-    drop(task);
 }
 
 /// Does one turn of its job at each poll, at the moments from 1 on, and then polls the ticket of this place. It is ready once
@@ -290,7 +258,7 @@ impl Future for Turns {
 
     fn poll(&mut self, cx: &mut Context<'_>) -> Poll<Result<u64, Memory>> {
         self.at = self.at.saturating_add(1);
-        let answer = match self.job.play(self.alloc, Move::Step(self.at)) {
+        let answer = match self.job.step(self.alloc, self.at) {
             Ok(answer) => answer,
             Err(want) => return Poll::Ready(Err(want)),
         };
@@ -308,9 +276,9 @@ impl Future for Turns {
 #[test]
 fn an_executor_awaits_tickets(rt: HostRuntime) {
     let alloc = rt.alloc();
-    let mut job = job_with(&rt, alloc, None);
-    let asked = job.play_line(&rt, alloc, "start,gracefulstop terminate 10,close");
-    assert!(rt; asked.failed == 0);
+    let mut job = new_job(&rt, alloc);
+    let asked = "start,gracefulstop terminate 10,close =  | pending";
+    expect_line(&rt, alloc, &mut job, asked);
     let mut turns = Turns {
         alloc,
         job,
@@ -323,4 +291,19 @@ fn an_executor_awaits_tickets(rt: HostRuntime) {
     let alive = !turns.job.handle.is_dead();
     drop(turns);
     assert!(rt; started == Ok(1) && stopped == Ok(12) && alive);
+}
+
+/// Holds a handle to be one on job 4, which runs the program `a`.
+fn expect_handle(rt: &impl Abort, alloc: Global, job: Job) {
+    let command = command_a(alloc).expect(rt, "a command");
+    assert!(rt; job.id() == Id(4) && job.command() == &command);
+}
+
+#[test]
+fn a_handle_tells_its_job(rt: HostRuntime) {
+    let command = command_a(rt.alloc()).expect(&rt, "a command");
+    let (job, task) = start_job(rt.alloc(), Id(4), command).expect(&rt, "a job");
+    drop(task);
+    expect_handle(&rt, rt.alloc(), job);
+    children_are_reaped();
 }

@@ -1,11 +1,18 @@
-//! Tests of `wx_journal`, whose proofs are done without them: a crate with tests is proved once more with them.
+//! Tests of `wx_journal`, `wx_script` and `wx_refusal`, whose proofs are done without them: a crate with tests is proved once more
+//! with them.
 #![tactic(auto)]
 
 #[cfg(test)]
+mod answer_tests;
+#[cfg(test)]
 mod entry_tests;
 #[cfg(test)]
-mod file_tests;
+mod keeping_tests;
 #[cfg(test)]
-mod item_tests;
+mod list_tests;
 #[cfg(test)]
-mod tests;
+mod refusal_tests;
+#[cfg(test)]
+mod script_tests;
+#[cfg(test)]
+mod word_tests;

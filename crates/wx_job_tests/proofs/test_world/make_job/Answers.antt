@@ -1,6 +1,6 @@
 use Rattle.std.proofs.Common.{◌≡◌, ◌∷◌, [], ◌∙◌}
 use Rattle.wx_journal.specs.declared.entry.Act.TheVariants.{Create}
-use Rattle.wx_job_tests.proofs.Turns.{created_runs, names_created, stands_created}
+use Rattle.wx_job_tests.proofs.Turns.{created_runs}
 use Rattle.wx_job_tests.proofs.test_world.make_job.Goals as goal
 
 pub returns-clause-stands : goal.returns-clause-stands
@@ -9,9 +9,3 @@ returns-clause-stands c =
     let same = c.in_ok-copy.ensures in
     let one : c.from_vec.result ≡ Create c.args.id c.in_ok-command.command ∷ [] = cc in
     rw c.push-2.ensures.past (c.in_ok-handle.ensures.stands _ (created_runs _ _ 0 _ _ _ _ one c.push.ensures.past))
-
-pub returns-clause-names : goal.returns-clause-names
-returns-clause-names c = λ own. rw (c.push-2.ensures.past, c.push.ensures.past, c.in_ok-reserve.ensures.same) (names_created c.args.id _ 0 _ _ _ c.new.ensures (c.from_vec.ensures ∙ c.in_ok-acts.ensures.items) own)
-
-pub returns-clause-others : goal.returns-clause-others
-returns-clause-others c = λ own k ne s. rw (c.push-2.ensures.past, c.push.ensures.past, c.in_ok-reserve.ensures.same) (stands_created k c.args.id _ _ _ _ _ (c.from_vec.ensures ∙ c.in_ok-acts.ensures.items) ne s)

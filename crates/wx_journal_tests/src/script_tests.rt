@@ -3,34 +3,6 @@ use std::alloc::Global;
 use std::process::Abort;
 use wx_script::{Script, read_script};
 
-/// What is counted of a script.
-#[derive(Clone, Copy)]
-struct Counted {
-    turns: (usize, usize, usize, u64, u32, u64),
-    jobs: (usize, usize, usize, usize, usize),
-    filters: (usize, usize, usize),
-    dirs: (usize, usize, usize),
-    files: ((usize, usize, usize), (usize, usize, usize)),
-    errors: (usize, usize, u32),
-    hooks: (usize, usize, usize),
-}
-
-/// What is counted of the script of these bytes, if it is one. A script is long to drop: it is done here alone.
-fn counts(alloc: Global, bytes: &[u8]) -> Option<Counted> {
-    let script = script_in(alloc, bytes)?;
-    let counts = Counted {
-        turns: turn_counts(&script),
-        jobs: job_counts(&script),
-        filters: filter_counts(&script),
-        dirs: dir_counts(&script),
-        files: file_counts(&script),
-        errors: error_counts(&script),
-        hooks: hook_counts(&script),
-    };
-    drop(script);
-    Some(counts)
-}
-
 /// What the script of these bytes is, if it is one.
 fn script_in(alloc: Global, bytes: &[u8]) -> Option<Script> {
     read_script(alloc, bytes).ok()?.ok()
@@ -59,6 +31,35 @@ fn expect_so(rt: &impl Abort, so: bool, bytes: &[u8]) {
     assert!(rt; so, "at {bytes:?}");
 }
 
+/// Holds what `of` tells of each of these scripts to what stands beside it.
+fn each_script<T: PartialEq + Drop, F: Fn(&Script) -> T>(
+    rt: &impl Abort,
+    alloc: Global,
+    table: &[(&[u8], T)],
+    of: F,
+)
+    requires { F.IsAlwaysCallable of }
+{
+    for (bytes, want) in table {
+        expect_so(rt, is_told(alloc, bytes, want, &of), bytes);
+    }
+}
+
+/// Whether this is told of the script of these bytes, if it is one. A script is long to drop: it is done here alone.
+fn is_told<T: PartialEq + Drop, F: Fn(&Script) -> T>(
+    alloc: Global,
+    bytes: &[u8],
+    want: &T,
+    of: &F,
+) -> bool
+    requires { F.IsAlwaysCallable of.now }
+{
+    match script_in(alloc, bytes) {
+        Some(script) => of(&script) == *want,
+        None => false,
+    }
+}
+
 /// The first line of each of these scripts is bad.
 fn each_is_bad(rt: &impl Abort, alloc: Global, table: &[&[u8]]) {
     for bytes in table {
@@ -85,13 +86,7 @@ const SCRIPTS: [(&[u8], (usize, usize, usize, u64, u32, u64)); 5] = [
 
 #[test]
 fn reads_scripts(rt: HostRuntime) {
-    for (bytes, want) in &SCRIPTS {
-        expect_so(
-            &rt,
-            counts(rt.alloc(), bytes).map(|c| c.turns) == Some(*want),
-            bytes,
-        );
-    }
+    each_script(&rt, rt.alloc(), &SCRIPTS, |script| turn_counts(script));
 }
 
 /// How many acts the first action of the script has, and how many answers to spawns, signals, kills and waits the script has.
@@ -151,13 +146,7 @@ const JOBS: [(&[u8], (usize, usize, usize, usize, usize)); 10] = [
 
 #[test]
 fn reads_lines_about_jobs(rt: HostRuntime) {
-    for (bytes, want) in &JOBS {
-        expect_so(
-            &rt,
-            counts(rt.alloc(), bytes).map(|c| c.jobs) == Some(*want),
-            bytes,
-        );
-    }
+    each_script(&rt, rt.alloc(), &JOBS, |script| job_counts(script));
 }
 
 /// How many sends, turns and answers of the filter the script has.
@@ -183,13 +172,7 @@ const FILTERS: [(&[u8], (usize, usize, usize)); 4] = [
 
 #[test]
 fn reads_lines_about_filters(rt: HostRuntime) {
-    for (bytes, want) in &FILTERS {
-        expect_so(
-            &rt,
-            counts(rt.alloc(), bytes).map(|c| c.filters) == Some(*want),
-            bytes,
-        );
-    }
+    each_script(&rt, rt.alloc(), &FILTERS, |script| filter_counts(script));
 }
 
 /// How many answers of the filter about events and about directories the script has, and how many of the latter stand before the
@@ -221,13 +204,7 @@ const DIRS: [(&[u8], (usize, usize, usize)); 6] = [
 
 #[test]
 fn reads_lines_about_directories(rt: HostRuntime) {
-    for (bytes, want) in &DIRS {
-        expect_so(
-            &rt,
-            counts(rt.alloc(), bytes).map(|c| c.dirs) == Some(*want),
-            bytes,
-        );
-    }
+    each_script(&rt, rt.alloc(), &DIRS, |script| dir_counts(script));
 }
 
 const NO_DIRS: [&[u8]; 19] = [
@@ -305,13 +282,7 @@ const FILES: [(&[u8], ((usize, usize, usize), (usize, usize, usize))); 8] = [
 
 #[test]
 fn reads_lines_about_files(rt: HostRuntime) {
-    for (bytes, want) in &FILES {
-        expect_so(
-            &rt,
-            counts(rt.alloc(), bytes).map(|c| c.files) == Some(*want),
-            bytes,
-        );
-    }
+    each_script(&rt, rt.alloc(), &FILES, |script| file_counts(script));
 }
 
 const NO_FILES: [&[u8]; 45] = [
@@ -391,13 +362,7 @@ const ERRORS: [(&[u8], (usize, usize, u32)); 5] = [
 
 #[test]
 fn reads_lines_about_errors(rt: HostRuntime) {
-    for (bytes, want) in &ERRORS {
-        expect_so(
-            &rt,
-            counts(rt.alloc(), bytes).map(|c| c.errors) == Some(*want),
-            bytes,
-        );
-    }
+    each_script(&rt, rt.alloc(), &ERRORS, |script| error_counts(script));
 }
 
 /// How many calls of hooks the script has words for, and how many words and bytes of them the first has.
@@ -426,13 +391,7 @@ const HOOKS: [(&[u8], (usize, usize, usize)); 5] = [
 
 #[test]
 fn reads_lines_about_hooks(rt: HostRuntime) {
-    for (bytes, want) in &HOOKS {
-        expect_so(
-            &rt,
-            counts(rt.alloc(), bytes).map(|c| c.hooks) == Some(*want),
-            bytes,
-        );
-    }
+    each_script(&rt, rt.alloc(), &HOOKS, |script| hook_counts(script));
 }
 
 const NO_HOOKS: [&[u8]; 16] = [

@@ -1,9 +1,7 @@
 // Tests of graces, restarts, waiting and deletion, move by move: what comes of each is worked out by hand.
 //
-// A block is the story of one job. Each of its lines goes on from the one before, and is as `expect_line` reads it.
-use crate::player::{One, expect_line, job_with};
-use std::alloc::Global;
-use std::process::Abort;
+// A block is the story of one job. Each of its lines, whose form `seen.rt` tells, goes on from the one before.
+use crate::seen::each_block;
 
 /// A child that ends within its grace. One that has to be killed. A grace of 0, which is over before the end that is kept
 /// at the same moment. A grace whose kill fails, and a later stop. One whose wait fails. A kept end that outlives a failed
@@ -51,7 +49,7 @@ step 11 = word idle | idle runs 0 from 2";
 
 #[test]
 fn graceful_stops(rt: HostRuntime) {
-    each_story(&rt, rt.alloc(), GRACEFUL_STOPS);
+    each_block(&rt, rt.alloc(), GRACEFUL_STOPS);
 }
 
 /// A graceful restart that has to be forced: its child's end spawns nothing. One within the grace, and none after it. One
@@ -97,7 +95,7 @@ step 5 = pick 0 2, spawn 1 0 default ---- 1 a ok, raise 2 | did runs 1 from 5";
 
 #[test]
 fn restarts(rt: HostRuntime) {
-    each_story(&rt, rt.alloc(), RESTARTS);
+    each_block(&rt, rt.alloc(), RESTARTS);
 }
 
 /// A wait before the child is spawned, and one once it has ended. Waits in the order of their picks, asked at two levels.
@@ -122,7 +120,7 @@ ended 5 = wait 1 success, raise 0 | did success from 3 to 5";
 
 #[test]
 fn waits_for_ends(rt: HostRuntime) {
-    each_story(&rt, rt.alloc(), WAITS);
+    each_block(&rt, rt.alloc(), WAITS);
 }
 
 /// An urgent deletion in a grace. Levels before the order of asks. A deletion behind a stop, and one behind a stop that
@@ -156,7 +154,7 @@ step 7 =  | gone left 0 from 1";
 
 #[test]
 fn deletions(rt: HostRuntime) {
-    each_story(&rt, rt.alloc(), DELETIONS);
+    each_block(&rt, rt.alloc(), DELETIONS);
 }
 
 /// A case is given up behind a hook without memory, and its ticket is never raised. Later steps go on.
@@ -175,7 +173,7 @@ delete,step 5 = pick 0 4, raise 4, gone 0 | gone pending";
 
 #[test]
 fn cases_that_are_given_up(rt: HostRuntime) {
-    each_story(&rt, rt.alloc(), GIVEN_UP);
+    each_block(&rt, rt.alloc(), GIVEN_UP);
 }
 
 /// Each signal by its number on the system, one without such a number as 15, also at the front of a grace. Graces whose
@@ -212,21 +210,5 @@ step 18446744073709551615 = word idle | idle runs 0 from 1 until 368934881474191
 
 #[test]
 fn numbers_and_moments(rt: HostRuntime) {
-    each_story(&rt, rt.alloc(), NUMBERS);
-}
-
-/// Plays each story with a job of its own.
-fn each_story(rt: &impl Abort, alloc: Global, stories: &str) {
-    for story in stories.split("\n\n") {
-        let mut job = job_with(rt, alloc, None);
-        expect_story(rt, alloc, &mut job, story);
-        drop(job);
-    }
-}
-
-/// Plays a story, line by line.
-fn expect_story(rt: &impl Abort, alloc: Global, job: &mut One, story: &str) {
-    for line in story.lines() {
-        expect_line(rt, alloc, job, line);
-    }
+    each_block(&rt, rt.alloc(), NUMBERS);
 }

@@ -1,8 +1,0 @@
-use Rattle.wx_job_tests.proofs.Turns.{stands_left}
-use Rattle.wx_job_tests.proofs.test_world.ask.Goals as goal
-
-pub returns-clause-names : goal.returns-clause-names
-returns-clause-names c = λ own. (c.send.ensures.leaves.others own).own
-
-pub returns-clause-others : goal.returns-clause-others
-returns-clause-others c = λ own k ne s. stands_left k _ _ _ (c.send.ensures.leaves.others own) ne s

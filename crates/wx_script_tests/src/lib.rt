@@ -1,9 +1,0 @@
-//! Tests of `wx_script` and `wx_refusal`, whose proofs are done without them: a crate with tests is proved once more with them.
-#![tactic(auto)]
-
-#[cfg(test)]
-mod keeping_tests;
-#[cfg(test)]
-mod refusal_tests;
-#[cfg(test)]
-mod tests;
