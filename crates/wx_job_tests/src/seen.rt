@@ -6,7 +6,7 @@
 //
 // - `did`, `idle`, `later`, `gone` or `memory`, where it takes a step;
 // - the state; `until` and the end of the grace that stands; `parks` and how many tickets are parked;
-// - where it stands there, `after` and the state before, and behind `; ` what the last hook or function was shown;
+// - where it stands there, `after` and the state before, and behind `; ` what the last hook or function was shown.
 //
 // A block of lines is the story of one job, each line of which goes on from the one before. Where its first line is `MOVES:` each
 // other line has a job of its own, with which these moves are made before.
