@@ -16,15 +16,15 @@ use Rattle.wx_machine.specs.History.{lives, child, creation, or_else, command}
 use Rattle.wx_machine.specs.Table.{Plan, Done}
 use Rattle.wx_hooks.specs.declared.handler.Todo.{Todo}
 use Rattle.wx_hooks.specs.declared.held.Held.{Held}
-use Rattle.wx_action.specs.declared.worker_state.Worker.{Worker}
-use Rattle.wx_action.specs.declared.work_turn.Collected.{Collected}
-use Rattle.wx_action.specs.declared.work_turn.Collected.TheVariants as collected
-use Rattle.wx_action.specs.declared.work_turn.Worked.TheVariants.{On, End}
+use Rattle.wx_worker.specs.declared.worker_state.Worker.{Worker}
+use Rattle.wx_worker.specs.declared.collecting.Collected.{Collected}
+use Rattle.wx_worker.specs.declared.collecting.Collected.TheVariants as collected
+use Rattle.wx_worker.specs.declared.collecting.Worked.TheVariants.{On, End}
 use Rattle.wx_machine.specs.Start.{Start}
 use Rattle.wx_machine.specs.Settings.{settings, revision, MayChange}
 use Rattle.wx_machine.specs.Journal.{window, turn_count}
 use Rattle.wx_machine.specs.Kept.{Quiet, Same, More}
-use Rattle.wx_action.specs.Serves.{AddsAlone, IsServed}
+use Rattle.wx_worker.specs.Serves.{AddsAlone, IsServed}
 use Rattle.wx_machine.specs.Jobs.{set, jobs, with_created, act_plan, is_free, AreLawfulBy, AreLawful}
 use Rattle.wx_machine.specs.declared.quit.QuitManner.{QuitManner}
 use Rattle.wx_machine.specs.Quits.{quit_of, quit_asks, is_abort, is_graceful, is_aborting, graceful}
@@ -32,7 +32,7 @@ use Rattle.wx_machine.specs.Answer.{NoneIsToGo}
 use Rattle.wx_machine.specs.Due.{Hands, Open, Comes, plans, after_acts, is_through, is_quitting, settle, agenda, Due}
 use Rattle.wx_machine.specs.Leads.{FollowsHooks, Then}
 use Rattle.wx_action.specs.Perform.{AreCommanded, OwesPlan, OwesActs}
-use Rattle.wx_action.specs.Stands.{Stands, Collects, Works, without_hand}
+use Rattle.wx_worker.specs.Stands.{Stands, Collects, Works, without_hand}
 use Rattle.wx_hooks.specs.JobsStand.{HeldStands, held_id}
 use Rattle.wx_job.specs.Stands.{gone_of, running_of}
 use Rattle.wx_hooks.specs.HeldJobs.{is_here}
@@ -42,7 +42,7 @@ use Rattle.wx_machine.proofs.RunLaws.{window_below, window_handed}
 use Rattle.wx_machine.proofs.AllJobs.{command_kept, unseen_hand, creation_is, same_turns, turns_over}
 use Rattle.wx_machine.proofs.JobSets.{IsIn, lawful_hand}
 use Rattle.wx_hooks.proofs.JobsLemmas.{same_held}
-use Rattle.wx_action.proofs.StandsLemmas.{over_hand}
+use Rattle.wx_worker.proofs.StandsLemmas.{over_hand}
 use Rattle.wx_job.proofs.StandsLemmas.{lives-kept, child-kept}
 
 -- the entry of a batch that was due

@@ -23,7 +23,7 @@ use Rattle.wx_machine.specs.Seen.{Seen}
 use Rattle.wx_job.specs.Stands.{StepFails, AllAsBefore, BehindHook, TaskStands, SameJob, IsEnding, id_of, command_of, closed_of, gone_of, running_of, parked_count}
 use Rattle.wx_machine.proofs.Owners.{self, same-is, is_child_some}
 use Rattle.wx_hooks.specs.declared.held.Held.{Held}
-use Rattle.wx_action.specs.declared.worker_state.Worker.{Worker}
+use Rattle.wx_worker.specs.declared.worker_state.Worker.{Worker}
 use Rattle.wx_machine.specs.Start.{Start}
 use Rattle.wx_machine.specs.Keyboard.{ended_over}
 use Rattle.wx_config.specs.Changes.{changed as changed_by, last_revision}
@@ -35,20 +35,20 @@ use Rattle.wx_machine.specs.Jobs.{set, living, parent, change_plan}
 use Rattle.wx_machine.specs.Due.{Agenda, Open, Plans, Admits, Due, plans, says, ask_turn, change_turn, job_turn, ended_turn, is_through, is_quitting, settle, rest, agenda}
 use Rattle.wx_machine.proofs.SettleLaws.{settle_calm, settle_through, served_settled, quiet_open}
 use Rattle.wx_machine.specs.Quits.{is_aborting}
-use Rattle.wx_action.specs.Serves.{IsServed}
+use Rattle.wx_worker.specs.Serves.{IsServed}
 use Rattle.wx_machine.specs.Kept.{StaysQuiet, More}
 use Rattle.wx_machine.specs.Leads.{FollowsAlone, Follows, Then}
-use Rattle.wx_action.specs.Serves.{LeavesOff, Steps, Settles}
+use Rattle.wx_worker.specs.Serves.{LeavesOff, Steps, Settles}
 use Rattle.wx_machine.specs.Turns.{StaysInTurn}
 use Rattle.wx_machine.proofs.AllJobs.{turns_over, calls_none_ask, none_by_ask, none_by_step, parent_is, parent_is_none}
 use Rattle.wx_machine.proofs.JobSets.{IsIn}
-use Rattle.wx_action.proofs.TurnLaws.{at_end_of_none, other_over_end}
+use Rattle.wx_worker.proofs.TurnLaws.{at_end_of_none, other_over_end}
 use Rattle.wx_hooks.specs.HeldJobs.{is_of, runs_child, handle_id, task_of, with_task, parked_in, parked_at}
-use Rattle.wx_action.specs.Stands.{Stands, AtTurn, IsStepOf}
+use Rattle.wx_worker.specs.Stands.{Stands, AtTurn, IsStepOf}
 use Rattle.wx_hooks.specs.JobsStand.{HeldStands, held_id}
 use Rattle.wx_hooks.proofs.JobListLemmas.{placed, with_put, none_at, also, some_alive, held_some, task_held, id_held, none_held}
 use Rattle.wx_action.proofs.ShownLemmas.{alive_is}
-use Rattle.wx_action.proofs.StandsLemmas.{rest_over, stands_rest, stands_changed}
+use Rattle.wx_worker.proofs.StandsLemmas.{rest_over, stands_rest, stands_changed}
 use Rattle.wx_hooks.proofs.JobsLemmas.{held_at, is_in_place, tasks_put, ids_put}
 use Rattle.wx_action.proofs.PlanLemmas.{JobDone, jobs_stand, plan_done, same_done}
 use Rattle.wx_hooks.proofs.JobsLemmas.{Changes}

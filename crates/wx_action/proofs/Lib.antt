@@ -1,15 +1,6 @@
-pub mod ArriveLemmas
-pub mod BreakLemmas
-pub mod CallLemmas
 pub mod HandLemmas
 pub mod JobLemmas
-pub mod KeyLemmas
 pub mod PerformLemmas
 pub mod PlanLemmas
-pub mod ServesLaws
-pub mod Serving
 pub mod ShownLemmas
-pub mod StandsLemmas
 pub mod StopLemmas
-pub mod TurnLaws
-pub mod WorkLemmas

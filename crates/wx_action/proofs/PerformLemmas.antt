@@ -29,7 +29,7 @@ use Rattle.wx_machine.proofs.Frame.{frame_apart}
 use Rattle.wx_hooks.specs.declared.handler.Todo.{Todo}
 use Rattle.wx_hooks.specs.declared.handler.Todo.TheVariants as todo
 use Rattle.wx_hooks.specs.declared.held.Held.{Held}
-use Rattle.wx_action.specs.declared.worker_state.Worker.{Worker}
+use Rattle.wx_worker.specs.declared.worker_state.Worker.{Worker}
 use Rattle.wx_machine.specs.Start.{Start}
 use Rattle.wx_machine.specs.Keyboard.{ended_over}
 use Rattle.wx_config.specs.Changes.{changed as changed_by, last_revision}
@@ -50,9 +50,9 @@ use Rattle.wx_hooks.specs.HeldJobs.{with_task, with_held}
 use Rattle.wx_hooks.proofs.JobListLemmas.{all_with, ids_with}
 use Rattle.wx_machine.proofs.AllJobs.{unseen_made, commanded_created, none_by_ask, turns_over}
 use Rattle.wx_machine.proofs.JobSets.{set_rising, may_unseen, lawful_made}
-use Rattle.wx_action.specs.Stands.{Stands}
+use Rattle.wx_worker.specs.Stands.{Stands}
 use Rattle.wx_hooks.specs.JobsStand.{HeldStands, held_id}
-use Rattle.wx_action.proofs.StandsLemmas.{stands_rest, stands_behind, stands_changed}
+use Rattle.wx_worker.proofs.StandsLemmas.{stands_rest, stands_behind, stands_changed}
 use Rattle.wx_hooks.proofs.JobsLemmas.{same_held}
 use Rattle.wx_action.proofs.PlanLemmas.{jobs_stand, idle_then}
 use Rattle.wx_hooks.proofs.JobsLemmas.{jobs_change}

@@ -10,7 +10,7 @@ use Rattle.wx_machine.specs.Case.{PlanLeads}
 use Rattle.wx_machine.specs.Leaves.{LeavesOthers}
 use Rattle.wx_machine.proofs.Frame.{same_history}
 use Rattle.wx_hooks.specs.declared.held.Held.{Held}
-use Rattle.wx_action.specs.declared.worker_state.Worker.{Worker}
+use Rattle.wx_worker.specs.declared.worker_state.Worker.{Worker}
 use Rattle.wx_machine.specs.Start.{Start}
 use Rattle.wx_machine.specs.Jobs.{set, AreRising, UnseenRunNone}
 use Rattle.wx_machine.specs.Due.{Agenda, settle, agenda, plans, is_quitting}
@@ -21,10 +21,10 @@ use Rattle.wx_machine.specs.Leads.{Follows}
 use Rattle.wx_machine.specs.Turns.{StaysInTurn}
 use Rattle.wx_machine.proofs.AllJobs.{unseen_others, MakesNone, CallsNone, none_of_plan, plans_lead}
 use Rattle.wx_machine.proofs.JobSets.{set_rising}
-use Rattle.wx_action.specs.Stands.{Stands}
+use Rattle.wx_worker.specs.Stands.{Stands}
 use Rattle.wx_hooks.specs.JobsStand.{JobsStand, AreDistinct, held_id}
 use Rattle.wx_hooks.proofs.QuietLemmas.{SameRest, same_rest, still_led}
-use Rattle.wx_action.proofs.StandsLemmas.{stands_rest}
+use Rattle.wx_worker.proofs.StandsLemmas.{stands_rest}
 use Rattle.wx_hooks.proofs.JobsLemmas.{is_in_place, Changes, jobs_change}
 
 -- ---- a job among those of a worker followed a plan

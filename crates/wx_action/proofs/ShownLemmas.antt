@@ -13,8 +13,8 @@ use Rattle.wx_machine.proofs.JobSets.{any_in, in_set, set_rising}
 use Rattle.wx_hooks.specs.declared.held.Held.{Held}
 use Rattle.wx_hooks.specs.HeldJobs.{IsHandle, AreShown, is_of, is_alive, handles, runs}
 use Rattle.wx_hooks.specs.JobsStand.{HeldStands, held_id}
-use Rattle.wx_action.specs.declared.worker_state.Worker.{Worker}
-use Rattle.wx_action.specs.Stands.{Stands}
+use Rattle.wx_worker.specs.declared.worker_state.Worker.{Worker}
+use Rattle.wx_worker.specs.Stands.{Stands}
 use Rattle.wx_job.proofs.StandsLemmas.{lives-kept, child-kept}
 
 -- ---- the jobs that a handler is shown

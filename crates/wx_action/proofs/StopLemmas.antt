@@ -13,7 +13,7 @@ use Rattle.wx_machine.specs.History.{lives}
 use Rattle.wx_hooks.specs.declared.held.Held.{Held}
 use Rattle.wx_hooks.specs.HeldJobs.{is_here, living_ids}
 use Rattle.wx_hooks.specs.JobsStand.{HeldStands, held_id}
-use Rattle.wx_action.specs.declared.worker_state.Worker.{Worker}
+use Rattle.wx_worker.specs.declared.worker_state.Worker.{Worker}
 use Rattle.wx_machine.specs.Start.{Start}
 use Rattle.wx_machine.specs.Jobs.{jobs}
 use Rattle.wx_machine.specs.declared.quit.QuitManner.{QuitManner}
@@ -22,7 +22,7 @@ use Rattle.wx_machine.specs.Quits.{stop_asks, quit_asks}
 use Rattle.wx_machine.specs.Answer.{NoneIsToGo}
 use Rattle.wx_machine.specs.Due.{agenda}
 use Rattle.wx_action.specs.Perform.{OwesPlan, HasAsked, DoesAsk}
-use Rattle.wx_action.specs.Stands.{Stands}
+use Rattle.wx_worker.specs.Stands.{Stands}
 use Rattle.wx_action.proofs.HandLemmas.{ids_here, all_here, plan_to_go}
 
 -- the ids of the jobs that are held and aren't gone are those of the jobs that live

@@ -1,4 +1,1 @@
-pub mod Calls
 pub mod Perform
-pub mod Serves
-pub mod Stands

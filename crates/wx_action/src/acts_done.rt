@@ -2,7 +2,7 @@
 ghost use Rattle.std.specs.Prelude.{◌≡◌, ◌+◌, ◌≤◌, Option, List, [], ◌∷◌, OnOk, OnErr};
 ghost use Rattle.wx_hooks.specs.declared.handler.Todo.{Todo as ATodo};
 ghost use Rattle.wx_hooks.specs.declared.handler.Todo.TheVariants as todo;
-ghost use Rattle.wx_action.specs.Serves.{Grows, Performs};
+ghost use Rattle.wx_worker.specs.Serves.{Grows, Performs};
 ghost use Rattle.wx_machine.specs.Start.{Start};
 ghost use Rattle.wx_control.specs.declared.id.Id.{Id as AnId};
 ghost use Rattle.wx_journal.specs.Acts.{JournalAct as Act};
@@ -14,9 +14,8 @@ ghost use Rattle.wx_machine.specs.Answer.{NoneIsToGo};
 ghost use Rattle.wx_machine.specs.Due.{agenda};
 ghost use Rattle.wx_machine.specs.Steady.{OnlyRoom};
 ghost use Rattle.wx_action.specs.Perform.{OwesPlan, OwesActs, IsFirst, Does, DoesAsk};
-ghost use Rattle.wx_action.specs.Stands.{Stands, Ready, end_room};
+ghost use Rattle.wx_worker.specs.Stands.{Stands, Ready, end_room};
 
-use crate::worker_state::Worker;
 use std::alloc::Global;
 use wx_config::Change;
 use wx_control::{Ask, Control, Flag, Id};
@@ -25,6 +24,7 @@ use wx_hooks::{Held, QuitManner, Todo};
 use wx_job::Host;
 use wx_journal::{Entry, Journal, Word};
 use wx_text::Memory;
+use wx_worker::Worker;
 
 /// Takes the room for making a job, and for its end. It fails only for want of memory.
 fn reserve_job<W: Host>(worker: &Worker, host: &mut W, journal: &mut Journal) -> Result<(), Memory>

@@ -4,14 +4,13 @@ ghost use Rattle.wx_journal.specs.declared.entry.TurnKind.TheVariants.{Ask as As
 ghost use Rattle.wx_journal.specs.declared.entry.Word.TheVariants.{Ignored};
 ghost use Rattle.wx_machine.specs.Kept.{Promised};
 ghost use Rattle.wx_machine.specs.Steady.{HaveRoom};
-ghost use Rattle.wx_action.specs.Serves.{Grows, Continues, Steps, Settles};
+ghost use Rattle.wx_worker.specs.Serves.{Grows, Continues, Steps, Settles};
 ghost use Rattle.wx_hooks.specs.EndsJobs.{EndsJobs};
 ghost use Rattle.wx_machine.specs.Start.{Start};
 ghost use Rattle.wx_hooks.specs.HeldJobs.{parked_at};
 ghost use Rattle.wx_machine.specs.Due.{Open, agenda, says};
-ghost use Rattle.wx_action.specs.Stands.{Stands, Ready, AtTurn, IsStepOf, end_room};
+ghost use Rattle.wx_worker.specs.Stands.{Stands, Ready, AtTurn, IsStepOf, end_room};
 
-use crate::worker_state::Worker;
 use std::alloc::Global;
 use wx_config::Change;
 use wx_control::{Ask, Flag, Id};
@@ -19,6 +18,7 @@ use wx_hooks::Hooks;
 use wx_job::Host;
 use wx_journal::Journal;
 use wx_text::Memory;
+use wx_worker::Worker;
 
 /// A turn that asks this of a job: the controls wait, the last one with `last` as its flag, where that is given. It fails
 /// only for want of memory, and adds no entry then.

@@ -4,15 +4,15 @@ ghost use Rattle.wx_journal.specs.declared.entry.TurnKind.TheVariants.{Signal as
 ghost use Rattle.wx_machine.specs.Start.{Start};
 ghost use Rattle.wx_machine.specs.Answer.{NoneIsToGo};
 ghost use Rattle.wx_machine.specs.Due.{agenda};
-ghost use Rattle.wx_action.specs.Serves.{Grows, IsServed, Settles};
-ghost use Rattle.wx_action.specs.Stands.{AtTurn};
+ghost use Rattle.wx_worker.specs.Serves.{Grows, IsServed, Settles};
+ghost use Rattle.wx_worker.specs.Stands.{AtTurn};
 
-use crate::worker_state::Worker;
 use std::alloc::Global;
 use wx_events::Signal;
 use wx_journal::{Journal, Word};
 use wx_keys::{hears_signal, key_events, signal_event};
 use wx_text::{List, Memory};
+use wx_worker::Worker;
 
 /// A turn of a signal to this program: its event is offered, or the turn is ignored where the signal isn't heard. It fails only
 /// for want of memory, and adds no entry then.

@@ -7,17 +7,17 @@ use Rattle.wx_events.specs.declared.priority.Priority.{Priority}
 use Rattle.wx_journal.specs.declared.entry.Entry.{Entry}
 use Rattle.wx_machine.specs.History.{lives}
 use Rattle.wx_hooks.specs.declared.held.Held.{Held}
-use Rattle.wx_action.specs.declared.worker_state.Worker.{Worker}
+use Rattle.wx_worker.specs.declared.worker_state.Worker.{Worker}
 use Rattle.wx_machine.specs.Start.{Start}
 use Rattle.wx_machine.specs.Journal.{closed, bag}
 use Rattle.wx_machine.proofs.SettleLaws.{settle_calm}
 use Rattle.wx_machine.specs.Due.{begin_of, Sends, Comes, sends, is_quitting, agenda, IsRun}
 use Rattle.wx_machine.specs.Kept.{StaysQuiet, More}
 use Rattle.wx_machine.specs.Leads.{FollowsAlone, Then}
-use Rattle.wx_action.specs.Serves.{AddsAlone}
+use Rattle.wx_worker.specs.Serves.{AddsAlone}
 use Rattle.wx_machine.specs.Turns.{StaysInTurn}
 use Rattle.wx_machine.specs.Jobs.{set, jobs}
-use Rattle.wx_action.specs.Stands.{Stands, end_room}
+use Rattle.wx_worker.specs.Stands.{Stands, end_room}
 use Rattle.wx_hooks.specs.JobsStand.{held_id}
 use Rattle.wx_machine.proofs.Orderly.{IsGoing}
 use Rattle.wx_machine.proofs.RunLaws.{orderly}

@@ -8,7 +8,7 @@ use Rattle.wx_journal.specs.Written.{Written}
 use Rattle.wx_journal.specs.Names.{moment}
 use Rattle.wx_journal.specs.Told.{tell, tell_if, tells, is_world, is_hooks, is_turn, anywhere}
 use Rattle.wx_machine.specs.Case.{is_fault}
-use Rattle.wx_action.specs.declared.worker_state.Worker.{Worker}
+use Rattle.wx_worker.specs.declared.worker_state.Worker.{Worker}
 use Rattle.wx_machine.specs.Start.{Start}
 use Rattle.wx_machine.specs.Journal.{turn_count, early_count, turn_fault}
 use Rattle.wx_machine.specs.Due.{agenda, Open, Due}
@@ -19,16 +19,16 @@ use Rattle.wx_machine.specs.Faults.{CountsOn}
 use Rattle.wx_machine.proofs.FaultLaws.{counts_entry}
 use Rattle.wx_machine.specs.Kept.{Past, Quiet, Same, More}
 use Rattle.wx_machine.specs.Leads.{Leads, Follows, Then}
-use Rattle.wx_action.specs.Stands.{Stands}
+use Rattle.wx_worker.specs.Stands.{Stands}
 use Rattle.wx_machine.specs.Turns.{SameTurns}
 use Rattle.wx_machine.specs.Seen.{Seen, Hooked}
-use Rattle.wx_action.specs.Serves.{Continues}
+use Rattle.wx_worker.specs.Serves.{Continues}
 use Rattle.wx_file_turns.specs.Serves.{Attends, AttendsAlone}
 use Rattle.wx_machine.proofs.AllJobs.{same_turns}
 use Rattle.wx_engine.specs.Run.{StaysInPlace, ServesTurn, ServesTurns}
 use Rattle.wx_machine.specs.Told.{is_last, TellsNoEnd}
-use Rattle.wx_action.proofs.TurnLaws.{with_turn, at_any_turn, next_turn}
-use Rattle.wx_action.proofs.StandsLemmas.{stands_behind}
+use Rattle.wx_worker.proofs.TurnLaws.{with_turn, at_any_turn, next_turn}
+use Rattle.wx_worker.proofs.StandsLemmas.{stands_behind}
 
 -- ---- a turn that was drawn, or the fault of one
 

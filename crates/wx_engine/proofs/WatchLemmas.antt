@@ -22,8 +22,8 @@ use Rattle.wx_machine.specs.Turns.{StaysInTurn}
 use Rattle.wx_machine.proofs.AllJobs.{same_turns}
 use Rattle.wx_machine.proofs.NoFiles.{turn_adds_none, source_kept}
 use Rattle.wx_machine.proofs.PaidLaws.{paid_less, paid_kept}
-use Rattle.wx_action.specs.declared.worker_state.Worker.{Worker}
-use Rattle.wx_action.specs.Stands.{AtTurn}
+use Rattle.wx_worker.specs.declared.worker_state.Worker.{Worker}
+use Rattle.wx_worker.specs.Stands.{AtTurn}
 use Rattle.wx_file_turns.specs.Serves.{is_unmade, ends_unmade, PaysOn}
 use Rattle.wx_engine.specs.Run.{AreFewSteps}
 

@@ -11,7 +11,7 @@ use Rattle.wx_machine.specs.Faults.{Counted, CountsOn}
 use Rattle.wx_error.specs.declared.error.CriticalError.{CriticalError}
 use Rattle.wx_error.specs.declared.error.CriticalError.TheVariants.{Exit, IoError, FsWatcherInit}
 use Rattle.wx_machine.specs.Start.{Start}
-use Rattle.wx_action.specs.declared.worker_state.Worker.{Worker}
+use Rattle.wx_worker.specs.declared.worker_state.Worker.{Worker}
 use Rattle.wx_machine.specs.Journal.{ending, turn_count, early_count, turn_fault}
 use Rattle.wx_machine.specs.Due.{agenda, Open, Ends, IsRun}
 use Rattle.wx_machine.specs.Kept.{KeepsOn}
@@ -20,7 +20,7 @@ use Rattle.wx_machine.specs.Steps.{step_count, work_count}
 use Rattle.wx_machine.specs.Turns.{StaysInTurn}
 use Rattle.wx_machine.specs.RunLaws.{IsBatched, AreBatches, NoneUrgentWaits, MomentsRise}
 use Rattle.wx_machine.specs.Leads.{Follows}
-use Rattle.wx_action.specs.Stands.{Stands, HasEndRoom}
+use Rattle.wx_worker.specs.Stands.{Stands, HasEndRoom}
 use Rattle.wx_scan.specs.declared.backend.Backend.{Ghosts}
 use Rattle.wx_file_turns.specs.declared.files.Files.{Files}
 use Rattle.wx_file_turns.specs.Standing.{FilesStand}

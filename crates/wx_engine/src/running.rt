@@ -2,7 +2,7 @@
 ghost use Rattle.std.specs.Prelude.{◌≡◌, ◌∷◌, [], List, None, ℕ, ◌+◌, ◌<◌, ◌≤◌, Bool, true, false, OnOk, OnErr, IfOk, IfErr, codes};
 ghost use Rattle.wx_machine.specs.Steady.{OnlyRoom};
 ghost use Rattle.wx_machine.specs.Kept.{KeepsOn, Promised};
-ghost use Rattle.wx_action.specs.Serves.{AddsAlone, Continues};
+ghost use Rattle.wx_worker.specs.Serves.{AddsAlone, Continues};
 ghost use Rattle.wx_machine.specs.Start.{Start, IsSize};
 ghost use Rattle.wx_machine.specs.Jobs.{jobs};
 ghost use Rattle.wx_machine.specs.Due.{agenda, begin_of, Open, IsRun};
@@ -10,7 +10,7 @@ ghost use Rattle.wx_machine.specs.Files.{is_file_turn, source, unwatched};
 ghost use Rattle.wx_machine.specs.Keyboard.{ended_by};
 ghost use Rattle.wx_machine.specs.Told.{is_last, TellsNoEnd};
 ghost use Rattle.wx_machine.specs.Answer.{NoneIsToGo, BreaksOff, Answers};
-ghost use Rattle.wx_action.specs.Stands.{Stands, AtTurn, HasEndRoom, Works, end_room};
+ghost use Rattle.wx_worker.specs.Stands.{Stands, AtTurn, HasEndRoom, Works, end_room};
 ghost use Rattle.wx_file_turns.specs.Serves.{PaysOn, ends_unmade};
 ghost use Rattle.wx_tree.specs.Paths.{Path};
 ghost use Rattle.wx_tree.specs.Trees.{Tree};

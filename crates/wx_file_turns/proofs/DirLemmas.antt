@@ -17,10 +17,10 @@ use Rattle.wx_machine.specs.Leads.{FollowsHooks, Then}
 use Rattle.wx_machine.specs.Journal.{is_exit}
 use Rattle.wx_machine.specs.Due.{Due}
 use Rattle.wx_machine.specs.Added.{Same, More}
-use Rattle.wx_action.specs.declared.worker_state.Worker.{Worker}
-use Rattle.wx_action.specs.Stands.{Stands, end_room}
-use Rattle.wx_action.proofs.CallLemmas.{dir_stands}
-use Rattle.wx_action.proofs.WorkLemmas.{called_grows}
+use Rattle.wx_worker.specs.declared.worker_state.Worker.{Worker}
+use Rattle.wx_worker.specs.Stands.{Stands, end_room}
+use Rattle.wx_worker.proofs.CallLemmas.{dir_stands}
+use Rattle.wx_worker.proofs.WorkLemmas.{called_grows}
 use Rattle.wx_file_turns.specs.Judged.{AddsDirs, recursive_places, IsStepping, IsUpToDate, StepsHand, Base, IsKept}
 use Rattle.wx_file_turns.specs.Serves.{LeavesWatch}
 use Rattle.wx_file_turns.proofs.Entries.{leaves_dir}

@@ -21,10 +21,10 @@ use Rattle.wx_machine.specs.Settings.{settings}
 use Rattle.wx_machine.specs.Due.{Due}
 use Rattle.wx_machine.proofs.AllJobs.{turns_over}
 use Rattle.wx_hooks.specs.Given.{made, GivesBackend}
-use Rattle.wx_action.specs.declared.worker_state.Worker.{Worker}
-use Rattle.wx_action.specs.Serves.{Grows, GrowsWithin}
-use Rattle.wx_action.specs.Stands.{Stands, MayShow, end_room}
-use Rattle.wx_action.proofs.StandsLemmas.{tasks_silent}
+use Rattle.wx_worker.specs.declared.worker_state.Worker.{Worker}
+use Rattle.wx_worker.specs.Serves.{Grows, GrowsWithin}
+use Rattle.wx_worker.specs.Stands.{Stands, MayShow, end_room}
+use Rattle.wx_worker.proofs.StandsLemmas.{tasks_silent}
 use Rattle.wx_file_turns.specs.Serves.{is_unmade, unmade_count, CountsUnmade, LeavesWatch, ServesWatch, AttendsAlone, GrowsAlone}
 use Rattle.wx_file_turns.specs.Judged.{StepsHand}
 use Rattle.wx_file_turns.proofs.Onward.{leaves_same, unmade_same}

@@ -27,13 +27,13 @@ use Rattle.wx_machine.specs.Answer.{BreaksHere, NoneIsToGo}
 use Rattle.wx_machine.specs.Due.{Comes, Open, Shows, Steps, after_fault, agenda, is_quitting, Due}
 use Rattle.wx_machine.proofs.AllJobs.{turns_over}
 use Rattle.wx_machine.proofs.SettleLaws.{settle_calm}
-use Rattle.wx_action.specs.declared.worker_state.Worker.{Worker}
-use Rattle.wx_action.specs.Calls.{IsShown, OwesShow}
-use Rattle.wx_action.specs.Serves.{AddsAlone}
-use Rattle.wx_action.specs.Stands.{Owes, Stands, end_room}
-use Rattle.wx_action.proofs.CallLemmas.{owes_show, shown_then, wants_here}
-use Rattle.wx_action.proofs.Serving.{hand_adds, hand_then, hooks_none}
-use Rattle.wx_action.proofs.StandsLemmas.{tasks_silent}
+use Rattle.wx_worker.specs.declared.worker_state.Worker.{Worker}
+use Rattle.wx_worker.specs.Calls.{IsShown, OwesShow}
+use Rattle.wx_worker.specs.Serves.{AddsAlone}
+use Rattle.wx_worker.specs.Stands.{Owes, Stands, end_room}
+use Rattle.wx_worker.proofs.CallLemmas.{owes_show, shown_then, wants_here}
+use Rattle.wx_worker.proofs.Serving.{hand_adds, hand_then, hooks_none}
+use Rattle.wx_worker.proofs.StandsLemmas.{tasks_silent}
 use Rattle.wx_file_turns.specs.declared.files.Watching.{Watching}
 use Rattle.wx_file_turns.specs.declared.hearing.Hearing.{Hearing}
 use Rattle.wx_file_turns.specs.declared.intake.Intake.{Intake}

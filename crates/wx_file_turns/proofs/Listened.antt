@@ -35,10 +35,10 @@ use Rattle.wx_machine.proofs.AllJobs.{turns_over}
 use Rattle.wx_machine.proofs.SettleLaws.{settle_calm}
 use Rattle.wx_machine.proofs.Stepping.{brought_then, full_due, full_over, listens_due, unheard_over}
 use Rattle.wx_hooks.specs.Given.{GivesNext}
-use Rattle.wx_action.specs.declared.worker_state.Worker.{Worker}
-use Rattle.wx_action.specs.Stands.{Owes, Stands, AtTurn, end_room}
-use Rattle.wx_action.proofs.StandsLemmas.{stands_behind, tasks_silent}
-use Rattle.wx_action.proofs.TurnLaws.{at_turn}
+use Rattle.wx_worker.specs.declared.worker_state.Worker.{Worker}
+use Rattle.wx_worker.specs.Stands.{Owes, Stands, AtTurn, end_room}
+use Rattle.wx_worker.proofs.StandsLemmas.{stands_behind, tasks_silent}
+use Rattle.wx_worker.proofs.TurnLaws.{at_turn}
 use Rattle.wx_file_turns.specs.declared.files.Files.{Files}
 use Rattle.wx_file_turns.specs.declared.files.Watching.{Watching}
 use Rattle.wx_file_turns.specs.declared.intake.Intake.{Intake}

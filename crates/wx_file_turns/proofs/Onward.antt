@@ -13,10 +13,10 @@ use Rattle.wx_machine.specs.Files.{Source}
 use Rattle.wx_machine.specs.Due.{is_quitting}
 use Rattle.wx_machine.specs.Steady.{OnlyRoom, StaysLooked}
 use Rattle.wx_machine.proofs.SteadyLemmas.{looked_none, looked_then}
-use Rattle.wx_action.specs.declared.worker_state.Worker.{Worker}
-use Rattle.wx_action.specs.Serves.{AddsAlone, AddsHand, Grows}
-use Rattle.wx_action.specs.Stands.{Stands}
-use Rattle.wx_action.proofs.Serving.{hand_then, hand_room, keeps_adds}
+use Rattle.wx_worker.specs.declared.worker_state.Worker.{Worker}
+use Rattle.wx_worker.specs.Serves.{AddsAlone, AddsHand, Grows}
+use Rattle.wx_worker.specs.Stands.{Stands}
+use Rattle.wx_worker.proofs.Serving.{hand_then, hand_room, keeps_adds}
 use Rattle.wx_file_turns.specs.Serves.{unmade_count, CountsUnmade, LeavesWatch, OnlyWatched, ServesWatch, Attends, AttendsAlone, AttendsHand, GrowsAlone, CountsOnward}
 use Rattle.wx_file_turns.specs.Judged.{StepsHand}
 use Rattle.wx_file_turns.specs.Stepping.{StaysBrought, StepsOn}

@@ -28,12 +28,12 @@ use Rattle.wx_machine.specs.Files.{source, first_item, leave}
 use Rattle.wx_machine.specs.Due.{Open, Steps, agenda, is_quitting, rest_entry, Due}
 use Rattle.wx_machine.proofs.AllJobs.{turns_over}
 use Rattle.wx_machine.proofs.SettleLaws.{settle_calm}
-use Rattle.wx_action.specs.Calls.{offer_of}
-use Rattle.wx_action.specs.declared.worker_state.Worker.{Worker}
-use Rattle.wx_action.specs.Serves.{Grows}
-use Rattle.wx_action.specs.Stands.{Stands, end_room}
-use Rattle.wx_action.proofs.ArriveLemmas.{StepsOver, grows, grows_none}
-use Rattle.wx_action.proofs.StandsLemmas.{tasks_silent}
+use Rattle.wx_worker.specs.Calls.{offer_of}
+use Rattle.wx_worker.specs.declared.worker_state.Worker.{Worker}
+use Rattle.wx_worker.specs.Serves.{Grows}
+use Rattle.wx_worker.specs.Stands.{Stands, end_room}
+use Rattle.wx_worker.proofs.ArriveLemmas.{StepsOver, grows, grows_none}
+use Rattle.wx_worker.proofs.StandsLemmas.{tasks_silent}
 use Rattle.wx_file_turns.specs.declared.files.Watching.{Watching}
 use Rattle.wx_file_turns.specs.declared.intake.Intake.{Intake}
 use Rattle.wx_file_turns.specs.Intake.{left, told}

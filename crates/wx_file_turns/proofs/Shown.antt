@@ -12,9 +12,9 @@ use Rattle.wx_journal.specs.declared.entry.Entry.{Entry}
 use Rattle.wx_journal.specs.declared.entry.Entry.TheVariants.{Make}
 use Rattle.wx_machine.specs.Start.{Start}
 use Rattle.wx_machine.specs.Journal.{closed}
-use Rattle.wx_action.specs.declared.worker_state.Worker.{Worker}
-use Rattle.wx_action.specs.Calls.{IsShown}
-use Rattle.wx_action.specs.Stands.{Stands}
+use Rattle.wx_worker.specs.declared.worker_state.Worker.{Worker}
+use Rattle.wx_worker.specs.Calls.{IsShown}
+use Rattle.wx_worker.specs.Stands.{Stands}
 use Rattle.wx_file_turns.specs.declared.files.Watching.{Watching}
 use Rattle.wx_file_turns.specs.Attended.{AttendedBy, Rests}
 use Rattle.wx_file_turns.specs.Judged.{AddsDirs}

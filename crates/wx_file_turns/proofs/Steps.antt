@@ -21,9 +21,9 @@ use Rattle.wx_machine.specs.Answer.{NoneIsToGo}
 use Rattle.wx_machine.specs.Due.{Open, Comes, Steps, Breaks, Makes, Applies, agenda, follow, is_quitting, rest_entry, settle, Due}
 use Rattle.wx_machine.proofs.SettleLaws.{settle_calm}
 use Rattle.wx_machine.proofs.Stepping.{judges_due, judges_on, errs_due, errs_on, remakes_due, remakes_on, remakes_break, makes_due, makes_then, applies_due, finishes_due, finishes_over, rests_due, rests_over}
-use Rattle.wx_action.specs.declared.worker_state.Worker.{Worker}
-use Rattle.wx_action.specs.Calls.{OwesShow, IsShown}
-use Rattle.wx_action.specs.Stands.{Stands}
+use Rattle.wx_worker.specs.declared.worker_state.Worker.{Worker}
+use Rattle.wx_worker.specs.Calls.{OwesShow, IsShown}
+use Rattle.wx_worker.specs.Stands.{Stands}
 use Rattle.wx_file_turns.specs.declared.files.Watching.{Watching}
 use Rattle.wx_file_turns.specs.Judged.{recursive_places, IsStepping, IsUpToDate}
 use Rattle.wx_file_turns.specs.Making.{IsToMake}

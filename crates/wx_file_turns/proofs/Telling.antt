@@ -13,7 +13,7 @@ use Rattle.wx_journal.specs.declared.entry.Entry.{Entry}
 use Rattle.wx_journal.specs.declared.entry.Entry.TheVariants.{Heard}
 use Rattle.wx_machine.specs.Start.{Start}
 use Rattle.wx_machine.specs.Due.{rest_entry}
-use Rattle.wx_action.specs.Stands.{MayShow}
+use Rattle.wx_worker.specs.Stands.{MayShow}
 use Rattle.wx_file_turns.specs.declared.files.Watching.{Watching}
 use Rattle.wx_file_turns.specs.declared.hearing.Hearing.{Hearing}
 use Rattle.wx_file_turns.specs.Attended.{Rests}

@@ -14,9 +14,9 @@ use Rattle.wx_machine.specs.Leads.{Leads, Here, Then}
 use Rattle.wx_machine.specs.Due.{Agenda, Applies, Open, Comes, Steps, agenda, rest, settle, watch_turn, says, is_quitting, Due}
 use Rattle.wx_machine.proofs.SettleLaws.{settle_calm}
 use Rattle.wx_machine.proofs.LaneLaws.{rises}
-use Rattle.wx_action.specs.declared.worker_state.Worker.{Worker}
-use Rattle.wx_action.specs.Stands.{Stands, AtTurn}
-use Rattle.wx_action.proofs.TurnLaws.{at_turn}
+use Rattle.wx_worker.specs.declared.worker_state.Worker.{Worker}
+use Rattle.wx_worker.specs.Stands.{Stands, AtTurn}
+use Rattle.wx_worker.proofs.TurnLaws.{at_turn}
 use Rattle.wx_file_turns.specs.declared.files.Files.{Files}
 use Rattle.wx_file_turns.specs.declared.files.Watching.{Watching}
 use Rattle.wx_file_turns.specs.Serves.{is_unmade, unmade_count, ends_unmade, CountsUnmade}

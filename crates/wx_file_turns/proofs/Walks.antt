@@ -30,7 +30,7 @@ use Rattle.wx_machine.specs.Settings.{settings}
 use Rattle.wx_machine.specs.Files.{are_same_roots}
 use Rattle.wx_machine.specs.Steps.{step_count}
 use Rattle.wx_machine.specs.Added.{Added, Same, More}
-use Rattle.wx_action.specs.Calls.{IsShown}
+use Rattle.wx_worker.specs.Calls.{IsShown}
 use Rattle.wx_file_turns.specs.Calm.{AreCalm, IsCalmTurn}
 use Rattle.wx_file_turns.specs.FewSteps.{AddsBeside, FewSteps, IsBeside, IsFewMore, SaysAbsent, ShowsAbsent, TurnShowsAbsent, earlier_roots, newest_roots}
 use Rattle.wx_file_turns.specs.Walking.{WalksStep}

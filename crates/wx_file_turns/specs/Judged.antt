@@ -13,9 +13,9 @@ use Rattle.wx_machine.specs.Seen.{Hooked}
 use Rattle.wx_machine.specs.Settings.{settings}
 use Rattle.wx_machine.specs.Files.{source}
 use Rattle.wx_machine.specs.Due.{Steps, Open, agenda}
-use Rattle.wx_action.specs.declared.worker_state.Worker.{Worker}
-use Rattle.wx_action.specs.Stands.{end_room}
-use Rattle.wx_action.specs.Serves.{GrowsHand}
+use Rattle.wx_worker.specs.declared.worker_state.Worker.{Worker}
+use Rattle.wx_worker.specs.Stands.{end_room}
+use Rattle.wx_worker.specs.Serves.{GrowsHand}
 use Rattle.wx_file_turns.specs.Serves.{LeavesWatch}
 
 -- the places of those of these paths that are recursive, seen from the folder

@@ -19,7 +19,7 @@ use Rattle.wx_machine.specs.Start.{Start}
 use Rattle.wx_machine.specs.Files.{first_item, is_deaf, source}
 use Rattle.wx_machine.specs.Steps.{step_count, work_count}
 use Rattle.wx_machine.specs.Due.{Open, agenda, rest_entry}
-use Rattle.wx_action.specs.Calls.{offer_of}
+use Rattle.wx_worker.specs.Calls.{offer_of}
 use Rattle.wx_file_turns.specs.declared.resting.Next.{Next}
 use Rattle.wx_file_turns.specs.declared.resting.Next.TheVariants as next
 use Rattle.wx_file_turns.specs.declared.files.Watching.{Watching}

@@ -16,9 +16,9 @@ use Rattle.wx_machine.specs.Settings.{settings}
 use Rattle.wx_machine.specs.Steps.{step_count, work_count, IsPaid}
 use Rattle.wx_machine.specs.Files.{source}
 use Rattle.wx_machine.specs.Due.{is_quitting}
-use Rattle.wx_action.specs.declared.worker_state.Worker.{Worker}
-use Rattle.wx_action.specs.Stands.{Stands, HasEndRoom, end_room}
-use Rattle.wx_action.specs.Serves.{Grows, GrowsHand}
+use Rattle.wx_worker.specs.declared.worker_state.Worker.{Worker}
+use Rattle.wx_worker.specs.Stands.{Stands, HasEndRoom, end_room}
+use Rattle.wx_worker.specs.Serves.{Grows, GrowsHand}
 
 -- a backend couldn't be made, but for want of memory
 abbrev pub is_unmade : Entry → Bool

@@ -10,7 +10,7 @@ use Rattle.wx_journal.specs.declared.entry.Entry.TheVariants.{Make, Word as Said
 use Rattle.wx_journal.specs.declared.entry.Word.TheVariants.{Stepped}
 use Rattle.wx_machine.specs.Start.{Start}
 use Rattle.wx_machine.specs.Journal.{closed}
-use Rattle.wx_action.specs.Calls.{IsShown}
+use Rattle.wx_worker.specs.Calls.{IsShown}
 use Rattle.wx_file_turns.specs.declared.files.Watching.{Watching}
 use Rattle.wx_file_turns.specs.Judged.{AddsDirs}
 

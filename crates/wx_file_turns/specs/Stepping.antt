@@ -10,7 +10,7 @@ use Rattle.wx_machine.specs.Seen.{Seen, Hooked}
 use Rattle.wx_machine.specs.Settings.{settings}
 use Rattle.wx_machine.specs.Steps.{work_count}
 use Rattle.wx_machine.specs.Files.{source}
-use Rattle.wx_action.specs.declared.worker_state.Worker.{Worker}
+use Rattle.wx_worker.specs.declared.worker_state.Worker.{Worker}
 use Rattle.wx_file_turns.specs.declared.files.Watching.{Watching}
 use Rattle.wx_file_turns.specs.Standing.{WatchesBy, works}
 use Rattle.wx_file_turns.specs.Judged.{IsStepping, IsUpToDate}

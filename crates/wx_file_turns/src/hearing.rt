@@ -7,7 +7,7 @@ ghost use Rattle.wx_machine.specs.Due.{Comes, Open, Shows, Steps, after_fault, a
 ghost use Rattle.wx_machine.specs.Journal.{closed};
 ghost use Rattle.wx_machine.specs.Start.{Start};
 ghost use Rattle.wx_machine.specs.Steps.{work_count};
-ghost use Rattle.wx_action.specs.Stands.{MayShow, Owes};
+ghost use Rattle.wx_worker.specs.Stands.{MayShow, Owes};
 ghost use Rattle.wx_file_turns.specs.FewSteps.{AddsBeside};
 ghost use Rattle.wx_file_turns.specs.Hearing.{IsToHear, StaysWatching, hearing_of, told_all, told_of};
 ghost use Rattle.wx_file_turns.specs.Intake.{heard};
@@ -19,7 +19,7 @@ ghost use Rattle.wx_file_turns.specs.Stepping.{IsWatching};
 use crate::files::Watching;
 use crate::intake::Intake;
 use std::alloc::Global;
-use wx_action::{Hooks, Worker};
+use wx_worker::{Hooks, Worker};
 use wx_error::{CriticalError, RuntimeError};
 use wx_fs::Recursor;
 use wx_journal::{Entry, Journal};

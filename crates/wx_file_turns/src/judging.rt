@@ -5,7 +5,7 @@ ghost use Rattle.wx_tree.specs.Trees.{Tree};
 ghost use Rattle.wx_holding.specs.Holding.{state_of};
 ghost use Rattle.wx_fs.specs.Told.{TellsStep};
 ghost use Rattle.wx_machine.specs.Start.{Start};
-ghost use Rattle.wx_action.specs.Stands.{Stands};
+ghost use Rattle.wx_worker.specs.Stands.{Stands};
 ghost use Rattle.wx_file_turns.specs.Calm.{IsCalmTurn};
 ghost use Rattle.wx_file_turns.specs.Walking.{WalksStep};
 ghost use Rattle.wx_file_turns.specs.Judged.{AddsDirs, AreJudgedBy, Base, IsKept, IsStepping, recursive_places};
@@ -15,7 +15,7 @@ ghost use Rattle.wx_file_turns.specs.Stepping.{IsAtStep, IsWorthwhileUnless, Ste
 
 use crate::files::Watching;
 use std::alloc::Global;
-use wx_action::{Hooks, Worker, World, close_where, is_exit};
+use wx_worker::{Hooks, Worker, World, close_where, is_exit};
 use wx_error::RuntimeError;
 use wx_fs::{DirCheck, StepResult};
 use wx_journal::{Entry, Journal};

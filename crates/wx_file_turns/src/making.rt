@@ -6,13 +6,13 @@ ghost use Rattle.wx_journal.specs.declared.entry.Entry.TheVariants.{Make};
 ghost use Rattle.wx_machine.specs.Answer.{BreaksHere};
 ghost use Rattle.wx_machine.specs.Files.{init_fault};
 ghost use Rattle.wx_machine.specs.Start.{Start};
-ghost use Rattle.wx_action.specs.Stands.{Stands};
+ghost use Rattle.wx_worker.specs.Stands.{Stands};
 ghost use Rattle.wx_file_turns.specs.Making.{EndsUnmade, IsToMake};
 ghost use Rattle.wx_file_turns.specs.Serves.{AttendsAlone, CountsOnward};
 ghost use Rattle.wx_file_turns.specs.Stepping.{StaysBrought};
 
 use std::alloc::Global;
-use wx_action::{Worker, World};
+use wx_worker::{Worker, World};
 use wx_error::CriticalError;
 use wx_journal::{Entry, Journal};
 use wx_recursor_lists::{is_of_handles, is_of_watches};

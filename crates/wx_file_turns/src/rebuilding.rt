@@ -3,7 +3,7 @@ ghost use Rattle.std.specs.Prelude.{◌≤◌, ◌+◌, IfErr, IfOk, OnOk};
 ghost use Rattle.wx_machine.specs.Answer.{BreaksHere};
 ghost use Rattle.wx_machine.specs.Start.{Start};
 ghost use Rattle.wx_machine.specs.Steps.{work_count};
-ghost use Rattle.wx_action.specs.Stands.{Stands};
+ghost use Rattle.wx_worker.specs.Stands.{Stands};
 ghost use Rattle.wx_file_turns.specs.Showing.{Rebuilds, RebuildsAll, RebuildsOnce};
 ghost use Rattle.wx_file_turns.specs.Stepping.{IsAtStep, StepsOn};
 
@@ -11,7 +11,7 @@ use crate::files::Watching;
 use crate::making::make_backend;
 use crate::showing::show_errors;
 use std::alloc::Global;
-use wx_action::{Hooks, Worker, World};
+use wx_worker::{Hooks, Worker, World};
 use wx_error::CriticalError;
 use wx_journal::Journal;
 

@@ -7,14 +7,14 @@ ghost use Rattle.wx_machine.specs.Answer.{BreaksHere};
 ghost use Rattle.wx_machine.specs.Due.{Due};
 ghost use Rattle.wx_machine.specs.Journal.{closed};
 ghost use Rattle.wx_machine.specs.Start.{Start};
-ghost use Rattle.wx_action.specs.Stands.{Stands};
+ghost use Rattle.wx_worker.specs.Stands.{Stands};
 ghost use Rattle.wx_file_turns.specs.Judged.{IsStepping, StepsHand};
 ghost use Rattle.wx_file_turns.specs.Serves.{GrowsAlone};
 ghost use Rattle.wx_file_turns.specs.Settling.{ShowsOneOf};
 ghost use Rattle.wx_file_turns.specs.Showing.{ShowsAll, ShowsUnless};
 
 use std::alloc::Global;
-use wx_action::{Hooks, Worker};
+use wx_worker::{Hooks, Worker};
 use wx_error::{CriticalError, RuntimeError};
 use wx_journal::{Journal, Word};
 use wx_text::{List, Memory};

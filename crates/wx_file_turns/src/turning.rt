@@ -6,7 +6,7 @@ ghost use Rattle.wx_machine.specs.Answer.{BreaksHere};
 ghost use Rattle.wx_machine.specs.Due.{Open, agenda};
 ghost use Rattle.wx_machine.specs.Kept.{Promised};
 ghost use Rattle.wx_machine.specs.Start.{Start};
-ghost use Rattle.wx_action.specs.Stands.{AtTurn};
+ghost use Rattle.wx_worker.specs.Stands.{AtTurn};
 ghost use Rattle.wx_file_turns.specs.Attended.{Attended};
 ghost use Rattle.wx_file_turns.specs.Serves.{Attends, PaysOn, ends_unmade};
 ghost use Rattle.wx_file_turns.specs.Settling.{GoesOnSettling};
@@ -16,7 +16,7 @@ use crate::applying::apply;
 use crate::files::Files;
 use crate::showing::say;
 use crate::stepping::attend;
-use wx_action::{Hooks, Worker, World};
+use wx_worker::{Hooks, Worker, World};
 use wx_error::CriticalError;
 use wx_journal::{Journal, Word};
 

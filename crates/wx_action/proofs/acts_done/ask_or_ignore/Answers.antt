@@ -6,8 +6,8 @@ use Rattle.wx_journal.specs.Acts.{JournalAct as Act}
 use Rattle.wx_journal.specs.declared.entry.Act.TheVariants.{Ask}
 use Rattle.wx_hooks.specs.HeldJobs.{with_task}
 use Rattle.wx_action.specs.Perform.{OwesPlan}
-use Rattle.wx_action.proofs.ServesLaws.{adds}
-use Rattle.wx_action.proofs.ArriveLemmas.{grows_none}
+use Rattle.wx_worker.proofs.ServesLaws.{adds}
+use Rattle.wx_worker.proofs.ArriveLemmas.{grows_none}
 use Rattle.wx_action.proofs.ShownLemmas.{alive_is}
 use Rattle.wx_hooks.proofs.JobListLemmas.{length_with}
 use Rattle.wx_action.proofs.JobLemmas.{lent, same_lent}

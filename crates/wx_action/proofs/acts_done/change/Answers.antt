@@ -5,9 +5,9 @@ use Rattle.std.specs.Prelude.{Option}
 use Rattle.wx_control.specs.declared.id.Id.{Id}
 use Rattle.wx_machine.specs.declared.quit.QuitManner.{QuitManner}
 use Rattle.wx_action.specs.Perform.{OwesActs}
-use Rattle.wx_action.specs.Stands.{end_room}
-use Rattle.wx_action.proofs.ServesLaws.{adds}
-use Rattle.wx_action.proofs.ArriveLemmas.{grows_none}
+use Rattle.wx_worker.specs.Stands.{end_room}
+use Rattle.wx_worker.proofs.ServesLaws.{adds}
+use Rattle.wx_worker.proofs.ArriveLemmas.{grows_none}
 use Rattle.wx_action.proofs.PerformLemmas.{OneDone, change_fits, changed_one}
 use Rattle.wx_action.proofs.acts_done.change.Goals as goal
 

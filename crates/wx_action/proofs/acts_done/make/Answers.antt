@@ -5,7 +5,7 @@ use Rattle.std.specs.Prelude.{Option}
 use Rattle.wx_control.specs.declared.id.Id.{Id}
 use Rattle.wx_machine.specs.declared.quit.QuitManner.{QuitManner}
 use Rattle.wx_action.specs.Perform.{OwesActs}
-use Rattle.wx_action.proofs.ServesLaws.{adds_none, adds}
+use Rattle.wx_worker.proofs.ServesLaws.{adds_none, adds}
 use Rattle.wx_action.proofs.PerformLemmas.{OneDone, made}
 use Rattle.wx_action.proofs.acts_done.make.Goals as goal
 

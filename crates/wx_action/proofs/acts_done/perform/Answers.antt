@@ -1,6 +1,6 @@
 use Rattle.std.proofs.Common.{rules, arith, ◌≡◌, length}
 use Rattle.wx_machine.proofs.SteadyLemmas.{only_none, only_then}
-use Rattle.wx_action.proofs.ServesLaws.{adds_none, adds_then}
+use Rattle.wx_worker.proofs.ServesLaws.{adds_none, adds_then}
 use Rattle.wx_action.proofs.PerformLemmas.{all_done}
 use Rattle.wx_action.proofs.acts_done.perform.Goals as goal
 

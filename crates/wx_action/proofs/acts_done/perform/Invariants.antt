@@ -2,9 +2,9 @@ use Rattle.wx_machine.specs.Steady.{OnlyRoom}
 use Rattle.std.specs.Prelude.{Option, List}
 use Rattle.wx_control.specs.declared.id.Id.{Id}
 use Rattle.wx_machine.specs.declared.quit.QuitManner.{QuitManner}
-use Rattle.wx_action.specs.Serves.{AddsAlone}
+use Rattle.wx_worker.specs.Serves.{AddsAlone}
 use Rattle.wx_action.specs.Perform.{OwesActs}
-use Rattle.wx_action.specs.Stands.{Stands, HasEndRoom}
+use Rattle.wx_worker.specs.Stands.{Stands, HasEndRoom}
 use Rattle.wx_action.proofs.acts_done.perform.Given as goal
 
 abbrev pub ghost-perform_one : goal.ghost-perform_one

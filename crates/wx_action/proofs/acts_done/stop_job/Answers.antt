@@ -2,7 +2,7 @@ use Rattle.std.proofs.Common.{◌∷◌, rules}
 use Rattle.wx_control.specs.declared.ask.Ask.TheVariants.{Delete}
 use Rattle.wx_journal.specs.declared.entry.Act.TheVariants.{Ask}
 use Rattle.wx_machine.specs.Quits.{stop_asks}
-use Rattle.wx_action.proofs.ArriveLemmas.{on_err, grows_then}
+use Rattle.wx_worker.proofs.ArriveLemmas.{on_err, grows_then}
 use Rattle.wx_action.proofs.HandLemmas.{plan_to_go}
 use Rattle.wx_action.proofs.StopLemmas.{job_stopped, ask_cut}
 use Rattle.wx_action.proofs.acts_done.stop_job.Goals as goal

@@ -1,7 +1,7 @@
 use Rattle.std.proofs.Common.{◌≡◌, length, rules, arith, refl}
 use Rattle.wx_machine.specs.Quits.{stop_asks}
 use Rattle.wx_machine.specs.Jobs.{jobs}
-use Rattle.wx_action.proofs.ArriveLemmas.{grows_none, on_err, grows_then}
+use Rattle.wx_worker.proofs.ArriveLemmas.{grows_none, on_err, grows_then}
 use Rattle.wx_action.proofs.HandLemmas.{plan_to_go}
 use Rattle.wx_action.proofs.StopLemmas.{living_are, all_stopped}
 use Rattle.wx_action.proofs.acts_done.stop_jobs.Goals as goal

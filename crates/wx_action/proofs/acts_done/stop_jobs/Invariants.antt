@@ -1,6 +1,6 @@
 use Rattle.wx_machine.specs.Quits.{stop_asks}
 use Rattle.wx_action.specs.Perform.{OwesPlan}
-use Rattle.wx_action.specs.Serves.{Grows}
+use Rattle.wx_worker.specs.Serves.{Grows}
 use Rattle.wx_action.proofs.acts_done.stop_jobs.Given as goal
 
 abbrev pub ghost-stop_job : goal.ghost-stop_job

@@ -3,12 +3,12 @@ use Rattle.wx_journal.specs.declared.entry.TurnKind.TheVariants.{Ask}
 use Rattle.wx_job.specs.declared.task.JobTask.{JobTask}
 use Rattle.wx_machine.specs.History.{lives}
 use Rattle.wx_job.specs.Stands.{TaskStands}
-use Rattle.wx_action.proofs.TurnLaws.{at_turn}
+use Rattle.wx_worker.proofs.TurnLaws.{at_turn}
 use Rattle.wx_hooks.specs.HeldJobs.{with_task}
-use Rattle.wx_action.proofs.ServesLaws.{adds}
+use Rattle.wx_worker.proofs.ServesLaws.{adds}
 use Rattle.wx_machine.specs.Due.{Says, Open}
 use Rattle.wx_journal.specs.declared.entry.Word.TheVariants.{Ignored}
-use Rattle.wx_action.proofs.ArriveLemmas.{grows_none, settles_open}
+use Rattle.wx_worker.proofs.ArriveLemmas.{grows_none, settles_open}
 use Rattle.wx_action.proofs.ShownLemmas.{alive_is}
 use Rattle.wx_hooks.proofs.JobListLemmas.{length_with}
 use Rattle.wx_action.proofs.JobLemmas.{AskDone, ask_done, lent, same_lent}

@@ -5,10 +5,10 @@ use Rattle.wx_journal.specs.declared.entry.TurnKind.TheVariants.{Change}
 use Rattle.wx_journal.specs.declared.entry.Word.TheVariants.{Ignored}
 use Rattle.wx_machine.specs.Settings.{pending, revision}
 use Rattle.wx_machine.specs.Due.{Says, Open}
-use Rattle.wx_action.specs.Stands.{end_room}
-use Rattle.wx_action.proofs.TurnLaws.{at_turn}
-use Rattle.wx_action.proofs.ServesLaws.{adds}
-use Rattle.wx_action.proofs.ArriveLemmas.{grows_none, settles_open}
+use Rattle.wx_worker.specs.Stands.{end_room}
+use Rattle.wx_worker.proofs.TurnLaws.{at_turn}
+use Rattle.wx_worker.proofs.ServesLaws.{adds}
+use Rattle.wx_worker.proofs.ArriveLemmas.{grows_none, settles_open}
 use Rattle.wx_action.proofs.JobLemmas.{AskDone, change_done}
 use Rattle.wx_action.proofs.job_turns.change_turn.Goals as goal
 

@@ -2,9 +2,9 @@ use Rattle.wx_action.proofs.JobLemmas.{steps_settled}
 use Rattle.wx_journal.specs.declared.entry.TurnKind.TheVariants.{Ended}
 use Rattle.wx_machine.specs.Due.{Says, Open}
 use Rattle.wx_journal.specs.declared.entry.Word.TheVariants.{Ignored}
-use Rattle.wx_action.proofs.TurnLaws.{turned}
-use Rattle.wx_action.proofs.ArriveLemmas.{settles_open}
-use Rattle.wx_action.proofs.Serving.{continues_grows, continues_from, promised_grown}
+use Rattle.wx_worker.proofs.TurnLaws.{turned}
+use Rattle.wx_worker.proofs.ArriveLemmas.{settles_open}
+use Rattle.wx_worker.proofs.Serving.{continues_grows, continues_from, promised_grown}
 use Rattle.wx_action.proofs.job_turns.ended_turn.Goals as goal
 
 pub returns-in_default-clause-continues : goal.returns-in_default-clause-continues

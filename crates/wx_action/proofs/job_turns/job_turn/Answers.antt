@@ -1,13 +1,13 @@
 use Rattle.std.proofs.Common.{◌≡◌, true, false, refl, sym, ◌∙◌}
 use Rattle.wx_journal.specs.declared.entry.TurnKind.TheVariants.{Job}
 use Rattle.wx_machine.specs.History.{lives}
-use Rattle.wx_action.proofs.TurnLaws.{at_turn}
+use Rattle.wx_worker.proofs.TurnLaws.{at_turn}
 use Rattle.wx_action.proofs.ShownLemmas.{alive_is}
 use Rattle.wx_action.proofs.JobLemmas.{step_owed, steps_settled}
 use Rattle.wx_machine.specs.Due.{Says, Open}
 use Rattle.wx_journal.specs.declared.entry.Word.TheVariants.{Ignored}
-use Rattle.wx_action.proofs.ArriveLemmas.{settles_open}
-use Rattle.wx_action.proofs.Serving.{continues_grows, promised_grown}
+use Rattle.wx_worker.proofs.ArriveLemmas.{settles_open}
+use Rattle.wx_worker.proofs.Serving.{continues_grows, promised_grown}
 use Rattle.wx_action.proofs.job_turns.job_turn.Goals as goal
 
 pub ignored-requires : goal.ignored-requires

@@ -5,11 +5,11 @@ use Rattle.wx_machine.specs.Table.{step_plan}
 use Rattle.wx_job.specs.Stands.{TaskStands, id_of, command_of}
 use Rattle.wx_machine.specs.Due.{Open}
 use Rattle.wx_hooks.specs.HeldJobs.{with_task}
-use Rattle.wx_action.specs.Stands.{HasEndRoom}
+use Rattle.wx_worker.specs.Stands.{HasEndRoom}
 use Rattle.wx_machine.proofs.FaultLaws.{counts_on}
 use Rattle.wx_action.proofs.PlanLemmas.{JobDone}
 use Rattle.wx_hooks.proofs.JobListLemmas.{length_with}
-use Rattle.wx_action.proofs.ArriveLemmas.{on_err}
+use Rattle.wx_worker.proofs.ArriveLemmas.{on_err}
 use Rattle.wx_action.proofs.JobLemmas.{lent, parked_lent, alive_held, step_done, StepStopped, step_stopped}
 use Rattle.wx_action.proofs.job_turns.step_of.Goals.{After-step}
 use Rattle.wx_action.proofs.job_turns.step_of.Goals as goal

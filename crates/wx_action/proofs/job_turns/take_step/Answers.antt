@@ -1,7 +1,7 @@
 use Rattle.std.proofs.Common.{refl, arith}
 use Rattle.wx_machine.proofs.SteadyLemmas.{only_none}
 use Rattle.wx_action.proofs.JobLemmas.{steps_after}
-use Rattle.wx_action.proofs.Serving.{hooks_none, continues_room, continues_after}
+use Rattle.wx_worker.proofs.Serving.{hooks_none, continues_room, continues_after}
 use Rattle.wx_action.proofs.job_turns.take_step.Goals as goal
 
 pub step_of-requires : goal.step_of-requires

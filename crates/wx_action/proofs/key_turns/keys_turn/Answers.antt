@@ -2,8 +2,8 @@ use Rattle.std.proofs.Common.{true, false, rules, ap, sym, ◌∙◌}
 use Rattle.wx_keys.specs.Keys.{key_events}
 use Rattle.wx_journal.specs.declared.entry.Word.TheVariants.{Idle, Ignored}
 use Rattle.wx_machine.specs.Due.{Says, Open, keys_open}
-use Rattle.wx_action.proofs.ArriveLemmas.{settles_open, on_err, grows_then}
-use Rattle.wx_action.proofs.KeyLemmas.{keys_owe, keys_some, read_kept, word_cut, none_of_keys, open_serves}
+use Rattle.wx_worker.proofs.ArriveLemmas.{settles_open, on_err, grows_then}
+use Rattle.wx_worker.proofs.KeyLemmas.{keys_owe, keys_some, read_kept, word_cut, none_of_keys, open_serves}
 use Rattle.wx_action.proofs.key_turns.keys_turn.Goals as goal
 
 pub ignored-requires : goal.ignored-requires

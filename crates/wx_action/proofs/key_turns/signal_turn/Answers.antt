@@ -1,8 +1,8 @@
 use Rattle.std.proofs.Common.{true, false, refl, ap, sym, ◌∙◌}
 use Rattle.wx_journal.specs.declared.entry.Word.TheVariants.{Ignored}
 use Rattle.wx_machine.specs.Due.{Says, Open}
-use Rattle.wx_action.proofs.ArriveLemmas.{grows_none, settles_open}
-use Rattle.wx_action.proofs.KeyLemmas.{signal_owes, offered_as}
+use Rattle.wx_worker.proofs.ArriveLemmas.{grows_none, settles_open}
+use Rattle.wx_worker.proofs.KeyLemmas.{signal_owes, offered_as}
 use Rattle.wx_action.proofs.key_turns.signal_turn.Goals as goal
 
 pub ignored-requires : goal.ignored-requires

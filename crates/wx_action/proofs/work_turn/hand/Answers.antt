@@ -1,10 +1,10 @@
 use Rattle.std.proofs.Common.{arith, ◌∙◌}
-use Rattle.wx_action.specs.Serves.{Continues}
-use Rattle.wx_action.proofs.ArriveLemmas.{on_err}
+use Rattle.wx_worker.specs.Serves.{Continues}
+use Rattle.wx_worker.proofs.ArriveLemmas.{on_err}
 use Rattle.wx_action.proofs.HandLemmas.{none_to_go, through, aborting_kept, works_acts}
 use Rattle.wx_action.proofs.PerformLemmas.{quit_owed}
 use Rattle.wx_action.proofs.work_turn.hand.Goals.{After-perform, After-ask_quit}
-use Rattle.wx_action.proofs.Serving.{serves_both, keeps_adds, continues_then}
+use Rattle.wx_worker.proofs.Serving.{serves_both, keeps_adds, continues_then}
 use Rattle.wx_action.proofs.work_turn.hand.Goals as goal
 
 pub perform-requires : goal.perform-requires

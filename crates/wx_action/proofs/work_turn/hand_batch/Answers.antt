@@ -6,7 +6,7 @@ use Rattle.wx_machine.specs.Due.{Due}
 use Rattle.wx_machine.specs.Jobs.{jobs, with_created, AreLawful}
 use Rattle.wx_machine.specs.Kept.{Called, KeepsOn}
 use Rattle.wx_machine.specs.Leads.{FollowsHooks}
-use Rattle.wx_action.proofs.ServesLaws.{adds_hand}
+use Rattle.wx_worker.proofs.ServesLaws.{adds_hand}
 use Rattle.wx_action.proofs.ShownLemmas.{shown}
 use Rattle.wx_action.proofs.HandLemmas.{Handed, handed, hand_due, hand_follows, turns_hand}
 use Rattle.wx_action.proofs.work_turn.hand_batch.Goals as goal

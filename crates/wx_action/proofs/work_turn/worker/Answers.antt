@@ -1,10 +1,10 @@
 use Rattle.std.proofs.Common.{inr}
-use Rattle.wx_action.specs.Serves.{Continues}
-use Rattle.wx_action.proofs.TurnLaws.{at_turn}
+use Rattle.wx_worker.specs.Serves.{Continues}
+use Rattle.wx_worker.proofs.TurnLaws.{at_turn}
 use Rattle.wx_action.proofs.HandLemmas.{works_unhanded}
-use Rattle.wx_action.proofs.BreakLemmas.{behind, breaks_want, breaks_on, breaks_fails}
+use Rattle.wx_worker.proofs.BreakLemmas.{behind, breaks_want, breaks_on, breaks_fails}
 use Rattle.wx_action.proofs.work_turn.worker.Goals.{After-hand}
-use Rattle.wx_action.proofs.Serving.{continues_room, continues_after, continues_grown, continues_hand, promised_grown}
+use Rattle.wx_worker.proofs.Serving.{continues_room, continues_after, continues_grown, continues_hand, promised_grown}
 use Rattle.wx_action.proofs.work_turn.worker.Goals as goal
 
 -- ---- what holds where no room was there

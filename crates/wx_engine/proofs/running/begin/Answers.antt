@@ -5,7 +5,7 @@ use Rattle.wx_machine.specs.Start.{Start, IsStart}
 use Rattle.wx_machine.specs.Journal.{bag}
 use Rattle.wx_machine.specs.Due.{begin_of, Sends, Comes, sends}
 use Rattle.wx_machine.proofs.SettleLaws.{settle_calm}
-use Rattle.wx_action.proofs.ServesLaws.{adds, adds_then}
+use Rattle.wx_worker.proofs.ServesLaws.{adds, adds_then}
 use Rattle.wx_engine.proofs.BeginLemmas.{none_yet, begun, going_begun, next_sent}
 use Rattle.wx_engine.proofs.running.begin.Goals as goal
 

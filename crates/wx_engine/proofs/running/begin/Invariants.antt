@@ -1,8 +1,8 @@
 use Rattle.std.proofs.Common.{◌≡◌, false, length, drop}
 use Rattle.wx_machine.specs.Journal.{closed, bag}
 use Rattle.wx_machine.specs.Due.{agenda, sends}
-use Rattle.wx_action.specs.Serves.{AddsAlone}
-use Rattle.wx_action.specs.Stands.{Stands, end_room}
+use Rattle.wx_worker.specs.Serves.{AddsAlone}
+use Rattle.wx_worker.specs.Stands.{Stands, end_room}
 use Rattle.wx_machine.specs.Start.{IsStart}
 use Rattle.wx_engine.proofs.running.begin.Given as goal
 

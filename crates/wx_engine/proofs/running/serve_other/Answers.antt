@@ -4,9 +4,9 @@ use Rattle.wx_machine.proofs.SteadyLemmas.{only_none}
 use Rattle.wx_machine.specs.Due.{Open}
 use Rattle.wx_machine.proofs.SettleLaws.{settle_calm, served_open}
 use Rattle.wx_action.proofs.HandLemmas.{works_served}
-use Rattle.wx_action.proofs.TurnLaws.{at_turn}
-use Rattle.wx_action.proofs.Serving.{hooks_none, continues_room, continues_grows}
-use Rattle.wx_action.proofs.BreakLemmas.{breaks_want, breaks_left}
+use Rattle.wx_worker.proofs.TurnLaws.{at_turn}
+use Rattle.wx_worker.proofs.Serving.{hooks_none, continues_room, continues_grows}
+use Rattle.wx_worker.proofs.BreakLemmas.{breaks_want, breaks_left}
 use Rattle.wx_engine.proofs.running.serve_other.Goals as goal
 
 pub arrive-requires : goal.arrive-requires

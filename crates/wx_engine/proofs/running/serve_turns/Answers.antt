@@ -4,7 +4,7 @@ use Rattle.wx_tree.specs.Trees.{Tree}
 use Rattle.wx_file_turns.specs.Calm.{StaysCalm}
 use Rattle.wx_file_turns.specs.FewSteps.{FewSteps}
 use Rattle.wx_file_turns.specs.Settling.{AreSettling}
-use Rattle.wx_action.specs.declared.work_turn.Worked.TheVariants as worked
+use Rattle.wx_worker.specs.declared.collecting.Worked.TheVariants as worked
 use Rattle.wx_journal.specs.declared.entry.Entry.TheVariants.{Turn as Turned, TurnFault}
 use Rattle.wx_journal.specs.Told.{tell}
 use Rattle.wx_machine.specs.Seen.{Shown}
@@ -17,10 +17,10 @@ use Rattle.wx_machine.specs.Due.{IsRun}
 use Rattle.wx_machine.specs.Kept.{KeepsOn, Past}
 use Rattle.wx_machine.specs.Leads.{Follows}
 use Rattle.wx_machine.proofs.BatchLaws.{run_led}
-use Rattle.wx_action.specs.Stands.{HasEndRoom}
+use Rattle.wx_worker.specs.Stands.{HasEndRoom}
 use Rattle.wx_file_turns.specs.Serves.{PaysOn}
 use Rattle.wx_file_turns.specs.Standing.{owing}
-use Rattle.wx_action.proofs.TurnLaws.{next_turn}
+use Rattle.wx_worker.proofs.TurnLaws.{next_turn}
 use Rattle.wx_machine.specs.Told.{is_last}
 use Rattle.wx_engine.specs.Run.{Rests, ServesTurns}
 use Rattle.wx_engine.proofs.TurnLemmas.{Drawn, turn_drawn, fault_drawn, drawn_follows, drawn_quiet, drawn_counts, early_drawn, served, turn_stands, fault_stands, turns_then}

@@ -7,7 +7,7 @@ use Rattle.wx_machine.specs.Faults.{CountsOn}
 use Rattle.wx_machine.specs.RunLaws.{MomentsRise}
 use Rattle.wx_machine.specs.Kept.{KeepsOn}
 use Rattle.wx_machine.specs.Leads.{Follows}
-use Rattle.wx_action.specs.Stands.{Stands, HasEndRoom}
+use Rattle.wx_worker.specs.Stands.{Stands, HasEndRoom}
 use Rattle.wx_file_turns.specs.Serves.{PaysOn}
 use Rattle.wx_file_turns.specs.Standing.{FilesStand, owing}
 use Rattle.wx_engine.specs.Run.{TellsTurns}

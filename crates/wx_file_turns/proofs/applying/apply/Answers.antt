@@ -5,7 +5,7 @@ use Rattle.wx_journal.specs.declared.entry.Entry.TheVariants.{Applied}
 use Rattle.wx_machine.specs.Due.{Applies, Comes, Open, agenda}
 use Rattle.wx_machine.specs.Files.{source, watches_same}
 use Rattle.wx_machine.proofs.SteadyLemmas.{only_none}
-use Rattle.wx_action.specs.Stands.{Stands}
+use Rattle.wx_worker.specs.Stands.{Stands}
 use Rattle.wx_file_turns.specs.Serves.{AttendsAlone}
 use Rattle.wx_file_turns.specs.Standing.{IntakeStands}
 use Rattle.wx_file_turns.proofs.Journals.{follows_adds}

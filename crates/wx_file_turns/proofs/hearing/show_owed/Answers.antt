@@ -1,7 +1,7 @@
 use Rattle.std.proofs.Common.{List, inl, arith, subst}
 use Rattle.wx_journal.specs.declared.entry.Entry.{Entry}
-use Rattle.wx_action.specs.Stands.{MayShow}
-use Rattle.wx_action.proofs.Serving.{hooks_none}
+use Rattle.wx_worker.specs.Stands.{MayShow}
+use Rattle.wx_worker.proofs.Serving.{hooks_none}
 use Rattle.wx_file_turns.proofs.Entries.{shown_hand}
 use Rattle.wx_file_turns.proofs.Hearings.{error_shows, shown_open}
 use Rattle.wx_file_turns.proofs.Onward.{steps_hand_room, steps_hand_then}

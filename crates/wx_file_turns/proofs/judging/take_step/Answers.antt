@@ -2,7 +2,7 @@ use Rattle.std.proofs.Common.{rules, refl, ap, ◌∙◌}
 use Rattle.wx_holding.specs.Calm.{IsStill}
 use Rattle.wx_holding.specs.Holding.{state_of}
 use Rattle.wx_machine.specs.Settings.{settings}
-use Rattle.wx_action.proofs.ArriveLemmas.{on_err}
+use Rattle.wx_worker.proofs.ArriveLemmas.{on_err}
 use Rattle.wx_file_turns.specs.Judged.{IsKept, IsStepping}
 use Rattle.wx_file_turns.proofs.DirLemmas.{kept_first, kept_behind, leaves_behind, dirs_behind}
 use Rattle.wx_file_turns.proofs.Onward.{steps_by_hand, steps_looked, steps_then}

@@ -1,7 +1,7 @@
 use Rattle.wx_file_turns.proofs.Settled.{beside_none, beside_one, settling_beside, settling_by, settling_well, turn_shows}
 use Rattle.std.proofs.Common.{◌≡◌, true, false, refl, sym, ◌∙◌}
 use Rattle.wx_machine.specs.Leads.{Here}
-use Rattle.wx_action.proofs.Serving.{promised_grown}
+use Rattle.wx_worker.proofs.Serving.{promised_grown}
 use Rattle.wx_file_turns.proofs.Onward.{attends_alone, attends_grown}
 use Rattle.wx_file_turns.proofs.TurnLemmas.{applies_owed, ignores_owed, ignored_due, ignored_open, maker_counts, steps_owed}
 use Rattle.wx_file_turns.proofs.turning.file_turn.Goals as goal

@@ -1,4 +1,0 @@
-use Rattle.wx_action.proofs.worker_state.Worker.arrive.Given as goal
-
-abbrev pub ghost-offer : goal.ghost-offer
-ghost-offer g a = g.start

@@ -1,4 +1,0 @@
-use Rattle.wx_action.proofs.worker_state.Worker.collect.Given as goal
-
-abbrev pub ghost-collect_going : goal.ghost-collect_going
-ghost-collect_going g a = g.start

@@ -1,4 +1,0 @@
-use Rattle.wx_action.proofs.worker_state.Worker.collect_going.Given as goal
-
-abbrev pub ghost-take : goal.ghost-take
-ghost-take g a = g.start

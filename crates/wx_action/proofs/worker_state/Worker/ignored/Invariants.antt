@@ -1,4 +1,0 @@
-use Rattle.wx_action.proofs.worker_state.Worker.ignored.Given as goal
-
-abbrev pub ghost-say : goal.ghost-say
-ghost-say g a = g.start

@@ -1,4 +1,0 @@
-use Rattle.wx_action.proofs.worker_state.Worker.say.Given as goal
-
-abbrev pub ghost-say_due : goal.ghost-say_due
-ghost-say_due g a = g.start

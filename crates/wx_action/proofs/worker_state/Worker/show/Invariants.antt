@@ -1,4 +1,0 @@
-use Rattle.wx_action.proofs.worker_state.Worker.show.Given as goal
-
-abbrev pub ghost-call_show : goal.ghost-call_show
-ghost-call_show g a = g.start

@@ -1,0 +1,9 @@
+pub mod ArriveLemmas
+pub mod BreakLemmas
+pub mod CallLemmas
+pub mod KeyLemmas
+pub mod ServesLaws
+pub mod Serving
+pub mod StandsLemmas
+pub mod TurnLaws
+pub mod WorkLemmas
