@@ -23,7 +23,6 @@ ghost use Rattle.wx_file_turns.specs.Stepping.{IsWatching, StaysBrought};
 use crate::files::{Files, Watching};
 use crate::making::make_backend;
 use std::alloc::Global;
-use wx_worker::{Worker, World};
 use wx_config::Config;
 use wx_error::CriticalError;
 use wx_fs::{Recursor, kept_roots};
@@ -34,6 +33,7 @@ use wx_text::{Copies, Memory};
 use wx_tree::Root;
 use wx_watch::Watcher;
 use wx_words::TextPath;
+use wx_worker::{Worker, World};
 
 /// Whether two watchers are the same.
 fn is_same_watcher(a: Watcher, b: Watcher) -> bool

@@ -19,7 +19,6 @@ ghost use Rattle.wx_file_turns.specs.Stepping.{IsWatching};
 use crate::files::Watching;
 use crate::intake::Intake;
 use std::alloc::Global;
-use wx_worker::{Hooks, Worker};
 use wx_error::{CriticalError, RuntimeError};
 use wx_fs::Recursor;
 use wx_journal::{Entry, Journal};
@@ -27,6 +26,7 @@ use wx_lane::{LaneItem, Topology, topology_messages};
 use wx_scan::Backend;
 use wx_text::{Copies, List, Memory};
 use wx_watch::{FsWatcherError, NotifyFault, Watcher};
+use wx_worker::{Hooks, Worker};
 
 /// What is made of an item that is heard: its name, what it says of the tree, in messages, where its backend is live, and the fault
 /// that it is, where it is one.

@@ -15,12 +15,12 @@ ghost use Rattle.wx_file_turns.specs.Stepping.{IsAtStep, IsWorthwhileUnless, Ste
 
 use crate::files::Watching;
 use std::alloc::Global;
-use wx_worker::{Hooks, Worker, World, close_where, is_exit};
 use wx_error::RuntimeError;
 use wx_fs::{DirCheck, StepResult};
 use wx_journal::{Entry, Journal};
 use wx_text::{Copies, Memory};
 use wx_words::TextPath;
+use wx_worker::{Hooks, Worker, World, close_where, is_exit};
 
 /// Shows directories to the filter, and lists each answer. Where the filter asks for the end the queue is closed.
 pub(crate) struct DirCalls<'a, H: Hooks> {

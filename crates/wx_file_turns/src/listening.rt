@@ -22,11 +22,11 @@ use crate::files::{Files, Watching};
 use crate::intake::Intake;
 use crate::showing::say;
 use std::alloc::Global;
-use wx_worker::{Worker, World};
 use wx_journal::{Entry, Journal, LetGoCause, Word};
 use wx_notify::Notify;
 use wx_text::{Copies, Memory};
 use wx_watch::NotifyFault;
+use wx_worker::{Worker, World};
 
 /// What a backend brought is listed as this item, in room that was taken, and joins the lane; where as many events wait as may it is
 /// let go. It fails only for want of memory, behind the entry of what was brought.

@@ -12,12 +12,12 @@ ghost use Rattle.wx_file_turns.specs.Serves.{AttendsAlone, CountsOnward};
 ghost use Rattle.wx_file_turns.specs.Stepping.{StaysBrought};
 
 use std::alloc::Global;
-use wx_worker::{Worker, World};
 use wx_error::CriticalError;
 use wx_journal::{Entry, Journal};
 use wx_recursor_lists::{is_of_handles, is_of_watches};
 use wx_text::{Copies, Memory};
 use wx_watch::{FsWatcherError, NotifyFault, NotifyFaultKind, Watcher};
+use wx_worker::{Worker, World};
 
 /// What is said of a backend that couldn't be made.
 fn init_fault(fault: NotifyFault) -> FsWatcherError

@@ -11,9 +11,9 @@ use crate::files::Watching;
 use crate::making::make_backend;
 use crate::showing::show_errors;
 use std::alloc::Global;
-use wx_worker::{Hooks, Worker, World};
 use wx_error::CriticalError;
 use wx_journal::Journal;
+use wx_worker::{Hooks, Worker, World};
 
 /// One rebuild: the backend goes, another is made, and what was registered is watched by it. Errors are shown. It answers whether
 /// one more is asked for. It fails where the backend can't be made, where the error handler wished that the run ends with an error,

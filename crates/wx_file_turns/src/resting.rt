@@ -24,7 +24,6 @@ use crate::hearing::{Hearing, hear, heard_item};
 use crate::intake::Intake;
 use crate::showing::say;
 use std::alloc::Global;
-use wx_worker::{Hooks, Worker, World};
 use wx_error::CriticalError;
 use wx_events::{Event, Priority};
 use wx_journal::{Entry, Journal, LetGoCause, Word};
@@ -32,6 +31,7 @@ use wx_lane::{LaneItem, file_event, topology_messages};
 use wx_notify::Notify;
 use wx_scan::Backend;
 use wx_text::Memory;
+use wx_worker::{Hooks, Worker, World};
 
 /// What comes next where there is no step to take.
 #[derive(Drop)]

@@ -14,10 +14,10 @@ ghost use Rattle.wx_file_turns.specs.Settling.{ShowsOneOf};
 ghost use Rattle.wx_file_turns.specs.Showing.{ShowsAll, ShowsUnless};
 
 use std::alloc::Global;
-use wx_worker::{Hooks, Worker};
 use wx_error::{CriticalError, RuntimeError};
 use wx_journal::{Journal, Word};
 use wx_text::{List, Memory};
+use wx_worker::{Hooks, Worker};
 
 /// Says this of a turn, which is no call on the world. It fails only for want of memory, and adds no entry then.
 pub(crate) fn say(worker: &Worker, word: Word, journal: &mut Journal) -> Result<(), Memory>

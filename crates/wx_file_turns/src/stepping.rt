@@ -25,10 +25,10 @@ use crate::rebuilding::rebuild;
 use crate::resting::rest;
 use crate::showing::{say, show_errors};
 use std::alloc::Global;
-use wx_worker::{Hooks, Worker, World};
 use wx_error::CriticalError;
 use wx_journal::{Journal, Word};
 use wx_words::TextPath;
+use wx_worker::{Hooks, Worker, World};
 
 /// The rebuild of a step, where it asks for one.
 fn rebuild_where<W: World, H: Hooks>(

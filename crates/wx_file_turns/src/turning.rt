@@ -16,9 +16,9 @@ use crate::applying::apply;
 use crate::files::Files;
 use crate::showing::say;
 use crate::stepping::attend;
-use wx_worker::{Hooks, Worker, World};
 use wx_error::CriticalError;
 use wx_journal::{Journal, Word};
+use wx_worker::{Hooks, Worker, World};
 
 /// A turn about what is watched. Settings that weren't applied yet are: where no path is to be watched any more the backend goes,
 /// else one is made where none stands that serves them, and then the roots are set where they or the filter changed, or something
