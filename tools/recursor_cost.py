@@ -15,7 +15,7 @@ import subprocess
 import sys
 import tempfile
 
-ROW = "recursor_cost: wx_text wx_words wx_events wx_watch wx_error wx_paths wx_notify wx_tree wx_scan wx_dir_check wx_recursor wx_recursor_lists wx_index wx_holding wx_step wx_rebuild wx_walk wx_settle wx_fs\n"
+ROW = "recursor_cost: wx_text wx_words wx_events wx_watch wx_error wx_paths wx_notify wx_tree wx_scan wx_recursor wx_recursor_lists wx_index wx_holding wx_step wx_rebuild wx_walk wx_settle wx_fs\n"
 TOP = pathlib.Path(__file__).resolve().parent.parent
 
 

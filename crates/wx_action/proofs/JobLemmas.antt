@@ -2,6 +2,7 @@
 use Rattle.std.proofs.Common.{◌≡◌, ◌≢◌, ℕ, ◌+◌, Bool, true, false, cond, List, [], ◌∷◌, inl, inr, refl, ap, sym, subst, ◌∙◌, eq-eqb, ne_eqb}
 use Rattle.std.specs.Prelude.{Option, None, Some, Result, Ok, Err, is_some, option_map, map, not}
 use Rattle.std.specs.List.{AllByRecursion, find}
+use Rattle.std.proofs.lemmas.Bool.{or_parts}
 use Rattle.wx_words.specs.OptionLaws.{refused}
 use Rattle.wx_command.specs.declared.command.Command.{Command}
 use Rattle.wx_control.specs.declared.id.Id.{Id}
@@ -20,7 +21,7 @@ use Rattle.wx_machine.specs.Leaves.{LeavesOthers}
 use Rattle.wx_journal.specs.Written.{Written}
 use Rattle.wx_machine.specs.Seen.{Seen}
 use Rattle.wx_job.specs.Stands.{StepFails, AllAsBefore, BehindHook, TaskStands, SameJob, IsEnding, id_of, command_of, closed_of, gone_of, running_of, parked_count}
-use Rattle.wx_machine.proofs.Owners.{self, same-is}
+use Rattle.wx_machine.proofs.Owners.{self, same-is, is_child_some}
 use Rattle.wx_hooks.specs.declared.held.Held.{Held}
 use Rattle.wx_action.specs.declared.worker_state.Worker.{Worker}
 use Rattle.wx_machine.specs.Start.{Start}
@@ -32,14 +33,14 @@ use Rattle.wx_machine.specs.Settings.{pending, first_changed, settings, revision
 use Rattle.wx_machine.proofs.PlanLaws.{raised}
 use Rattle.wx_machine.specs.Jobs.{set, living, parent, change_plan}
 use Rattle.wx_machine.specs.Due.{Agenda, Open, Plans, Admits, Due, plans, says, ask_turn, change_turn, job_turn, ended_turn, is_through, is_quitting, settle, rest, agenda}
-use Rattle.wx_machine.proofs.SettleLaws.{settle_calm, settle_through, served_settled, left_false, right_false, quiet_open}
+use Rattle.wx_machine.proofs.SettleLaws.{settle_calm, settle_through, served_settled, quiet_open}
 use Rattle.wx_machine.specs.Quits.{is_aborting}
 use Rattle.wx_action.specs.Serves.{IsServed}
 use Rattle.wx_machine.specs.Kept.{StaysQuiet, More}
 use Rattle.wx_machine.specs.Leads.{FollowsAlone, Follows, Then}
 use Rattle.wx_action.specs.Serves.{LeavesOff, Steps, Settles}
 use Rattle.wx_machine.specs.Turns.{StaysInTurn}
-use Rattle.wx_machine.proofs.AllJobs.{turns_over, calls_none_ask, is_child_some, none_by_ask, none_by_step, parent_is, parent_is_none}
+use Rattle.wx_machine.proofs.AllJobs.{turns_over, calls_none_ask, none_by_ask, none_by_step, parent_is, parent_is_none}
 use Rattle.wx_machine.proofs.JobSets.{IsIn}
 use Rattle.wx_action.proofs.TurnLaws.{at_end_of_none, other_over_end}
 use Rattle.wx_hooks.specs.HeldJobs.{is_of, runs_child, handle_id, task_of, with_task, parked_in, parked_at}
@@ -142,7 +143,7 @@ change_done s w w' change p p' stands going due waits other fields ended config 
       follows = λ world hooks p₀ world₀ hooks₀ l. Then (Changed (revision s p + 1)) p world hooks l d;
       quiet = λ p₀ a. More (Changed (revision s p + 1)) p a refl;
       turns = turns_over _ _ refl;
-      done = ap (λ (a : Agenda). settle (Changed (revision s p + 1) ∷ p) (rest (Changed (revision s p + 1)) a)) owed ∙ settle_through (Changed (revision s p + 1) ∷ p) (left_false (is_aborting p) (is_through p) going);
+      done = ap (λ (a : Agenda). settle (Changed (revision s p + 1) ∷ p) (rest (Changed (revision s p + 1)) a)) owed ∙ settle_through (Changed (revision s p + 1) ∷ p) (or_parts (is_aborting p) (is_through p) going).0;
     })
 
 -- ---- a step
@@ -313,7 +314,7 @@ end_kept s w w' at c id task task' p a one l fields items same task_stands =
     } in
     let tasks = tasks_put a.before (told at c a.before) hs n h h' jobs.ids_apart change.within change.held (λ x ne st. other_over_end at c (held_id h) a.before x own its ne st) a.stands.tasks_kept new in
     let ids : map held_id w'.jobs ≡ set a.before = rw change.items (ids_put hs n h h' change.within change.held change.job_same.same_id ∙ a.stands.jobs_kept) in
-    let going : is_quitting (told at c a.before) ≡ false = right_false (is_aborting a.before) _ (quiet_open s a.before a.open_is) in
+    let going : is_quitting (told at c a.before) ≡ false = (or_parts (is_aborting a.before) _ (quiet_open s a.before a.open_is)).1 in
     let owed = owes_step s at c (held_id h) (command_of h.task) a.before own here its alive stood.command_is going in
     let step : IsStepOf s (held_id h) at (told at c a.before) = record { what = command_of h.task; alive = alive; runs = stood.command_is; due = owed; going = going; now = refl } in
     subst (EndKept s w' id at) (sym a.last) (record {

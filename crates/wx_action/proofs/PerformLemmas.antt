@@ -1,7 +1,7 @@
 -- What the acts of a batch ask for is done.
 use Rattle.std.proofs.Common.{◌≡◌, ◌≢◌, ℕ, ◌<◌, ◌≤◌, ◌+◌, Bool, true, false, cond, List, [], ◌∷◌, ◌++◌, length, inl, inr, arith, refl, ap, sym, subst, ◌∙◌, ne_eqb}
 use Rattle.std.proofs.Math.Arith.{lt_of_le-ne}
-use Rattle.std.proofs.lemmas.Bool.{le-ltb, ltb-true, ltb-false, eqb-false}
+use Rattle.std.proofs.lemmas.Bool.{le-ltb, ltb-true, ltb-false, eqb-false, or_parts}
 use Rattle.std.specs.Prelude.{Option, None, Some, Result, Ok, Err, map, nat_lt, ◌||◌, ◌⊎◌}
 use Rattle.std.specs.List.{filter, list_any, AllByRecursion}
 use Rattle.wx_words.specs.EachLaws.{each_weaker, each_filter}
@@ -83,10 +83,6 @@ jobs_kept : (p : List Entry) (id x : Id) (ids : List Id) (alive : Bool) → nat_
 jobs_kept p id x ids true below other more is = rw (below, other, is) (rw below (ap (λ (js : List Id). x ∷ js) more))
 jobs_kept p id x ids false below other more is = rw (below, other, is) more
 
-both_false : (a b : Bool) → (a || b) ≡ false → (a ≡ false) × (b ≡ false)
-both_false true b e = absurd cc
-both_false false b e = (refl, e)
-
 -- where all are above it
 filter_same : (p : List Entry) (id : Id) (ids : List Id) → AllByRecursion (λ j. id.0 < j.0) ids → filter (λ j. same id j || lives j p) ids ≡ filter (λ j. lives j p) ids
 filter_same p id [] above = refl
@@ -111,7 +107,7 @@ jobs_by p id x ids false lt other r more =
 
 jobs_among : (p : List Entry) (id : Id) (ids : List Id) → AreRising ids → list_any (λ job. same job id) ids ≡ false → filter (λ j. same id j || lives j p) (with_id id ids) ≡ with_id id (filter (λ j. lives j p) ids)
 jobs_among p id [] r none = rw (self id) refl
-jobs_among p id (x ∷ ids) r none = let parts = both_false (same x id) (list_any (λ job. same job id) ids) none in jobs_by p id x ids (nat_lt x.0 id.0) refl parts.0 r (jobs_among p id ids r.1 parts.1)
+jobs_among p id (x ∷ ids) r none = let parts = or_parts (same x id) (list_any (λ job. same job id) ids) none in jobs_by p id x ids (nat_lt x.0 id.0) refl parts.0 r (jobs_among p id ids r.1 parts.1)
 
 jobs_made : (p : List Entry) (id : Id) → is_seen id p ≡ false → jobs (Made id ∷ p) ≡ with_id id (jobs p)
 jobs_made p id unseen = jobs_among p id (set p) (set_rising p).rising unseen
@@ -151,7 +147,7 @@ runs_only id what p is created made = let here : Some what ≡ Some created = sy
 none_is : (id : Id) (ids : List Id) → list_any (λ job. same job id) ids ≡ false → AllByRecursion (λ j. j ≢ id) ids
 none_is id [] none = tt
 none_is id (x ∷ ids) none =
-    let parts = both_false (same x id) (list_any (λ job. same job id) ids) none in
+    let parts = or_parts (same x id) (list_any (λ job. same job id) ids) none in
     (λ e. (let both : true ≡ false = sym (rw e (self id)) ∙ parts.0 in absurd cc), none_is id ids parts.1)
 
 tasks_made : (p : List Entry) (id : Id) (hs : List Held) → AllByRecursion (λ j. j ≢ id) (map held_id hs) → AllByRecursion (HeldStands p) hs → AllByRecursion (HeldStands (Made id ∷ p)) hs

@@ -2,6 +2,7 @@
 use Rattle.std.proofs.Common.{◌≡◌, ◌≢◌, ℕ, Bool, false, cond, List, [], ◌∷◌, inl, inr, refl, ap, sym, subst, ◌∙◌, ne_eqb}
 use Rattle.std.specs.Prelude.{Option, None, Some, map}
 use Rattle.std.specs.List.{AllByRecursion}
+use Rattle.std.proofs.lemmas.Bool.{or_parts}
 use Rattle.wx_control.specs.declared.id.Id.{Id}
 use Rattle.wx_journal.specs.declared.entry.Entry.{Entry}
 use Rattle.wx_journal.specs.declared.entry.Entry.TheVariants.{Turn as Turned}
@@ -16,7 +17,7 @@ use Rattle.wx_action.specs.declared.worker_state.Worker.{Worker}
 use Rattle.wx_machine.specs.Start.{Start}
 use Rattle.wx_machine.specs.Due.{Open, turn_agenda, is_quitting, agenda}
 use Rattle.wx_machine.specs.Quits.{is_aborting}
-use Rattle.wx_machine.proofs.SettleLaws.{quiet_open, right_false, settle_calm}
+use Rattle.wx_machine.proofs.SettleLaws.{quiet_open, settle_calm}
 use Rattle.wx_machine.specs.Jobs.{set, parent_among, parent}
 use Rattle.wx_hooks.specs.JobsStand.{HeldStands, held_id}
 use Rattle.wx_config.specs.declared.config.Config.{Config}
@@ -36,7 +37,7 @@ pub record IsTurned (s : Start) (at : ℕ) (kind : TurnKind) (p : List Entry) : 
 
 pub turned : (s : Start) (w : Worker) (at : ℕ) (kind : TurnKind) (p : List Entry) → AtTurn s w at kind p → IsTurned s at kind p
 turned s w at kind p a =
-    let going : is_quitting (Turned (record { at = at; kind = kind }) ∷ a.before) ≡ false = right_false (is_aborting a.before) _ (quiet_open s a.before a.open_is) in
+    let going : is_quitting (Turned (record { at = at; kind = kind }) ∷ a.before) ≡ false = (or_parts (is_aborting a.before) _ (quiet_open s a.before a.open_is)).1 in
     subst (IsTurned s at kind) (sym a.last) (record { due = settle_calm (Turned (record { at = at; kind = kind }) ∷ a.before) _ going; going = going; now = refl })
 
 -- ---- what stands over a turn: all but the task whose child's end it tells

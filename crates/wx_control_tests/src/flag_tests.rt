@@ -1,5 +1,5 @@
 // Flags and tickets, before and after they are raised.
-use crate::tests::{copy_of, expect_so, new_flag};
+use crate::control_tests::{copy_of, expect_so, new_flag};
 use futures::task::Poll;
 use futures::test::MockTask;
 use std::alloc::Global;

@@ -1,9 +1,16 @@
-//! Tests of `wx_control`, whose proofs are done without them: a crate with tests is proved once more with them.
+//! Tests of commands, of controls with their flags, tickets and senders, and of settings with the errors of a run. The proofs of
+//! these crates are done without them: a crate with tests is proved once more with them.
 #![tactic(auto)]
 
+#[cfg(test)]
+mod change_tests;
+#[cfg(test)]
+mod command_tests;
+#[cfg(test)]
+mod config_tests;
+#[cfg(test)]
+mod control_tests;
 #[cfg(test)]
 mod flag_tests;
 #[cfg(test)]
 mod sender_tests;
-#[cfg(test)]
-mod tests;

@@ -1,8 +1,8 @@
 // Senders of jobs that live and that are gone: the expected values are worked out by hand.
 ghost use Rattle.std.specs.Prelude.{Some, []};
 
+use crate::control_tests::{copy_of, expect_so, new_flag, put_sends};
 use crate::flag_tests::is_ready;
-use crate::tests::{copy_of, expect_so, expect_yes, line_of, new_flag, put_sends};
 use futures::executor::block_on;
 use futures::future::join;
 use futures::test::MockTask;
@@ -14,6 +14,7 @@ use wx_control::{Ask, Control, Controls, Flag, Id, Job, Mirror, Refused, Ticket}
 use wx_events::Signal;
 use wx_text::{Copies, List, Memory, Text};
 use wx_words::Spelled;
+use wx_words_trial::{equals_its_copy, expect_yes, line_of};
 
 /// A sink that keeps the asks that it takes with the flag of the last one, counts all sends, and refuses each where it
 /// is told to.
@@ -343,11 +344,6 @@ fn expect_command(rt: &impl Abort, alloc: Global, job: &Job, want: &[u8]) {
     assert!(rt; line.as_slice() == want);
 }
 
-/// Whether a copy of this value equals it.
-fn is_copied<T: Copies + PartialEq + Drop>(alloc: Global, value: T) -> Result<bool, Memory> {
-    Ok(value.copy(alloc)? == value)
-}
-
 #[test]
 fn copies_are_equal(rt: HostRuntime) {
     let alloc = rt.alloc();
@@ -356,8 +352,9 @@ fn copies_are_equal(rt: HostRuntime) {
     drop(one);
     expect_command(&rt, alloc, &copy, b"exec ---- 1 true");
     drop(copy);
-    expect_yes(&rt, is_copied(alloc, Control::Stop), "a control");
-    expect_yes(&rt, is_copied(alloc, Ask::One(Control::Start)), "an ask");
+    expect_yes(&rt, equals_its_copy(alloc, &Control::Stop), "a control");
+    let ask = Ask::One(Control::Start);
+    expect_yes(&rt, equals_its_copy(alloc, &ask), "an ask");
 }
 
 /// Starts a job by a copy of this handle: whether a copy of the ticket is ready then.

@@ -20,7 +20,7 @@ use Rattle.wx_machine.specs.Journal.{ending}
 use Rattle.wx_file_turns.specs.Serves.{ends_unmade}
 use Rattle.wx_machine.specs.Start.{Start}
 use Rattle.wx_machine.specs.Jobs.{jobs}
-use Rattle.wx_machine.specs.Due.{Hands, Agenda, Comes, agenda, Open, Ends, sends, rest, after_show, settle, IsRun}
+use Rattle.wx_machine.specs.Due.{Hands, Agenda, Comes, agenda, Ends, sends, rest, after_show, settle, IsRun}
 use Rattle.wx_machine.specs.Answer.{Dying, Alive, IsComplete, IsBroken, IsBehindTurn, NoneIsToGo, MemoryCuts, Wishes, BreaksOff, Answers}
 use Rattle.wx_machine.specs.RunLaws.{NoneUrgentWaits}
 use Rattle.wx_machine.proofs.BatchLaws.{is_to_hand, none_waits, run_is_served}
@@ -126,9 +126,6 @@ stops_wanting s p (Ok u) is cut = absurd is
 stops_wanting s p (Err e) is cut = rw is (inr cut)
 
 -- nothing is to be shown or handed where a turn may come, nor while events are listed as sent
-pub none_when_open : (s : Start) (p : List Entry) → agenda s p ≡ Open → NoneIsToGo (agenda s p)
-none_when_open s p is = rw is tt
-
 none_of_sends : (xs : List (Event × Priority)) → NoneIsToGo (sends xs)
 none_of_sends [] = tt
 none_of_sends (x ∷ xs) = tt

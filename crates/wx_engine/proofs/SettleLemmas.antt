@@ -16,9 +16,9 @@ use Rattle.wx_machine.specs.Steady.{StaysLooked}
 use Rattle.wx_machine.specs.Files.{AddsNoFiles, is_about_files}
 use Rattle.wx_machine.specs.Added.{Added, Same, More}
 use Rattle.wx_hooks.specs.Given.{TurnsTree}
-use Rattle.wx_calm.specs.Calm.{AreCalm, Foresees, StaysCalm}
-use Rattle.wx_calm.specs.FewSteps.{AddsBeside, FewSteps, IsBeside}
-use Rattle.wx_calm.proofs.Journals.{Adds, adds_any, beside, beside_no_step, calm_before, few_first, few_over, no_rise_first, no_rise_then, none_of}
+use Rattle.wx_file_turns.specs.Calm.{AreCalm, Foresees, StaysCalm}
+use Rattle.wx_file_turns.specs.FewSteps.{AddsBeside, FewSteps, IsBeside}
+use Rattle.wx_file_turns.proofs.Journals.{Adds, adds_any, beside, beside_no_step, calm_before, few_first, few_over, no_rise_first, no_rise_then, none_of}
 use Rattle.wx_file_turns.specs.declared.files.Files.{Files}
 use Rattle.wx_file_turns.specs.Intake.{nothing_brought}
 use Rattle.wx_file_turns.specs.Settling.{AreSettling, GoesOnSettling}
@@ -57,9 +57,6 @@ turn_beside t = record { none_applied = refl; none_done = refl }
 
 pub fault_beside : (code : ℕ) (p p' : List Entry) → p' ≡ TurnFault code ∷ p → AddsBeside p p'
 fault_beside code p p' grown = rw grown (More (TurnFault code) p Same (record { none_applied = refl; none_done = refl }))
-
-pub same_beside : (p p' : List Entry) → p' ≡ p → AddsBeside p p'
-same_beside p p' same = rw same Same
 
 -- ---- what is known of the tree
 

@@ -1,8 +1,7 @@
 -- What the turns of a run leave of what is watched.
-use Rattle.std.proofs.Common.{◌≡◌, ℕ, ◌+◌, ◌≤◌, Bool, true, false, Option, List, ◌∷◌, Ok, Err, inl, inr, refl, arith}
+use Rattle.std.proofs.Common.{◌≡◌, ℕ, ◌+◌, ◌≤◌, Bool, true, false, Option, List, ◌∷◌, inl, inr, refl, arith}
 use Rattle.std.proofs.lemmas.Bool.{leb-true, leb-false}
-use Rattle.std.specs.Prelude.{◌-◌, ◌^◌, nat_le, Result, OnOk}
-use Rattle.wx_scan.specs.declared.backend.Backend.{Ghosts}
+use Rattle.std.specs.Prelude.{◌-◌, ◌^◌, nat_le}
 use Rattle.wx_journal.specs.declared.entry.Entry.{Entry}
 use Rattle.wx_journal.specs.declared.entry.Entry.TheVariants.{Turn as Turned, Make}
 use Rattle.wx_journal.specs.declared.entry.Turn.{Turn}
@@ -25,24 +24,15 @@ use Rattle.wx_machine.proofs.NoFiles.{turn_adds_none, source_kept}
 use Rattle.wx_machine.proofs.PaidLaws.{paid_less, paid_kept}
 use Rattle.wx_action.specs.declared.worker_state.Worker.{Worker}
 use Rattle.wx_action.specs.Stands.{AtTurn}
-use Rattle.wx_file_turns.specs.declared.files.Files.{Files}
 use Rattle.wx_file_turns.specs.Serves.{is_unmade, ends_unmade, PaysOn}
-use Rattle.wx_file_turns.specs.Standing.{FilesStand}
 use Rattle.wx_engine.specs.Run.{AreFewSteps}
 
 -- what holds anyway holds where a call went well
-pub ok_always : {A E : Type 0} (r : Result A E) (P : Type 0) → P → OnOk r P
-ok_always (Ok a) P h = h
-ok_always (Err e) P h = tt
-
 pub about_files : (kind : TurnKind) → is_file_turn kind ≡ true → is_last kind ≡ false
 about_files Last is = absurd cc
 about_files (_) is = refl
 
 -- what is kept of what is watched stands for a journal that says the same of it
-pub files_over : {B : Type 0} {G : Ghosts B} (s : Start) (f : Files B G) (p p' : List Entry) → source s p' ≡ source s p → FilesStand s f p → FilesStand s f p'
-files_over s f p p' same stands = record { absolute = stands.absolute; folder_kept = stands.folder_kept; revision_kept = rw same stands.revision_kept; source_kept = rw same stands.source_kept; intake_kept = record { lane_kept = rw same stands.intake_kept.lane_kept; asks_kept = rw same stands.intake_kept.asks_kept; since_kept = rw same stands.intake_kept.since_kept; fence_kept = rw same stands.intake_kept.fence_kept; fenced_kept = rw same stands.intake_kept.fenced_kept } }
-
 -- ---- a turn that isn't about it
 
 -- What such a turn adds, together with its own entry.

@@ -14,8 +14,8 @@ ghost use Rattle.wx_action.specs.Stands.{Stands, AtTurn, HasEndRoom, Works, end_
 ghost use Rattle.wx_file_turns.specs.Serves.{PaysOn, ends_unmade};
 ghost use Rattle.wx_tree.specs.Paths.{Path};
 ghost use Rattle.wx_tree.specs.Trees.{Tree};
-ghost use Rattle.wx_calm.specs.Calm.{StaysCalm};
-ghost use Rattle.wx_calm.specs.FewSteps.{FewSteps};
+ghost use Rattle.wx_file_turns.specs.Calm.{StaysCalm};
+ghost use Rattle.wx_file_turns.specs.FewSteps.{FewSteps};
 ghost use Rattle.wx_file_turns.specs.Settling.{AreSettling, GoesOnSettling};
 ghost use Rattle.wx_file_turns.specs.Standing.{FilesStand, owing};
 ghost use Rattle.wx_journal.specs.Told.{Counts};

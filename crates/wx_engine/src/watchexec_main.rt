@@ -2,8 +2,8 @@
 ghost use Rattle.std.specs.Prelude.{◌≡◌, [], ◌+◌, ◌≤◌, ℕ, Bool, false, IfErr, None};
 ghost use Rattle.wx_tree.specs.Paths.{Path};
 ghost use Rattle.wx_tree.specs.Trees.{Tree};
-ghost use Rattle.wx_calm.specs.Calm.{StaysCalm};
-ghost use Rattle.wx_calm.specs.FewSteps.{FewSteps};
+ghost use Rattle.wx_file_turns.specs.Calm.{StaysCalm};
+ghost use Rattle.wx_file_turns.specs.FewSteps.{FewSteps};
 ghost use Rattle.wx_control.specs.declared.id.Id.{Id as AnId};
 ghost use Rattle.wx_journal.specs.Told.{is_world, is_hooks, is_turn, anywhere, tells, Obeys, Rose};
 ghost use Rattle.wx_machine.specs.History.{child};

@@ -19,7 +19,7 @@ use Rattle.wx_words.specs.LineLaws.{bytes_same}
 use Rattle.wx_words.specs.OptionLaws.{bind_some, map_some, guarded, chosen_by}
 use Rattle.wx_words.specs.Parts.{line}
 use Rattle.wx_words.specs.Texts.{AllBytes, is_plain, onto, text_in, text_word, unescaped}
-use Rattle.wx_words.specs.TextLaws.{text_again}
+use Rattle.wx_words.specs.TextLaws.{plain_head, text_again}
 use Rattle.wx_events.specs.declared.keyboard.Keyboard.{Keyboard}
 use Rattle.wx_events.specs.declared.keyboard.Keyboard.TheVariants.{Eof, Key}
 use Rattle.wx_events.specs.declared.keyboard.KeyCode.{KeyCode}
@@ -67,15 +67,6 @@ char_takes bytes c e =
     ((and_parts _ _ scalar).0, whole ∙ append-nil (encode_utf8 c))
 
 -- ---- words
-
--- what stands behind plain bytes is read apart
-not_percent : (b : ℕ) → is_plain b ≡ true → (b == 37) ≡ false
-not_percent b p = grind arith
-
-plain_head : (b : ℕ) (w : List ℕ) → is_plain b ≡ true → unescaped (b ∷ w) ≡ onto b (unescaped w)
-plain_head b [] p = rw p refl
-plain_head b (c ∷ []) p = rw p refl
-plain_head b (c ∷ d ∷ w) p = rw (p, not_percent b p) refl
 
 behind_plain : (front w v : List ℕ) → AllByRecursion (λ b. is_plain b ≡ true) front → unescaped w ≡ unescaped v → unescaped (front ++ w) ≡ unescaped (front ++ v)
 behind_plain [] w v all e = e

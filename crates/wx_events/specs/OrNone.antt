@@ -1,5 +1,5 @@
 -- A value that may be absent, as words: the word `none` where it is absent.
-use Rattle.std.proofs.Common.{◌≡◌, ℕ, ◌++◌, refl, Option, None, Some, List, [], ◌∷◌, inl, inr, ◌⊎◌}
+use Rattle.std.proofs.Common.{◌≡◌, ℕ, ◌++◌, refl, Option, None, Some, List, [], ◌∷◌, inl, inr}
 use Rattle.std.specs.Prelude.{codes}
 use Rattle.std.specs.Option.{option_or}
 use Rattle.std.specs.List.{AllByRecursion}
@@ -8,7 +8,7 @@ use Rattle.wx_words.specs.CombineLaws.{literal_form}
 use Rattle.wx_words.specs.CleanLaws.{clean}
 use Rattle.wx_words.specs.Forms.{Stood, IsForm}
 use Rattle.wx_words.specs.FormLaws.{same_read}
-use Rattle.wx_words.specs.OptionLaws.{bind_some}
+use Rattle.wx_words.specs.OptionLaws.{bind_some, first_or}
 use Rattle.wx_words.specs.Parts.{line}
 use Rattle.wx_words.specs.Spellings.{Spelling}
 
@@ -30,10 +30,6 @@ read_or_none s ws = option_or (read_none ws) (read_as Some s.read ws)
 -- the words of a value never begin with `none`
 abbrev pub IsNeverNone : {A : Type 0} → Spelling line A → Type 0
 IsNeverNone {A} s = (x : A) (rest : List (List ℕ)) → read_literal (codes "none") (s.words x ++ rest) ≡ None
-
-first_or : {A : Type 0} (first second : Option A) (x : A) → option_or first second ≡ Some x → (first ≡ Some x) ⊎ (second ≡ Some x)
-first_or None second x e = inr e
-first_or (Some y) second x e = inl e
 
 pub or_none_form : {A : Type 0} (s : Spelling line A) → IsNeverNone s → IsForm line.see (OrNoneFits s) (or_none_words s) (read_or_none s)
 or_none_form {A} s never = record { again = again; takes = takes }

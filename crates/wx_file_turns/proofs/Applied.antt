@@ -1,19 +1,18 @@
 -- Settings were applied to what is watched.
 use Rattle.wx_scan.specs.declared.backend.Backend.{Ghosts}
 use Rattle.std.proofs.Common.{◌≡◌, ℕ, Bool, true, false, cond, List, [], ◌∷◌, inl, inr, arith, refl, ap, sym, subst, ◌∙◌, length}
-use Rattle.std.specs.Prelude.{◌⊎◌, not, ◌&&◌, ◌==◌, Option, None, Some, Result, Ok, Err, OnOk}
-use Rattle.std.proofs.lemmas.Bool.{eqb-true, and_parts, or_cases}
+use Rattle.std.specs.Prelude.{not, ◌&&◌, ◌==◌, Option, None, Some, Result, Ok, Err, OnOk}
+use Rattle.std.proofs.lemmas.Bool.{eqb-true, and_parts}
 use Rattle.wx_watch.specs.declared.watched.WatchedPath.{WatchedPath}
 use Rattle.wx_watch.specs.declared.watched.Watcher.{Watcher}
 use Rattle.wx_watch.specs.declared.watched.Watcher.TheVariants.{Native, Poll}
 use Rattle.wx_config.specs.declared.config.Config.{Config}
 use Rattle.wx_tree.specs.Lists.{In}
-use Rattle.wx_tree.specs.Roots.{same_root}
-use Rattle.wx_tree.proofs.PathLemmas.{same_root-true}
 use Rattle.wx_tree.specs.declared.root.Root.{Root}
 use Rattle.wx_recursor.specs.Owners.{has_root}
 use Rattle.wx_recursor.specs.Calls.{needs_retry, reconciled}
 use Rattle.wx_recursor.specs.States.{RecursorState}
+use Rattle.wx_recursor.proofs.Coverage.{has_root_in}
 use Rattle.wx_holding.specs.Holding.{state_of}
 use Rattle.wx_fs.specs.Kept.{kept_roots}
 use Rattle.wx_journal.specs.declared.entry.Entry.{Entry}
@@ -45,17 +44,9 @@ same_switch true b is = is
 same_switch false true is = absurd cc
 same_switch false false is = refl
 
-root_first : (r s : Root) (rs : List Root) → (has_root r rs ≡ true → In r rs) → (same_root s r ≡ true) ⊎ (has_root r rs ≡ true) → In r (s ∷ rs)
-root_first r s rs more (inl same) = inl (same_root-true s r same)
-root_first r s rs more (inr later) = inr (more later)
-
-pub root_in : (r : Root) (rs : List Root) → has_root r rs ≡ true → In r rs
-root_in r [] is = absurd cc
-root_in r (s ∷ rs) is = root_first r s rs (λ later. root_in r rs later) (or_cases (same_root s r) (has_root r rs) is)
-
 pub all_in : (rs qs : List Root) → are_all_in rs qs ≡ true → (r : Root) → In r rs → In r qs
 all_in [] qs is r m = absurd m
-all_in (s ∷ rs) qs is r (inl same) = let parts = and_parts (has_root s qs) (are_all_in rs qs) is in subst (λ (x : Root). In x qs) same (root_in s qs parts.0)
+all_in (s ∷ rs) qs is r (inl same) = let parts = and_parts (has_root s qs) (are_all_in rs qs) is in subst (λ (x : Root). In x qs) same (has_root_in s qs parts.0)
 all_in (s ∷ rs) qs is r (inr m) = let parts = and_parts (has_root s qs) (are_all_in rs qs) is in all_in rs qs parts.1 r m
 
 pub roots_same : (rs qs : List Root) → are_same_roots rs qs ≡ true → SameRoots qs rs

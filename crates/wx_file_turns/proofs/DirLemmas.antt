@@ -3,7 +3,7 @@ use Rattle.std.proofs.Common.{◌≡◌, ◌≤◌, ◌+◌, ℕ, Bool, true, Li
 use Rattle.std.specs.Prelude.{◌||◌, Option, Result}
 use Rattle.prio_channel.specs.Channel.{Channel}
 use Rattle.wx_tree.specs.Places.{place}
-use Rattle.wx_dir_check.specs.Checks.{is_below_any}
+use Rattle.wx_scan.specs.Checks.{is_below_any}
 use Rattle.wx_error.specs.declared.runtime.RuntimeError.{RuntimeError}
 use Rattle.wx_journal.specs.declared.entry.Entry.{Entry}
 use Rattle.wx_journal.specs.declared.entry.Entry.TheVariants.{Dir}

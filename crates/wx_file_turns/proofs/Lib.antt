@@ -1,8 +1,10 @@
 pub mod Applied
 pub mod DirLemmas
 pub mod Entries
+pub mod EpochWalks
 pub mod Hearings
 pub mod Intakes
+pub mod Journals
 pub mod Listened
 pub mod Named
 pub mod Nexts

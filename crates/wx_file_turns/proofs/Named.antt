@@ -1,35 +1,26 @@
 -- The backend that stands, and each item that waits, has a name, where a journal names its own.
-use Rattle.std.proofs.Common.{◌≡◌, ◌<◌, ◌≤◌, ◌+◌, ℕ, Bool, true, false, cond, List, [], ◌∷◌, ◌++◌, arith, refl, sym, subst}
+use Rattle.std.proofs.Common.{◌≡◌, ◌<◌, ◌≤◌, ◌+◌, ℕ, true, false, List, [], ◌∷◌, ◌++◌, arith, refl, sym, subst}
 use Rattle.std.specs.Prelude.{Option, None, Some, Result, Ok, Err, ◌==◌, ◌&&◌, not}
 use Rattle.wx_events.specs.declared.priority.Priority.TheVariants.{Normal}
 use Rattle.wx_notify.specs.declared.notify.Notify.{Notify}
 use Rattle.wx_watch.specs.declared.notify_fault.NotifyFault.{NotifyFault}
 use Rattle.wx_lane.specs.declared.lane.LaneItem.{LaneItem}
 use Rattle.wx_lane.specs.Lanes.{LaneState, fenced, has_changes, hear, hear_first, is_full, is_unheard, is_waiting, put_item}
-use Rattle.wx_file_events.specs.FileEvents.{event_of}
+use Rattle.wx_lane.specs.FileEvents.{event_of}
 use Rattle.wx_journal.specs.declared.entry.Entry.{Entry}
 use Rattle.wx_journal.specs.declared.entry.Entry.TheVariants.{Offer, Word as Said, Make, Applied, Heard, Brought, LetGo}
 use Rattle.wx_journal.specs.declared.entry.LetGoCause.{LetGoCause}
 use Rattle.wx_journal.specs.declared.entry.LetGoCause.TheVariants.{Full, Obsolete, Uncovered}
-use Rattle.wx_journal.specs.declared.entry.Word.{Word}
-use Rattle.wx_journal.specs.declared.entry.Word.TheVariants.{Stepped}
 use Rattle.wx_journal.specs.Names.{back_count, event_count, item_count, NamesItsOwn}
 use Rattle.wx_machine.specs.Start.{Start}
 use Rattle.wx_machine.specs.Settings.{settings}
 use Rattle.wx_machine.specs.Journal.{offered}
-use Rattle.wx_machine.specs.Files.{Source, first_item, has_paths, is_deaf, is_live, is_public, leave, let_go, offer_item, said, source, stand}
+use Rattle.wx_machine.specs.Files.{Source, first_item, has_paths, is_deaf, is_live, is_public, leave, let_go, offer_item, source, stand}
 use Rattle.wx_machine.specs.Due.{asks_entry, event_entry, fence_entry, lane_entry, rest_entry}
 use Rattle.wx_machine.proofs.Owners.{either}
+use Rattle.wx_machine.proofs.LaneLaws.{stand_keeps, said_keeps}
 
 -- ---- what entries leave of it
-
-kept_where : (x : Source) (b : Bool) (fence : ℕ) → ((cond b x (record x { fence = fence })).lane ≡ x.lane) × ((cond b x (record x { fence = fence })).current ≡ x.current)
-kept_where x true fence = (refl, refl)
-kept_where x false fence = (refl, refl)
-
-said_keeps : (items : ℕ) (word : Word) (x : Source) → ((said items word x).lane ≡ x.lane) × ((said items word x).current ≡ x.current)
-said_keeps items Stepped x = kept_where x x.fenced items
-said_keeps items (_) x = (refl, refl)
 
 offer_keeps : (item : Option ℕ) (x : Source) → (offer_item item x).current ≡ x.current
 offer_keeps None x = refl
@@ -39,10 +30,6 @@ let_go_keeps : (cause : LetGoCause) (item : ℕ) (x : Source) → (let_go cause 
 let_go_keeps Full item x = refl
 let_go_keeps Obsolete item x = refl
 let_go_keeps Uncovered item x = refl
-
-stand_keeps : (back : ℕ) (answer : Result (Unit {0}) NotifyFault) (x : Source) → (stand back answer x).lane ≡ x.lane
-stand_keeps back (Ok done) x = refl
-stand_keeps back (Err fault) x = refl
 
 -- ---- the backend that stands
 

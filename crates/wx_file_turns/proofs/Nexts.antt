@@ -1,14 +1,14 @@
 -- What comes where there is no step to take, by what is kept.
 use Rattle.std.proofs.Common.{◌≡◌, ℕ, Bool, true, false, cond, List, [], ◌∷◌, refl, ap, sym, subst, ◌∙◌}
-use Rattle.std.specs.Prelude.{IfOk, Option, None, Some, Result, Ok, Err, ◌||◌, ◌&&◌, not, slice_get}
+use Rattle.std.specs.Prelude.{IfOk, Option, None, Some, Result, Ok, Err, not, slice_get}
+use Rattle.std.proofs.lemmas.Result.{IfOk-weaker}
 use Rattle.wx_scan.specs.declared.backend.Backend.{Ghosts}
 use Rattle.wx_notify.specs.declared.notify.Notify.{Notify}
 use Rattle.wx_watch.specs.declared.notify_fault.NotifyFault.{NotifyFault}
-use Rattle.wx_file_events.specs.FileEvents.{event_of}
+use Rattle.wx_lane.specs.FileEvents.{event_of}
 use Rattle.wx_holding.specs.Holding.{state_of}
-use Rattle.wx_holding.proofs.Results.{if_map}
 use Rattle.wx_lane.specs.declared.lane.LaneItem.{LaneItem}
-use Rattle.wx_lane.specs.Lanes.{LaneState, fenced, has_changes, is_event}
+use Rattle.wx_lane.specs.Lanes.{LaneState, fenced}
 use Rattle.wx_lane.specs.Public.{event_is_public}
 use Rattle.wx_journal.specs.declared.entry.Entry.{Entry}
 use Rattle.wx_journal.specs.declared.entry.Entry.TheVariants.{Heard}
@@ -18,6 +18,7 @@ use Rattle.wx_machine.specs.Start.{Start}
 use Rattle.wx_machine.specs.Files.{source, first_item, is_deaf, is_live, is_public, item_fault, item_named}
 use Rattle.wx_machine.specs.Due.{asks_entry, lane_entry, rest_entry}
 use Rattle.wx_machine.proofs.Stepping.{deaf_rests, fenced_rests, obsolete_rests, offer_rests, ready_rests, uncovered_rests}
+use Rattle.wx_machine.proofs.RestLaws.{fault_is_deaf}
 use Rattle.wx_file_turns.specs.declared.files.Watching.{Watching}
 use Rattle.wx_file_turns.specs.declared.intake.Intake.{Intake}
 use Rattle.wx_file_turns.specs.declared.resting.Next.{Next}
@@ -46,9 +47,6 @@ is_to_hear s p live i lives comes found = record {
 is_first : (s : Start) (p : List Entry) (i : LaneItem) → first_item (source s p).lane ≡ Some i → IsFirst s i.name p
 is_first s p i there = rw there refl
 
-fault_deaf : (item : Result Notify NotifyFault) (fault : NotifyFault) (heard : Bool) → item ≡ Err fault → (not (is_event item) || (has_changes item && not heard)) ≡ true
-fault_deaf item fault heard is = rw is refl
-
 -- ---- of the first item
 
 module _ {B : Type 0} {G : Ghosts B} (s : Start) (w : Watching B G) (p : List Entry) (i : LaneItem) (asks : (source s p).asks ≡ None) (there : first_item (source s p).lane ≡ Some i) where
@@ -62,7 +60,7 @@ module _ {B : Type 0} {G : Ghosts B} (s : Start) (w : Watching B G) (p : List En
 
   by_item : (live : Bool) (item : Result Notify NotifyFault) → IsWatching s w p → is_deaf i ≡ false → i.item ≡ item → is_live (source s p) i.back ≡ live → IsNext s (next_of w live i item) p
   by_item live (Ok n) h deaf is lives = by_live n live (event_is_public w.recursor.cwd (state_of w.recursor.held).roots n) deaf is lives (public_known s w p n h)
-  by_item live (Err fault) h deaf is lives = let both : true ≡ false = sym (fault_deaf i.item fault i.heard is) ∙ deaf in absurd cc
+  by_item live (Err fault) h deaf is lives = let both : true ≡ false = sym (fault_is_deaf i.item fault i.heard is) ∙ deaf in absurd cc
 
   by_deaf : (live deaf : Bool) → IsWatching s w p → is_deaf i ≡ deaf → is_live (source s p) i.back ≡ live → IsNext s (cond deaf (next.Hear (hearing_of live i)) (next_of w live i i.item)) p
   by_deaf live true h deaf lives = is_to_hear s p live i lives (deaf_rests s p i asks there deaf) (first_named (source s p).lane i there)
@@ -103,4 +101,4 @@ first_got (i ∷ items) = refl
 pub first_drafted : {B E : Type 0} {G : Ghosts B} (w : Watching B G) (i : Intake) (x : LaneItem) (live : Bool) (result : Result Next E) → i.asks ≡ None → slice_get i.lane.items 0 ≡ Some x → live ≡ is_live_by w i.since x.back → IfOk result (λ n. n ≡ next_item w live x) → IfOk result (λ n. n ≡ next_asked w i i.asks)
 first_drafted w i x live result none there lives drafted =
     let same : next_asked w i i.asks ≡ next_item w live x = ap (next_asked w i) none ∙ ap (next_first w i.since) (sym (first_got i.lane.items) ∙ there) ∙ ap (λ (b : Bool). next_item w b x) (sym lives) in
-    if_map result (λ n. n ≡ next_item w live x) (λ n. n ≡ next_asked w i i.asks) (λ n e. e ∙ sym same) drafted
+    IfOk-weaker result (λ n. n ≡ next_item w live x) (λ n. n ≡ next_asked w i i.asks) (λ n e. e ∙ sym same) drafted

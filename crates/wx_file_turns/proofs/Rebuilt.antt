@@ -2,7 +2,7 @@
 use Rattle.std.proofs.Common.{◌≡◌, ◌≤◌, ◌+◌, ℕ, Bool, true, false, List, ◌∷◌, inl, inr, arith, refl, ap, sym, ◌∙◌}
 use Rattle.std.specs.Prelude.{is_some, Result, Ok, Err, OnOk, IfOk}
 use Rattle.wx_scan.specs.declared.backend.Backend.{Ghosts}
-use Rattle.wx_scan.specs.Looked.{Looked, OnlyLooks, Rose}
+use Rattle.wx_scan.specs.Looked.{Looked, OnlyLooks}
 use Rattle.wx_watch.specs.declared.watched.Watcher.{Watcher}
 use Rattle.wx_error.specs.declared.runtime.RuntimeError.{RuntimeError}
 use Rattle.wx_recursor.specs.Calls.{has_work}
@@ -10,6 +10,7 @@ use Rattle.wx_recursor.specs.Rebuilds.{prepared, installed}
 use Rattle.wx_recursor.specs.States.{RecursorState}
 use Rattle.wx_recursor.specs.declared.answers.BackendPlace.{BackendPlace}
 use Rattle.wx_holding.specs.Holding.{state_of}
+use Rattle.wx_holding.proofs.Watching.{rose_later}
 use Rattle.wx_step.specs.Stepped.{LooksOrSweeps}
 use Rattle.wx_fs.specs.Told.{TellsReplay, TellsStep}
 use Rattle.wx_fs.specs.declared.recursor.StepResult.{StepResult}
@@ -92,13 +93,9 @@ looks_seen {Plan} a b x y was now only =
 
 -- ---- all of a step
 
-rose_on : (x y z : ℕ) → Rose x y → y ≤ z → Rose x z
-rose_on x y z (inl rose) more = inl (omega (arith, rose, more))
-rose_on x y z (inr full) more = inr (omega (arith, full, more))
-
 worth_on : {B Plan : Type 0} {G : Ghosts B} (v u : Watching B G) (p q r : List Entry) (a b c : Seen Plan) → IsWorthwhile v p a q b → CountsOnward q b r c → u ≡ v → IsWorthwhile u p a r c
 worth_on v u p q r a b c (inl made) onward same = inl (omega (arith, made, onward.work_more))
-worth_on v u p q r a b c (inr (inl rose)) onward same = inr (inl (rose_on a.looked.looks b.looked.looks c.looked.looks rose onward.looks_more))
+worth_on v u p q r a b c (inr (inl rose)) onward same = inr (inl (rose_later a.looked.looks b.looked.looks c.looked.looks rose onward.looks_more))
 worth_on v u p q r a b c (inr (inr none)) onward same = inr (inr (ap works same ∙ none))
 
 worth_then : {B Plan : Type 0} {G : Ghosts B} (rebuild : Bool) (v u : Watching B G) (p q r t : List Entry) (a b c : Seen Plan) → IsWorthwhileUnless rebuild v p a q b → CountsOnward p a q b → CountsOnward q b r b → CountsOnward r b t c → (rebuild ≡ true → work_count r + 1 ≤ work_count t) → (rebuild ≡ false → u ≡ v) → IsWorthwhile u p a t c

@@ -1,6 +1,6 @@
 -- Names rise in the lane of each journal that names its own.
-use Rattle.std.proofs.Common.{◌≡◌, ℕ, ◌+◌, ◌<◌, ◌≤◌, Bool, true, false, cond, List, [], ◌∷◌, ◌++◌, arith, refl, ap, subst, eq-eqb, ne_eqb}
-use Rattle.std.specs.Prelude.{Option, None, Some, Result, Ok, Err, ◌==◌, ◌&&◌, not}
+use Rattle.std.proofs.Common.{◌≡◌, ℕ, ◌+◌, ◌<◌, ◌≤◌, Bool, true, false, cond, List, [], ◌∷◌, ◌++◌, arith, refl, subst, ne_eqb}
+use Rattle.std.specs.Prelude.{Option, None, Some, Result, ◌==◌, ◌&&◌, not}
 use Rattle.wx_events.specs.declared.event.Event.{Event}
 use Rattle.wx_events.specs.declared.priority.Priority.{Priority}
 use Rattle.wx_notify.specs.declared.notify.Notify.{Notify}
@@ -16,7 +16,9 @@ use Rattle.wx_journal.specs.declared.entry.Word.{Word}
 use Rattle.wx_journal.specs.declared.entry.Word.TheVariants.{Stepped}
 use Rattle.wx_journal.specs.Names.{item_count, names_item, NamesItsOwn}
 use Rattle.wx_machine.specs.Start.{Start}
-use Rattle.wx_machine.specs.Files.{Source, source, first_item, item_named, leave, said, stand}
+use Rattle.wx_machine.specs.Files.{Source, source, first_item, item_named, leave, said}
+use Rattle.wx_machine.proofs.LaneLaws.{stand_keeps, rises}
+use Rattle.wx_machine.proofs.RestLaws.{same_there}
 
 -- from this name on, and below that one, each behind those before it
 abbrev pub AreRising : ℕ → ℕ → List LaneItem → Type 0
@@ -67,13 +69,9 @@ rising_put size high item back answer items is h = let lane : LaneState = record
 
 -- ---- in each journal
 
-more_items : (b : Bool) (n : ℕ) → n ≤ cond b (n + 1) n
-more_items true n = omega arith
-more_items false n = omega arith
-
 -- an entry that leaves the items, or takes some out
 rising_over : (s : Start) (e : Entry) (p : List Entry) (items : List LaneItem) → (source s (e ∷ p)).lane ≡ items → AreRising 0 (item_count p) items → AreRising 0 (item_count (e ∷ p)) (source s (e ∷ p)).lane
-rising_over s e p items is h = rw is (raised 0 (item_count p) (item_count (e ∷ p)) items (more_items (names_item e) (item_count p)) h)
+rising_over s e p items is h = rw is (raised 0 (item_count p) (item_count (e ∷ p)) items (rises (names_item e) (item_count p)) h)
 
 fence_only : (b : Bool) (x : Source) (items : ℕ) → (cond b x (record x { fence = items })).lane ≡ x.lane
 fence_only true x items = refl
@@ -82,10 +80,6 @@ fence_only false x items = refl
 said_only : (items : ℕ) (word : Word) (x : Source) → (said items word x).lane ≡ x.lane
 said_only items Stepped x = fence_only x.fenced x items
 said_only items (_) x = refl
-
-stand_only : (back : ℕ) (answer : Result (Unit {0}) NotifyFault) (x : Source) → (stand back answer x).lane ≡ x.lane
-stand_only back (Ok done) x = refl
-stand_only back (Err fault) x = refl
 
 let_go_rises : (s : Start) (item : ℕ) (cause : LetGoCause) (p : List Entry) → AreRising 0 (item_count p) (source s p).lane → AreRising 0 (item_count (LetGo item cause ∷ p)) (source s (LetGo item cause ∷ p)).lane
 let_go_rises s item Full p h = h
@@ -98,7 +92,7 @@ offer_rises s name (Some item) result event priority p h = rising_left 0 (item_c
 
 pub lane_rises : (s : Start) (p : List Entry) → NamesItsOwn p → AreRising 0 (item_count p) (source s p).lane
 lane_rises s [] own = tt
-lane_rises s (Make back watcher links answer ∷ p) own = rising_over s (Make back watcher links answer) p (source s p).lane (stand_only back answer (source s p)) (lane_rises s p own.1)
+lane_rises s (Make back watcher links answer ∷ p) own = rising_over s (Make back watcher links answer) p (source s p).lane (stand_keeps back answer (source s p)) (lane_rises s p own.1)
 lane_rises s (Applied revision ∷ p) own = lane_rises s p own.1
 lane_rises s (Brought item back answer ∷ p) own = rising_put s.config.event_channel_size (item_count p) item back answer (source s p).lane own.0.0 (lane_rises s p own.1)
 lane_rises s (LetGo item cause ∷ p) own = let_go_rises s item cause p (lane_rises s p own.1)
@@ -109,11 +103,6 @@ lane_rises s (Said word ∷ p) own = rising_over s (Said word) p (source s p).la
 lane_rises s (_ ∷ p) own = lane_rises s p own.1
 
 -- ---- an item is found by its name
-
-same_there : (x i : LaneItem) (items : List LaneItem) → Some x ≡ Some i → item_named i.name (x ∷ items) ≡ Some i
-same_there x i items e =
-    let is : x ≡ i = cc in
-    rw (eq-eqb x.name i.name (ap (λ (y : LaneItem). y.name) is)) e
 
 -- the first
 pub first_named : (items : List LaneItem) (i : LaneItem) → first_item items ≡ Some i → item_named i.name items ≡ Some i

@@ -10,11 +10,12 @@ use Rattle.wx_notify.specs.declared.notify.NotifyPath.{NotifyPath}
 use Rattle.wx_tree.specs.Lists.{In}
 use Rattle.wx_tree.specs.Paths.{Path}
 use Rattle.wx_tree.specs.Roots.{same_root}
-use Rattle.wx_tree.proofs.PathLemmas.{same_root-refl}
+use Rattle.wx_tree.proofs.PathLemmas.{same_root-refl, same_truth}
 use Rattle.wx_tree.specs.declared.root.Root.{Root}
 use Rattle.wx_scan.specs.Backings.{has_any}
 use Rattle.wx_lane.specs.Public.{event_is_public, is_of, is_of_any, named, some_of_any}
 use Rattle.wx_recursor.specs.Owners.{has_root}
+use Rattle.wx_recursor.proofs.Coverage.{has_root_in}
 use Rattle.wx_holding.specs.Holding.{state_of}
 use Rattle.wx_fs.specs.Kept.{keep_root, keep_roots, kept_root, kept_roots}
 use Rattle.wx_journal.specs.declared.entry.Entry.{Entry}
@@ -25,15 +26,10 @@ use Rattle.wx_file_turns.specs.declared.files.Watching.{Watching}
 use Rattle.wx_file_turns.specs.Applying.{any_keeps, serves_by}
 use Rattle.wx_file_turns.specs.Standing.{SameRoots, StandsBy, WatchesBy}
 use Rattle.wx_file_turns.specs.Stepping.{IsWatching}
-use Rattle.wx_file_turns.proofs.Applied.{root_in, roots_same}
+use Rattle.wx_file_turns.proofs.Applied.{roots_same}
 use Rattle.wx_file_turns.proofs.Standing.{applied_is, in_kept}
 
 -- ---- what is tested of them
-
-same_truth : (a b : Bool) → (a ≡ true → b ≡ true) → (b ≡ true → a ≡ true) → a ≡ b
-same_truth true b there back = sym (there refl)
-same_truth false true there back = back refl
-same_truth false false there back = refl
 
 in_root : (r : Root) (rs : List Root) → In r rs → has_root r rs ≡ true
 in_root r [] m = absurd m
@@ -75,7 +71,7 @@ kept_more true x rs y m = m
 kept_more false x rs y m = in_longer x rs y m
 
 kept_now : (b : Bool) (y : Root) (rs : List Root) → has_root y rs ≡ b → In y (cond b rs (rs ++ y ∷ []))
-kept_now true y rs is = root_in y rs is
+kept_now true y rs is = has_root_in y rs is
 kept_now false y rs is = in_last y rs
 
 kept_there : (folder : List ℕ) (ws : List WatchedPath) (rs : List Root) (r : Root) → In r (keep_roots folder ws rs) → In r rs ⊎ In r (roots folder ws)

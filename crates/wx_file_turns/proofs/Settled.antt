@@ -7,10 +7,9 @@ use Rattle.wx_watch.specs.declared.notify_fault.NotifyFault.{NotifyFault}
 use Rattle.wx_config.specs.declared.config.Config.{Config}
 use Rattle.wx_tree.specs.Paths.{Path}
 use Rattle.wx_tree.specs.Trees.{Tree}
-use Rattle.wx_scan.specs.Backings.{AllSpellPaths, Backing, BringsNoChange, IsExact}
+use Rattle.wx_scan.specs.Backings.{Backing, BringsNoChange, IsExact}
 use Rattle.wx_scan.specs.Looked.{Looked, Rose}
-use Rattle.wx_scan.specs.Told.{IsNamed, SpellsPath}
-use Rattle.wx_tree.specs.Lists.{In}
+use Rattle.wx_scan.specs.Told.{IsNamed}
 use Rattle.wx_lane.specs.declared.lane.LaneItem.{LaneItem}
 use Rattle.wx_lane.specs.declared.topology.Topology.{Topology}
 use Rattle.wx_lane.specs.Lanes.{LaneState, fenced, has_changes as item_has_changes, hear, hear_first, is_full, is_unheard, is_waiting, put_item}
@@ -22,8 +21,9 @@ use Rattle.wx_recursor.specs.declared.answers.BackendPlace.{BackendPlace}
 use Rattle.wx_recursor.specs.declared.answers.BackendPlace.TheVariants.{Installed}
 use Rattle.wx_recursor.specs.declared.known.Known.{Known}
 use Rattle.wx_holding.specs.Backed.{AreRegistered, AreWatched}
-use Rattle.wx_holding.specs.Calm.{IsReadable, StandsBy}
+use Rattle.wx_holding.specs.Calm.{StandsBy}
 use Rattle.wx_holding.specs.Holding.{state_of}
+use Rattle.wx_holding.proofs.StandingBy.{all_spell, reads_registered}
 use Rattle.wx_fs.specs.Settling.{BackendStands}
 use Rattle.wx_hooks.specs.Given.{GivesNext, IsAnswered, unheard}
 use Rattle.wx_machine.specs.Seen.{Seen}
@@ -37,10 +37,9 @@ use Rattle.wx_machine.specs.Files.{is_deaf}
 use Rattle.wx_machine.specs.Steps.{step_count}
 use Rattle.wx_machine.specs.Steady.{StaysLooked}
 use Rattle.wx_machine.specs.Added.{Same, More}
-use Rattle.wx_calm.specs.Calm.{AreCalm, Foresees, IsCalmTurn}
-use Rattle.wx_calm.specs.FewSteps.{AddsBeside, FewSteps, IsBeside, TurnShowsAbsent, earlier_roots}
-use Rattle.wx_calm.specs.Walking.{AreHarmless, IsHarmless, IsWalking}
-use Rattle.wx_calm.proofs.Journals.{Adds, beside_no_step, calm_before, few_over, few_still, no_rise_then}
+use Rattle.wx_file_turns.specs.Calm.{AreCalm, Foresees, IsCalmTurn}
+use Rattle.wx_file_turns.specs.FewSteps.{AddsBeside, FewSteps, IsBeside, TurnShowsAbsent, earlier_roots}
+use Rattle.wx_file_turns.specs.Walking.{AreHarmless, IsHarmless, IsWalking}
 use Rattle.wx_file_turns.specs.declared.files.Files.{Files}
 use Rattle.wx_file_turns.specs.declared.files.Watching.{Watching}
 use Rattle.wx_file_turns.specs.declared.hearing.Hearing.{Hearing}
@@ -52,6 +51,7 @@ use Rattle.wx_file_turns.specs.Intake.{brought, heard, is_live_by, left, listed,
 use Rattle.wx_file_turns.specs.Resting.{next_asked, next_event, next_fenced, next_of}
 use Rattle.wx_file_turns.specs.Settling.{AnyOf, AreSettling, GoesOnSettling, GoesOnWalking, IsJustApplied, Walked, Walks}
 use Rattle.wx_lane.proofs.MessageLemmas.{tells_where_messages}
+use Rattle.wx_file_turns.proofs.Journals.{Adds, beside_no_step, calm_before, few_over, few_still, no_rise_then}
 use Rattle.wx_file_turns.proofs.Walks.{any_walked, stands_at, walks_beside}
 
 -- ---- what waits says nothing of the tree
@@ -158,15 +158,6 @@ answer_harmless None result answer answered none is = absurd (let no : None ≡ 
 answer_harmless (Some item) result answer (inl same) none is = let e : item ≡ answer = (let f : Some item ≡ Some answer = sym same ∙ is in cc) in subst IsHarmless e (unchanged item none)
 answer_harmless (Some item) result answer (inr short) none is = let e : unheard ≡ answer = (let f : Some unheard ≡ Some answer = sym short ∙ is in cc) in subst IsHarmless e tt
 
-all_spell : (t : Tree) (paths : List (List ℕ)) → ((bytes : List ℕ) → In bytes paths → (p : Path) × SpellsPath t p bytes) → AllSpellPaths t paths
-all_spell t [] h = tt
-all_spell t (bytes ∷ more) h = (h bytes (inl refl), all_spell t more (λ b m. h b (inr m)))
-
-registered_spell : (t : Tree) (ks : List Known) (paths : List (List ℕ)) → AreRegistered ks paths → ((k : Known) → In k ks → IsReadable t k.path) → (bytes : List ℕ) → In bytes paths → (p : Path) × SpellsPath t p bytes
-registered_spell t ks paths registered readable bytes m =
-    let x = registered bytes m in
-    (x.0.path, subst (SpellsPath t x.0.path) (sym x.2) (readable x.0 x.1))
-
 lent_back : (u : RecursorState) → u.backend ≡ Installed → installed (lent u) ≡ u
 lent_back u is = ap (λ (x : BackendPlace). record u { backend = x }) (sym is)
 
@@ -175,7 +166,7 @@ module _ {B : Type 0} (backing : B → Backing) (fits : B → Tree → Type 0) w
   asked_stands : {Plan : Type 0} (t : Tree) (ks : List Known) (item back : ℕ) (result : Option (Result Notify NotifyFault)) (old new : B) (a b : Seen Plan) → StandsBy t ks (backing old) (fits old t) → (gives : GivesNext backing fits item back result old new a b) → a.looked.tree ≡ Some t → (Rose a.looked.faults b.looked.faults → ⊥) → StandsBy t ks (backing new) (fits new t) × BringsNoChange gives.next
   asked_stands t ks item back result old new a b h gives tree calm =
       let exact : IsExact (backing old) a.looked b.looked t = record { exact = h.exact; told = tree; no_fault = calm } in
-      let still = gives.fits_still t exact (all_spell t (backing old).registrations (registered_spell t ks (backing old).registrations h.registered h.readable)) h.seen in (
+      let still = gives.fits_still t exact (all_spell t (backing old).registrations (reads_registered t ks (backing old).registrations h.registered h.readable)) h.seen in (
         record {
           exact = gives.brings.exact ∙ h.exact;
           watched = subst (AreWatched ks) (sym gives.brings.registrations) h.watched;
@@ -236,10 +227,6 @@ none_empty {A} xs tested none isnt tells = let is : false ≡ true = sym isnt �
 pub ok_never : {X E : Type 0} (result : Result X E) (P : E → Type 0) (Q : Type 0) → IsErrAnd result P → OnOk result Q
 ok_never (Ok x) P Q is = absurd is
 ok_never (Err e) P Q is = tt
-
-pub ok_anyway : {X E : Type 0} (result : Result X E) (P : Type 0) → P → OnOk result P
-ok_anyway (Ok x) P h = h
-ok_anyway (Err e) P h = tt
 
 -- a word is said, where there was room
 pub said_beside : {X E : Type 0} (result : Result X E) (e : Entry) (p p' : List Entry) → IsBeside e → OnOk result (p' ≡ e ∷ p) → OnErr result (p' ≡ p) → AddsBeside p p'

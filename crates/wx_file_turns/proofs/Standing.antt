@@ -14,7 +14,7 @@ use Rattle.wx_tree.specs.Paths.{Path, holds_below}
 use Rattle.wx_tree.specs.declared.root.Root.{Root}
 use Rattle.wx_lane.specs.Public.{named}
 use Rattle.wx_lane.specs.declared.lane.LaneItem.{LaneItem}
-use Rattle.wx_dir_check.specs.Checks.{is_below_any}
+use Rattle.wx_scan.specs.Checks.{is_below_any}
 use Rattle.wx_recursor.specs.Owners.{has_root}
 use Rattle.wx_step.specs.Asking.{AreAllowed}
 use Rattle.wx_fs.specs.Kept.{keep_root, keep_roots, kept_root, kept_roots}

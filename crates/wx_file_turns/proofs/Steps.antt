@@ -6,7 +6,7 @@ use Rattle.wx_watch.specs.declared.notify_fault.NotifyFault.{NotifyFault}
 use Rattle.wx_watch.specs.declared.watched.Watcher.{Watcher}
 use Rattle.wx_scan.specs.Looked.{Rose}
 use Rattle.wx_tree.specs.Places.{place}
-use Rattle.wx_dir_check.specs.Checks.{is_below_any}
+use Rattle.wx_scan.specs.Checks.{is_below_any}
 use Rattle.wx_error.specs.declared.runtime.RuntimeError.{RuntimeError}
 use Rattle.wx_journal.specs.declared.entry.Entry.{Entry}
 use Rattle.wx_journal.specs.declared.entry.Entry.TheVariants.{Word as Said, Dir, Make, Applied}

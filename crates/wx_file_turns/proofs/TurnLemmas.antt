@@ -13,6 +13,7 @@ use Rattle.wx_machine.specs.Files.{source, is_applied}
 use Rattle.wx_machine.specs.Leads.{Leads, Here, Then}
 use Rattle.wx_machine.specs.Due.{Agenda, Applies, Open, Comes, Steps, agenda, rest, settle, watch_turn, says, is_quitting, Due}
 use Rattle.wx_machine.proofs.SettleLaws.{settle_calm}
+use Rattle.wx_machine.proofs.LaneLaws.{rises}
 use Rattle.wx_action.specs.declared.worker_state.Worker.{Worker}
 use Rattle.wx_action.specs.Stands.{Stands, AtTurn}
 use Rattle.wx_action.proofs.TurnLaws.{at_turn}
@@ -59,17 +60,13 @@ ignored_open s p p' owes going grown = rw grown (ap (λ (k : Agenda). settle (Sa
 
 -- ---- how often the maker of backends failed
 
-one_more : (b : Bool) (n : ℕ) → n ≤ cond b (n + 1) n
-one_more true n = omega arith
-one_more false n = omega arith
-
 -- the journal is as it was, or its newest entry was added
 abbrev IsAdded : List Entry → List Entry → Type 0
 IsAdded p p' = (p' ≡ p) ⊎ ((e : Entry) × (q : List Entry) × (p' ≡ e ∷ q) × (unmade_count p ≤ unmade_count q))
 
 added_more : (e : Entry) (p q : List Entry) → IsAdded p q → IsAdded p (e ∷ q)
 added_more e p q (inl same) = inr (e, q, refl, let is : unmade_count q ≡ unmade_count p = ap unmade_count same in omega (arith, is))
-added_more e p q (inr h) = inr (e, q, refl, (let more = one_more (is_unmade h.0) (unmade_count h.1) in let is : unmade_count q ≡ unmade_count (h.0 ∷ h.1) = ap unmade_count h.2 in let few = h.3 in omega (arith, more, is, few)))
+added_more e p q (inr h) = inr (e, q, refl, (let more = rises (is_unmade h.0) (unmade_count h.1) in let is : unmade_count q ≡ unmade_count (h.0 ∷ h.1) = ap unmade_count h.2 in let few = h.3 in omega (arith, more, is, few)))
 
 added_led : (s : Start) (p : List Entry) (world hooks : Option (List Entry)) (p' : List Entry) (world' hooks' : Option (List Entry)) → Leads s p world hooks p' world' hooks' → IsAdded p p'
 added_led s p world hooks p' world' hooks' l = elim l as (λ p' world' hooks' _. IsAdded p p') [

@@ -30,18 +30,18 @@ use Rattle.wx_machine.specs.Settings.{settings}
 use Rattle.wx_machine.specs.Files.{are_same_roots}
 use Rattle.wx_machine.specs.Steps.{step_count}
 use Rattle.wx_machine.specs.Added.{Added, Same, More}
-use Rattle.wx_calm.specs.Calm.{AreCalm, IsCalmTurn}
-use Rattle.wx_calm.specs.FewSteps.{AddsBeside, FewSteps, IsBeside, IsFewMore, SaysAbsent, ShowsAbsent, TurnShowsAbsent, earlier_roots, newest_roots}
-use Rattle.wx_calm.specs.Walking.{WalksStep}
-use Rattle.wx_calm.proofs.Journals.{Adds, adds_then, calm_before, few_more, few_still, no_rise_first, place_over, shows_over}
-use Rattle.wx_calm.proofs.Walks.{few_done, kept_once, step_over, walks_anew, walks_first, walks_over, walks_step, walks_still, was_walking}
 use Rattle.wx_action.specs.Calls.{IsShown}
+use Rattle.wx_file_turns.specs.Calm.{AreCalm, IsCalmTurn}
+use Rattle.wx_file_turns.specs.FewSteps.{AddsBeside, FewSteps, IsBeside, IsFewMore, SaysAbsent, ShowsAbsent, TurnShowsAbsent, earlier_roots, newest_roots}
+use Rattle.wx_file_turns.specs.Walking.{WalksStep}
 use Rattle.wx_file_turns.specs.declared.files.Watching.{Watching}
 use Rattle.wx_file_turns.specs.Applying.{Refreshes, is_settled}
 use Rattle.wx_file_turns.specs.Judged.{AddsDirs, AreJudgedBy, IsDir}
 use Rattle.wx_file_turns.specs.Settling.{AnyOf, AreRefreshed, IsJustApplied, IsRefreshed, IsSound, ShowsOneOf, Walked, Walks}
 use Rattle.wx_file_turns.specs.Standing.{works}
 use Rattle.wx_file_turns.specs.Stepping.{IsAtStep, IsWatching}
+use Rattle.wx_file_turns.proofs.Journals.{Adds, adds_then, calm_before, few_more, few_still, no_rise_first, place_over, shows_over}
+use Rattle.wx_file_turns.proofs.EpochWalks.{few_done, kept_once, step_over, walks_anew, walks_first, walks_over, walks_step, walks_still, was_walking}
 use Rattle.wx_file_turns.proofs.Applied.{roots_same, settled_same}
 
 -- ---- entries

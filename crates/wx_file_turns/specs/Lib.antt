@@ -1,5 +1,7 @@
 pub mod Applying
 pub mod Attended
+pub mod Calm
+pub mod FewSteps
 pub mod Hearing
 pub mod Intake
 pub mod Judged
@@ -10,3 +12,4 @@ pub mod Settling
 pub mod Showing
 pub mod Standing
 pub mod Stepping
+pub mod Walking

@@ -6,7 +6,7 @@ use Rattle.wx_scan.specs.declared.backend.Backend.{Ghosts}
 use Rattle.wx_notify.specs.declared.notify.Notify.{Notify}
 use Rattle.wx_watch.specs.declared.notify_fault.NotifyFault.{NotifyFault}
 use Rattle.wx_holding.specs.Holding.{state_of}
-use Rattle.wx_file_events.specs.FileEvents.{event_of}
+use Rattle.wx_lane.specs.FileEvents.{event_of}
 use Rattle.wx_lane.specs.declared.lane.LaneItem.{LaneItem}
 use Rattle.wx_lane.specs.Lanes.{fenced}
 use Rattle.wx_lane.specs.Public.{event_is_public}

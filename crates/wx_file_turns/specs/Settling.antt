@@ -15,9 +15,9 @@ use Rattle.wx_fs.specs.declared.recursor.Recursor.{Recursor}
 use Rattle.wx_journal.specs.declared.entry.Entry.{Entry}
 use Rattle.wx_journal.specs.declared.entry.Entry.TheVariants.{Show}
 use Rattle.wx_machine.specs.Start.{Start}
-use Rattle.wx_calm.specs.Calm.{IsCalmTurn}
-use Rattle.wx_calm.specs.FewSteps.{FewSteps, TurnShowsAbsent, newest_roots, steps_since}
-use Rattle.wx_calm.specs.Walking.{AreHarmless, IsWalking, WasWalking}
+use Rattle.wx_file_turns.specs.Calm.{IsCalmTurn}
+use Rattle.wx_file_turns.specs.FewSteps.{FewSteps, TurnShowsAbsent, newest_roots, steps_since}
+use Rattle.wx_file_turns.specs.Walking.{AreHarmless, IsWalking, WasWalking}
 use Rattle.wx_file_turns.specs.declared.files.Files.{Files}
 use Rattle.wx_file_turns.specs.declared.files.Watching.{Watching}
 use Rattle.wx_file_turns.specs.declared.intake.Intake.{Intake}

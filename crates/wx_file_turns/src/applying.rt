@@ -3,8 +3,8 @@ ghost use Rattle.std.specs.Prelude.{◌≡◌, List, ℕ, Bool, true, false, IfE
 ghost use Rattle.wx_tree.specs.Paths.{Path};
 ghost use Rattle.wx_tree.specs.Trees.{Tree};
 ghost use Rattle.wx_scan.specs.Told.{IsNamed};
-ghost use Rattle.wx_calm.specs.Calm.{Foresees};
-ghost use Rattle.wx_calm.specs.FewSteps.{earlier_roots};
+ghost use Rattle.wx_file_turns.specs.Calm.{Foresees};
+ghost use Rattle.wx_file_turns.specs.FewSteps.{earlier_roots};
 ghost use Rattle.wx_file_turns.specs.Settling.{AnyOf, AreRefreshed, GoesOnSettling, IsJustApplied, Walked, Walks};
 ghost use Rattle.wx_machine.specs.Answer.{BreaksHere};
 ghost use Rattle.wx_machine.specs.Due.{Applies, Comes, Makes, Open, agenda, is_quitting};

@@ -3,11 +3,11 @@ ghost use Rattle.std.specs.Prelude.{◌≡◌, ◌∷◌, [], ℕ, Bool, true, I
 ghost use Rattle.wx_tree.specs.Paths.{Path as APath};
 ghost use Rattle.wx_tree.specs.Trees.{Tree};
 ghost use Rattle.wx_holding.specs.Holding.{state_of};
-ghost use Rattle.wx_calm.specs.Calm.{IsCalmTurn};
-ghost use Rattle.wx_calm.specs.Walking.{WalksStep};
 ghost use Rattle.wx_fs.specs.Told.{TellsStep};
 ghost use Rattle.wx_machine.specs.Start.{Start};
 ghost use Rattle.wx_action.specs.Stands.{Stands};
+ghost use Rattle.wx_file_turns.specs.Calm.{IsCalmTurn};
+ghost use Rattle.wx_file_turns.specs.Walking.{WalksStep};
 ghost use Rattle.wx_file_turns.specs.Judged.{AddsDirs, AreJudgedBy, Base, IsKept, IsStepping, recursive_places};
 ghost use Rattle.wx_file_turns.specs.Settling.{IsSound, Walks};
 ghost use Rattle.wx_file_turns.specs.Standing.{works};

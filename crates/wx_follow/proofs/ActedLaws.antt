@@ -3,7 +3,8 @@ use Rattle.std.proofs.Common.{◌≡◌, ℕ, Bool, true, false, cond, ◌||◌,
 use mathlib.Core.Bool.{or-false}
 use Rattle.std.specs.Prelude.{Option, None, Some, OnOk, ◌==◌, ◌&&◌, not}
 use Rattle.std.specs.List.{find, list_any}
-use Rattle.std.proofs.lemmas.Bool.{eqb-true, or_right}
+use Rattle.std.proofs.lemmas.Bool.{eqb-true, or_right, true_from_ne_false}
+use Rattle.std.proofs.Math.Bool.{and-false, or_assoc}
 use Rattle.wx_command.specs.declared.command.Command.{Command}
 use Rattle.wx_config.specs.declared.change.Change.{Change as AChange}
 use Rattle.wx_control.specs.declared.ask.Ask.{Ask as AnAsk}
@@ -28,10 +29,6 @@ ok_then (Err e) h f = tt
 
 -- ---- which jobs were created
 
-or_assoc : (a b c : Bool) → (a || (b || c)) ≡ ((a || b) || c)
-or_assoc true b c = refl
-or_assoc false b c = refl
-
 creates_ask : (id : Id) (acts : List Act) (job : Id) (ask : AnAsk) → creates id (acts ++ Asks job ask ∷ []) ≡ creates id acts
 creates_ask id [] job ask = refl
 creates_ask id (Create other command ∷ acts) job ask = ap (λ b. other.0 == id.0 || b) (creates_ask id acts job ask)
@@ -51,12 +48,12 @@ creates_quit id quit (_ ∷ acts) is = creates_quit id quit acts is
 
 creates_more : (id : Id) (acts : List Act) (job : Id) (command : Command) → creates id (acts ++ Create job command ∷ []) ≡ (creates id acts || same job id)
 creates_more id [] job command = or-false (same job id)
-creates_more id (Create other what ∷ acts) job command = ap (λ b. other.0 == id.0 || b) (creates_more id acts job command) ∙ or_assoc (other.0 == id.0) (creates id acts) (same job id)
+creates_more id (Create other what ∷ acts) job command = ap (λ b. other.0 == id.0 || b) (creates_more id acts job command) ∙ sym (or_assoc (other.0 == id.0) (creates id acts) (same job id))
 creates_more id (_ ∷ acts) job command = creates_more id acts job command
 
 any_more : (id : Id) (made : List Job) (job : Job) → list_any (is_made id) (made ++ job ∷ []) ≡ (list_any (is_made id) made || is_made id job)
 any_more id [] job = or-false (is_made id job)
-any_more id (other ∷ made) job = ap (λ b. is_made id other || b) (any_more id made job) ∙ or_assoc (is_made id other) (list_any (is_made id) made) (is_made id job)
+any_more id (other ∷ made) job = ap (λ b. is_made id other || b) (any_more id made job) ∙ sym (or_assoc (is_made id other) (list_any (is_made id) made) (is_made id job))
 
 -- where acts create the same jobs
 made_same : (p : List Entry) (made : List Job) (acts acts' : List Act) → ((id : Id) → creates id acts' ≡ creates id acts) → AreMade p made acts → AreMade p made acts'
@@ -124,19 +121,11 @@ given_made true seen was e f = absurd cc
 given_made false seen was e f = f
 
 got_by : (p : List Entry) (made : List Job) (acts : List Act) (id : Id) (command : Command) (job : Job) (b : Bool) → is_there p acts id ≡ b → job.id ≡ id → is_given p acts id ≡ true → AreMade p made acts → IsGot p made acts (cond b acts (acts ++ Create id command ∷ [])) id command job
-got_by p made acts id command job true there its given is = record { done = rw (there, and_none (was_made id p)) refl; are = made_there p made acts job id its there is }
-  where
-    and_none : (b : Bool) → (b && false) ≡ false
-    and_none true = refl
-    and_none false = refl
+got_by p made acts id command job true there its given is = record { done = rw (there, and-false (was_made id p)) refl; are = made_there p made acts job id its there is }
 got_by p made acts id command job false there its given is = record { done = rw (there, given_made (creates id acts) (is_seen id p) (was_made id p) there given) refl; are = made_create p made acts job id command its is }
 
-not_refused : (given : Bool) → (given ≡ false → ⊥) → given ≡ true
-not_refused true h = refl
-not_refused false h = absurd (h refl)
-
 pub got : (p : List Entry) (made : List Job) (acts : List Act) (id : Id) (command : Command) (job : Job) → job.id ≡ id → (is_given p acts id ≡ false → ⊥) → AreMade p made acts → (with_job p id command acts ≡ with_get p acts id command) × AreMade p (made ++ job ∷ []) (with_job p id command acts)
-got p made acts id command job its given is = let g = got_by p made acts id command job (is_there p acts id) refl its (not_refused (is_given p acts id) given) is in (g.done, g.are)
+got p made acts id command job its given is = let g = got_by p made acts id command job (is_there p acts id) refl its (true_from_ne_false (is_given p acts id) given) is in (g.done, g.are)
 
 -- of none that was given nothing is asked for
 ungiven : (created was seen : Bool) → (created || was) ≡ false → (was && not (created || seen)) ≡ false

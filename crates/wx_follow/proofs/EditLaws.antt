@@ -2,7 +2,7 @@
 use Rattle.std.proofs.Common.{◌≡◌, ℕ, zero, suc, ◌≤◌, min, Bool, true, ◌||◌, Some, Result, Ok, Err, List, [], ◌∷◌, ◌++◌, length, drop, get_or, refl, sym, ap, subst, ◌∙◌, arith}
 use Rattle.std.specs.Prelude.{OnErr, OnOk}
 use Rattle.std.specs.List.{list_all}
-use Rattle.std.proofs.lemmas.Bool.{and_parts}
+use Rattle.std.proofs.lemmas.Bool.{and_parts, or_parts}
 use Rattle.std.proofs.lemmas.Option.{cond_some}
 use Rattle.wx_text.specs.declared.list.Memory.{Memory}
 use Rattle.wx_tree.specs.Places.{place}
@@ -20,7 +20,7 @@ use Rattle.wx_journal.specs.declared.entry.Entry.{Entry}
 use Rattle.wx_script.specs.declared.script.ScriptTurn.{ScriptTurn}
 use Rattle.wx_script.specs.Turns.{entry_of, turns_of}
 use Rattle.wx_follow.specs.Edits.{FollowsEdits, IsAhead, Made, MadeNext, any_lines, are_new_stamps, edited, files_of, is_new_stamp, shape_of, still_tree}
-use Rattle.wx_follow.proofs.GivenLaws.{next_line, not_first, not_second, turns_more}
+use Rattle.wx_follow.proofs.GivenLaws.{next_line, turns_more}
 
 -- ---- one change
 
@@ -60,7 +60,7 @@ edits_more short more edits (suc n) changed ahead es new is some made before so_
     let within = some_lines edits some in
     let later : 1 ≤ changed = omega (arith, is, within) in
     let m = was_later edits changed more ahead es new later made in
-    m.all (not_second short more so) ∙ ap (λ (xs : List TreeEdit). edited xs es) (ap (λ (k : ℕ). get_or edits k []) is ∙ next_line edits (suc n) []) ∙ ap (edited (get_or edits (suc n) [])) (so_far (not_first short more so))
+    m.all (or_parts short more so).1 ∙ ap (λ (xs : List TreeEdit). edited xs es) (ap (λ (k : ℕ). get_or edits k []) is ∙ next_line edits (suc n) []) ∙ ap (edited (get_or edits (suc n) [])) (so_far (or_parts short more so).0)
 
 line_passes : (p : List TreeEdit → Bool) (edits : List (List TreeEdit)) (k : ℕ) → p [] ≡ true → list_all p (drop k edits) ≡ true → (p (get_or edits k []) ≡ true) × (list_all p (drop (suc k) edits) ≡ true)
 line_passes p [] zero e h = (e, refl)

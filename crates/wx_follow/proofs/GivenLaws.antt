@@ -1,6 +1,6 @@
 -- One turn more is given.
-use Rattle.std.proofs.Common.{◌≡◌, ℕ, Bool, true, false, ◌||◌, zero, suc, ◌+◌, ◌<◌, ◌≤◌, min, Option, None, Some, Result, Ok, inl, inr, ◌⊎◌, List, [], ◌∷◌, length, drop, get_or, slice_get, refl, sym, ap, ◌∙◌, arith, ℤ}
-use Rattle.std.proofs.lemmas.Bool.{cases_lt}
+use Rattle.std.proofs.Common.{◌≡◌, ℕ, Bool, false, ◌||◌, zero, suc, ◌+◌, ◌<◌, ◌≤◌, min, Option, None, Some, Result, Ok, inl, inr, ◌⊎◌, List, [], ◌∷◌, length, drop, get_or, slice_get, refl, sym, ap, ◌∙◌, arith, ℤ}
+use Rattle.std.proofs.lemmas.Bool.{cases_lt, or_parts}
 use Rattle.std.proofs.lemmas.List.{get_or_past}
 use Rattle.wx_events.specs.declared.process.ProcessEnd.{ProcessEnd}
 use Rattle.wx_events.specs.declared.process.ProcessEnd.TheVariants.{Success}
@@ -88,17 +88,8 @@ pub turn_over : (short : Bool) (answers : Answers) (used : Used) (p : List Entry
 turn_over short answers used p (Turn t) all = all
 turn_over short answers used p (Fault code) all = all
 
--- what wasn't refused before isn't where nothing more is
-pub not_first : (short more : Bool) → (short || more) ≡ false → short ≡ false
-not_first true more so = so
-not_first false more so = refl
-
-pub not_second : (short more : Bool) → (short || more) ≡ false → more ≡ false
-not_second true more so = absurd cc
-not_second false more so = so
-
 pub perhaps_short : (short more : Bool) (answers : Answers) (used : Used) (p : List Entry) → UsesAnswers short answers used p → UsesAnswers (short || more) answers used p
-perhaps_short short more answers used p all so = all (not_first short more so)
+perhaps_short short more answers used p all so = all (or_parts short more so).0
 
 -- ---- changes of the tree
 

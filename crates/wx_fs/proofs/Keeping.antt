@@ -3,12 +3,12 @@ use Rattle.std.proofs.Common.{◌≡◌, ◌∙◌, ◌++◌, ℕ, Bool, true, f
 use Rattle.std.specs.Prelude.{◌&&◌, OnErr, OnOk}
 use Rattle.std.specs.Coded.{Coded-set, coded_bool}
 use Rattle.std.proofs.Math.Logic.{∥∥₁_elim, ∥∥₁_map}
-use Rattle.std.proofs.lemmas.Bool.{and_from, and_parts, false≢true, or_cases}
+use Rattle.std.proofs.lemmas.Bool.{and_from, and_parts, false≢true, or_left, or_right}
 use Rattle.wx_error.specs.declared.runtime.RuntimeError.{RuntimeError}
 use Rattle.wx_watch.specs.declared.watched.Watcher.{Watcher}
 use Rattle.wx_tree.specs.Lists.{In}
 use Rattle.wx_tree.specs.Paths.{Path, holds, same}
-use Rattle.wx_tree.proofs.PathLemmas.{or_left, or_right, same-refl, same-true}
+use Rattle.wx_tree.proofs.PathLemmas.{same-refl}
 use Rattle.wx_tree.specs.declared.root.Root.{Root}
 use Rattle.wx_recursor.specs.Calls.{aliases, created, created_one, for_each, fresh, reconciled, removed, removed_one, renamed, rescanned, unsure, unsure_one}
 use Rattle.wx_recursor.specs.Owners.{has_path}
@@ -23,6 +23,7 @@ use Rattle.wx_recursor.specs.declared.work.Work.TheVariants.{Plain, Probe}
 use Rattle.wx_recursor.proofs.Coverage.{created_covers, prepared_covers, reconcile_covers, removed_covers, renamed_covers, replayed_covers, step_covers, unsure_covers}
 use Rattle.wx_recursor.proofs.SoundRebuild.{prepared_sound, replayed_sound}
 use Rattle.wx_recursor.proofs.SoundSteps.{created_sound, fresh_sound, reconcile_sound, removed_sound, renamed_sound, step_sound, unsure_sound}
+use Rattle.wx_recursor.proofs.OwnerLemmas.{has_path_in}
 use Rattle.wx_step.specs.Asking.{AreAllowed, FirstAsksBelow}
 use Rattle.wx_step.specs.Current.{AreAbout, Current, IsWorkAbout, current}
 use Rattle.wx_step.specs.Rests.{IsAtRest}
@@ -219,10 +220,6 @@ path_there p [] m = absurd m
 path_there p (q ∷ qs) (inl e) = or_left (same q p) (has_path p qs) (subst (λ x. same q x ≡ true) e (same-refl q))
 path_there p (q ∷ qs) (inr m) = or_right (same q p) (has_path p qs) (path_there p qs m)
 
-path_in : (p : Path) (qs : List Path) → has_path p qs ≡ true → In p qs
-path_in p [] h = absurd (false≢true h)
-path_in p (q ∷ qs) h = elim (or_cases (same q p) (has_path p qs) h) [ inl e ↦ inl (same-true q p e) | inr m ↦ inr (path_in p qs m) ]
-
 asks_to : (under : List Path) (q : List Work) → FirstAsksBelow under q → asks_there under q ≡ true
 asks_to under [] a = refl
 asks_to under (Plain (Guard r) ∷ q) a = refl
@@ -236,7 +233,7 @@ asks_from under [] h = tt
 asks_from under (Plain (Guard r) ∷ q) h = tt
 asks_from under (Plain (Visit r) ∷ q) h = tt
 asks_from under (Plain (Scan r p) ∷ q) h = tt
-asks_from under (Plain (Candidate r p) ∷ q) h = (let x = and_parts (holds r.path p) (has_path r.path under) h in (x.0, path_in r.path under x.1))
+asks_from under (Plain (Candidate r p) ∷ q) h = (let x = and_parts (holds r.path p) (has_path r.path under) h in (x.0, has_path_in r.path under x.1))
 asks_from under (Probe p owners ∷ q) h = tt
 
 -- where each recursive root is allowed, a step asks only there

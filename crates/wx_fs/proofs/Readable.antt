@@ -1,16 +1,13 @@
 -- In any epoch the first of the queue can be looked at: no link stands above what is queued, and its parts are names.
-use Rattle.std.proofs.Common.{◌≡◌, Bool, true, false, List, [], ◌∷◌, refl, inl}
-use Rattle.std.specs.Prelude.{Option, Some, None}
-use Rattle.std.proofs.lemmas.Bool.{and_parts}
+use Rattle.std.proofs.Common.{◌≡◌, Bool, true, List, [], ◌∷◌, refl, inl}
 use Rattle.wx_tree.specs.Lists.{In}
 use Rattle.wx_tree.specs.Paths.{Path}
 use Rattle.wx_tree.specs.Places.{spelled}
-use Rattle.wx_tree.specs.Trees.{Tree, is_chain, is_chain_above, is_directory, is_directory_node, is_there, is_there_node, node_at}
-use Rattle.wx_tree.specs.declared.node.Node.{Node}
-use Rattle.wx_tree.specs.declared.node.Node.TheVariants.{Dir, File, Link}
+use Rattle.wx_tree.specs.Trees.{Tree, is_chain_above, is_there, node_at}
 use Rattle.wx_tree.specs.declared.root.Root.{Root}
-use Rattle.wx_tree.proofs.Reaching.{entry-chain, reaches-chain}
-use Rattle.wx_scan.specs.Told.{AreNames, IsNamed, has_link_above, is_link_node}
+use Rattle.wx_tree.proofs.Reaching.{entry-chain, reaches-chain, there_from_dir}
+use Rattle.wx_scan.specs.Told.{AreNames, IsNamed}
+use Rattle.wx_scan.proofs.LookLemmas.{no_link_above}
 use Rattle.wx_recursor.specs.States.{RecursorState}
 use Rattle.wx_recursor.specs.declared.errors.ShownError.{ShownError}
 use Rattle.wx_recursor.specs.declared.work.Item.{Item}
@@ -29,38 +26,14 @@ use Rattle.wx_settle.proofs.Reach.{AllListed, Stands}
 use Rattle.wx_settle.proofs.Simple.{is_plain}
 use Rattle.wx_settle.proofs.Still.{IsListed}
 
-no_link : (n : Option Node) → is_directory_node n ≡ true → is_link_node n ≡ false
-no_link None e = cc
-no_link (Some Dir) e = refl
-no_link (Some (File stamp)) e = cc
-no_link (Some (Link target)) e = cc
-
-dir_there : (n : Option Node) → is_directory_node n ≡ true → is_there_node n ≡ true
-dir_there None e = cc
-dir_there (Some Dir) e = refl
-dir_there (Some (File stamp)) e = cc
-dir_there (Some (Link target)) e = cc
-
--- a chain of directories has no link
-chain_unlinked : (t : Tree) (p : Path) → is_chain t p ≡ true → (is_link_node (node_at t p) ≡ false) × (has_link_above t p ≡ false)
-chain_unlinked t [] e = (no_link (node_at t []) e, refl)
-chain_unlinked t (x ∷ p) e =
-    let a = and_parts (is_directory t (x ∷ p)) (is_chain t p) e in
-    let b = chain_unlinked t p a.1 in
-    (no_link (node_at t (x ∷ p)) a.0, rw (b.0, b.1) refl)
-
-above_unlinked : (t : Tree) (p : Path) → is_chain_above t p ≡ true → has_link_above t p ≡ false
-above_unlinked t [] e = refl
-above_unlinked t (x ∷ p) e = let b = chain_unlinked t p e in rw (b.0, b.1) refl
-
 -- what is there below directories can be looked at
 there_readable : (t : Tree) (p : Path) → IsNamed t → is_there t p ≡ true → is_chain_above t p ≡ true → IsReadable t p
-there_readable t p named there chain = record { spelled = refl; names = named p there; no_link = above_unlinked t p chain }
+there_readable t p named there chain = record { spelled = refl; names = named p there; no_link = no_link_above t p chain }
 
 item_readable : (t : Tree) (ok : Path → Bool) (rs : List Root) (i : Item) → Fits t ok rs i → IsListed t i → IsNamed t → ((r : Root) → In r rs → AreNames r.path) → IsReadableItem t i
 item_readable t ok rs (Guard r) fits listed named roots = roots r fits.0
 item_readable t ok rs (Visit r) fits listed named roots = roots r fits
-item_readable t ok rs (Scan r p) fits listed named roots = there_readable t p named (dir_there (node_at t p) fits.2) (reaches-chain t ok r p fits.3)
+item_readable t ok rs (Scan r p) fits listed named roots = there_readable t p named (there_from_dir (node_at t p) fits.2) (reaches-chain t ok r p fits.3)
 item_readable t ok rs (Candidate r c) fits listed named roots =
     let q = fits.2 in
     there_readable t c named listed (entry-chain t ok r q.0 c q.1 q.2 q.3)

@@ -1,9 +1,9 @@
 -- Roots that are kept have names for parts: a normal path has no empty part, and neither `.` nor `..`.
-use Rattle.std.proofs.Common.{◌≡◌, ℕ, zero, suc, Bool, true, false, cond, List, [], ◌∷◌, ◌++◌, length, refl, ap, sym, ◌∙◌, inl, inr, subst, append_assoc, codes}
+use Rattle.std.proofs.Common.{◌≡◌, ℕ, zero, suc, Bool, true, false, cond, List, [], ◌∷◌, ◌++◌, length, refl, ap, sym, ◌∙◌, inl, inr, subst, codes}
 use Rattle.std.specs.Prelude.{◌==◌, ◌||◌, not, take}
 use Rattle.std.specs.List.{fold, join_with_byte, onto_first}
 use Rattle.std.specs.Str.{bytes_eq}
-use Rattle.std.proofs.lemmas.Bool.{and_parts}
+use Rattle.std.proofs.lemmas.Bool.{and_parts, not-true}
 use Rattle.std.proofs.lemmas.List.{append-nil}
 use Rattle.wx_watch.specs.declared.watched.WatchedPath.{WatchedPath}
 use Rattle.wx_words.specs.Line.{parts}
@@ -13,6 +13,7 @@ use Rattle.wx_tree.specs.Paths.{Part, Path, same_part}
 use Rattle.wx_tree.specs.Places.{has_no_slash, is_part, place, place_from, push_part, slash}
 use Rattle.wx_tree.specs.declared.root.Root.{Root}
 use Rattle.wx_tree.proofs.ListLemmas.{In-cases, In-filter}
+use Rattle.wx_tree.proofs.PlaceLemmas.{part-read}
 use Rattle.wx_scan.specs.Told.{AreNames, is_name}
 use Rattle.wx_recursor.specs.Owners.{has_root}
 use Rattle.wx_lane.specs.Public.{absolute}
@@ -52,13 +53,9 @@ named_parts path x m = let a = In-filter is_named x (parts 47 path) m in (a.1, c
 abbrev pub AllNames : List Part → Type 0
 AllNames xs = (x : Part) → In x xs → is_name x ≡ true
 
-not_true : (b : Bool) → not b ≡ true → b ≡ false
-not_true true e = sym e
-not_true false e = refl
-
 not_either : (a b : Bool) → not (a || b) ≡ true → b ≡ false
 not_either true b e = cc
-not_either false b e = not_true b e
+not_either false b e = not-true b e
 
 -- what names something, and isn't `..`
 name_from : (x : Part) → is_named x ≡ true → has_no_slash x ≡ true → bytes_eq x (codes "..") ≡ false → is_name x ≡ true
@@ -94,13 +91,6 @@ kept_names path = keep_all [] (path_parts path) (λ x m. absurd m) (named_parts 
 -- ---- the place that they spell
 
 -- bytes without a slash are read into the part
-part_read : (x bytes part : List ℕ) (path : Path) → has_no_slash x ≡ true → place_from (x ++ bytes) part path ≡ place_from bytes (part ++ x) path
-part_read [] bytes part path h = ap (λ c. place_from bytes c path) (sym (append-nil part))
-part_read (b ∷ x) bytes part path h =
-    let a = and_parts (not (b == slash)) (has_no_slash x) h in
-    let e : (b == slash) ≡ false = not_true (b == slash) a.0 in
-    rw e (part_read x bytes (part ++ b ∷ []) path a.1 ∙ ap (λ c. place_from bytes c path) (append_assoc part (b ∷ []) x))
-
 name_clean : (x : Part) → is_name x ≡ true → has_no_slash x ≡ true
 name_clean [] e = refl
 name_clean (b ∷ x) e = let a = and_parts (is_part (b ∷ x)) _ e in a.0
@@ -113,12 +103,12 @@ joined_names : (names : List Part) (path : Path) → AllNames names → AreNames
 joined_names [] path h k = k
 joined_names (x ∷ []) path h k =
     let e : is_name x ≡ true = h x (inl refl) in
-    let same : place_from x [] path ≡ push_part x path = ap (λ y. place_from y [] path) (sym (append-nil x)) ∙ part_read x [] [] path (name_clean x e) in
+    let same : place_from x [] path ≡ push_part x path = ap (λ y. place_from y [] path) (sym (append-nil x)) ∙ part-read x [] [] path (name_clean x e) in
     subst AreNames (sym same) (pushed_names x path e k)
 joined_names (x ∷ y ∷ names) path h k =
     let e : is_name x ≡ true = h x (inl refl) in
     let rest : List ℕ = join_with_byte 47 (y ∷ names) in
-    let same : place_from (x ++ slash ∷ rest) [] path ≡ place_from rest [] (push_part x path) = part_read x (slash ∷ rest) [] path (name_clean x e) in
+    let same : place_from (x ++ slash ∷ rest) [] path ≡ place_from rest [] (push_part x path) = part-read x (slash ∷ rest) [] path (name_clean x e) in
     subst AreNames (sym same) (joined_names (y ∷ names) (push_part x path) (λ z m. h z (inr m)) (pushed_names x path e k))
 
 spelled_names : (rooted : Bool) (names : List Part) → AllNames names → AreNames (place (spelled rooted names))

@@ -9,5 +9,4 @@ mod topology;
 
 pub use recursor::{Recursor, StepResult};
 pub use rooting::kept_roots;
-pub use wx_dir_check::DirCheck;
-pub use wx_scan::{Backend, Notify, NotifyPath};
+pub use wx_scan::{Backend, DirCheck, Notify, NotifyPath};

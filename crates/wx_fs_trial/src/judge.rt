@@ -2,8 +2,8 @@
 ghost use Rattle.std.specs.Prelude.{◌≡◌};
 
 use std::alloc::Global;
-use wx_dir_check::DirCheck;
 use wx_error::RuntimeError;
+use wx_scan::DirCheck;
 use wx_text::{Copies, Memory};
 use wx_tree::Place;
 use wx_words::TextPath;

@@ -1,15 +1,16 @@
 -- What the acts of a step make where nothing fails.
 use Rattle.std.proofs.Common.{◌≡◌, ℕ, Bool, true, false, List, [], ◌∷◌, refl, ap, sym, ◌∙◌, inl, inr, subst}
-use Rattle.std.specs.Prelude.{◌&&◌, ◌||◌, Option, Some, None, if◌then◌else◌}
+use Rattle.std.specs.Prelude.{◌&&◌, Option, Some, None, if◌then◌else◌}
 use Rattle.std.proofs.lemmas.Bool.{cases_Bool, and_parts}
+use Rattle.std.proofs.lemmas.Option.{same_Some}
 use Rattle.wx_tree.specs.Paths.{Path}
-use Rattle.wx_tree.specs.Trees.{Tree, guard_of, is_chain, is_chain_above, is_directory, is_directory_node, is_fit_node, is_safe, is_there, last_of_chain, node_at}
-use Rattle.wx_tree.specs.declared.node.Node.{Node}
-use Rattle.wx_tree.specs.declared.node.Node.TheVariants.{Dir, File, Link}
+use Rattle.wx_tree.specs.Trees.{Tree, guard_of, is_chain, is_chain_above, is_directory, is_fit_node, is_safe, is_there, last_of_chain, node_at}
 use Rattle.wx_tree.specs.declared.root.Root.{Root}
+use Rattle.wx_tree.proofs.Reaching.{fit_from_dir, chain_dir, last_chain, guard_dir}
 use Rattle.wx_scan.specs.Backings.{Backing}
 use Rattle.wx_scan.specs.Looked.{Looked, OnlyLooks}
-use Rattle.wx_scan.specs.Told.{AreNames, has_link_above, is_link_node}
+use Rattle.wx_scan.specs.Told.{AreNames}
+use Rattle.wx_scan.proofs.LookLemmas.{no_link_above}
 use Rattle.wx_recursor.specs.Guarding.{guard_placed, guarded, guarded_at, looked_again, unguarded}
 use Rattle.wx_recursor.specs.Identities.{is_of_directory}
 use Rattle.wx_recursor.specs.Owning.{added_result, owned}
@@ -29,7 +30,7 @@ use Rattle.wx_recursor.specs.declared.known.Identity.TheVariants.{Canonical}
 use Rattle.wx_recursor.specs.declared.known.Known.{Known}
 use Rattle.wx_recursor.specs.declared.work.Item.TheVariants.{Visit}
 use Rattle.wx_recursor.specs.declared.work.Work.TheVariants.{Plain}
-use Rattle.wx_holding.specs.Calm.{AddsCalmly, GuardsCalmly, IsCalm, IsFit, IsReadable, IsStill, StandsBy, TriesCalmly, VisitsCalmly}
+use Rattle.wx_holding.specs.Calm.{AddsCalmly, GuardsCalmly, IsCalm, IsFit, IsReadable, IsStill, TriesCalmly, VisitsCalmly}
 use Rattle.wx_holding.proofs.Watching.{rose_later, rose_sooner}
 
 -- a part of a still time is still
@@ -45,81 +46,35 @@ calm_sooner t follow a b c gs x S h k = record { links = h.links; still = still_
 
 -- what changes no registration leaves the backend as good as it was
 
-pub stands_same : (t : Tree) (gs hs : List Known) (x : Backing) (S : Type 0) → hs ≡ gs → StandsBy t gs x S → StandsBy t hs x S
-stands_same t gs hs x S e h = subst (λ y. StandsBy t y x S) (sym e) h
-
 pub calm_same : (t : Tree) (follow : Bool) (a b : Looked) (gs hs : List Known) (x : Backing) (S : Type 0) → hs ≡ gs → IsCalm t follow a b gs x S → IsCalm t follow a b hs x S
 calm_same t follow a b gs hs x S e h = subst (λ y. IsCalm t follow a b y x S) (sym e) h
 
 -- below directories stands no link
 
-no_link_dir : (n : Option Node) → is_directory_node n ≡ true → is_link_node n ≡ false
-no_link_dir None h = refl
-no_link_dir (Some Dir) h = refl
-no_link_dir (Some (File stamp)) h = refl
-no_link_dir (Some (Link target)) h = cc
-
-dir_fit : (n : Option Node) → is_directory_node n ≡ true → is_fit_node n ≡ true
-dir_fit None h = h
-dir_fit (Some Dir) h = refl
-dir_fit (Some (File stamp)) h = refl
-dir_fit (Some (Link target)) h = h
-
-chain_dir : (t : Tree) (p : Path) → is_chain t p ≡ true → is_directory t p ≡ true
-chain_dir t [] h = h
-chain_dir t (x ∷ p) h = let a = and_parts (is_directory t (x ∷ p)) (is_chain t p) h in a.0
-
 chain_above : (t : Tree) (p : Path) → is_chain t p ≡ true → is_chain_above t p ≡ true
 chain_above t [] h = refl
 chain_above t (x ∷ p) h = let a = and_parts (is_directory t (x ∷ p)) (is_chain t p) h in a.1
 
-neither : (a b : Bool) → a ≡ false → b ≡ false → (a || b) ≡ false
-neither true b h k = h
-neither false b h k = k
-
-no_link_above : (t : Tree) (p : Path) → is_chain_above t p ≡ true → has_link_above t p ≡ false
-no_link_above t [] h = refl
-no_link_above t (x ∷ p) h = neither (is_link_node (node_at t p)) (has_link_above t p) (no_link_dir (node_at t p) (chain_dir t p h)) (no_link_above t p (chain_above t p h))
-
 -- a guard can be watched, as the directory that it is
-
-some_is : (p q : Path) → Some p ≡ Some q → p ≡ q
-some_is p q e = cc
-
-last_chain : (t : Tree) (q p : Path) → last_of_chain t q ≡ Some p → is_chain t p ≡ true
-last_chain t [] p e =
-    elim (cases_Bool (is_directory t [])) [
-      | inl a ↦ subst (λ x. is_chain t x ≡ true) (some_is [] p (rw a at e)) a
-      | inr a ↦ (let f : None ≡ Some p = rw a at e in cc)
-    ]
-last_chain t (x ∷ q) p e =
-    elim (cases_Bool (is_chain t (x ∷ q))) [
-      | inl a ↦ subst (λ y. is_chain t y ≡ true) (some_is (x ∷ q) p (rw a at e)) a
-      | inr a ↦ last_chain t q p (rw a at e)
-    ]
 
 last_names : (t : Tree) (q p : Path) → AreNames q → last_of_chain t q ≡ Some p → AreNames p
 last_names t [] p n e =
     elim (cases_Bool (is_directory t [])) [
-      | inl a ↦ subst AreNames (some_is [] p (rw a at e)) n
+      | inl a ↦ subst AreNames (same_Some [] p (rw a at e)) n
       | inr a ↦ (let f : None ≡ Some p = rw a at e in cc)
     ]
 last_names t (x ∷ q) p n e =
     elim (cases_Bool (is_chain t (x ∷ q))) [
-      | inl a ↦ subst AreNames (some_is (x ∷ q) p (rw a at e)) n
+      | inl a ↦ subst AreNames (same_Some (x ∷ q) p (rw a at e)) n
       | inr a ↦ last_names t q p n.1 (rw a at e)
     ]
 
 chain_fit : (t : Tree) (p : Path) → AreNames p → is_chain t p ≡ true → IsFit t p
-chain_fit t p n h = (record { spelled = refl; names = n; no_link = no_link_above t p (chain_above t p h) }, dir_fit (node_at t p) (chain_dir t p h))
+chain_fit t p n h = (record { spelled = refl; names = n; no_link = no_link_above t p (chain_above t p h) }, fit_from_dir (node_at t p) (chain_dir t p h))
 
 guard_fits : (t : Tree) (q p : Path) → AreNames q → guard_of t q ≡ Some p → IsFit t p
 guard_fits t [] p n e = cc
 guard_fits t (x ∷ q) p n e = chain_fit t p (last_names t q p n.1 e) (last_chain t q p e)
-
-guard_dir : (t : Tree) (q p : Path) → guard_of t q ≡ Some p → is_directory t p ≡ true
-guard_dir t [] p e = cc
-guard_dir t (x ∷ q) p e = chain_dir t p (last_chain t q p e)
 
 guard_is : (p : Path) (i : Identity) (o : Option Path) → At p i ≡ guard_found_at o → (o ≡ Some p) × (i ≡ Canonical p)
 guard_is p i None e = cc
@@ -212,7 +167,7 @@ abbrev calm_root : Tree → Root → Watched → Evidence
 calm_root t r w = record { found = root_found t r.path; guard_found = guard_found_at (guard_of t r.path); watched = w; undone = None; root_is_safe = is_safe t r.path; releases = [] }
 
 -- what was found isn't read where a guard is set
-found_free : (r : Root) (g : GuardFound) (f : Found) (e : Evidence) (s : RecursorState) → guarded_at r g (record e { found = f }) s ≡ guarded_at r g e s
+pub found_free : (r : Root) (g : GuardFound) (f : Found) (e : Evidence) (s : RecursorState) → guarded_at r g (record e { found = f }) s ≡ guarded_at r g e s
 found_free r Nowhere f e s = refl
 found_free r (At p i) f e s = refl
 found_free r (Faulty p c) f e s = refl
@@ -251,7 +206,7 @@ try_here t ok r p i e =
     ]
 
 pub fit_candidate : (t : Tree) (ok : Path → Bool) (r : Root) (p : Path) (f : Found) (i : Identity) → IsReadable t p → f ≡ Here i → f ≡ try_found t ok r p → IsFit t p
-fit_candidate t ok r p f i n is e = let a = try_here t ok r p i (sym is ∙ e) in (n, dir_fit (node_at t p) a.0)
+fit_candidate t ok r p f i n is e = let a = try_here t ok r p i (sym is ∙ e) in (n, fit_from_dir (node_at t p) a.0)
 
 pub candidate_identity : (t : Tree) (ok : Path → Bool) (r : Root) (p : Path) (f : Found) (i : Identity) → f ≡ Here i → f ≡ try_found t ok r p → i ≡ identity_at t p
 candidate_identity t ok r p f i is e = let a = try_here t ok r p i (sym is ∙ e) in a.1

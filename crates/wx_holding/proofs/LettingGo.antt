@@ -2,7 +2,7 @@
 use Rattle.std.proofs.Common.{◌≡◌, ◌≤◌, ◌<◌, ◌-◌, get_or, take, drop, ℕ, Bool, true, false, List, [], ◌∷◌, Ok, Err, inl, inr, refl, ap, sym, ◌∙◌, subst, arith}
 use Rattle.std.specs.Prelude.{◌⊎◌, Option, filter, not, length, ltb}
 use Rattle.std.proofs.Math.Seq.{take-length}
-use Rattle.std.proofs.lemmas.Bool.{cases_Bool}
+use Rattle.std.proofs.lemmas.Bool.{cases_Bool, not-true, or_left, or_right}
 use Rattle.wx_watch.specs.declared.notify_fault.NotifyFault.{NotifyFault}
 use Rattle.wx_watch.specs.declared.notify_fault.NotifyFaultKind.{NotifyFaultKind}
 use Rattle.wx_watch.specs.declared.notify_fault.NotifyFaultKind.TheVariants.{Generic, InvalidConfig, Io, MaxFilesWatch, Memory, PathNotFound, WatchNotFound}
@@ -11,7 +11,7 @@ use Rattle.wx_tree.specs.Paths.{Path, same_part}
 use Rattle.wx_tree.specs.Places.{place, spelled}
 use Rattle.wx_tree.specs.declared.root.Root.{Root}
 use Rattle.wx_tree.proofs.ListLemmas.{In-filter, In-kept}
-use Rattle.wx_tree.proofs.PathLemmas.{same_part-refl, same_part-true, or_left, or_right}
+use Rattle.wx_tree.proofs.PathLemmas.{same_part-refl, same_part-true}
 use Rattle.wx_recursor.specs.Holding.{deepest_first, keep_retry, put_deep, serves, still_known}
 use Rattle.wx_recursor.specs.Identities.{has_identity, refusal}
 use Rattle.wx_recursor.specs.Owning.{is_known_otherwise, refused, unwatched}
@@ -31,10 +31,6 @@ there_registered q [] m = absurd m
 there_registered q (x ∷ qs) (inl e) = or_left (same_part x q) (is_registered q qs) (subst (λ y. same_part x y ≡ true) e (same_part-refl x))
 there_registered q (x ∷ qs) (inr m) = or_right (same_part x q) (is_registered q qs) (there_registered q qs m)
 
-pub not_true : (b : Bool) → not b ≡ true → b ≡ false
-not_true true h = cc
-not_true false h = refl
-
 differs : (p q : List ℕ) → (q ≡ p → ⊥) → not (same_part q p) ≡ true
 differs p q never =
     elim (cases_Bool (same_part q p)) [
@@ -52,7 +48,7 @@ lets_go p is_one a b h = record {
   others = λ q m never. subst (In q) (sym h.registrations) (In-kept (λ x. not (same_part x p)) q a.registrations (differs p q (λ e. never (inl (sym e)))) m);
   gone = λ quiet q m.
       (let x = In-filter (λ x. not (same_part x p)) q a.registrations (subst (In q) h.registrations m) in
-      (x.0, λ given. (let e : p ≡ q = one_given p q given in let t : same_part q p ≡ true = subst (λ y. same_part q y ≡ true) (sym e) (same_part-refl q) in let f : same_part q p ≡ false = not_true (same_part q p) x.1 in let z : true ≡ false = sym t ∙ f in cc)));
+      (x.0, λ given. (let e : p ≡ q = one_given p q given in let t : same_part q p ≡ true = subst (λ y. same_part q y ≡ true) (sym e) (same_part-refl q) in let f : same_part q p ≡ false = not-true (same_part q p) x.1 in let z : true ≡ false = sym t ∙ f in cc)));
   faults = h.faults;
   brought = h.brought;
   exact = h.exact;
@@ -221,7 +217,7 @@ serves_idle s paths sound w k m e (x, n, same) =
           let paths_same : x.path ≡ k.path = sym (w x o.0).1 ∙ (ap place same ∙ (w k m).1) in
           let identities_same : x.identity ≡ k.identity = sound.uniform x k (inr (inr (inl o.0))) (inr (inr (inl m))) paths_same in
           let served : serves ks s.guards x.identity ≡ true = subst (λ i. serves ks s.guards i ≡ true) (sym identities_same) e in
-          let idle : serves ks s.guards x.identity ≡ false = not_true (serves ks s.guards x.identity) o.1 in
+          let idle : serves ks s.guards x.identity ≡ false = not-true (serves ks s.guards x.identity) o.1 in
           let z : true ≡ false = sym served ∙ idle in
           cc)
       | inr never ↦ absurd never

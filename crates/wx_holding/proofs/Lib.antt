@@ -6,5 +6,5 @@ pub mod StillLooks
 mod Added
 mod Released
 mod Acts
-mod StandingBy
-mod CalmActs
+pub mod StandingBy
+pub mod CalmActs

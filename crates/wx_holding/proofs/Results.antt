@@ -6,14 +6,6 @@ pub ok_map : {A E : Type 0} (r : Result A E) (P Q : Type 0) → (P → Q) → On
 ok_map (Ok a) P Q f h = f h
 ok_map (Err e) P Q f h = h
 
-pub if_map : {A E : Type 0} (r : Result A E) (P Q : A → Type 0) → ((a : A) → P a → Q a) → IfOk r P → IfOk r Q
-if_map (Ok a) P Q f h = f a h
-if_map (Err e) P Q f h = h
-
 pub if_both : {A E : Type 0} (r : Result A E) (P : Type 0) (Q R : A → Type 0) → ((a : A) → P → Q a → R a) → OnOk r P → IfOk r Q → IfOk r R
 if_both (Ok a) P Q R f h k = f a h k
 if_both (Err e) P Q R f h k = h
-
-pub ok_always : {A E : Type 0} (r : Result A E) (P : Type 0) → P → OnOk r P
-ok_always (Ok a) P h = h
-ok_always (Err e) P h = tt

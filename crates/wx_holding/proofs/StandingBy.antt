@@ -2,7 +2,7 @@
 use Rattle.std.proofs.Common.{◌≡◌, ◌≤◌, ◌<◌, ◌-◌, ℕ, Bool, true, false, List, [], ◌∷◌, ◌++◌, Some, None, Ok, Err, inl, inr, refl, ap, sym, ◌∙◌, subst, arith, length, get_or, take, drop}
 use Rattle.std.specs.Prelude.{Option, filter, if◌then◌else◌, ltb, not}
 use Rattle.std.proofs.Math.Seq.{take-length}
-use Rattle.std.proofs.lemmas.Bool.{cases_Bool}
+use Rattle.std.proofs.lemmas.Bool.{cases_Bool, not-true}
 use Rattle.wx_watch.specs.declared.notify_fault.NotifyFault.{NotifyFault}
 use Rattle.wx_watch.specs.declared.notify_fault.NotifyFaultKind.{NotifyFaultKind}
 use Rattle.wx_tree.specs.Lists.{AllOnce, In}
@@ -37,7 +37,7 @@ use Rattle.wx_scan.specs.Told.{SpellsPath}
 use Rattle.wx_holding.specs.Backed.{AreRegistered, AreWatched, LetsGo, paths_spelled}
 use Rattle.wx_holding.specs.Calm.{AddsCalmly, IsFit, IsReadable, IsStill, ReleasesCalmly, StandsBy}
 use Rattle.wx_holding.specs.Standing.{AreLeft, AreToGo, GoCalmly, IsAtTree}
-use Rattle.wx_holding.proofs.LettingGo.{deep_from, deepest_from, keeps_released, not_true, one_given, released_registrations, spelled_from, there_registered}
+use Rattle.wx_holding.proofs.LettingGo.{deep_from, deepest_from, keeps_released, one_given, released_registrations, spelled_from, there_registered}
 use Rattle.wx_holding.proofs.Watching.{keeps_watch, rose_later, rose_sooner}
 
 -- ---- where no look fails, none of its parts does
@@ -109,11 +109,11 @@ no_rise : Rose 0 0 → ⊥
 no_rise (inl lt) = omega arith
 no_rise (inr end) = omega arith
 
-all_spell : (t : Tree) (paths : List (List ℕ)) → ((bytes : List ℕ) → In bytes paths → (p : Path) × SpellsPath t p bytes) → AllSpellPaths t paths
+pub all_spell : (t : Tree) (paths : List (List ℕ)) → ((bytes : List ℕ) → In bytes paths → (p : Path) × SpellsPath t p bytes) → AllSpellPaths t paths
 all_spell t [] h = tt
 all_spell t (bytes ∷ more) h = (h bytes (inl refl), all_spell t more (λ b m. h b (inr m)))
 
-reads_registered : (t : Tree) (gs : List Known) (paths : List (List ℕ)) → AreRegistered gs paths → ((k : Known) → In k gs → IsReadable t k.path) → (bytes : List ℕ) → In bytes paths → (p : Path) × SpellsPath t p bytes
+pub reads_registered : (t : Tree) (gs : List Known) (paths : List (List ℕ)) → AreRegistered gs paths → ((k : Known) → In k gs → IsReadable t k.path) → (bytes : List ℕ) → In bytes paths → (p : Path) × SpellsPath t p bytes
 reads_registered t gs paths r readable bytes m =
     let x = r bytes m in
     (x.0.path, subst (SpellsPath t x.0.path) (sym x.2) (readable x.0 x.1))
@@ -182,7 +182,7 @@ spell_there t p bytes a X e m h = (h.readable bytes (subst (λ x. In x a.registr
 given_differs : (p q : List ℕ) → not (same_part q p) ≡ true → p ≡ q → ⊥
 given_differs p q h e =
     let t : same_part q p ≡ true = subst (λ y. same_part q y ≡ true) (sym e) (same_part-refl q) in
-    let z : true ≡ false = sym t ∙ not_true (same_part q p) h in
+    let z : true ≡ false = sym t ∙ not-true (same_part q p) h in
     cc
 
 left_at_tree : (t : Tree) (given : List (List ℕ)) (a b : Backing) (X Y : Type 0) → AreLeft given a.registrations b.registrations → b.exact ≡ a.exact → IsAtTree t a X → Y → IsAtTree t b Y

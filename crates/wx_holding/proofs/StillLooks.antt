@@ -1,16 +1,19 @@
 -- Looks at a told tree, where no look fails: each finds what the tree says.
-use Rattle.std.proofs.Common.{arith, ◌≡◌, ◌≤◌, ◌<◌, ℕ, zero, suc, Bool, true, false, List, [], ◌∷◌, Ok, Some, None, inl, inr, refl, ap, sym, ◌∙◌, subst, length, drop}
-use Rattle.std.specs.Prelude.{IfOk, Option, Result, ◌⊎◌, map, not, ◌&&◌, if◌then◌else◌}
-use Rattle.std.proofs.lemmas.Bool.{cases_Bool, and_parts, and_from}
+use Rattle.std.proofs.Common.{arith, ◌≡◌, ◌≤◌, ◌<◌, ℕ, zero, suc, true, false, List, [], ◌∷◌, Ok, Some, None, inl, inr, refl, ap, sym, ◌∙◌, subst, length, drop}
+use Rattle.std.specs.Prelude.{IfOk, Option, Result, ◌⊎◌, map, not, if◌then◌else◌}
+use Rattle.std.proofs.lemmas.Bool.{cases_Bool, and_right}
+use Rattle.std.proofs.lemmas.Result.{IfOk-weaker}
 use Rattle.wx_tree.specs.Lists.{In}
-use Rattle.wx_tree.specs.Paths.{Part, Path}
-use Rattle.wx_tree.specs.Places.{AreParts, is_part, place, spelled}
+use Rattle.wx_tree.specs.Paths.{Path}
+use Rattle.wx_tree.specs.Places.{AreParts, place, spelled}
 use Rattle.wx_tree.specs.Trees.{Tree, guard_of, is_chain, is_chain_above, is_directory, is_directory_node, is_fit_node, is_safe, is_there, is_there_node, last_of_chain, node_at}
 use Rattle.wx_tree.specs.declared.node.Node.{Node}
 use Rattle.wx_tree.specs.declared.node.Node.TheVariants.{Dir, File, Link}
 use Rattle.wx_tree.proofs.PlaceLemmas.{place_spelled}
+use Rattle.wx_tree.proofs.Reaching.{chain_here}
 use Rattle.wx_scan.specs.Looked.{Looked, OnlyLooks}
-use Rattle.wx_scan.specs.Told.{AreNames, IsListed, IsNamed, Unlinked, has_link_above, is_link_node}
+use Rattle.wx_scan.specs.Told.{AreNames, IsListed, IsNamed, Unlinked}
+use Rattle.wx_scan.proofs.LookLemmas.{directory_no_link, no_link_above, names_parts}
 use Rattle.wx_recursor.specs.Seen.{guard_found_at, identity_at, is_gap, look_at_node, root_found}
 use Rattle.wx_recursor.specs.declared.answers.Found.{Found}
 use Rattle.wx_recursor.specs.declared.answers.Found.TheVariants.{Barred, Entries, Here, Missing}
@@ -21,16 +24,9 @@ use Rattle.wx_recursor.specs.declared.answers.Look.TheVariants.{Absent, Broken, 
 use Rattle.wx_recursor.specs.declared.known.Identity.{Identity}
 use Rattle.wx_recursor.specs.declared.known.Identity.TheVariants.{Canonical, Lexical}
 use Rattle.wx_holding.specs.Calm.{FindsEntries, IsReadable, IsStill, break_found, here_found}
-use Rattle.wx_holding.proofs.Results.{if_map}
-use Rattle.wx_holding.proofs.Watching.{rose_later, rose_sooner}
+use Rattle.wx_holding.proofs.StandingBy.{still_after}
 
 -- ---- where no look fails, none of its parts does
-
-pub still_first : (t : Tree) (a b c : Looked) → OnlyLooks b c → IsStill t a c → IsStill t a b
-still_first t a b c later still = record { told = still.told; no_fault = λ rose. still.no_fault (rose_later a.faults b.faults c.faults rose later.faults) }
-
-pub still_then : (t : Tree) (a b c : Looked) → OnlyLooks a b → IsStill t a c → IsStill t b c
-still_then t a b c before still = record { told = before.same.tree ∙ still.told; no_fault = λ rose. still.no_fault (rose_sooner a.faults b.faults c.faults before.faults rose) }
 
 -- ---- names are parts, and lie above names
 
@@ -39,29 +35,9 @@ names_above zero p h = h
 names_above (suc n) [] h = h
 names_above (suc n) (x ∷ p) h = names_above n p h.1
 
-pub names_parts : (p : Path) → AreNames p → AreParts p
-names_parts [] h = tt
-names_parts (x ∷ p) h = ((and_parts (is_part x) _ h.0).0, names_parts p h.1)
-
 -- ---- below directories no link stands above
 
-directory_no_link : (n : Option Node) → is_directory_node n ≡ true → is_link_node n ≡ false
-directory_no_link None h = cc
-directory_no_link (Some Dir) h = refl
-directory_no_link (Some (File stamp)) h = cc
-directory_no_link (Some (Link target)) h = cc
-
 -- no link stands in a chain
-chain_no_link : (t : Tree) (x : Part) (p : Path) → is_chain t p ≡ true → has_link_above t (x ∷ p) ≡ false
-chain_no_link t x [] h = rw (directory_no_link (node_at t []) h) refl
-chain_no_link t x (y ∷ p) h =
-    let parts = and_parts (is_directory t (y ∷ p)) (is_chain t p) h in
-    rw (directory_no_link (node_at t (y ∷ p)) parts.0, chain_no_link t y p parts.1) refl
-
-no_link_above : (t : Tree) (p : Path) → is_chain_above t p ≡ true → has_link_above t p ≡ false
-no_link_above t [] h = refl
-no_link_above t (x ∷ p) h = chain_no_link t x p h
-
 -- a path of names below directories is readable
 pub readable_below : (t : Tree) (p : Path) → AreNames p → is_chain_above t p ≡ true → IsReadable t p
 readable_below t p names h = record { spelled = refl; names = names; no_link = no_link_above t p h }
@@ -71,15 +47,11 @@ readable_above t n p above is names h = subst (λ q. IsReadable t q) (sym is) (r
 
 -- ---- the way down
 
-chain_from : (t : Tree) (p : Path) → is_chain_above t p ≡ true → is_directory t p ≡ true → is_chain t p ≡ true
-chain_from t [] h k = k
-chain_from t (x ∷ p) h k = and_from (is_directory t (x ∷ p)) (is_chain t p) k h
-
 -- the way down goes on through a directory
 chain_down : (t : Tree) (n m : ℕ) (p : Path) → suc m ≡ n → n ≤ length p → is_chain_above t (drop n p) ≡ true → is_directory t (drop n p) ≡ true → is_chain_above t (drop m p) ≡ true
 chain_down t zero m p e le h k = absurd (omega (arith, e))
 chain_down t (suc n) m [] e le h k = absurd (omega (arith, le))
-chain_down t (suc n) zero (x ∷ p) e le h k = (let z : n ≡ 0 = omega (arith, e) in chain_from t p (rw z at h) (rw z at k))
+chain_down t (suc n) zero (x ∷ p) e le h k = (let z : n ≡ 0 = omega (arith, e) in chain_here t p (rw z at h) (rw z at k))
 chain_down t (suc n) (suc m) (x ∷ p) e le h k = chain_down t n m p (omega (arith, e)) (omega (arith, le)) h k
 
 chain_top : (t : Tree) (p : Path) → is_chain_above t (drop (length p) p) ≡ true
@@ -94,15 +66,11 @@ broken_here : (t : Tree) (p : Path) → is_directory t p ≡ false → is_chain 
 broken_here t [] h = h
 broken_here t (x ∷ p) h = rw h refl
 
-and_false : (a b : Bool) → b ≡ false → (a && b) ≡ false
-and_false true b h = h
-and_false false b h = refl
-
 -- what is no directory breaks each chain through it
 broken_below : (t : Tree) (n : ℕ) (p : Path) → is_directory t (drop n p) ≡ false → is_chain t p ≡ false
 broken_below t zero p h = broken_here t p h
 broken_below t (suc n) [] h = broken_here t [] h
-broken_below t (suc n) (x ∷ p) h = and_false (is_directory t (x ∷ p)) (is_chain t p) (broken_below t n p h)
+broken_below t (suc n) (x ∷ p) h = and_right (is_directory t (x ∷ p)) (is_chain t p) (broken_below t n p h)
 
 -- ---- looks
 
@@ -139,7 +107,7 @@ look_broken p c (Some (Link target)) X h = cc
 -- what is said of a look at a path above
 pub finds_above : (t : Tree) (n : ℕ) (p above : Path) (l : Look) (a b c : Looked) → OnlyLooks a b → above ≡ drop n p → is_chain_above t (drop n p) ≡ true → IsStill t a c → AreNames p → (IsStill t b c → IsReadable t above → l ≡ look_at_node above (node_at t above))
     → l ≡ look_at_node above (node_at t above)
-finds_above t n p above l a b c before is way still names told = told (still_then t a b c before still) (readable_above t n p above is names way)
+finds_above t n p above l a b c before is way still names told = told (still_after t a b c before still) (readable_above t n p above is names way)
 
 -- a look that finds no directory
 abbrev pub IsNoDirectory : Look → Type 0
@@ -190,7 +158,7 @@ pub last_goes_on : (t : Tree) (n m : ℕ) (p above canonical : Path) (found : Gu
 last_goes_on t n m p above canonical found l e le is looked there h =
     let at = look_directory above canonical (node_at t above) (sym looked ∙ there) in
     let directory : is_directory t (drop n p) ≡ true = subst (λ q. is_directory t q ≡ true) is at.0 in
-    let chain : is_chain t (drop n p) ≡ true = chain_from t (drop n p) h.way directory in
+    let chain : is_chain t (drop n p) ≡ true = chain_here t (drop n p) h.way directory in
     record {
       way = chain_down t n m p e le h.way directory;
       last = ap (λ q. At above (Canonical q)) at.1 ∙ (ap (λ q. At q (Canonical q)) is ∙ ap guard_found_at (sym (guard_next t n m p e le chain)));
@@ -297,7 +265,7 @@ here_is_root t p h = rw (h, gap_here t p h) (here_root p (node_at t p))
 pub root_unbroken : {E : Type 0} (t : Tree) (p : Path) (r : Result Found E) → None ≡ break_found t p → AreNames p → (IsReadable t p → IfOk r (λ found. found ≡ here_found p (node_at t p))) → IfOk r (λ found. found ≡ root_found t p)
 root_unbroken t p r none names told =
     let way = way_unbroken t p none in
-    if_map r (λ found. found ≡ here_found p (node_at t p)) (λ found. found ≡ root_found t p) (λ found e. e ∙ here_is_root t p way) (told (readable_below t p names way))
+    IfOk-weaker r (λ found. found ≡ here_found p (node_at t p)) (λ found. found ≡ root_found t p) (λ found e. e ∙ here_is_root t p way) (told (readable_below t p names way))
 
 -- a root at which something else was found isn't safe
 pub unsafe_found : (t : Tree) (p : Path) (f g : Found) → f ≡ root_found t p → f ≡ g → ((i : Identity) → g ≡ Here i → ⊥) → false ≡ is_safe t p

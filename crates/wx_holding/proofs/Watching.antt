@@ -1,28 +1,18 @@
 -- How calls on a backend change what it watches.
-use Rattle.std.proofs.Common.{◌≡◌, ◌≤◌, ℕ, Bool, true, false, List, [], ◌∷◌, ◌++◌, Ok, Err, inl, inr, refl, ap, sym, ◌∙◌, subst, arith}
-use Rattle.std.specs.Prelude.{◌⊎◌, if◌then◌else◌, ◌||◌}
-use Rattle.std.proofs.lemmas.Bool.{cases_Bool}
+use Rattle.std.proofs.Common.{◌≡◌, ◌≤◌, ℕ, Bool, true, false, List, [], ◌∷◌, ◌++◌, Ok, Err, inl, inr, refl, sym, ◌∙◌, subst, arith}
+use Rattle.std.specs.Prelude.{◌⊎◌, if◌then◌else◌}
 use Rattle.wx_watch.specs.declared.notify_fault.NotifyFault.{NotifyFault}
 use Rattle.wx_watch.specs.declared.notify_fault.NotifyFaultKind.{NotifyFaultKind}
 use Rattle.wx_tree.specs.Lists.{In}
-use Rattle.wx_tree.specs.Paths.{same_part}
 use Rattle.wx_tree.specs.Places.{place, spelled}
 use Rattle.wx_tree.proofs.ListLemmas.{In-left, In-right, In-cases}
-use Rattle.wx_tree.proofs.PathLemmas.{same_part-true}
 use Rattle.wx_recursor.specs.declared.known.Known.{Known}
 use Rattle.wx_scan.specs.Backings.{Backing, Changes, is_registered, register}
 use Rattle.wx_scan.specs.Looked.{Rose}
+use Rattle.wx_scan.proofs.LookLemmas.{registered_in}
 use Rattle.wx_holding.specs.Backed.{AreRegistered, AreWatched, KeepsWatches}
 
 -- what is registered is in the list
-in_registered : (q : List ℕ) (qs : List (List ℕ)) → is_registered q qs ≡ true → In q qs
-in_registered q [] h = cc
-in_registered q (x ∷ qs) h =
-    elim (cases_Bool (same_part x q)) [
-      | inl e ↦ inl (same_part-true x q e)
-      | inr e ↦ inr (in_registered q qs (sym (ap (λ b. b || is_registered q qs) e) ∙ h))
-    ]
-
 in_either : (b : Bool) (p q : List ℕ) (qs : List (List ℕ)) → In q qs → In q (if b then qs else qs ++ p ∷ [])
 in_either true p q qs h = h
 in_either false p q qs h = In-left q qs (p ∷ []) h
@@ -36,7 +26,7 @@ in_now true p qs h = h refl
 in_now false p qs h = In-right p qs (p ∷ []) (inl refl)
 
 register_now : (p : List ℕ) (qs : List (List ℕ)) → In p (register p qs)
-register_now p qs = in_now (is_registered p qs) p qs (in_registered p qs)
+register_now p qs = in_now (is_registered p qs) p qs (registered_in p qs)
 
 from_either : (b : Bool) (p q : List ℕ) (qs : List (List ℕ)) → In q (if b then qs else qs ++ p ∷ []) → In q qs ⊎ (p ≡ q)
 from_either true p q qs h = inl h

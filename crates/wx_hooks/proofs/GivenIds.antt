@@ -3,6 +3,7 @@ use Rattle.std.proofs.Common.{◌≡◌, ℕ, ◌<◌, ◌≤◌, ◌+◌, Bool,
 use Rattle.std.specs.Prelude.{Option, None, Some, is_some, ◌||◌}
 use Rattle.std.proofs.lemmas.Bool.{eqb-true, or_right, or_parts}
 use Rattle.std.specs.List.{find}
+use Rattle.std.proofs.Math.Bool.{or-false}
 use Rattle.wx_command.specs.declared.command.Command.{Command}
 use Rattle.wx_control.specs.declared.id.Id.{Id}
 use Rattle.wx_journal.specs.declared.entry.Entry.{Entry}
@@ -104,15 +105,11 @@ under_by p acts id held rest None is shown t =
     let none : is_seen id p ≡ false = sym (there_none p id held shown (sym is)) in
     let h = created_is id acts rest t in
     record {
-      there = h.there ∙ sym (ap (λ b. creates id acts || b) none ∙ or_none (creates id acts));
+      there = h.there ∙ sym (ap (λ b. creates id acts || b) none ∙ or-false (creates id acts));
       its = h.its;
       seen = λ x e s. (let both : true ≡ false = sym s ∙ none in absurd cc);
       created = λ x e s. h.runs x e;
     }
-  where
-    or_none : (b : Bool) → (b || false) ≡ b
-    or_none true = refl
-    or_none false = refl
 
 pub under_is : (p : List Entry) (acts : List Act) (id : Id) (held : List Held) (rest : List Todo) → AreShown p held → AreTodo acts rest → IsUnder p acts id (held_under id held rest)
 under_is p acts id held rest shown t = under_by p acts id held rest (find (is_of id) held) refl shown t

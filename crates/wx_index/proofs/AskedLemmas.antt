@@ -4,6 +4,7 @@ use Rattle.std.specs.Prelude.{◌&&◌, ◌||◌, IfSome}
 use Rattle.std.specs.Cmp.{both_ways}
 use Rattle.std.proofs.lemmas.Bool.{cases_Bool, lt-ltb, ltb-true}
 use Rattle.std.proofs.lemmas.List.{map-append}
+use Rattle.std.proofs.lemmas.Option.{same_Some}
 use Rattle.wx_tree.specs.Paths.{Path, same}
 use Rattle.wx_tree.specs.Places.{spelled}
 use Rattle.wx_tree.proofs.PathLemmas.{same-true}
@@ -14,7 +15,6 @@ use Rattle.wx_recursor.specs.declared.known.Known.{Known}
 use Rattle.wx_index.specs.declared.chains.Chains.{Chains}
 use Rattle.wx_index.specs.Chained.{AreFound, Key, first_at}
 use Rattle.wx_index.specs.Keys.{AreIndexed, AreKnown, identity_bytes}
-use Rattle.wx_index.proofs.ChainLemmas.{some-same}
 use Rattle.wx_index.specs.declared.known_index.KnownIndex.{KnownIndex}
 
 ltb_suc : (n m : ℕ) → nat_lt (suc n) (suc m) ≡ nat_lt n m
@@ -51,7 +51,7 @@ grown_found key ks x bytes new e h = rw (map-append key ks (x ∷ []), ← e) h
 
 pub indexed_some : (ks : List Known) (o : Option KnownIndex) (index : KnownIndex) → o ≡ Some index → AreIndexed ks o → AreKnown ks index
 indexed_some ks None index e h = cc
-indexed_some ks (Some i) index e h = (let f = some-same i index e in rw (← f) h)
+indexed_some ks (Some i) index e h = (let f = same_Some i index e in rw (← f) h)
 
 taken_suc : {X : Type 0} (xs : List X) (i : ℕ) (x : X) → i < length xs → x ≡ get_or xs i x → take (suc i) xs ≡ take i xs ++ x ∷ []
 taken_suc [] i x lt e = absurd (omega arith)

@@ -4,7 +4,7 @@ use Rattle.std.specs.Prelude.{◌&&◌, ◌||◌, ◌==◌, not}
 use Rattle.std.specs.Option.{unwrap_or}
 use Rattle.std.proofs.lemmas.Bool.{cases_Bool, cases_lt, both_ways}
 use Rattle.std.proofs.lemmas.List.{length-append}
-use Rattle.std.proofs.lemmas.Option.{slice_get_within}
+use Rattle.std.proofs.lemmas.Option.{slice_get_within, same_Some}
 use Rattle.std.proofs.lemmas.Map.Lookups.{exact_bytes}
 use Rattle.std.specs.BTreeMap.{BTreeMap, get, is_at, Updates}
 use Rattle.std.specs.Cmp.Lexicographic.{slice_cmp}
@@ -21,9 +21,6 @@ get-below (y ∷ xs) x (suc at) lt = get-below xs x at (omega arith)
 pub get-last : {X : Type 0} (xs : List X) (x : X) → slice_get (xs ++ x ∷ []) (length xs) ≡ Some x
 get-last [] x = refl
 get-last (y ∷ xs) x = get-last xs x
-
-pub some-same : {X : Type 0} (x y : X) → Some x ≡ Some y → x ≡ y
-some-same x y e = ap (λ o. unwrap_or o x) e
 
 -- what is found among the first of them is found where there is one more
 wider : (q k : Key) (keys : List Key) (to end : ℕ) → to ≤ length keys → IsEnd q keys to end → IsEnd q (keys ++ k ∷ []) to end
@@ -44,7 +41,7 @@ wider_other q k keys end apart is = (
         | inr a ↦
             let is_last : at ≡ length keys = omega arith in
             let f : Some k ≡ Some q = sym (get-last keys k) ∙ (ap (λ n. slice_get (keys ++ k ∷ []) n) (sym is_last) ∙ e) in
-            apart (sym (some-same k q f))
+            apart (sym (same_Some k q f))
       ],
 )
 
@@ -81,7 +78,7 @@ befores keys k f before is at q e =
           let is_last : at ≡ length keys = omega arith in
           let at_end : at ≡ length before = omega (arith, is.0) in
           let g : Some k ≡ Some q = sym (get-last keys k) ∙ (ap (λ n. slice_get (keys ++ k ∷ []) n) (sym is_last) ∙ e) in
-          let same : k ≡ q = some-same k q g in
+          let same : k ≡ q = same_Some k q g in
           let last : slice_get (before ++ f k ∷ []) at ≡ Some (f k) = ap (λ n. slice_get (before ++ f k ∷ []) n) at_end ∙ get-last before (f k) in
           rw (last, ← same, is_last) (wider k k keys (length keys) (f k) (omega arith) (is.1 k))
     ]

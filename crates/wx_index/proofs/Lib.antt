@@ -1,5 +1,5 @@
 mod AskedLemmas
 mod ChainLemmas
-mod KnownLemmas
+pub mod KnownLemmas
 mod OwnerLemmas
 mod SearchLemmas

@@ -5,7 +5,7 @@ use Rattle.std.specs.Prelude.{◌&&◌, ◌||◌, not, IfSome, OnOk}
 use Rattle.std.specs.BTreeSet.{BTreeSet, contains}
 use Rattle.std.proofs.lemmas.Bool.{cases_Bool, cases_lt, and_parts, or_cases}
 use Rattle.std.proofs.lemmas.List.{length-append, map-append}
-use Rattle.std.proofs.lemmas.Option.{slice_get_within, slice_get-map}
+use Rattle.std.proofs.lemmas.Option.{slice_get_within, slice_get-map, same_Some}
 use Rattle.wx_tree.specs.Paths.{Path, holds, holds_below, same}
 use Rattle.wx_tree.specs.Places.{spelled}
 use Rattle.wx_tree.specs.Roots.{same_root}
@@ -17,7 +17,7 @@ use Rattle.wx_index.specs.Chained.{AreFound, Key, first_at}
 use Rattle.wx_index.specs.Owned.{AreOwned, AreOwnersIndexed, HasAbove, HaveAbove, has_key, is_any_below, owner_key, owner_path}
 use Rattle.wx_index.specs.declared.owner_index.OwnerIndex.{OwnerIndex}
 use Rattle.wx_index.proofs.AskedLemmas.{taken_more}
-use Rattle.wx_index.proofs.ChainLemmas.{get-below, get-last, some-same}
+use Rattle.wx_index.proofs.ChainLemmas.{get-below, get-last}
 use Rattle.wx_index.proofs.KnownLemmas.{bool_apart}
 
 -- what holds a path is that path some levels up
@@ -49,7 +49,7 @@ have_more ps p old new kept added have at q e =
           let within : at < length (ps ++ p ∷ []) = slice_get_within (ps ++ p ∷ []) at q e in
           let is_last : at ≡ length ps = omega arith in
           let f : Some p ≡ Some q = sym (get-last ps p) ∙ (ap (λ n. slice_get (ps ++ p ∷ []) n) (sym is_last) ∙ e) in
-          rw (← some-same p q f) added
+          rw (← same_Some p q f) added
     ]
 
 pub owned_more : (os : List Owner) (o : Owner) (old new : BTreeSet Key) → ((k : Key) → has_key k old ≡ true → has_key k new ≡ true) → HasAbove o.path new → HaveAbove (map owner_path os) old → HaveAbove (map owner_path (os ++ o ∷ [])) new
@@ -57,7 +57,7 @@ owned_more os o old new kept added have = rw (map-append owner_path os (o ∷ []
 
 pub owners_some : (os : List Owner) (i : Option OwnerIndex) (index : OwnerIndex) → i ≡ Some index → AreOwnersIndexed os i → AreOwned os index
 owners_some os None index e h = cc
-owners_some os (Some i) index e h = (let f = some-same i index e in rw (← f) h)
+owners_some os (Some i) index e h = (let f = same_Some i index e in rw (← f) h)
 
 pub owners_taken : (os : List Owner) (i : ℕ) (o : Owner) (index : Option OwnerIndex) → i < length os → o ≡ get_or os i o → AreOwnersIndexed (take i os ++ o ∷ []) index → AreOwnersIndexed (take (i + 1) os) index
 owners_taken os i o index lt e h = rw (taken_more os i o lt e) h

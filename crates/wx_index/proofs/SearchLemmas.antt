@@ -2,10 +2,10 @@
 use Rattle.std.proofs.Common.{◌≡◌, ℕ, zero, suc, ◌+◌, ◌-◌, ◌≤◌, ◌<◌, Bool, true, false, cond, Option, Some, None, List, [], ◌∷◌, length, slice_get, map, inl, inr, arith, refl, sym, ap, ◌∙◌}
 use Rattle.std.specs.Prelude.{◌&&◌, ◌||◌, if◌then◌else◌}
 use Rattle.std.proofs.lemmas.Bool.{cases_Bool, cases_lt, both_ways}
-use Rattle.std.proofs.lemmas.Option.{slice_get_within, slice_get-map, slice_get_past}
+use Rattle.std.proofs.lemmas.Option.{slice_get_within, slice_get-map, slice_get_past, same_Some}
 use Rattle.wx_index.specs.Chained.{Key, NoneOf, IsEnd, first_at, judged}
 use Rattle.std.specs.Option.{unwrap_or}
-use Rattle.wx_index.proofs.ChainLemmas.{AreFoundBy, some-same}
+use Rattle.wx_index.proofs.ChainLemmas.{AreFoundBy}
 
 pub length-mapped : {X Y : Type 0} (f : X → Y) (xs : List X) → length (map f xs) ≡ length xs
 length-mapped f [] = refl
@@ -47,7 +47,7 @@ search_begins asks key xs k left keyed is = (
 search_finds : {X : Type 0} (asks : X → Bool) (key : X → Key) (xs : List X) (k : Key) (at next : ℕ) (y : X) → ((y : X) → asks y ≡ true → key y ≡ k) → IsEnd k (map key xs) at next → slice_get xs at ≡ Some y → asks y ≡ true → Searched asks key xs k next at
 search_finds asks key xs k at next y keyed is e met = (
   λ i x le lt h. unmet asks key xs k next at i x keyed is.2 le lt h,
-  λ x h. (let f = some-same x y (sym h ∙ e) in rw f met),
+  λ x h. (let f = same_Some x y (sym h ∙ e) in rw f met),
   (let lt = slice_get_within xs at y e in omega arith),
   is.1,
 )
@@ -74,7 +74,7 @@ goes asks key xs k left found at next None keyed was lt e is h =
 goes asks key xs k left found at next (Some y) keyed was lt e is h =
     elim (cases_Bool (asks y)) [
       | inl a ↦ rw a (search_finds asks key xs k at next y keyed is h a)
-      | inr a ↦ rw a (search_passes asks key xs k left found at next keyed was lt e is (λ x f. (let g = some-same x y (sym f ∙ h) in rw g a)))
+      | inr a ↦ rw a (search_passes asks key xs k left found at next keyed was lt e is (λ x f. (let g = same_Some x y (sym f ∙ h) in rw g a)))
     ]
 
 pub search_goes : {X : Type 0} (asks : X → Bool) (key : X → Key) (xs : List X) (k : Key) (left found at next : ℕ) → ((y : X) → asks y ≡ true → key y ≡ k) → Searched asks key xs k left found → 0 < left → at ≡ left - 1 → IsEnd k (map key xs) at next → Searched asks key xs k next (judged asks (slice_get xs at) at found)

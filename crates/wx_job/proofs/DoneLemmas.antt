@@ -1,7 +1,8 @@
 -- How a case that may spawn was done, by how its parts were.
 use Rattle.std.proofs.Common.{◌≡◌, ℕ, Bool, true, false, cond, List, ◌∷◌, Option, Some, Result, Ok, Err, refl}
-use Rattle.std.specs.Prelude.{is_err, OnOk, OnErr, not, option_map}
+use Rattle.std.specs.Prelude.{is_err, OnOk, OnErr, option_map}
 use Rattle.std.specs.Result.{IsErr}
+use Rattle.std.proofs.lemmas.Bool.{not-true}
 use Rattle.wx_command.specs.declared.command.Command.{Command}
 use Rattle.wx_control.specs.declared.control.Control.{Control}
 use Rattle.wx_control.specs.declared.control.Control.TheVariants.{NextEnding}
@@ -32,12 +33,8 @@ done_picked (Ok u) k spawning id t plan p a hooks p' b hooks' d = record { ok = 
 done_picked (Err e) k spawning id t plan p a hooks p' b hooks' d = record { ok = tt; err = λ k₀ p₀ a₀ hooks₀ r. d.err k₀ p₀ a₀ hooks₀ (picks id t plan p a hooks k₀ p₀ a₀ hooks₀ r); memory = d.memory; pending = d.pending }
 
 -- a control was picked whose ticket is parked, and nothing more is owed
-unfinished : (b : Bool) → not b ≡ true → b ≡ false
-unfinished true is = cc
-unfinished false is = refl
-
 pub parked_row : (id : Id) (by : Kit) (t : ℕ) (control : Control) (running : Option ℕ) (now : CommandState) → is_parking control now ≡ true → by.finished ≡ is_finished now → row id (kit_after control by) t control running ≡ Done
-parked_row id by t NextEnding running now is same = rw (same, unfinished (is_finished now) is) refl
+parked_row id by t NextEnding running now is same = rw (same, not-true (is_finished now) is) refl
 parked_row id by t (_) running now is same = absurd cc
 
 pub done_parked : {Fixed : Type 0} (k : JobTask) (spawning : Bool) (id : Id) (t : ℕ) (plan : Plan) (p p' : List Entry) (a : Seen Fixed) (hooks : Option (List Entry)) → plan ≡ Done → p' ≡ Pick id t ∷ p → HasDone {A = Unit {0}} (Ok (tt {0})) k spawning (adds (Pick id t) plan) p a hooks p' a hooks

@@ -3,6 +3,7 @@ use Rattle.std.proofs.Common.{◌≡◌, ℕ, suc, ◌≤◌, ◌<◌, ◌+◌, 
 use Rattle.std.specs.Prelude.{◌==◌, ◌||◌}
 use Rattle.std.specs.List.{list_any}
 use Rattle.std.proofs.Math.Arith.{lt_of_le-ne}
+use Rattle.std.proofs.Math.Bool.{or-false}
 use Rattle.std.proofs.lemmas.Bool.{eqb-false}
 use Rattle.std.proofs.lemmas.List.{length-reverse, reverse-append}
 use Rattle.std.proofs.lemmas.List.Folds.{list_any-append}
@@ -57,14 +58,10 @@ or_turned true false = refl
 or_turned false true = refl
 or_turned false false = refl
 
-or_none : (a : Bool) → (a || false) ≡ a
-or_none true = refl
-or_none false = refl
-
 pub any_reverse : (test : Entry → Bool) (entries : List Entry) → list_any test (reverse entries) ≡ list_any test entries
 any_reverse test [] = refl
 any_reverse test (e ∷ entries) =
-    ap (list_any test) (reverse-append (e ∷ []) entries) ∙ list_any-append test (reverse entries) (e ∷ []) ∙ ap (λ b. list_any test (reverse entries) || b) (or_none (test e)) ∙ or_turned (list_any test (reverse entries)) (test e) ∙ ap (λ b. test e || b) (any_reverse test entries)
+    ap (list_any test) (reverse-append (e ∷ []) entries) ∙ list_any-append test (reverse entries) (e ∷ []) ∙ ap (λ b. list_any test (reverse entries) || b) (or-false (test e)) ∙ or_turned (list_any test (reverse entries)) (test e) ∙ ap (λ b. test e || b) (any_reverse test entries)
 
 -- an id is left out where a job is made above the next one
 pub gaps_made : (p : List Entry) (id : Id) (before : Bool) (next : ℕ) → next ≡ next_job p → (before ≡ false → AreAllMade p) → before ≡ false → id.0 ≤ next → AreAllMade (Made id ∷ p)

@@ -1,12 +1,11 @@
 -- An entry is read again from its words, what is read was spelled so, and where none is read none stands at the front.
-use Rattle.std.proofs.Common.{◌≡◌, ℕ, Option, None, Some, List, [], ◌++◌, refl, sym, ap, ◌∙◌, append_assoc, inl, inr, ◌⊎◌}
+use Rattle.std.proofs.Common.{◌≡◌, ℕ, Option, None, Some, List, [], ◌++◌, refl, sym, ap, ◌∙◌, append_assoc, inl, inr}
 use Rattle.std.specs.List.{flat_map}
-use Rattle.std.specs.Option.{option_or}
 use Rattle.std.proofs.lemmas.List.{append-nil}
 use Rattle.wx_words.specs.Combine.{whole}
 use Rattle.wx_words.specs.Forms.{Stood}
 use Rattle.wx_words.specs.FormLaws.{stood-then, same_read}
-use Rattle.wx_words.specs.OptionLaws.{bind_some}
+use Rattle.wx_words.specs.OptionLaws.{bind_some, first_or}
 use Rattle.wx_words.specs.Texts.{text_in}
 use Rattle.wx_control.specs.Ids.{id}
 use Rattle.wx_journal.specs.declared.entry.Entry.{Entry}
@@ -47,10 +46,6 @@ whole_again e fits = ap (λ (ws : List (List ℕ)). whole (read_entry ws)) (sym 
 
 -- ---- what is read was spelled so
 
-either : {A : Type 0} (first second : Option A) (x : A) → option_or first second ≡ Some x → (first ≡ Some x) ⊎ (second ≡ Some x)
-either None second x e = inr e
-either (Some y) second x e = inl e
-
 abbrev IsSpelt : List (List ℕ) → Entry → List (List ℕ) → Type 0
 IsSpelt ws e rest = EntryFits e × Stood text_in (entry_words e) ws rest
 
@@ -68,7 +63,7 @@ hand_spelt ws e rest is =
 
 pub entry_spelt : (ws : List (List ℕ)) (e : Entry) (rest : List (List ℕ)) → read_entry ws ≡ Some (e, rest) → EntryFits e × Stood text_in (entry_words e) ws rest
 entry_spelt ws e rest is =
-    elim (either (entry.read ws) (read_hand ws) (e, rest) is) [
+    elim (first_or (entry.read ws) (read_hand ws) (e, rest) is) [
       | inl p ↦ row_spelt ws e rest (entry.form.takes ws e rest p)
       | inr p ↦ hand_spelt ws e rest p
     ]

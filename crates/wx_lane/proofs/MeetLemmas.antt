@@ -1,10 +1,10 @@
 -- What a meeting tells: whether one place holds the other.
-use Rattle.std.proofs.Common.{◌≡◌, ℕ, suc, ◌+◌, ◌-◌, ◌≤◌, ◌<◌, Bool, true, false, List, [], ◌∷◌, ◌++◌, length, drop, arith, refl, ap, sym, ◌∙◌, inl, inr, cond}
+use Rattle.std.proofs.Common.{◌≡◌, ℕ, suc, ◌+◌, ◌-◌, ◌≤◌, ◌<◌, true, false, List, [], ◌∷◌, ◌++◌, length, drop, arith, refl, ap, sym, ◌∙◌, inl, inr, cond}
 use Rattle.std.specs.Prelude.{◌==◌, ◌&&◌, codes}
 use Rattle.std.specs.Str.{bytes_eq}
 use Rattle.std.proofs.lemmas.Bool.{cases_Bool, eqb-true, eq-eqb, ne_eqb, and_parts, and_from, or_cases, or_left, or_right}
 use Rattle.wx_tree.specs.Paths.{Part, Path, same_part, same, holds}
-use Rattle.wx_tree.proofs.PathLemmas.{same_part-true, same_part-refl, same-true, same-refl, holds-refl, holds-length, holds-one}
+use Rattle.wx_tree.proofs.PathLemmas.{same_part-true, same_part-refl, same-true, same-refl, holds-refl, holds-length, holds-one, same_truth}
 use Rattle.wx_lane.specs.Meetings.{is_next, meet_all, meet_down, meet_part, meet_up}
 use Rattle.wx_lane.specs.declared.meeting.Meeting.{Meeting}
 use Rattle.wx_lane.proofs.NextLemmas.{next_there}
@@ -140,11 +140,6 @@ holds-full r (x ∷ p) h =
             | inr e ↦ rw e l
           ]
     ]
-
-pub same_truth : (a b : Bool) → (a ≡ true → b ≡ true) → (b ≡ true → a ≡ true) → a ≡ b
-same_truth true b f g = sym (f refl)
-same_truth false true f g = g refl
-same_truth false false f g = refl
 
 pub shared-holds : (r p : Path) → (shared r p == length r) ≡ holds r p
 shared-holds r p = same_truth (shared r p == length r) (holds r p) (λ h. full-holds r p (eqb-true (shared r p) (length r) h)) (λ h. eq-eqb (shared r p) (length r) (holds-full r p h))

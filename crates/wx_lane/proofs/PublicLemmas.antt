@@ -2,15 +2,16 @@
 use Rattle.std.proofs.Common.{◌≡◌, ℕ, suc, ◌+◌, ◌≤◌, Bool, true, false, List, [], ◌∷◌, ◌++◌, length, arith, refl, ap, sym, ◌∙◌, inl, inr, append_assoc}
 use Rattle.std.specs.Prelude.{◌&&◌, ◌||◌, if◌then◌else◌, nat_le, codes}
 use Rattle.std.proofs.lemmas.Bool.{leb-true, le-leb, and_parts, and_from, or_cases, or_left, or_right}
+use Rattle.std.proofs.Math.Bool.{or-false}
 use Rattle.wx_paths.specs.Paths.{is_absolute, normalize, path_parts}
 use Rattle.wx_tree.specs.Paths.{Path, has_entry, holds, holds_below, same}
 use Rattle.wx_tree.specs.Places.{place}
 use Rattle.wx_tree.specs.declared.root.Root.{Root}
-use Rattle.wx_tree.proofs.PathLemmas.{same-true, holds-length, holds-one, holds-refl, same-refl}
+use Rattle.wx_tree.proofs.PathLemmas.{same-true, holds-length, holds-one, holds-refl, same-refl, same_truth}
 use Rattle.wx_lane.specs.Meetings.{is_of_met, meet_all, met, start}
 use Rattle.wx_lane.specs.Public.{is_of, named}
 use Rattle.wx_lane.specs.declared.meeting.Meeting.{Meeting}
-use Rattle.wx_lane.proofs.MeetLemmas.{meet-append, meeting, met-walked, same_truth, shared-holds}
+use Rattle.wx_lane.proofs.MeetLemmas.{meet-append, meeting, met-walked, shared-holds}
 use Rattle.wx_lane.proofs.WalkLemmas.{normal-walked, parts-behind}
 
 parts-seen : (folder path : List ℕ) → path_parts (folder ++ codes "/" ++ path) ≡ path_parts folder ++ path_parts path
@@ -26,16 +27,12 @@ met-if r false folder path =
 met-named : (r : Path) (folder path : List ℕ) → met r folder path ≡ meeting r (named folder path)
 met-named r folder path = met-if r (is_absolute path) folder path
 
-or_nothing : (b : Bool) → (b || false) ≡ b
-or_nothing true = refl
-or_nothing false = refl
-
 below-or-same : (r p : Path) → (same r p || holds_below r p) ≡ holds r p
-below-or-same r [] = or_nothing (same r [])
+below-or-same r [] = or-false (same r [])
 below-or-same r (x ∷ p) = refl
 
 entry-or-same : (r p : Path) → (same r p || has_entry r p) ≡ (holds r p && nat_le (length p) (length r + 1))
-entry-or-same r [] = or_nothing (same r []) ∙ same_truth (same r []) (same r [] && nat_le 0 (length r + 1)) (λ h. and_from (same r []) (nat_le 0 (length r + 1)) h (le-leb 0 (length r + 1) (omega arith))) (λ h. (and_parts (same r []) (nat_le 0 (length r + 1)) h).0)
+entry-or-same r [] = or-false (same r []) ∙ same_truth (same r []) (same r [] && nat_le 0 (length r + 1)) (λ h. and_from (same r []) (nat_le 0 (length r + 1)) h (le-leb 0 (length r + 1) (omega arith))) (λ h. (and_parts (same r []) (nat_le 0 (length r + 1)) h).0)
 entry-or-same r (x ∷ p) = same_truth (same r (x ∷ p) || same r p) (holds r (x ∷ p) && nat_le (length (x ∷ p)) (length r + 1)) there back
   where
     there : (same r (x ∷ p) || same r p) ≡ true → (holds r (x ∷ p) && nat_le (length (x ∷ p)) (length r + 1)) ≡ true

@@ -1,17 +1,18 @@
 -- The place that a normalised path names is where its parts lead to.
-use Rattle.std.proofs.Common.{◌≡◌, ℕ, suc, ◌+◌, ◌-◌, ◌≤◌, ◌<◌, Bool, true, false, List, [], ◌∷◌, ◌++◌, length, take, drop, arith, refl, ap, sym, ◌∙◌, inl, inr, append_assoc, codes}
-use Rattle.std.specs.Prelude.{◌==◌, not}
+use Rattle.std.proofs.Common.{◌≡◌, ℕ, suc, ◌+◌, ◌-◌, ◌≤◌, ◌<◌, Bool, true, false, List, [], ◌∷◌, ◌++◌, length, take, drop, arith, refl, ap, sym, ◌∙◌, inl, inr, codes}
+use Rattle.std.specs.Prelude.{◌==◌}
 use Rattle.std.specs.Str.{bytes_eq}
 use Rattle.std.specs.List.{filter, fold, join_with_byte, onto_first}
-use Rattle.std.proofs.lemmas.Bool.{cases_Bool, and_parts, not-true}
+use Rattle.std.proofs.lemmas.Bool.{cases_Bool}
 use Rattle.std.proofs.lemmas.List.{append-nil}
 use Rattle.std.proofs.lemmas.List.Elements.{filter-append}
 use Rattle.wx_words.specs.Line.{parts}
 use Rattle.wx_words.specs.LineLaws.{some_part}
 use Rattle.wx_paths.specs.Paths.{is_absolute, is_named, kept, normalize, path_parts, spelled, with_part, without_last}
+use Rattle.wx_paths.proofs.ComponentLemmas.{split-append}
 use Rattle.wx_tree.specs.Paths.{Part, Path}
-use Rattle.wx_tree.specs.Places.{AreParts, has_no_slash, is_part, place, place_from, push_part, slash}
-use Rattle.wx_tree.proofs.PlaceLemmas.{parts-taken}
+use Rattle.wx_tree.specs.Places.{AreParts, has_no_slash, is_part, place, place_from}
+use Rattle.wx_tree.proofs.PlaceLemmas.{parts-taken, part-read, part-clean, part-pushed}
 use Rattle.wx_lane.proofs.MeetLemmas.{walk_part, walked}
 
 -- ---- the parts of a path are parts
@@ -96,21 +97,6 @@ kept-walked xs (x ∷ more) = kept-walked (with_part xs x) more ∙ ap (λ (p : 
 
 -- ---- what is spelled is read back
 
-part-read : (x bytes part : List ℕ) (path : Path) → has_no_slash x ≡ true → place_from (x ++ bytes) part path ≡ place_from bytes (part ++ x) path
-part-read [] bytes part path h = ap (λ c. place_from bytes c path) (sym (append-nil part))
-part-read (b ∷ x) bytes part path h =
-    let a = and_parts (not (b == slash)) (has_no_slash x) h in
-    let e : (b == slash) ≡ false = not-true (b == slash) a.0 in
-    rw e (part-read x bytes (part ++ b ∷ []) path a.1 ∙ ap (λ c. place_from bytes c path) (append_assoc part (b ∷ []) x))
-
-part-clean : (x : Part) → is_part x ≡ true → has_no_slash x ≡ true
-part-clean [] h = cc
-part-clean (b ∷ x) h = h
-
-part-pushed : (x : Part) (path : Path) → is_part x ≡ true → push_part x path ≡ x ∷ path
-part-pushed [] path h = cc
-part-pushed (b ∷ x) path h = refl
-
 joined-read : (xs : List Part) (p : Path) → AreParts xs → place_from (join_with_byte 47 xs) [] p ≡ from_first xs p
 unfolding from_first
 joined-read [] p h = refl
@@ -132,18 +118,6 @@ normal-walked path =
     ∙ (joined-read (kept (path_parts path)) [] (kept-parts [] (path_parts path) tt (path-parts path)) ∙ kept-walked [] (path_parts path))
 
 -- ---- a path behind a folder
-
-onto_first-append : (b : ℕ) (xs more : List Part) → 0 < length xs → onto_first b (xs ++ more) ≡ onto_first b xs ++ more
-onto_first-append b [] more h = absurd (omega (arith, h))
-onto_first-append b (x ∷ xs) more h = refl
-
-split-append : (x y : List ℕ) → parts 47 (x ++ 47 ∷ y) ≡ parts 47 x ++ parts 47 y
-split-append [] y = refl
-split-append (b ∷ x) y =
-    elim (cases_Bool (b == 47)) [
-      | inl e ↦ rw e (ap (λ (v : List Part). [] ∷ v) (split-append x y))
-      | inr e ↦ rw e (ap (onto_first b) (split-append x y) ∙ onto_first-append b (parts 47 x) (parts 47 y) (some_part 47 x))
-    ]
 
 pub parts-behind : (folder path : List ℕ) → path_parts (folder ++ 47 ∷ path) ≡ path_parts folder ++ path_parts path
 parts-behind folder path = ap (filter is_named) (split-append folder path) ∙ filter-append is_named (parts 47 folder) (parts 47 path)

@@ -1,3 +1,4 @@
+pub mod FileEvents
 pub mod Messages
 pub mod Public
 pub mod Lanes

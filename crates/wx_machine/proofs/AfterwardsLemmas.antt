@@ -1,8 +1,8 @@
 -- What a plan of a job brings comes after faults as it must.
-use Rattle.std.proofs.Common.{◌≡◌, ℕ, ◌+◌, ◌<◌, Bool, true, false, cond, List, [], ◌∷◌, ◌++◌, Option, Some, None, Ok, Err, refl, arith, ap, sym, ◌∙◌, eq-eqb, ne_eqb}
+use Rattle.std.proofs.Common.{◌≡◌, ℕ, ◌+◌, ◌<◌, Bool, true, false, cond, List, [], ◌∷◌, ◌++◌, Option, Some, None, Ok, Err, refl, arith, sym, ◌∙◌, eq-eqb, ne_eqb}
 use Rattle.std.specs.Prelude.{◌==◌, ◌&&◌, ◌||◌, not}
 use Rattle.std.specs.List.{AllByRecursion}
-use Rattle.std.proofs.lemmas.Bool.{eqb-true}
+use Rattle.std.proofs.lemmas.Bool.{eqb-true, false_from_ne_true, or_left, or_right, and_from}
 use Rattle.wx_words.specs.EachLaws.{each_append}
 use Rattle.wx_words.specs.OptionLaws.{refused}
 use Rattle.wx_control.specs.declared.id.Id.{Id}
@@ -23,7 +23,7 @@ use Rattle.wx_machine.specs.declared.grace.Grace.{Grace}
 use Rattle.wx_machine.specs.History.{same, lives, has_above, without, waits, found, picked_control, child, is_child, ended_child, is_ended, with_ticket, picked_last, begins, begins_by, grace, owner}
 use Rattle.wx_machine.specs.JobLaws.{is_owner, NamesChildren, NamesTickets}
 use Rattle.wx_machine.specs.Afterwards.{is_unborn, is_graceful, is_signalling, asks_grace, picks_grace, may_be_over, IsAtLevel, AreAtTheirLevels, MayBeOver}
-use Rattle.wx_machine.proofs.Owners.{self, same-is, either, still_some, owner_below, child_owner}
+use Rattle.wx_machine.proofs.Owners.{self, same-is, either, still_some, owner_below, child_owner, is_child_some}
 use Rattle.wx_machine.proofs.Tickets.{raised_was, asked_below, waits_of, AreWaitsOf}
 
 -- ---- a child that runs was spawned
@@ -41,12 +41,8 @@ unborn_below c (Spawn d job tag what (Err fault) ∷ p) own e = below_was c d (c
 unborn_below c (Spawn d job tag what (Ok done) ∷ p) own e = let lt : c < child_count p = unborn_below c p own.1 e in omega arith
 unborn_below c (_ ∷ p) own e = unborn_below c p own e
 
-never_true : (b : Bool) → (b ≡ true → ⊥) → b ≡ false
-never_true true never = absurd (never refl)
-never_true false never = refl
-
 born_ok : (c d : ℕ) (p : List Entry) (o : Option ℕ) (b : Bool) → NamesChildren p → d ≡ child_count p → (o ≡ Some c → is_unborn c p ≡ false) → cond b (Some d) o ≡ Some c → is_unborn c p ≡ false
-born_ok c d p o true own name was e = let found : d ≡ c = cc in never_true (is_unborn c p) (λ h. (let lt : c < child_count p = unborn_below c p own h in omega arith))
+born_ok c d p o true own name was e = let found : d ≡ c = cc in false_from_ne_true (is_unborn c p) (λ h. (let lt : c < child_count p = unborn_below c p own h in omega arith))
 born_ok c d p o false own name was e = was e
 
 pub born : (id : Id) (c : ℕ) (p : List Entry) → NamesChildren p → child id p ≡ Some c → is_unborn c p ≡ false
@@ -129,34 +125,19 @@ last_graceful id (Gone job ∷ p) x own e graceful = last_graceful id p x own (r
 last_graceful id (_ ∷ p) x own e graceful = last_graceful id p x own e graceful
 
 -- a signal that leaves a grace standing began it, or it stood before
-or_left : (a b : Bool) → a ≡ true → (a || b) ≡ true
-or_left true b e = refl
-or_left false b e = cc
-
-or_last : (a b : Bool) → b ≡ true → (a || b) ≡ true
-or_last true b e = refl
-or_last false b e = e
-
 begins_so : (id : Id) (p : List Entry) (a : Bool) (t : ℕ) (control : Control) (at : ℕ) (before : Option Grace) (g : Grace) → (is_graceful control ≡ true → a ≡ true) → (before ≡ Some g → may_be_over id p ≡ true) → begins t control at before ≡ Some g → (a || may_be_over id p) ≡ true
 begins_so id p a t (GracefulStop signal grace) at before g begun was e = or_left a (may_be_over id p) (begun refl)
 begins_so id p a t (TryGracefulRestart signal grace) at before g begun was e = or_left a (may_be_over id p) (begun refl)
-begins_so id p a t (_) at before g begun was e = or_last a (may_be_over id p) (was e)
+begins_so id p a t (_) at before g begun was e = or_right a (may_be_over id p) (was e)
 
 begins_by_so : (id : Id) (p : List Entry) (a : Bool) (o : Option (ℕ × Control)) (at : ℕ) (before : Option Grace) (g : Grace) → ((x : ℕ × Control) → o ≡ Some x → is_graceful x.1 ≡ true → a ≡ true) → (before ≡ Some g → may_be_over id p ≡ true) → begins_by o at before ≡ Some g → (a || may_be_over id p) ≡ true
-begins_by_so id p a None at before g begun was e = or_last a (may_be_over id p) (was e)
+begins_by_so id p a None at before g begun was e = or_right a (may_be_over id p) (was e)
 begins_by_so id p a (Some x) at before g begun was e = begins_so id p a x.0 x.1 at before g (λ graceful. begun x refl graceful) was e
-
-both_true : (a b : Bool) → a ≡ true → b ≡ true → (a && b) ≡ true
-both_true a b x y = rw (x, y) refl
 
 -- where it isn't of another job
 not_other : (b o : Bool) (x : Option Grace) (g : Grace) → cond b None x ≡ Some g → (x ≡ Some g → o ≡ true) → (not b && o) ≡ true
 not_other true o x g e was = cc
 not_other false o x g e was = was e
-
-is_child_so : (c : ℕ) (o : Option ℕ) → is_child c o ≡ true → o ≡ Some c
-is_child_so c None e = cc
-is_child_so c (Some d) e = let same_child : d ≡ c = eqb-true _ _ e in ap (λ n. Some n) same_child
 
 -- What an entry may be that comes next: a grace is over only where one stands, a signal is sent to the running child of a job with no
 -- grace, where controls were asked at their levels, and a control is asked at its level.
@@ -192,10 +173,10 @@ standing_on (Signal c number (Ok done)) p by children tickets levels was id g e 
   where
     by_test : (b : Bool) → is_child c (child id p) ≡ b → cond b (begins_by (picked_last id p) (moment p) (grace id p)) (grace id p) ≡ Some g → (is_owner id (owner c p) && picks_grace id p || may_be_over id p) ≡ true
     by_test true is h =
-        let its : owner c p ≡ Some id = child_owner id c p children (is_child_so c (child id p) is) in
+        let its : owner c p ≡ Some id = child_owner id c p children (is_child_some c (child id p) is) in
         begins_by_so id p (is_owner id (owner c p) && picks_grace id p) (picked_last id p) (moment p) (grace id p) g
-        (λ x last graceful. both_true (is_owner id (owner c p)) (picks_grace id p) (rw its (self id)) (last_graceful id p x tickets last graceful)) (λ k. was id g k) h
-    by_test false is h = or_last (is_owner id (owner c p) && picks_grace id p) (may_be_over id p) (was id g h)
+        (λ x last graceful. and_from (is_owner id (owner c p)) (picks_grace id p) (rw its (self id)) (last_graceful id p x tickets last graceful)) (λ k. was id g k) h
+    by_test false is h = or_right (is_owner id (owner c p) && picks_grace id p) (may_be_over id p) (was id g h)
 standing_on (e) p by children tickets levels was id g is = was id g (refused (is_ended (ended_child e) (child id p)) (grace id p) g is).1
 
 -- ---- a control that sends a signal is picked only where no grace stands

@@ -2,7 +2,8 @@
 use Rattle.std.proofs.Common.{◌≡◌, ◌≢◌, ℕ, ◌<◌, Bool, true, false, cond, List, [], ◌∷◌, ◌++◌, inl, inr, arith, refl, ap, sym, subst, ◌∙◌, eq-eqb, ne_eqb}
 use Rattle.std.specs.Prelude.{Option, None, Some, ◌||◌, ◌&&◌, not}
 use Rattle.std.specs.List.{filter, list_any}
-use Rattle.std.proofs.lemmas.Bool.{eqb-true, eqb-false, or_left, or_right}
+use Rattle.std.proofs.lemmas.Bool.{eqb-false, or_left, or_right}
+use Rattle.std.proofs.Math.Bool.{and-false}
 use Rattle.wx_words.specs.OptionLaws.{neither}
 use Rattle.wx_command.specs.declared.command.Command.{Command}
 use Rattle.wx_control.specs.declared.id.Id.{Id}
@@ -20,7 +21,7 @@ use Rattle.wx_machine.specs.History.{same, lives, child, is_child, creation, or_
 use Rattle.wx_machine.specs.Leaves.{SameHistory}
 use Rattle.wx_machine.specs.Table.{Plan, Done, step_plan, ask_second, ask_plan, end_plan}
 use Rattle.wx_machine.specs.Case.{PlanAdmits, next, PlanLeads, PlanHere, PlanThen}
-use Rattle.wx_machine.proofs.Owners.{self, same-is, children_named, child_owner}
+use Rattle.wx_machine.proofs.Owners.{self, same-is, children_named, child_owner, is_child_some}
 use Rattle.wx_machine.proofs.Always.{Always, always_now, always_next, always_also}
 use Rattle.wx_machine.proofs.Sound.{Fits, IsSound, Sound, sound_step, sound_end}
 use Rattle.wx_machine.specs.Start.{Start}
@@ -48,11 +49,7 @@ may_apart free next job id (inr e) lt taken = by_name (same job id) refl
     by_name false is = refl
 
 but_taken : (job id : Id) (free : Id → Bool) → free id ≡ false → but job free id ≡ false
-but_taken job id free taken = rw taken (and_none (not (same job id)))
-  where
-    and_none : (b : Bool) → (b && false) ≡ false
-    and_none true = refl
-    and_none false = refl
+but_taken job id free taken = rw taken (and-false (not (same job id)))
 
 apart_turned : (id job : Id) → same id job ≡ false → same job id ≡ false
 apart_turned id job e = ne_eqb job.0 id.0 (λ is. absurd (eqb-false id.0 job.0 e (sym is)))
@@ -131,10 +128,6 @@ commanded_created id (Hand n names acts ∷ p) c e = created_or (creation id act
 commanded_created id (_ ∷ p) c e = commanded_created id p c e
 
 -- ---- the job whose child it is
-
-pub is_child_some : (c : ℕ) (o : Option ℕ) → is_child c o ≡ true → o ≡ Some c
-is_child_some c None e = absurd cc
-is_child_some c (Some d) e = ap (λ n. Some n) (eqb-true d c e)
 
 record IsParent (c : ℕ) (id : Id) (ids : List Id) (p : List Entry) : Type 0 where
   here : IsIn id ids

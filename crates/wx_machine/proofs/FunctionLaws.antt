@@ -22,7 +22,7 @@ use Rattle.wx_machine.specs.Start.{Start}
 use Rattle.wx_machine.specs.Jobs.{living, parent}
 use Rattle.wx_machine.specs.Due.{Says, Agenda, Open, Comes, Steps, Plans, Ends, Breaks, IsTurn, Admits, plans, says, rest, job_turn, ended_turn, turn_agenda, follow, settle, agenda, Due, IsRun}
 use Rattle.wx_machine.specs.Answer.{Dying, Alive, Dies}
-use Rattle.wx_machine.proofs.Owners.{same-is, either}
+use Rattle.wx_machine.proofs.Owners.{same-is, either, is_child_some}
 use Rattle.wx_machine.proofs.Functions.{begun_none}
 use Rattle.wx_machine.proofs.Always.{Always, always_now, always_next, always_also}
 use Rattle.wx_machine.proofs.OneJob.{IsInTurn, placed_of}
@@ -32,7 +32,7 @@ use Rattle.wx_machine.proofs.PlanLaws.{lawful_now, of_end, end_is_plan}
 use Rattle.wx_machine.proofs.Lawful.{IsOfPlan, IsOfEnd}
 use Rattle.wx_machine.proofs.Orderly.{IsFit, IsOrderly}
 use Rattle.wx_machine.proofs.RunLaws.{follow_plan, orderly, orderly_turn, open_at_turn}
-use Rattle.wx_machine.proofs.AllJobs.{created_command, is_child_some, parent_runs, parent_none, one_parent}
+use Rattle.wx_machine.proofs.AllJobs.{created_command, parent_runs, parent_none, one_parent}
 use Rattle.wx_machine.proofs.JobSets.{in_set}
 
 -- a word that a plan brings is said of this job

@@ -1,6 +1,7 @@
 -- No function is begun of a job that doesn't live.
 use Rattle.std.proofs.Common.{◌≡◌, Bool, true, false, cond, List, [], ◌∷◌, None, Ok, refl}
 use Rattle.std.specs.Prelude.{◌==◌, ◌&&◌, ◌||◌, not}
+use Rattle.std.proofs.lemmas.Bool.{or_parts}
 use Rattle.wx_control.specs.declared.id.Id.{Id}
 use Rattle.wx_control.specs.declared.level.Level.{Level}
 use Rattle.wx_control.specs.declared.level.Level.TheVariants.{Normal, High, Urgent}
@@ -10,12 +11,8 @@ use Rattle.wx_journal.specs.declared.entry.Entry.TheVariants.{Made, Asked, Pick,
 use Rattle.wx_machine.specs.History.{same, lives, has_above, without, waits, picked_control, child, is_child, with_ticket, picked_last, begun_with, begun}
 
 -- behind the entry that a job was made it lives
-or_dead : (a b : Bool) → (a || b) ≡ false → (a ≡ false) × (b ≡ false)
-or_dead true b e = absurd cc
-or_dead false b e = (refl, e)
-
 none_made : {A : Type 0} (b l : Bool) (x y : A) → (b || l) ≡ false → (l ≡ false → y ≡ x) → cond b x y ≡ x
-none_made b l x y e h = let parts = or_dead b l e in rw parts.0 (h parts.1)
+none_made b l x y e h = let parts = or_parts b l e in rw parts.0 (h parts.1)
 
 none_gone : {A : Type 0} (b l : Bool) (x y : A) → (not b && l) ≡ false → (l ≡ false → y ≡ x) → cond b x y ≡ x
 none_gone true l x y e h = refl

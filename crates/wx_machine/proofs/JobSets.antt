@@ -1,9 +1,9 @@
 -- Which jobs a handler sees, and under which ids one may be created.
 use Rattle.std.proofs.Common.{◌≡◌, ℕ, ◌<◌, Bool, true, false, cond, List, [], ◌∷◌, inl, inr, arith, refl, ap, sym, subst, ◌∙◌}
-use Rattle.std.specs.Prelude.{◌||◌, ◌&&◌, not, nat_lt, ◌⊎◌}
+use Rattle.std.specs.Prelude.{◌||◌, not, nat_lt, ◌⊎◌}
 use Rattle.std.specs.List.{AllByRecursion, filter, list_any}
 use Rattle.std.proofs.Math.Arith.{lt_of_le-ne}
-use Rattle.std.proofs.lemmas.Bool.{eqb-false, ltb-true, ltb-false, and_parts, or_right}
+use Rattle.std.proofs.lemmas.Bool.{eqb-false, ltb-true, ltb-false, and_parts, or_right, not-true, and_from}
 use Rattle.wx_words.specs.EachLaws.{each_weaker, each_filter}
 use Rattle.wx_control.specs.declared.id.Id.{Id}
 use Rattle.wx_journal.specs.Acts.{JournalAct as Act}
@@ -193,12 +193,8 @@ seen_made p id seen = made_in id p (seen_in id (set p) seen)
 
 -- ---- which ids are free
 
-not_is : (b : Bool) → not b ≡ true → b ≡ false
-not_is true e = absurd cc
-not_is false e = refl
-
 pub free_unseen : (p : List Entry) (id : Id) → is_free p id ≡ true → is_seen id p ≡ false
-free_unseen p id free = not_is (is_seen id p) (and_parts (was_made id p) (not (is_seen id p)) free).1
+free_unseen p id free = not-true (is_seen id p) (and_parts (was_made id p) (not (is_seen id p)) free).1
 
 pub free_made : (p : List Entry) (id : Id) → is_free p id ≡ true → was_made id p ≡ true
 free_made p id free = (and_parts (was_made id p) (not (is_seen id p)) free).0
@@ -234,10 +230,6 @@ may_dead p id may = unseen_dead p id (may_unseen p id may)
 
 -- ---- lawful acts stay lawful
 
-both_true : (a b : Bool) → a ≡ true → b ≡ true → (a && b) ≡ true
-both_true true b e f = f
-both_true false b e f = absurd cc
-
 may_wider : (free more : Id → Bool) (next : ℕ) (id : Id) → (free id ≡ true → more id ≡ true) → MayCreate free next id → MayCreate more next id
 may_wider free more next id wider (inl is) = inl is
 may_wider free more next id wider (inr e) = inr (wider e)
@@ -247,7 +239,7 @@ pub lawful_wider : (free more : Id → Bool) (next : ℕ) (acts : List Act) → 
 lawful_wider free more next [] wider l = tt
 lawful_wider free more next (Create id command ∷ acts) wider l = (
   may_wider free more next id (wider id) l.0,
-  lawful_wider (but id free) (but id more) (above next id) acts (λ job e. (let parts = and_parts (not (same id job)) (free job) e in both_true (not (same id job)) (more job) parts.0 (wider job parts.1))) l.1,
+  lawful_wider (but id free) (but id more) (above next id) acts (λ job e. (let parts = and_parts (not (same id job)) (free job) e in and_from (not (same id job)) (more job) parts.0 (wider job parts.1))) l.1,
 )
 lawful_wider free more next (_ ∷ acts) wider l = lawful_wider free more next acts wider l
 
@@ -255,7 +247,7 @@ lawful_wider free more next (_ ∷ acts) wider l = lawful_wider free more next a
 hand_free : (p : List Entry) (n : ℕ) (names : List ℕ) (asked : List Act) (id : Id) → is_free p id ≡ true → is_free (Hand n names asked ∷ p) id ≡ true
 hand_free p n names asked id free =
     let unseen = unseen_if (Hand n names asked ∷ p) id (λ here. unseen_out p id (free_unseen p id free) (of_filter (λ job. lives job p) id (set p) here).0) in
-    both_true (was_made id p) (not (is_seen id (Hand n names asked ∷ p))) (free_made p id free) (ap not unseen)
+    and_from (was_made id p) (not (is_seen id (Hand n names asked ∷ p))) (free_made p id free) (ap not unseen)
 
 pub lawful_hand : (p : List Entry) (n : ℕ) (names : List ℕ) (asked acts : List Act) → AreLawful p acts → AreLawful (Hand n names asked ∷ p) acts
 lawful_hand p n names asked acts l = lawful_wider (is_free p) (is_free (Hand n names asked ∷ p)) (next_job p) acts (hand_free p n names asked) l
@@ -264,9 +256,9 @@ lawful_hand p n names asked acts l = lawful_wider (is_free p) (is_free (Hand n n
 made_free : (p : List Entry) (id job : Id) → but id (is_free p) job ≡ true → is_free (Made id ∷ p) job ≡ true
 made_free p id job e =
     let parts = and_parts (not (same id job)) (is_free p job) e in
-    let apart : same id job ≡ false = not_is (same id job) parts.0 in
+    let apart : same id job ≡ false = not-true (same id job) parts.0 in
     let unseen = unseen_if (Made id ∷ p) job (λ here. elim (of_with job (set p) id here) [ inl g ↦ unseen_out p job (free_unseen p job parts.1) g | inr is ↦ (let mine : same id job ≡ true = rw is (self job) in let both : true ≡ false = sym mine ∙ apart in absurd cc) ]) in
-    both_true (same id job || was_made job p) (not (is_seen job (Made id ∷ p))) (or_right (same id job) (was_made job p) (free_made p job parts.1)) (ap not unseen)
+    and_from (same id job || was_made job p) (not (is_seen job (Made id ∷ p))) (or_right (same id job) (was_made job p) (free_made p job parts.1)) (ap not unseen)
 
 pub lawful_made : (p : List Entry) (id : Id) (acts : List Act) → AreLawfulBy (but id (is_free p)) (above (next_job p) id) acts → AreLawful (Made id ∷ p) acts
 lawful_made p id acts l = lawful_wider (but id (is_free p)) (is_free (Made id ∷ p)) (above (next_job p) id) acts (made_free p id) l

@@ -68,7 +68,7 @@ planned_none (_) o = refl
 
 -- ---- what is known of items, by the journal
 
-rises : (b : Bool) (n : ℕ) → n ≤ cond b (n + 1) n
+pub rises : (b : Bool) (n : ℕ) → n ≤ cond b (n + 1) n
 rises true n = omega arith
 rises false n = omega arith
 
@@ -199,7 +199,7 @@ word_keeps : (x : Source) (b : Bool) (items : ℕ) → ((cond b x (record x { fe
 word_keeps x true items = (refl, refl)
 word_keeps x false items = (refl, refl)
 
-said_keeps : (items : ℕ) (word : Word) (x : Source) → ((said items word x).lane ≡ x.lane) × ((said items word x).current ≡ x.current)
+pub said_keeps : (items : ℕ) (word : Word) (x : Source) → ((said items word x).lane ≡ x.lane) × ((said items word x).current ≡ x.current)
 said_keeps items Stepped x = word_keeps x x.fenced items
 said_keeps items (_) x = (refl, refl)
 
@@ -209,7 +209,7 @@ sourced_said s word p h =
     sourced_by s (Said word) p refl refl (rw same.0 h.waiting) (λ back now. later_named s (Said word) p back h (sym same.1 ∙ now)) h
 
 -- a backend that was made, or couldn't be
-stand_keeps : (back : ℕ) (answer : Result (Unit {0}) NotifyFault) (x : Source) → (stand back answer x).lane ≡ x.lane
+pub stand_keeps : (back : ℕ) (answer : Result (Unit {0}) NotifyFault) (x : Source) → (stand back answer x).lane ≡ x.lane
 stand_keeps back (Ok done) x = refl
 stand_keeps back (Err fault) x = refl
 

@@ -16,7 +16,7 @@ use Rattle.wx_journal.specs.declared.entry.Entry.TheVariants.{Made, Asked, Pick,
 use Rattle.wx_journal.specs.Names.{NamesItsOwn, ticket_count, child_count, moment}
 use Rattle.wx_machine.specs.declared.state.CommandState.{CommandState}
 use Rattle.wx_machine.specs.declared.state.CommandState.TheVariants.{Pending, Running, Finished}
-use Rattle.wx_machine.specs.History.{same, lives, has_above, without, waits, child, unless, reaped_child, ended_child, still_running, state, finish, owner}
+use Rattle.wx_machine.specs.History.{same, lives, has_above, without, waits, child, unless, reaped_child, ended_child, still_running, state, finish, owner, is_child}
 use Rattle.wx_machine.specs.States.{child_of}
 use Rattle.wx_machine.specs.JobLaws.{unreaped, NamesChildren}
 
@@ -42,7 +42,7 @@ children_named [] own = tt
 children_named (Spawn c job tag what answer ∷ p) own = (own.0, children_named p own.1)
 children_named (_ ∷ p) own = children_named p own.1
 
-new_below : (c d : ℕ) (job id : Id) (n : ℕ) (o : Option Id) (b : Bool) → (d == c) ≡ b → d ≡ n → (o ≡ Some id → c < n) → cond b (Some job) o ≡ Some id → c < n + 1
+pub new_below : (c d : ℕ) (job id : Id) (n : ℕ) (o : Option Id) (b : Bool) → (d == c) ≡ b → d ≡ n → (o ≡ Some id → c < n) → cond b (Some job) o ≡ Some id → c < n + 1
 new_below c d job id n o true is name below e = let found : d ≡ c = eqb-true _ _ is in omega arith
 new_below c d job id n o false is name below e = let lt : c < n = below e in omega arith
 
@@ -145,3 +145,7 @@ waits_asked id level (Asked ticket job at control ∷ p) own =
 waits_asked id level (Pick job ticket ∷ p) own = let here = waits_asked id level p own.1 in either (AreAsked (ticket_count p)) (same job id && not (has_above ticket level (waits id Urgent p) (waits id High p))) (without ticket (waits id level p)) (waits id level p) (below_without (ticket_count p) ticket (waits id level p) here) here
 waits_asked id level (Gone job ∷ p) own = either (AreAsked (ticket_count p)) (same job id) [] (waits id level p) tt (waits_asked id level p own.1)
 waits_asked id level (_ ∷ p) own = waits_asked id level p own.1
+
+pub is_child_some : (c : ℕ) (o : Option ℕ) → is_child c o ≡ true → o ≡ Some c
+is_child_some c None e = absurd cc
+is_child_some c (Some d) e = ap (λ n. Some n) (eqb-true d c e)

@@ -11,7 +11,7 @@ use Rattle.wx_machine.specs.Table.{Plan, Done, adds, drop_plan}
 use Rattle.wx_machine.specs.Case.{PlanAdmits, next}
 use Rattle.wx_machine.specs.JobLaws.{unreaped, AreReaped, IsReaping, Earlier, EachIsReaping, AfterFaults, NamesChildren, NamesTickets}
 use Rattle.wx_machine.specs.Afterwards.{GoesOnAfterFaults}
-use Rattle.wx_machine.proofs.Owners.{self, same-is, children_named}
+use Rattle.wx_machine.proofs.Owners.{self, same-is, children_named, is_child_some}
 use Rattle.wx_machine.proofs.Tickets.{tickets_named}
 use Rattle.wx_machine.proofs.Sound.{RunsIn, Goes, goes_gone, gone_child, after_fault, goes_on}
 use Rattle.wx_machine.proofs.AfterwardsLemmas.{GoesBy}
@@ -23,7 +23,7 @@ use Rattle.wx_journal.specs.Lines.{Answer}
 use Rattle.wx_machine.specs.Answer.{Dying, Alive, Dies, IsComplete, IsBroken, Wishes, MemoryCuts, Answers}
 use Rattle.wx_machine.proofs.Orderly.{IsFit, GoneRunNone}
 use Rattle.wx_machine.proofs.RunLaws.{brought, came, orderly, free, free_end}
-use Rattle.wx_machine.proofs.AllJobs.{is_child_some, one_parent}
+use Rattle.wx_machine.proofs.AllJobs.{one_parent}
 use Rattle.wx_machine.proofs.JobSets.{IsIn, in_jobs, may_dead}
 use Rattle.wx_machine.proofs.PlanLaws.{lawful_now, of_end}
 use Rattle.wx_machine.proofs.Lawful.{InOrder, IsOfEnd, IsFree}

@@ -6,7 +6,7 @@ use Rattle.wx_notify.specs.declared.notify.Notify.{Notify}
 use Rattle.wx_watch.specs.declared.notify_fault.NotifyFault.{NotifyFault}
 use Rattle.wx_lane.specs.declared.lane.LaneItem.{LaneItem}
 use Rattle.wx_lane.specs.Lanes.{fenced, has_changes, is_event, is_unheard}
-use Rattle.wx_file_events.specs.FileEvents.{event_of}
+use Rattle.wx_lane.specs.FileEvents.{event_of}
 use Rattle.wx_journal.specs.declared.entry.Entry.{Entry}
 use Rattle.wx_journal.specs.declared.entry.Entry.TheVariants.{Offer, Word as Said, Show, Hand, Dir, Make, Heard, Brought, LetGo, Ready}
 use Rattle.wx_journal.specs.declared.entry.LetGoCause.TheVariants.{Obsolete, Uncovered}
@@ -73,7 +73,7 @@ listened_is item back (Some answer) = tt
 
 -- ---- what is known of it
 
-same_there : (x i : LaneItem) (items : List LaneItem) → Some x ≡ Some i → item_named i.name (x ∷ items) ≡ Some i
+pub same_there : (x i : LaneItem) (items : List LaneItem) → Some x ≡ Some i → item_named i.name (x ∷ items) ≡ Some i
 same_there x i items e =
     let is : x ≡ i = cc in
     rw (eq-eqb x.name i.name (ap (λ (y : LaneItem). y.name) is)) e
@@ -121,7 +121,7 @@ first_known p low (x ∷ items) i k e =
     let same : x ≡ i = cc in
     (subst (IsKnown p low) same k.0, same_there x i items at)
 
-fault_is_deaf : (item : Result Notify NotifyFault) (fault : NotifyFault) (heard : Bool) → item ≡ Err fault → (not (is_event item) || (has_changes item && not heard)) ≡ true
+pub fault_is_deaf : (item : Result Notify NotifyFault) (fault : NotifyFault) (heard : Bool) → item ≡ Err fault → (not (is_event item) || (has_changes item && not heard)) ≡ true
 fault_is_deaf item fault heard is = rw is refl
 
 by_public : (s : Start) (p : List Entry) (i : LaneItem) (n : Notify) (public : Bool) → first_item (source s p).lane ≡ Some i → is_deaf i ≡ false → i.item ≡ Ok n → i.name < item_count p → is_live (source s p) i.back ≡ true → is_public s p n ≡ public → IsBrought s p (cond (not public) (LetGo i.name Uncovered) (Offer (event_count p) (Some i.name) (offered s p) (event_of n) Normal))

@@ -3,7 +3,7 @@ use Rattle.std.proofs.Common.{◌≡◌, ℕ, ◌+◌, ◌<◌, Bool, true, fals
 use Rattle.std.specs.Prelude.{Option, None, Some, Result, Ok, Err, ◌==◌, ◌&&◌, ◌||◌, not}
 use Rattle.std.specs.Option.{IsSomeAnd}
 use Rattle.std.specs.List.{AllByRecursion}
-use Rattle.std.proofs.lemmas.Bool.{eqb-true, or_left, or_right}
+use Rattle.std.proofs.lemmas.Bool.{eqb-true, or_left, or_right, or_parts}
 use Rattle.wx_words.specs.EachLaws.{each_append, each_weaker, each_filter}
 use Rattle.wx_events.specs.declared.event.Event.{Event}
 use Rattle.wx_events.specs.declared.priority.Priority.{Priority}
@@ -50,7 +50,7 @@ use Rattle.wx_machine.proofs.BagLaws.{NamesBelow, bag_facts}
 use Rattle.wx_machine.proofs.Orderly.{IsQuiet, IsBrought, IsLasting, IsFit, IsGoing, IsSourced, GoneRunNone, IsOrderly}
 use Rattle.wx_machine.proofs.LaneLaws.{planned_none, sourced_brought, sourced_none, sourced_other}
 use Rattle.wx_machine.proofs.RestLaws.{listen_brought, rest_brought}
-use Rattle.wx_machine.proofs.SettleLaws.{right_false, fit_settle, going_calm, going_plans}
+use Rattle.wx_machine.proofs.SettleLaws.{fit_settle, going_calm, going_plans}
 use Rattle.wx_machine.proofs.PlanLaws.{lawful_now, placed_now, lawful_next, lawful_step, lawful_ask, lawful_acts, lawful_change, revised_step, revised_ask, revised_change, revised_acts, of_end, end_is_plan, end_placed, end_in_order, names_end}
 use Rattle.wx_machine.proofs.Always.{Always, always_next}
 use Rattle.wx_machine.proofs.Lawful.{IsOfPlan, IsFree, InOrder, Revises, Lawful}
@@ -437,7 +437,7 @@ idle_more p (e) f h id is = none_left (ended_child e) (child id p) (h id is)
 
 -- a turn comes only where the run isn't to end
 going_turned : (s : Start) (p : List Entry) (e : Entry) → IsTurn e → is_quitting p ≡ false → IsGoing (e ∷ p) (settle (e ∷ p) (follow s e p Open))
-going_turned s p (Turned t) i g = going_calm (Turned t ∷ p) _ (right_false (is_aborting p) _ g)
+going_turned s p (Turned t) i g = going_calm (Turned t ∷ p) _ (or_parts (is_aborting p) _ g).1
 going_turned s p (TurnFault code) i g = tt
 going_turned s p (_) i g = absurd i
 

@@ -3,6 +3,7 @@ use Rattle.std.proofs.Common.{◌≡◌, Bool, true, false, cond, List, [], ◌�
 use Rattle.wx_journal.specs.declared.entry.Entry.{Entry}
 use Rattle.wx_journal.specs.declared.entry.Entry.TheVariants.{Turn as Turned, Hand}
 use Rattle.std.specs.Prelude.{◌||◌}
+use Rattle.std.proofs.lemmas.Bool.{or_parts}
 use Rattle.wx_machine.specs.Table.{Plan, Done}
 use Rattle.wx_machine.proofs.Owners.{either}
 use Rattle.wx_machine.specs.Start.{Start}
@@ -44,21 +45,13 @@ pub quiet_open : (s : Start) (p : List Entry) → agenda s p ≡ Open → is_qui
 quiet_open s [] e = refl
 quiet_open s (x ∷ p) e = open_going (x ∷ p) (follow s x p (rest x (agenda s p))) e
 
-pub right_false : (a b : Bool) → (a || b) ≡ false → b ≡ false
-right_false true b e = let no : true ≡ false = e in absurd cc
-right_false false b e = e
-
-pub left_false : (a b : Bool) → (a || b) ≡ false → a ≡ false
-left_false true b e = let no : true ≡ false = e in absurd cc
-left_false false b e = refl
-
 -- what a turn owes whose plan is over, where the end wasn't asked for before
 pub served_settled : (s : Start) (p p' : List Entry) → is_quitting p ≡ false → is_aborting p' ≡ is_aborting p → agenda s p' ≡ settle p' Open → agenda s p' ≡ after_acts (is_through p')
-served_settled s p p' going aborts due = due ∙ settle_through p' (aborts ∙ left_false (is_aborting p) (is_through p) going)
+served_settled s p p' going aborts due = due ∙ settle_through p' (aborts ∙ (or_parts (is_aborting p) (is_through p) going).0)
 
 -- so it isn't by the last pass
 pub served_open : (s : Start) (p : List Entry) → agenda s p ≡ Open → agenda s p ≡ after_acts (is_through p)
-served_open s p e = e ∙ sym (ap after_acts (right_false (is_aborting p) (is_through p) (quiet_open s p e)))
+served_open s p e = e ∙ sym (ap after_acts (or_parts (is_aborting p) (is_through p) (quiet_open s p e)).1)
 
 -- it leaves what fits
 pub fit_settle : (s : Start) (p : List Entry) (k : Agenda) → IsFit s p k → IsFit s p (settle p k)

@@ -20,7 +20,7 @@ use Rattle.wx_machine.specs.declared.state.CommandState.{CommandState}
 use Rattle.wx_machine.specs.States.{is_finished}
 use Rattle.wx_machine.specs.History.{same, lives, has_above, without, waits, found, picked_control, state, child, is_child, ended_child, is_ended, with_ticket, unless_raised, picked_last, begun_with, begun, begins, begins_by, grace, without_ticket, parks, parked, asked_of}
 use Rattle.wx_machine.specs.JobLaws.{NamesTickets}
-use Rattle.wx_machine.proofs.Owners.{same-is, either}
+use Rattle.wx_machine.proofs.Owners.{same-is, either, new_below}
 
 -- a journal that names its own names its tickets
 pub tickets_named : (p : List Entry) → NamesItsOwn p → NamesTickets p
@@ -28,13 +28,9 @@ tickets_named [] own = tt
 tickets_named (Asked ticket job level control ∷ p) own = (own.0, tickets_named p own.1)
 tickets_named (_ ∷ p) own = tickets_named p own.1
 
-asked_new : (t u : ℕ) (job id : Id) (n : ℕ) (o : Option Id) (b : Bool) → (u == t) ≡ b → u ≡ n → (o ≡ Some id → t < n) → cond b (Some job) o ≡ Some id → t < n + 1
-asked_new t u job id n o true is name below e = let found : u ≡ t = eqb-true _ _ is in omega arith
-asked_new t u job id n o false is name below e = let lt : t < n = below e in omega arith
-
 pub asked_below : (t : ℕ) (id : Id) (p : List Entry) → NamesTickets p → asked_of t p ≡ Some id → t < ticket_count p
 asked_below t id [] own e = cc
-asked_below t id (Asked u job level control ∷ p) own e = asked_new t u job id (ticket_count p) (asked_of t p) (u == t) refl own.0 (λ h. asked_below t id p own.1 h) e
+asked_below t id (Asked u job level control ∷ p) own e = new_below t u job id (ticket_count p) (asked_of t p) (u == t) refl own.0 (λ h. asked_below t id p own.1 h) e
 asked_below t id (_ ∷ p) own e = asked_below t id p own e
 
 -- a new ticket takes none from its job

@@ -22,7 +22,7 @@ use Rattle.wx_command.specs.declared.command.Command.{Command}
 use Rattle.wx_config.specs.Changes.{last_revision}
 use Rattle.wx_config.specs.declared.config.Config.{Config}
 use Rattle.wx_notify.specs.declared.notify.Notify.{Notify}
-use Rattle.wx_file_events.specs.FileEvents.{event_of}
+use Rattle.wx_lane.specs.FileEvents.{event_of}
 use Rattle.wx_lane.specs.declared.lane.LaneItem.{LaneItem}
 use Rattle.wx_lane.specs.Lanes.{fenced}
 use Rattle.wx_watch.specs.declared.notify_fault.NotifyFault.{NotifyFault}

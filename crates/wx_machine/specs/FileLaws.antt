@@ -13,7 +13,7 @@ use Rattle.wx_notify.specs.declared.notify.Notify.{Notify}
 use Rattle.wx_watch.specs.declared.notify_fault.NotifyFault.{NotifyFault}
 use Rattle.wx_lane.specs.declared.lane.LaneItem.{LaneItem}
 use Rattle.wx_lane.specs.Lanes.{fenced}
-use Rattle.wx_file_events.specs.FileEvents.{event_of}
+use Rattle.wx_lane.specs.FileEvents.{event_of}
 use Rattle.wx_machine.specs.Start.{Start}
 use Rattle.wx_machine.specs.Settings.{settings, revision}
 use Rattle.wx_machine.specs.Files.{source, is_file_word, was_applied, has_backend, applied, is_applied, may_be_judged, is_deaf, is_live, is_public, finds_full, item_named, first_item}

@@ -1,6 +1,6 @@
 -- What is found is what the tree answers.
-use Rattle.std.proofs.Common.{◌≡◌, ℕ, true, false, List, refl, ap, sym, ◌∙◌}
-use Rattle.std.specs.Prelude.{◌&&◌, Bool, Some, map}
+use Rattle.std.proofs.Common.{◌≡◌, ℕ, true, List, refl, ap, sym, ◌∙◌}
+use Rattle.std.specs.Prelude.{Some, map}
 use Rattle.std.proofs.lemmas.Bool.{both_ways}
 use Rattle.wx_watch.specs.declared.scan_fault.EntryKind.TheVariants.{Directory, NonFollowedSymlink, Other}
 use Rattle.wx_tree.specs.Paths.{Path}
@@ -13,9 +13,6 @@ use Rattle.wx_mem_tree.specs.declared.entry.MemEntry.{MemEntry}
 use Rattle.wx_mem_tree.specs.Entries.{are_once, entries_of, found_at, stamp_at, tree_of}
 use Rattle.wx_mem_tree.proofs.Found.{found_node, found_path}
 use Rattle.wx_mem_tree.proofs.Once.{is_listing, there}
-
-pub not_followed : (follow link : Bool) → follow ≡ false → (follow && link) ≡ false
-not_followed follow link e = rw e refl
 
 pub kind_directory : (p : Path) (es : List MemEntry) (x : MemEntry) (bytes : List ℕ) → found_at p es ≡ Some x → x.node ≡ Dir → bytes ≡ spelled x.path → kind_of p (node_at (tree_of es) p) ≡ Some (Directory bytes)
 kind_directory p es x bytes f n b = rw (found_node p es (Some x) f, n, b, found_path p es x f) refl

@@ -1,14 +1,12 @@
 -- What is found in the list of entries is what the tree has.
 use Rattle.std.proofs.Common.{◌≡◌, ℕ, suc, zero, ◌≤◌, Bool, true, false, cond, List, [], ◌∷◌, length, drop, arith, refl, ap, sym, ◌∙◌, inl, inr}
-use Rattle.std.specs.Prelude.{◌&&◌, ◌||◌, Option, None, Some}
-use Rattle.std.proofs.lemmas.Bool.{and_parts, cases_Bool, both_ways}
+use Rattle.std.specs.Prelude.{◌&&◌, Option, None, Some}
+use Rattle.std.proofs.lemmas.Bool.{cases_Bool, both_ways, or_parts}
 use Rattle.wx_tree.specs.Paths.{Path, same}
-use Rattle.wx_tree.specs.Places.{AreParts, is_part, place, spelled}
 use Rattle.wx_tree.specs.Trees.{Tree, node_at}
 use Rattle.wx_tree.specs.declared.node.Node.{Node}
 use Rattle.wx_tree.proofs.PathLemmas.{same-true}
-use Rattle.wx_tree.proofs.PlaceLemmas.{place_spelled}
-use Rattle.wx_scan.specs.Told.{AreNames, SpellsPath, has_link_above, is_link_node, is_name}
+use Rattle.wx_scan.specs.Told.{SpellsPath, has_link_above, is_link_node, is_name}
 use Rattle.wx_mem_tree.specs.declared.entry.MemEntry.{MemEntry}
 use Rattle.wx_mem_tree.specs.Entries.{found_at, has_link_on, is_link_at, node_found, tree_of}
 
@@ -31,30 +29,11 @@ found_path p (e ∷ es) x h =
 pub no_link_up : (t : Tree) (p : Path) (n : ℕ) → has_link_above t p ≡ false → 1 ≤ n → n ≤ length p → is_link_at t (drop n p) ≡ false
 no_link_up t [] n h lo hi = absurd (omega arith)
 no_link_up t (x ∷ p) zero h lo hi = absurd (omega arith)
-no_link_up t (x ∷ p) (suc zero) h lo hi = (or_none (is_link_node (node_at t p)) (has_link_above t p) h).0
-  where
-    or_none : (a b : Bool) → (a || b) ≡ false → (a ≡ false) × (b ≡ false)
-    or_none true b e = absurd cc
-    or_none false b e = (refl, e)
-no_link_up t (x ∷ p) (suc (suc n)) h lo hi = no_link_up t p (suc n) (or_none (is_link_node (node_at t p)) (has_link_above t p) h).1 (omega arith) (omega arith)
-  where
-    or_none : (a b : Bool) → (a || b) ≡ false → (a ≡ false) × (b ≡ false)
-    or_none true b e = absurd cc
-    or_none false b e = (refl, e)
-
-pub names_parts : (p : Path) → AreNames p → AreParts p
-names_parts [] h = tt
-names_parts (x ∷ p) h = ((and_parts (is_part x) _ h.0).0, names_parts p h.1)
-
-pub spells_place : (t : Tree) (p : Path) (bytes : List ℕ) → SpellsPath t p bytes → place bytes ≡ p
-spells_place t p bytes s = ap place s.spelled ∙ place_spelled p (names_parts p s.names)
+no_link_up t (x ∷ p) (suc zero) h lo hi = (or_parts (is_link_node (node_at t p)) (has_link_above t p) h).0
+no_link_up t (x ∷ p) (suc (suc n)) h lo hi = no_link_up t p (suc n) (or_parts (is_link_node (node_at t p)) (has_link_above t p) h).1 (omega arith) (omega arith)
 
 pub no_link_on : (t : Tree) (p : Path) (bytes : List ℕ) (with_last : Bool) → SpellsPath t p bytes → (with_last && is_link_at t p) ≡ false → has_link_on with_last t p ≡ false
 no_link_on t p bytes with_last s e = rw (s.no_link, e) refl
-
-or_none : (a b : Bool) → (a || b) ≡ false → (a ≡ false) × (b ≡ false)
-or_none true b e = absurd cc
-or_none false b e = (refl, e)
 
 found_link : (es : List MemEntry) (q : Path) → is_link_at (tree_of es) q ≡ is_link_node (node_found (found_at q es))
 found_link es q = ap is_link_node (node_is_found q es)
@@ -63,14 +42,14 @@ found_link es q = ap is_link_node (node_is_found q es)
 pub no_link_there : (es : List MemEntry) (p q : Path) (n : ℕ) (with_last found : Bool) → has_link_on with_last (tree_of es) p ≡ false → 1 ≤ n → n ≤ length p → q ≡ drop n p
     → found ≡ is_link_node (node_found (found_at q es)) → found ≡ true → ⊥
 no_link_there es p q n with_last found h lo hi e f g =
-    let a = or_none (has_link_above (tree_of es) p) (with_last && is_link_at (tree_of es) p) h in
+    let a = or_parts (has_link_above (tree_of es) p) (with_last && is_link_at (tree_of es) p) h in
     let k : is_link_at (tree_of es) (drop n p) ≡ false = no_link_up (tree_of es) p n a.0 lo hi in
     both_ways (is_link_at (tree_of es) q) (ap (is_link_at (tree_of es)) e ∙ k) (found_link es q ∙ (sym f ∙ g))
 
 -- nor at the path itself, where this counts
 pub no_link_here : (es : List MemEntry) (p : Path) (with_last found : Bool) → has_link_on with_last (tree_of es) p ≡ false → with_last ≡ true → found ≡ is_link_node (node_found (found_at p es)) → found ≡ true → ⊥
 no_link_here es p with_last found h w f g =
-    let a = or_none (has_link_above (tree_of es) p) (with_last && is_link_at (tree_of es) p) h in
+    let a = or_parts (has_link_above (tree_of es) p) (with_last && is_link_at (tree_of es) p) h in
     let k : is_link_at (tree_of es) p ≡ false = (rw w at a.1) in
     both_ways (is_link_at (tree_of es) p) k (found_link es p ∙ (sym f ∙ g))
 

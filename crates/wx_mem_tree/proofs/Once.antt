@@ -1,8 +1,8 @@
 -- Each path comes once, and the entries of a directory are its listing.
 use Rattle.std.proofs.Common.{◌≡◌, Bool, true, false, cond, Result, Ok, Err, List, [], ◌∷◌, ◌++◌, refl, ap, sym, ◌∙◌, inl, inr}
-use Rattle.std.specs.Prelude.{◌⊎◌, ◌||◌, OnErr, OnOk, Some, filter, not}
+use Rattle.std.specs.Prelude.{◌⊎◌, OnErr, OnOk, Some, filter, not}
 use Rattle.wx_text.specs.declared.list.Memory.{Memory}
-use Rattle.std.proofs.lemmas.Bool.{and_parts, cases_Bool, both_ways, not-true}
+use Rattle.std.proofs.lemmas.Bool.{and_parts, cases_Bool, both_ways, not-true, or_parts}
 use Rattle.wx_tree.specs.Lists.{In, AllOnce}
 use Rattle.wx_tree.specs.Paths.{Path, has_entry, holds, same}
 use Rattle.wx_tree.specs.Trees.{IsListing, Tree, is_there, is_there_node, node_at}
@@ -24,14 +24,10 @@ once_from : (es : List MemEntry) → PathsOnce es → are_once es ≡ true
 once_from [] h = refl
 once_from (e ∷ es) h = rw (h.0, once_from es h.1) refl
 
-or_none : (a b : Bool) → (a || b) ≡ false → (a ≡ false) × (b ≡ false)
-or_none true b e = absurd cc
-or_none false b e = (refl, e)
-
 filtered_at : (keep : MemEntry → Bool) (p : Path) (es : List MemEntry) → is_at p es ≡ false → is_at p (filter keep es) ≡ false
 filtered_at keep p [] h = refl
 filtered_at keep p (e ∷ es) h =
-    let o = or_none (same e.path p) (is_at p es) h in
+    let o = or_parts (same e.path p) (is_at p es) h in
     let more = filtered_at keep p es o.1 in
     elim (cases_Bool (keep e)) [ inl a ↦ rw (a, o.0) more | inr a ↦ rw a more ]
 
@@ -47,7 +43,7 @@ turned p q h = elim (cases_Bool (same q p)) [ inl a ↦ (let e : q ≡ p = same-
 put_elsewhere : (p q : Path) (n : Node) (es : List MemEntry) → is_at q es ≡ false → same p q ≡ false → is_at q (put_node p n es) ≡ false
 put_elsewhere p q n [] h d = rw d refl
 put_elsewhere p q n (e ∷ es) h d =
-    let o = or_none (same e.path q) (is_at q es) h in
+    let o = or_parts (same e.path q) (is_at q es) h in
     let more = put_elsewhere p q n es o.1 d in
     elim (cases_Bool (same e.path p)) [ inl a ↦ rw (a, o.0) o.1 | inr a ↦ rw (a, o.0) more ]
 

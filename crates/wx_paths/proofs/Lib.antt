@@ -1,4 +1,4 @@
-mod ComponentLemmas
+pub mod ComponentLemmas
 mod JoinLemmas
 mod LawLemmas
 mod SharedLemmas

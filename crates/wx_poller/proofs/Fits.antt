@@ -1,9 +1,10 @@
 -- A poller that fits a tree still does.
 use Rattle.std.proofs.Common.{◌≡◌, ℕ, ◌+◌, length-append, Bool, true, false, cond, Option, None, Some, Result, Ok, Err, List, [], ◌∷◌, ◌++◌, arith, refl, ap, sym, subst, ◌∙◌, inl, inr}
 use Rattle.std.proofs.Math.Seq.{take-append_seam}
-use Rattle.std.specs.Prelude.{◌-◌, take, ◌&&◌, ◌||◌, ◌==◌, IfNone, IfOk, IfSome, OnOk, filter, is_some, length, map, not, option_map}
+use Rattle.std.specs.Prelude.{◌-◌, take, ◌&&◌, ◌||◌, ◌==◌, IfNone, IfSome, filter, is_some, length, map, not, option_map}
 use Rattle.std.specs.Option.{option_or}
-use Rattle.std.proofs.lemmas.Bool.{both_ways, cases_Bool, eqb-true}
+use Rattle.std.proofs.lemmas.Bool.{both_ways, cases_Bool, eqb-true, not-true, or_right}
+use Rattle.std.proofs.Math.Bool.{or-false, or_assoc}
 use Rattle.wx_events.specs.declared.file_type.FileType.{FileType}
 use Rattle.wx_events.specs.declared.file_type.FileType.TheVariants as type
 use Rattle.wx_notify.specs.declared.notify.Notify.{Notify}
@@ -20,6 +21,7 @@ use Rattle.wx_scan.specs.Looked.{Looked, Rose}
 use Rattle.wx_scan.specs.Told.{IsNamed, SpellsPath}
 use Rattle.wx_scan.specs.declared.scanner.ScanError.{ScanError}
 use Rattle.wx_scan.specs.declared.scanner.ScanError.TheVariants.{Memory as OutOfMemory}
+use Rattle.wx_scan.proofs.LookLemmas.{registered_in}
 use Rattle.wx_watch.specs.declared.notify_fault.NotifyFault.{NotifyFault}
 use Rattle.wx_watch.specs.declared.notify_fault.NotifyFaultKind.{NotifyFaultKind}
 use Rattle.wx_watch.specs.declared.notify_fault.NotifyFaultKind.TheVariants.{Generic, InvalidConfig, Io, MaxFilesWatch, Memory, PathNotFound, WatchNotFound}
@@ -30,7 +32,7 @@ use Rattle.wx_poller.specs.Fitting.{Agrees, FitsTree, IsTold, NoneTells, any_sho
 use Rattle.wx_poller.specs.Listings.{IsMap, Sight, same_type, seen_at, type_at}
 use Rattle.wx_poller.specs.declared.poller.Poller.{Poller}
 use Rattle.wx_poller.specs.Polled.{Brought, Gives, GivesNext, IsPending, TellsNone, fault_of, gives_next}
-use Rattle.wx_poller.proofs.Shown.{place_of, spelled_of}
+use Rattle.wx_poller.proofs.Shown.{spelled_of}
 
 abbrev Kind : Type 0
 Kind = Option FileType
@@ -38,13 +40,9 @@ Kind = Option FileType
 abbrev kind_of_seen : Option Seen → Kind
 kind_of_seen x = option_map (λ s. s.file_type) x
 
-not_true : (b : Bool) → not b ≡ true → b ≡ false
-not_true true e = absurd cc
-not_true false e = refl
-
 -- an exact poller follows no links
 pub exact_told : (backing : Backing) (follow : Bool) (a b : Looked) (t : Tree) → backing.exact ≡ not follow → IsExact backing a b t → IsTold t follow a b
-exact_told backing follow a b t e x = record { no_links = not_true follow (sym e ∙ x.exact); told = x.told; no_fault = x.no_fault }
+exact_told backing follow a b t e x = record { no_links = not-true follow (sym e ∙ x.exact); told = x.told; no_fault = x.no_fault }
 
 pub new_fits : (t : Tree) (rs : List (List ℕ)) (events : List Notify) (seen : List Sight) → IsNamed t → rs ≡ [] → events ≡ [] → seen ≡ [] → FitsTree t rs events seen
 new_fits t rs events seen named r e s = record {
@@ -56,16 +54,8 @@ new_fits t rs events seen named r e s = record {
 -- ---- watch
 
 shows_last : (t : Tree) (r p : List ℕ) (rs : List (List ℕ)) → any_shows t (rs ++ r ∷ []) p ≡ (any_shows t rs p || shows t r p)
-shows_last t r p [] = or_none (shows t r p)
-  where
-    or_none : (b : Bool) → (b || false) ≡ b
-    or_none true = refl
-    or_none false = refl
-shows_last t r p (k ∷ rs) = ap (λ b. shows t k p || b) (shows_last t r p rs) ∙ or_assoc (shows t k p) (any_shows t rs p) (shows t r p)
-  where
-    or_assoc : (a b c : Bool) → (a || (b || c)) ≡ ((a || b) || c)
-    or_assoc true b c = refl
-    or_assoc false b c = refl
+shows_last t r p [] = or-false (shows t r p)
+shows_last t r p (k ∷ rs) = ap (λ b. shows t k p || b) (shows_last t r p rs) ∙ sym (or_assoc (shows t k p) (any_shows t rs p) (shows t r p))
 
 shown_last : (t : Tree) (r p : List ℕ) (rs : List (List ℕ)) → option_or (shown t rs p) (shown t (r ∷ []) p) ≡ shown t (rs ++ r ∷ []) p
 shown_last t r p rs = rw (shows_last t r p rs) (last (any_shows t rs p) (shows t r p) (is_spelled p) (type_of (node_at t (place p))))
@@ -116,11 +106,11 @@ same_fits t rs ks events old new e h k = record { named = k.named; quiet = k.qui
 shows_there : (t : Tree) (r p : List ℕ) (rs : List (List ℕ)) → In r rs → shows t r p ≡ true → any_shows t rs p ≡ true
 shows_there t r p [] i h = absurd i
 shows_there t r p (k ∷ rs) (inl e) h = (let m : shows t k p ≡ true = ap (λ x. shows t x p) e ∙ h in rw m refl)
-shows_there t r p (k ∷ rs) (inr i) h = or_true (shows t k p) (any_shows t rs p) (shows_there t r p rs i h)
-  where
-    or_true : (a b : Bool) → b ≡ true → (a || b) ≡ true
-    or_true true b e = refl
-    or_true false b e = e
+shows_there t r p (k ∷ rs) (inr i) h = or_right (shows t k p) (any_shows t rs p) (shows_there t r p rs i h)
+
+this_kind : (k : FileType) (x : Option Seen) → kind_of_seen x ≡ Some k → has_type type.Dir x ≡ same_type k type.Dir
+this_kind k None h = absurd cc
+this_kind k (Some s) h = (let e : s.file_type ≡ k = cc in ap (λ (z : FileType). same_type z type.Dir) e)
 
 directory_seen : (x : Option Seen) (n : Option Node) → kind_of_seen x ≡ type_of n → has_type type.Dir x ≡ is_directory_node n
 directory_seen x None h = no_kind x h
@@ -129,20 +119,8 @@ directory_seen x None h = no_kind x h
     no_kind None h = refl
     no_kind (Some s) h = absurd cc
 directory_seen x (Some Dir) h = this_kind type.Dir x h
-  where
-    this_kind : (k : FileType) (x : Option Seen) → kind_of_seen x ≡ Some k → has_type type.Dir x ≡ same_type k type.Dir
-    this_kind k None h = absurd cc
-    this_kind k (Some s) h = (let e : s.file_type ≡ k = cc in ap (λ (z : FileType). same_type z type.Dir) e)
 directory_seen x (Some (File stamp)) h = this_kind type.File x h
-  where
-    this_kind : (k : FileType) (x : Option Seen) → kind_of_seen x ≡ Some k → has_type type.Dir x ≡ same_type k type.Dir
-    this_kind k None h = absurd cc
-    this_kind k (Some s) h = (let e : s.file_type ≡ k = cc in ap (λ (z : FileType). same_type z type.Dir) e)
 directory_seen x (Some (Link target)) h = this_kind type.Symlink x h
-  where
-    this_kind : (k : FileType) (x : Option Seen) → kind_of_seen x ≡ Some k → has_type type.Dir x ≡ same_type k type.Dir
-    this_kind k None h = absurd cc
-    this_kind k (Some s) h = (let e : s.file_type ≡ k = cc in ap (λ (z : FileType). same_type z type.Dir) e)
 
 -- a registered path covers in the listing what it shows in the tree
 covers_shown : (t : Tree) (q : Path) (r p : List ℕ) (rs : List (List ℕ)) (seen : List Sight) → Agrees t rs seen → SpellsPath t q r → In r rs → covers seen r p ≡ shows t r p
@@ -166,17 +144,13 @@ covered_shown t p (k ∷ ks) rs seen h s f =
     let m : is_covered seen ks p ≡ any_shows t ks p = covered_shown t p ks rs seen h s (λ r j. f r (inr j)) in
     rw (c, m) refl
 
-registered_in : (r : List ℕ) (rs : List (List ℕ)) → is_registered r rs ≡ true → In r rs
-registered_in r [] h = absurd cc
-registered_in r (k ∷ rs) h = elim (cases_Bool (same_part k r)) [ inl a ↦ inl (same_part-true k r a) | inr a ↦ inr (registered_in r rs (rw a at h)) ]
-
 shows_apart : (t : Tree) (r p : List ℕ) (rs : List (List ℕ)) → any_shows t rs p ≡ (any_shows t (unregister r rs) p || (is_registered r rs && shows t r p))
 shows_apart t r p [] = refl
 shows_apart t r p (k ∷ rs) =
     let m = shows_apart t r p rs in
     elim (cases_Bool (same_part k r)) [
       | inl a ↦ (let e : shows t k p ≡ shows t r p = ap (λ x. shows t x p) (same_part-true k r a) in rw (a, e, m) (first (shows t r p) (any_shows t (unregister r rs) p) (is_registered r rs)))
-      | inr a ↦ rw (a, m) (later (shows t k p) (any_shows t (unregister r rs) p) (is_registered r rs && shows t r p))
+      | inr a ↦ rw (a, m) (sym (or_assoc (shows t k p) (any_shows t (unregister r rs) p) (is_registered r rs && shows t r p)))
     ]
   where
     first : (a b c : Bool) → (a || (b || (c && a))) ≡ (b || (true && a))
@@ -185,10 +159,6 @@ shows_apart t r p (k ∷ rs) =
     first false true c = refl
     first false false true = refl
     first false false false = refl
-
-    later : (a b c : Bool) → (a || (b || c)) ≡ ((a || b) || c)
-    later true b c = refl
-    later false b c = refl
 
 left_shown : (a b s : Bool) (T : Kind) (x : Option Seen) → kind_of_seen x ≡ cond ((b || (true && a)) && s) T None → kind_of_seen (cond ((a && not b) && is_some x) None x) ≡ cond (b && s) T None
 left_shown true true s T x h = h
@@ -268,19 +238,11 @@ pub not_pending : (ns : List Notify) → (length ns == 0) ≡ true → IsPending
 not_pending [] e h = h
 not_pending (n ∷ ns) e h = (let k : length (n ∷ ns) ≡ 0 = eqb-true (length (n ∷ ns)) 0 e in absurd (omega arith))
 
-pub ok_map : {X E : Type 0} (r : Result X E) (P Q : X → Type 0) → ((x : X) → P x → Q x) → IfOk r P → IfOk r Q
-ok_map (Ok x) P Q f h = f x h
-ok_map (Err e) P Q f h = h
-
 pub registered_old : (r : List ℕ) (rs : List (List ℕ)) → is_registered r rs ≡ true → register r rs ≡ rs
 registered_old r rs e = rw e refl
 
 pub registered_new : (r : List ℕ) (rs : List (List ℕ)) → is_registered r rs ≡ false → register r rs ≡ rs ++ r ∷ []
 registered_new r rs e = rw e refl
-
-pub on_ok : {X E : Type 0} (r : Result X E) (P Q : Type 0) → (P → Q) → OnOk r P → OnOk r Q
-on_ok (Ok x) P Q f h = f h
-on_ok (Err e) P Q f h = h
 
 -- what was added last is gone again
 pub last_gone : {X : Type 0} (xs old new : List X) (r : Option X) (x : X) (n : ℕ) → old ≡ xs ++ x ∷ [] → n ≡ length old → new ≡ take (n - 1) old → new ≡ xs

@@ -1,22 +1,12 @@
 -- Looks one after the other are looks.
-use Rattle.std.proofs.Common.{◌≡◌, ◌≤◌, ℕ, Bool, arith, refl, ◌∙◌, inl, inr}
+use Rattle.std.proofs.Common.{◌≡◌, ◌≤◌, ℕ, Bool, arith, ◌∙◌, inl, inr}
 use Rattle.std.specs.Prelude.{◌⊎◌}
 use Rattle.wx_tree.specs.Trees.{Tree}
 use Rattle.wx_scan.specs.Looked.{Looked, LooksOnce, OnlyLooks, Rose}
 use Rattle.wx_poller.specs.Fitting.{IsTold}
 
-pub no_looks : (a : Looked) → OnlyLooks a a
-no_looks a = record { same = record { tree = refl; stamps = refl; shape = refl; exact = refl }; looks = omega arith; faults = omega arith }
-
 pub one_look : (failed : Bool) (a b : Looked) → LooksOnce failed a b → OnlyLooks a b
 one_look failed a b h = record { same = h.same; looks = h.looks; faults = h.faults }
-
-pub more_looks : (a b c : Looked) → OnlyLooks a b → OnlyLooks b c → OnlyLooks a c
-more_looks a b c h k = record {
-  same = record { tree = k.same.tree ∙ h.same.tree; stamps = k.same.stamps ∙ h.same.stamps; shape = k.same.shape ∙ h.same.shape; exact = k.same.exact ∙ h.same.exact };
-  looks = omega (arith, h.looks, k.looks);
-  faults = omega (arith, h.faults, k.faults);
-}
 
 pub rose_before : (a b c : Looked) → OnlyLooks b c → Rose a.faults b.faults → Rose a.faults c.faults
 rose_before a b c h (inl r) = inl (omega (arith, h.faults, r))

@@ -2,37 +2,31 @@
 use Rattle.std.proofs.Common.{◌≡◌, ℕ, Bool, true, false, cond, Option, None, Some, Result, Ok, Err, List, [], ◌∷◌, refl, ap, sym, subst, ◌∙◌, inl, inr}
 use Rattle.std.specs.Prelude.{◌&&◌, ◌||◌, map, option_map}
 use Rattle.std.specs.Option.{option_or}
-use Rattle.std.proofs.lemmas.Bool.{and_parts, both_ways, cases_Bool}
+use Rattle.std.proofs.lemmas.Bool.{both_ways, cases_Bool, or_right}
+use Rattle.std.proofs.Math.Bool.{or-false}
 use Rattle.wx_events.specs.declared.file_type.FileType.{FileType}
 use Rattle.wx_events.specs.declared.file_type.FileType.TheVariants as type
 use Rattle.wx_watch.specs.declared.scan_fault.EntryKind.{EntryKind}
 use Rattle.wx_watch.specs.declared.scan_fault.EntryKind.TheVariants.{Directory, NonFollowedSymlink, Other}
 use Rattle.wx_tree.specs.Lists.{In}
 use Rattle.wx_tree.specs.Paths.{Path, has_entry, same, same_part}
-use Rattle.wx_tree.specs.Places.{AreParts, is_part, place, spelled}
+use Rattle.wx_tree.specs.Places.{place, spelled}
 use Rattle.wx_tree.specs.Trees.{IsListing, Tree, is_directory, is_directory_node, is_there, is_there_node, node_at}
 use Rattle.wx_tree.specs.declared.node.Node.{Node}
 use Rattle.wx_tree.specs.declared.node.Node.TheVariants.{Dir, File, Link}
 use Rattle.wx_tree.proofs.PathLemmas.{same-true, same_part-refl, same_part-true}
-use Rattle.wx_tree.proofs.PlaceLemmas.{place_spelled}
 use Rattle.wx_scan.specs.Backings.{AllSpellPaths, is_registered}
-use Rattle.wx_scan.specs.Told.{AreNames, IsNamed, SpellsPath, has_link_above, is_fault, is_link_node, kind_of}
+use Rattle.wx_scan.specs.Told.{IsNamed, SpellsPath, has_link_above, is_fault, is_link_node, kind_of}
 use Rattle.wx_scan.specs.declared.scanner.ScanError.{ScanError}
 use Rattle.wx_scan.specs.declared.scanner.ScanError.TheVariants.{Io, Memory as OutOfMemory, NotFound}
+use Rattle.wx_scan.proofs.LookLemmas.{spells_place}
 use Rattle.wx_poller.specs.declared.seen.Seen.{Seen}
 use Rattle.wx_poller.specs.Fitting.{Agrees, Answers, IsKnown, any_shows, is_spelled, shown, shows, type_of}
 use Rattle.wx_poller.specs.Listings.{Sight, is_dir, seen_at, type_at}
 
-names_parts : (p : Path) → AreNames p → AreParts p
-names_parts [] h = tt
-names_parts (x ∷ p) h = ((and_parts (is_part x) _ h.0).0, names_parts p h.1)
-
-pub place_of : (t : Tree) (q : Path) (bytes : List ℕ) → SpellsPath t q bytes → place bytes ≡ q
-place_of t q bytes s = ap place s.spelled ∙ place_spelled q (names_parts q s.names)
-
 -- bytes that spell a path are spelled by their place
 pub spelled_of : (t : Tree) (q : Path) (bytes : List ℕ) → SpellsPath t q bytes → is_spelled bytes ≡ true
-spelled_of t q bytes s = ap (λ x. same_part (spelled x) bytes) (place_of t q bytes s) ∙ (ap (λ b. same_part (spelled q) b) s.spelled ∙ same_part-refl (spelled q))
+spelled_of t q bytes s = ap (λ x. same_part (spelled x) bytes) (spells_place t q bytes s) ∙ (ap (λ b. same_part (spelled q) b) s.spelled ∙ same_part-refl (spelled q))
 
 -- what stands at a path of a directory is a path of the tree
 entry_spelled : (t : Tree) (q c : Path) → IsNamed t → has_link_above t q ≡ false → node_at t q ≡ Some Dir → has_entry q c ≡ true → is_there t c ≡ true → SpellsPath t c (spelled c)
@@ -65,19 +59,7 @@ registered_in (c ∷ cs) p h =
 in_registered : (cs : List Path) (c : Path) → In c cs → is_registered (spelled c) (map spelled cs) ≡ true
 in_registered [] c h = absurd h
 in_registered (x ∷ cs) c (inl e) = (let k : same_part (spelled x) (spelled c) ≡ true = ap (λ y. same_part (spelled y) (spelled c)) e ∙ same_part-refl (spelled c) in rw k refl)
-in_registered (x ∷ cs) c (inr h) = (let k = in_registered cs c h in or_true (same_part (spelled x) (spelled c)) (is_registered (spelled c) (map spelled cs)) k)
-  where
-    or_true : (a b : Bool) → b ≡ true → (a || b) ≡ true
-    or_true true b e = refl
-    or_true false b e = e
-
-or_none : (b : Bool) → (b || false) ≡ b
-or_none true = refl
-or_none false = refl
-
-and_none : (b : Bool) → (b && false) ≡ false
-and_none true = refl
-and_none false = refl
+in_registered (x ∷ cs) c (inr h) = (let k = in_registered cs c h in or_right (same_part (spelled x) (spelled c)) (is_registered (spelled c) (map spelled cs)) k)
 
 abbrev Kind : Type 0
 Kind = Option FileType
@@ -88,9 +70,9 @@ shown_leaf t q bytes p s d =
     elim (cases_Bool (same_part bytes p)) [
       | inl a ↦ (let e : bytes ≡ p = same_part-true bytes p a in
           let k : is_spelled p ≡ true = ap is_spelled (sym e) ∙ spelled_of t q bytes s in
-          let m : place p ≡ q = ap place (sym e) ∙ place_of t q bytes s in
+          let m : place p ≡ q = ap place (sym e) ∙ spells_place t q bytes s in
           rw (a, k, m) refl)
-      | inr a ↦ (let m : is_directory t (place bytes) ≡ false = ap (is_directory t) (place_of t q bytes s) ∙ d in rw (a, m) refl)
+      | inr a ↦ (let m : is_directory t (place bytes) ≡ false = ap (is_directory t) (spells_place t q bytes s) ∙ d in rw (a, m) refl)
     ]
 
 absent_kind : (t : Tree) (c : Path) → is_there t c ≡ false → type_of (node_at t c) ≡ None
@@ -109,7 +91,7 @@ hidden t q cs p l h true true he hs =
 
 -- an entry is shown by its directory
 entry_shown : (t : Tree) (q c : Path) (p : List ℕ) → SpellsPath t c p → has_entry q c ≡ true → (has_entry q (place p) && is_spelled p) ≡ true
-entry_shown t q c p s h = (let a : has_entry q (place p) ≡ true = ap (has_entry q) (place_of t c p s) ∙ h in rw (a, spelled_of t c p s) refl)
+entry_shown t q c p s h = (let a : has_entry q (place p) ≡ true = ap (has_entry q) (spells_place t c p s) ∙ h in rw (a, spelled_of t c p s) refl)
 
 -- what a directory shows
 pub shown_directory : (t : Tree) (q : Path) (bytes p : List ℕ) (cs : List Path) → IsNamed t → SpellsPath t q bytes → node_at t q ≡ Some Dir → IsListing t q cs
@@ -118,17 +100,17 @@ shown_directory t q bytes p cs named s d l =
     elim (cases_Bool (same_part bytes p)) [
       | inl a ↦ (let e : bytes ≡ p = same_part-true bytes p a in
           let k : is_spelled p ≡ true = ap is_spelled (sym e) ∙ spelled_of t q bytes s in
-          let m : node_at t (place p) ≡ Some Dir = ap (node_at t) (ap place (sym e) ∙ place_of t q bytes s) ∙ d in
+          let m : node_at t (place p) ≡ Some Dir = ap (node_at t) (ap place (sym e) ∙ spells_place t q bytes s) ∙ d in
           rw (a, k, m) refl)
       | inr a ↦ (
-          let m : node_at t (place bytes) ≡ Some Dir = ap (node_at t) (place_of t q bytes s) ∙ d in
-          let n : has_entry (place bytes) (place p) ≡ has_entry q (place p) = ap (λ x. has_entry x (place p)) (place_of t q bytes s) in
+          let m : node_at t (place bytes) ≡ Some Dir = ap (node_at t) (spells_place t q bytes s) ∙ d in
+          let n : has_entry (place bytes) (place p) ≡ has_entry q (place p) = ap (λ x. has_entry x (place p)) (spells_place t q bytes s) in
           elim (cases_Bool (is_registered p (map spelled cs))) [
             | inl b ↦ (let r = registered_in cs p b in
                 let sp : SpellsPath t r.0 p = subst (SpellsPath t r.0) r.2 (entry_spelled t q r.0 named s.no_link d (l.each r.0 r.1) (l.there r.0 r.1)) in
                 let z : (has_entry q (place p) && is_spelled p) ≡ true = entry_shown t q r.0 p sp (l.each r.0 r.1) in
-                rw (a, b, m, n, or_none (has_entry q (place p)), z) refl)
-            | inr b ↦ rw (a, b, m, n, or_none (has_entry q (place p))) (hidden t q cs p l b (has_entry q (place p)) (is_spelled p) refl refl)
+                rw (a, b, m, n, or-false (has_entry q (place p)), z) refl)
+            | inr b ↦ rw (a, b, m, n, or-false (has_entry q (place p))) (hidden t q cs p l b (has_entry q (place p)) (is_spelled p) refl refl)
           ])
     ]
 
@@ -175,7 +157,7 @@ pub entry_put : (t : Tree) (q : Path) (bytes p : List ℕ) (old new : List Sight
     → Some k ≡ type_of (node_at t q) → type_at new p ≡ option_or (cond (same_part bytes p) (type_of (node_at t (place p))) None) (type_at old p)
 entry_put t q bytes p old new k s e h =
     elim (cases_Bool (same_part bytes p)) [
-      | inl a ↦ (let m : place p ≡ q = ap place (sym (same_part-true bytes p a)) ∙ place_of t q bytes s in
+      | inl a ↦ (let m : place p ≡ q = ap place (sym (same_part-true bytes p a)) ∙ spells_place t q bytes s in
           let f : type_at new p ≡ Some k = e ∙ ap (λ b. cond b (Some k) (type_at old p)) a in
           rw (a, f, m, sym h) refl)
       | inr a ↦ (let f : type_at new p ≡ type_at old p = e ∙ ap (λ b. cond b (Some k) (type_at old p)) a in rw (a, f) refl)
@@ -185,7 +167,7 @@ pub entry_absent : (t : Tree) (q : Path) (bytes p : List ℕ) (old : List Sight)
     → None ≡ type_of (node_at t q) → type_at old p ≡ option_or (cond (same_part bytes p) (type_of (node_at t (place p))) None) (type_at old p)
 entry_absent t q bytes p old s h =
     elim (cases_Bool (same_part bytes p)) [
-      | inl a ↦ (let m : place p ≡ q = ap place (sym (same_part-true bytes p a)) ∙ place_of t q bytes s in rw (a, m, sym h) refl)
+      | inl a ↦ (let m : place p ≡ q = ap place (sym (same_part-true bytes p a)) ∙ spells_place t q bytes s in rw (a, m, sym h) refl)
       | inr a ↦ rw a refl
     ]
 

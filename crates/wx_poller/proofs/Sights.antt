@@ -9,6 +9,7 @@ use Rattle.std.specs.Cmp.Lexicographic.{slice_cmp, nat_list_eq_equiv, texts_ties
 use Rattle.std.specs.Map.{lookup}
 use Rattle.std.specs.Ordering.{nat_cmp}
 use Rattle.std.proofs.lemmas.Bool.{cases_Bool}
+use Rattle.std.proofs.Math.Bool.{or-false}
 use Rattle.wx_tree.specs.Paths.{same_part}
 use Rattle.wx_tree.proofs.PathLemmas.{same_part-true, same_part-refl}
 use Rattle.wx_scan.specs.Backings.{is_registered}
@@ -53,11 +54,7 @@ rest_is (x ∷ rest) first d h e = rw e (simp unary_clauses (ap (λ xs. x ∷ xs
     all_taken (x ∷ xs) = ap (λ ys. x ∷ ys) (all_taken xs)
 
 pub registered_last : (p k : List ℕ) (ks : List (List ℕ)) → is_registered p (ks ++ k ∷ []) ≡ (is_registered p ks || same_part k p)
-registered_last p k [] = or_none (same_part k p)
-  where
-    or_none : (b : Bool) → (b || false) ≡ b
-    or_none true = refl
-    or_none false = refl
+registered_last p k [] = or-false (same_part k p)
 registered_last p k (x ∷ ks) = elim (cases_Bool (same_part x p)) [ inl a ↦ rw a refl | inr a ↦ rw a (registered_last p k ks) ]
 
 -- where a path was put that was new, taking it away again leaves what was

@@ -1,22 +1,10 @@
 -- What is made of the state, part by part, before a replay.
-use Rattle.std.proofs.Common.{◌≡◌, true, false, List, [], ◌∷◌, ◌++◌, inl, inr, refl, ap, ◌∙◌}
-use Rattle.std.proofs.lemmas.Bool.{cases_Bool}
-use Rattle.wx_recursor.specs.Identities.{has_identity, same_identity}
+use Rattle.std.proofs.Common.{◌≡◌, [], ap, ◌∙◌}
 use Rattle.wx_recursor.specs.Rebuilds.{guards_to_replay, known_to_replay, prepared, replays, upheld}
 use Rattle.wx_recursor.specs.States.{RecursorState}
 use Rattle.wx_recursor.specs.declared.answers.BackendPlace.TheVariants.{Dropped}
-use Rattle.wx_recursor.specs.declared.known.Identity.{Identity}
-use Rattle.wx_recursor.specs.declared.known.Known.{Known}
 
 -- where the first list doesn't have an identity, the second decides
-pub has_after : (i : Identity) (ks ls : List Known) → has_identity i ks ≡ false → has_identity i (ks ++ ls) ≡ has_identity i ls
-has_after i [] ls h = refl
-has_after i (k ∷ ks) ls h =
-    elim (cases_Bool (same_identity k.identity i)) [
-      | inl e ↦ (let x : true ≡ false = rw e at h in cc)
-      | inr e ↦ rw e (has_after i ks ls (rw e at h))
-    ]
-
 pub prepared_from : (s a b d t : RecursorState) → a ≡ record s { known = known_to_replay s; guards = guards_to_replay s } → b ≡ record a { registrations = []; waiting = replays a a.known a.guards } → d ≡ record b { excluded = []; lost = []; backend = Dropped } → t ≡ upheld d → t ≡ prepared s
 prepared_from s a b d t e f g h =
     h ∙ ap upheld (g ∙ ap {A = RecursorState} (λ x. record x { excluded = []; lost = []; backend = Dropped }) (f ∙ ap {A = RecursorState} (λ x. record x { registrations = []; waiting = replays x x.known x.guards }) e))

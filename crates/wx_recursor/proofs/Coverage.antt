@@ -1,14 +1,14 @@
 -- Each call keeps that each owner covers its path.
 use Rattle.std.proofs.Common.{◌≡◌, ℕ, Bool, true, false, cond, List, [], ◌∷◌, ◌++◌, refl, ap, sym, ◌∙◌, inl, inr, subst}
 use Rattle.std.specs.Prelude.{◌&&◌, ◌||◌, not, Option, Some, None, filter}
-use Rattle.std.proofs.lemmas.Bool.{cases_Bool, and_parts, and_from, or_cases}
+use Rattle.std.proofs.lemmas.Bool.{cases_Bool, and_parts, and_from, or_cases, or_left, or_right}
 use Rattle.wx_watch.specs.declared.notify_fault.NotifyFault.{NotifyFault}
 use Rattle.wx_tree.specs.Lists.{In}
 use Rattle.wx_tree.specs.Paths.{Path, has_entry, holds, holds_below, same}
 use Rattle.wx_tree.specs.Roots.{same_root}
 use Rattle.wx_tree.specs.declared.root.Root.{Root}
 use Rattle.wx_tree.proofs.ListLemmas.{In-cases, In-filter}
-use Rattle.wx_tree.proofs.PathLemmas.{holds-refl, or_left, or_right, same-refl, same-true, same_root-true}
+use Rattle.wx_tree.proofs.PathLemmas.{holds-refl, same-refl, same-true, same_root-true}
 use Rattle.wx_recursor.specs.Calls.{aliases, cleared_below, created, created_one, for_each, guards_below, guards_of_roots_below, kept_guard_watches, owners_above, owners_at, queued_guards, queued_retries, queued_roots, reconciled, removed, removed_one, renamed, retried, roots_below, stirred, tombstones_lifted, unsure, unsure_one}
 use Rattle.wx_recursor.specs.Guarding.{guard_placed, guard_set, guarded_at, unguarded}
 use Rattle.wx_recursor.specs.Holding.{enqueue, guards_at, has_met, has_retry, keep_retry, lose, scan_once, show, still_known, take_over}
@@ -203,7 +203,7 @@ above_reaches r (x ∷ p) (o ∷ os) k rec h =
       | inr a ↦ above_reaches r (x ∷ p) os (λ y m. k y (inr m)) rec a
     ]
 
-has_root_in : (r : Root) (rs : List Root) → has_root r rs ≡ true → In r rs
+pub has_root_in : (r : Root) (rs : List Root) → has_root r rs ≡ true → In r rs
 has_root_in r [] h = cc
 has_root_in r (s ∷ rs) h = elim (or_cases (same_root s r) (has_root r rs) h) [ inl a ↦ inl (same_root-true s r a) | inr b ↦ inr (has_root_in r rs b) ]
 

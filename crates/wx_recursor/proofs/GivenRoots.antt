@@ -129,7 +129,7 @@ given_owned v r p i scans item w u s h fits k = given_taken v r p i scans item (
 
 -- guards
 
-others_given : (v : List Root) (r : Root) (gs : List GuardWatch) → ((g : GuardWatch) → In g gs → In g.root v) → (g : GuardWatch) → In g (guards_of_others r gs) → In g.root v
+pub others_given : (v : List Root) (r : Root) (gs : List GuardWatch) → ((g : GuardWatch) → In g gs → In g.root v) → (g : GuardWatch) → In g (guards_of_others r gs) → In g.root v
 others_given v r gs k g m = let a = In-filter (λ (g : GuardWatch). not (same_root r g.root)) g gs m in k g a.0
 
 given_unguarded : (v : List Root) (r : Root) (s : RecursorState) → GivenOf v s → GivenOf v (unguarded r s)
@@ -200,7 +200,7 @@ each_candidate_given v p [] h w m = absurd m
 each_candidate_given v p (r ∷ rs) h w (inl e) = subst (λ y. IsWorkOf v y) e (h r (inl refl))
 each_candidate_given v p (r ∷ rs) h w (inr m) = each_candidate_given v p rs (λ x n. h x (inr n)) w m
 
-seekers_given : (v : List Root) (p : Path) (owners rs : List Root) (os : List Owner) → ((r : Root) → In r rs → In r v) → (r : Root) → In r (seekers p owners rs os) → In r v
+pub seekers_given : (v : List Root) (p : Path) (owners rs : List Root) (os : List Owner) → ((r : Root) → In r rs → In r v) → (r : Root) → In r (seekers p owners rs os) → In r v
 seekers_given v p owners rs os h r m = let a = In-filter (λ r. r.recursive && (owns_parent r p os || has_root r owners)) r rs m in h r a.0
 
 retries_given : (v : List Root) (p : Path) (rs : List Root) (s : RecursorState) → ((r : Root) → In r rs → In r v) → GivenOf v s → GivenOf v (retry_all p rs s)

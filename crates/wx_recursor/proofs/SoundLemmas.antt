@@ -1,13 +1,13 @@
 -- Each change of who owns what keeps what is to be kept.
 use Rattle.std.proofs.Common.{◌≡◌, Bool, true, false, cond, List, [], ◌∷◌, ◌++◌, refl, ap, sym, ◌∙◌, inl, inr, subst}
 use Rattle.std.specs.Prelude.{◌&&◌, ◌||◌, ◌⊎◌, not, filter, map}
-use Rattle.std.proofs.lemmas.Bool.{cases_Bool, and_parts, or_cases, both_ways}
+use Rattle.std.proofs.lemmas.Bool.{cases_Bool, and_parts, or_cases, both_ways, or_parts, or_left, or_right}
 use Rattle.wx_tree.specs.Lists.{In}
 use Rattle.wx_tree.specs.Paths.{Path, same}
 use Rattle.wx_tree.specs.Roots.{same_root}
 use Rattle.wx_tree.specs.declared.root.Root.{Root}
 use Rattle.wx_tree.proofs.ListLemmas.{In-cases, In-filter, In-kept, In-left, In-right}
-use Rattle.wx_tree.proofs.PathLemmas.{or_left, or_right, same-refl, same-true}
+use Rattle.wx_tree.proofs.PathLemmas.{same-refl, same-true}
 use Rattle.wx_recursor.specs.Guarding.{guards_of_others}
 use Rattle.wx_recursor.specs.Holding.{serves, still_known}
 use Rattle.wx_recursor.specs.Identities.{guard_known, has_identity, has_known, is_other, know, named, same_identity, without}
@@ -135,15 +135,11 @@ other_none p i (k ∷ ks) h l (inr m) e =
       | inr a ↦ other_none p i ks (rw a at h) l m e
     ]
 
-or_false : (a b : Bool) → (a || b) ≡ false → (a ≡ false) × (b ≡ false)
-or_false true b h = cc
-or_false false b h = (refl, h)
-
 pub suits : (p : Path) (i : Identity) (s : RecursorState) → is_known_otherwise p i s ≡ false → Suits p i (things s)
 suits p i s h l m e =
-    let a = or_false (is_other p i s.known) (is_other p i (map guard_known s.guards) || (is_other p i s.registrations || is_other p i s.waiting)) h in
-    let b = or_false (is_other p i (map guard_known s.guards)) (is_other p i s.registrations || is_other p i s.waiting) a.1 in
-    let c = or_false (is_other p i s.registrations) (is_other p i s.waiting) b.1 in
+    let a = or_parts (is_other p i s.known) (is_other p i (map guard_known s.guards) || (is_other p i s.registrations || is_other p i s.waiting)) h in
+    let b = or_parts (is_other p i (map guard_known s.guards)) (is_other p i s.registrations || is_other p i s.waiting) a.1 in
+    let c = or_parts (is_other p i s.registrations) (is_other p i s.waiting) b.1 in
     elim m [
       | inl x ↦ other_none p i s.known a.0 l x e
       | inr x ↦ elim x [
@@ -339,7 +335,7 @@ sound_fewer_owns f h sound = record {
   owned = λ p m. sound.owned p (filter_has f p h.owners m);
 }
 
-unseen_has : (q : Path) (os : List Owner) → has_owner q (unseen os) ≡ has_owner q os
+pub unseen_has : (q : Path) (os : List Owner) → has_owner q (unseen os) ≡ has_owner q os
 unseen_has q [] = refl
 unseen_has q (o ∷ os) = ap (λ b. same o.path q || b) (unseen_has q os)
 

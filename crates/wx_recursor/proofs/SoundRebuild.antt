@@ -1,11 +1,12 @@
 -- A rebuild keeps it.
 use Rattle.std.proofs.Common.{◌≡◌, Bool, true, false, cond, List, [], ◌∷◌, ◌++◌, refl, ap, sym, ◌∙◌, inl, inr, subst}
 use Rattle.std.specs.Prelude.{◌||◌, ◌⊎◌, not, filter, map}
-use Rattle.std.proofs.lemmas.Bool.{cases_Bool, or_cases, both_ways}
+use Rattle.std.proofs.lemmas.Bool.{cases_Bool, or_cases, both_ways, or_left, or_right, or_parts}
+use Rattle.std.proofs.lemmas.List.{append-nil, append_assoc}
 use Rattle.wx_tree.specs.Lists.{In}
 use Rattle.wx_tree.specs.Paths.{Path, same}
 use Rattle.wx_tree.proofs.ListLemmas.{In-cases, In-filter, In-left, In-right}
-use Rattle.wx_tree.proofs.PathLemmas.{or_left, or_right, same-true}
+use Rattle.wx_tree.proofs.PathLemmas.{same-true}
 use Rattle.wx_recursor.specs.Holding.{show, still_known}
 use Rattle.wx_recursor.specs.Identities.{guard_known, has_identity, has_known, is_path_gone, named, same_identity}
 use Rattle.wx_recursor.specs.Owners.{has_owner, has_path}
@@ -20,8 +21,8 @@ use Rattle.wx_recursor.specs.declared.known.Identity.{Identity}
 use Rattle.wx_recursor.specs.declared.known.Known.{Known}
 use Rattle.wx_recursor.specs.declared.owner.GuardWatch.{GuardWatch}
 use Rattle.wx_recursor.specs.declared.owner.Owner.{Owner}
-use Rattle.wx_recursor.proofs.OwnerLemmas.{append_third, nil_right}
 use Rattle.wx_recursor.proofs.SoundLemmas.{has_there, identity_true, in_map_filter, once_filter, once_push}
+use Rattle.wx_recursor.proofs.SoundSteps.{cond_things}
 
 -- what holds while a rebuild is under way: no path and no identity twice
 pub record Tidy (h : Things) : Type 0 where
@@ -153,16 +154,16 @@ once_join (x ∷ xs) ys o p d = (
   once_join xs ys o.1 p (λ a b m n e. d a b (inr m) n e),
 )
 
+first_once : (i : Identity) (ks : List Known) → IdentitiesOnce (first_of i ks)
+first_once i [] = tt
+first_once i (k ∷ ks) = elim (same_identity k.identity i) as (λ b. IdentitiesOnce (cond b (named k.path i ∷ []) (first_of i ks))) [ true ↦ (refl, tt) | false ↦ first_once i ks ]
+
 again_once : (g : Known) (ks : List Known) → IdentitiesOnce (representative g ks)
 again_once g ks = go (has_known g.path g.identity ks)
   where
-    one : (i : Identity) (ks : List Known) → IdentitiesOnce (first_of i ks)
-    one i [] = tt
-    one i (k ∷ ks) = elim (same_identity k.identity i) as (λ b. IdentitiesOnce (cond b (named k.path i ∷ []) (first_of i ks))) [ true ↦ (refl, tt) | false ↦ one i ks ]
-
     go : (b : Bool) → IdentitiesOnce (cond b (g ∷ []) (first_of g.identity ks))
     go true = (refl, tt)
-    go false = one g.identity ks
+    go false = first_once g.identity ks
 
 all_once : (gs ks : List Known) → IdentitiesOnce gs → IdentitiesOnce (representatives gs ks)
 all_once [] ks o = tt
@@ -244,10 +245,6 @@ prepared_sound s sound =
 abbrev pub with_rest : List Known → RecursorState → Things
 with_rest gs s = record (things s) { waiting = gs ++ s.waiting }
 
-or_none : (a b : Bool) → (a || b) ≡ false → b ≡ false
-or_none true b h = cc
-or_none false b h = h
-
 -- the first that waits goes, and others of its identity come to the end
 moves : (h n : Things) (g : Known) (rest xs : List Known) → h.waiting ≡ g ∷ rest → n.registrations ≡ h.registrations → n.waiting ≡ rest ++ xs → IdentitiesOnce xs → ((x : Known) → In x xs → x.identity ≡ g.identity) → ((k : Known) → Among n k → Among h k) → Tidy h → Tidy n
 moves h n g rest xs w r v once own less t =
@@ -289,7 +286,7 @@ lands s g gs t =
       once = once_push g.path g.identity s.registrations t.once (none_in g.identity s.registrations (λ k m e. in_none g (g ∷ (gs ++ s.waiting)) k.identity (t.apart k m) (inl refl) (sym e)));
       wait = (let o = t.wait in o.1);
       apart = λ k m. elim (In-cases k s.registrations (g ∷ []) m) [
-        | inl a ↦ or_none (same_identity g.identity k.identity) (has_identity k.identity (gs ++ s.waiting)) (t.apart k a)
+        | inl a ↦ (or_parts (same_identity g.identity k.identity) (has_identity k.identity (gs ++ s.waiting)) (t.apart k a)).1
         | inr a ↦ elim a [
           | inl e ↦ subst (λ x. has_identity x.identity (gs ++ s.waiting) ≡ false) e (let o = t.wait in o.0)
           | inr b ↦ absurd b
@@ -314,15 +311,11 @@ waits_less s u g gs xs known guards registrations waiting more k (inr (inr (inr 
 stays : (s u : RecursorState) (g : Known) (gs xs : List Known) → ((k : Known) → In k u.known → In k s.known) → ((k : Known) → In k (map guard_known u.guards) → In k (map guard_known s.guards)) → u.registrations ≡ s.registrations → u.waiting ≡ s.waiting ++ xs
     → IdentitiesOnce xs → ((x : Known) → In x xs → x.identity ≡ g.identity) → ((k : Known) → In k xs → Among (with_rest (g ∷ gs) s) k) → Tidy (with_rest (g ∷ gs) s) → Tidy (with_rest gs u)
 stays s u g gs xs known guards registrations waiting once own more t =
-    moves (with_rest (g ∷ gs) s) (with_rest gs u) g (gs ++ s.waiting) xs refl registrations (ap (λ y. gs ++ y) waiting ∙ sym (append_third gs s.waiting xs)) once own (waits_less s u g gs xs known guards registrations waiting more) t
+    moves (with_rest (g ∷ gs) s) (with_rest gs u) g (gs ++ s.waiting) xs refl registrations (ap (λ y. gs ++ y) waiting ∙ sym (append_assoc gs s.waiting xs)) once own (waits_less s u g gs xs known guards registrations waiting more) t
 
 tidy_cond : (b : Bool) (x y : RecursorState) (gs : List Known) → Tidy (with_rest gs x) → Tidy (with_rest gs y) → Tidy (with_rest gs (cond b x y))
 tidy_cond true x y gs a c = a
 tidy_cond false x y gs a c = c
-
-first_once : (i : Identity) (ks : List Known) → IdentitiesOnce (first_of i ks)
-first_once i [] = tt
-first_once i (k ∷ ks) = elim (same_identity k.identity i) as (λ b. IdentitiesOnce (cond b (named k.path i ∷ []) (first_of i ks))) [ true ↦ (refl, tt) | false ↦ first_once i ks ]
 
 tidy_waits : (g : Known) (gs : List Known) (s u : RecursorState) → things u ≡ things s → Tidy (with_rest (g ∷ gs) s) → Tidy (with_rest gs (waits g u))
 tidy_waits g gs s u e t =
@@ -332,11 +325,7 @@ tidy_waits g gs s u e t =
 
 tidy_drops : (g : Known) (gs : List Known) (s u : RecursorState) → things u ≡ things s → Tidy (with_rest (g ∷ gs) s) → Tidy (with_rest gs u)
 tidy_drops g gs s u e t =
-    stays s u g gs [] (λ k m. subst (λ h. In k h.known) e m) (λ k m. subst (λ h. In k (map guard_known h.guards)) e m) (ap (λ h. h.registrations) e) (ap (λ h. h.waiting) e ∙ sym (nil_right s.waiting)) tt (λ x m. absurd m) (λ k m. absurd m) t
-
-cond_same : (b : Bool) (x y s : RecursorState) → things x ≡ things s → things y ≡ things s → things (cond b x y) ≡ things s
-cond_same true x y s e f = e
-cond_same false x y s e f = f
+    stays s u g gs [] (λ k m. subst (λ h. In k h.known) e m) (λ k m. subst (λ h. In k (map guard_known h.guards)) e m) (ap (λ h. h.registrations) e) (ap (λ h. h.waiting) e ∙ sym (append-nil s.waiting)) tt (λ x m. absurd m) (λ k m. absurd m) t
 
 one_tidy : (g : Known) (w : Watched) (gs : List Known) (s : RecursorState) → Tidy (with_rest (g ∷ gs) s) → Tidy (with_rest gs (replayed_one g w s))
 one_tidy g (Kept look) gs s t = lands s g gs t
@@ -351,10 +340,10 @@ one_tidy g (Failed f) gs s t =
     (λ k m. let a = first_in g.identity (ks ++ map guard_known u.guards) k m in elim (In-cases k ks (map guard_known u.guards) a.0) [ inl b ↦ inl (still_in u.owners s.known k b) | inr b ↦ inr (inl (guards k b)) ])
     t)
     (tidy_cond (is_resource_fault f) _ _ gs
-    (tidy_waits g gs s (stop f s) (cond_same s.stopped _ _ s refl refl) t)
+    (tidy_waits g gs s (stop f s) (cond_things s.stopped _ _ s refl refl) t)
     (tidy_cond (has_path g.path s.failed) _ _ gs
-    (tidy_drops g gs s (failed_watch g.path f s) (cond_same (has_path g.path s.failed) _ _ s refl refl) t)
-    (tidy_waits g gs s (failed_watch g.path f s) (cond_same (has_path g.path s.failed) _ _ s refl refl) t)))
+    (tidy_drops g gs s (failed_watch g.path f s) (cond_things (has_path g.path s.failed) _ _ s refl refl) t)
+    (tidy_waits g gs s (failed_watch g.path f s) (cond_things (has_path g.path s.failed) _ _ s refl refl) t)))
 
 all_tidy : (gs : List Known) (ws : List Watched) (s : RecursorState) → Tidy (with_rest gs s) → Tidy (things (replayed_all gs ws s))
 all_tidy [] ws s t = t
@@ -364,5 +353,5 @@ all_tidy (g ∷ gs) (w ∷ ws) s t =
 
 pub replayed_sound : (ws : List Watched) (s : RecursorState) → AreSound (things s) → AreSound (things (replayed ws s))
 replayed_sound ws s sound =
-    let t : Tidy (with_rest s.waiting (record s { waiting = [] })) = subst (λ y. Tidy (record (things s) { waiting = y })) (sym (nil_right s.waiting)) (sound_tidy (things s) sound) in
+    let t : Tidy (with_rest s.waiting (record s { waiting = [] })) = subst (λ y. Tidy (record (things s) { waiting = y })) (sym (append-nil s.waiting)) (sound_tidy (things s) sound) in
     upheld_sound (replayed_all s.waiting ws (record s { waiting = [] })) (all_tidy s.waiting ws (record s { waiting = [] }) t)

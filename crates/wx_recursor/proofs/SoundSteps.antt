@@ -1,11 +1,11 @@
 -- Steps and the calls between them keep it.
 use Rattle.std.proofs.Common.{◌≡◌, ℕ, Bool, true, false, cond, List, [], ◌∷◌, ◌++◌, refl, ap, sym, ◌∙◌, inl, inr, subst}
 use Rattle.std.specs.Prelude.{◌&&◌, not, Option, Some, None}
+use Rattle.std.proofs.lemmas.Bool.{or_left}
 use Rattle.wx_watch.specs.declared.notify_fault.NotifyFault.{NotifyFault}
 use Rattle.wx_tree.specs.Paths.{Path, holds, holds_below}
 use Rattle.wx_tree.specs.Roots.{same_root}
 use Rattle.wx_tree.specs.declared.root.Root.{Root}
-use Rattle.wx_tree.proofs.PathLemmas.{or_left}
 use Rattle.wx_recursor.specs.Calls.{aliases, cleared_below, created, created_one, for_each, fresh, has_work, reconciled, removed, removed_one, renamed, tombstones_lifted, unsure, unsure_one}
 use Rattle.wx_recursor.specs.Guarding.{guard_placed, guarded, guarded_at, unguarded}
 use Rattle.wx_recursor.specs.Holding.{has_retry, keep_retry, lose, show, still_known}
@@ -35,7 +35,7 @@ use Rattle.wx_recursor.proofs.SoundLemmas.{Suits, fewer_guards, has_right, ident
 
 -- what changes nothing of the things
 
-cond_things : (b : Bool) (x y s : RecursorState) → things x ≡ things s → things y ≡ things s → things (cond b x y) ≡ things s
+pub cond_things : (b : Bool) (x y s : RecursorState) → things x ≡ things s → things y ≡ things s → things (cond b x y) ≡ things s
 cond_things true x y s e f = e
 cond_things false x y s e f = f
 

@@ -1,8 +1,9 @@
 -- Where no line of a script asks to follow links, no settings of its run say so.
-use Rattle.std.proofs.Common.{◌≡◌, ℕ, zero, suc, Bool, true, false, ◌||◌, cond, Ok, List, [], ◌∷◌, ◌++◌, length, get_or, refl, sym, ap, subst, ◌∙◌, arith}
+use Rattle.std.proofs.Common.{◌≡◌, ℕ, zero, suc, Bool, true, false, cond, Ok, List, [], ◌∷◌, ◌++◌, length, get_or, refl, sym, ap, subst, ◌∙◌, arith}
 use Rattle.std.specs.Prelude.{◌&&◌, ◌-◌, ◌^◌, nat_lt, not}
 use Rattle.std.specs.List.{list_any}
 use Rattle.std.proofs.lemmas.List.{get_or_past}
+use Rattle.std.proofs.lemmas.Bool.{or_parts}
 use Rattle.wx_config.specs.Changes.{changed}
 use Rattle.wx_config.specs.declared.change.Change.{Change as AChange}
 use Rattle.wx_config.specs.declared.change.Change.TheVariants.{Signal, Pathset, FileWatcher, FollowSymlinks, KeyboardEvents, Throttle, Filterer, OnError, OnAction}
@@ -17,7 +18,7 @@ use Rattle.wx_machine.specs.Last.{without_last}
 use Rattle.wx_machine.specs.Quits.{is_quit}
 use Rattle.wx_machine.specs.Settings.{changes, first_changed, later, pending, settings, turn_changes}
 use Rattle.wx_machine.specs.Start.{Start}
-use Rattle.wx_calm.specs.Calm.{AreCalm}
+use Rattle.wx_file_turns.specs.Calm.{AreCalm}
 use Rattle.wx_script.specs.declared.script.ScriptAct.{ScriptAct}
 use Rattle.wx_script.specs.declared.script.ScriptAct.TheVariants.{One, GetOrCreate}
 use Rattle.wx_script.specs.declared.script.ScriptTurn.{ScriptTurn}
@@ -27,10 +28,6 @@ use Rattle.wx_script.specs.Acted.{dirs, hands, next_id, performed, with_act}
 use Rattle.wx_script.specs.Answered.{AreAnswered, answers_of, due_answer, due_answers}
 use Rattle.wx_script.specs.Turns.{FollowsGiven, given, newest, turns_of}
 use Rattle.wx_replay.specs.Still.{act_asks_links, asks_links, turn_asks_links}
-
-or_none : (a b : Bool) → (a || b) ≡ false → (a ≡ false) × (b ≡ false)
-or_none true b e = absurd cc
-or_none false b e = (refl, e)
 
 -- ---- settings
 
@@ -50,11 +47,11 @@ changed_links (OnAction n) c h off = off
 
 first_links : (xs : List AChange) (c : Config) → NoLinks xs → c.follow_symlinks ≡ false → (first_changed xs c).follow_symlinks ≡ false
 first_links [] c h off = off
-first_links (x ∷ xs) c h off = changed_links x c (or_none (asks_links x) (list_any asks_links xs) h).0 off
+first_links (x ∷ xs) c h off = changed_links x c (or_parts (asks_links x) (list_any asks_links xs) h).0 off
 
 later_links : (xs : List AChange) → NoLinks xs → NoLinks (later xs)
 later_links [] h = refl
-later_links (x ∷ xs) h = (or_none (asks_links x) (list_any asks_links xs) h).1
+later_links (x ∷ xs) h = (or_parts (asks_links x) (list_any asks_links xs) h).1
 
 -- the entry doesn't ask to follow links
 abbrev AsksNone : Entry → Type 0
@@ -83,9 +80,9 @@ settings_links s (_ ∷ p) off h = settings_links s p off h.1
 
 given_links : (turns : List ScriptTurn) (last k : ℕ) → list_any turn_asks_links turns ≡ false → AsksNone (given turns last k)
 given_links [] last k h = refl
-given_links (Turn t ∷ turns) last zero h = (or_none (turn_asks_links (Turn t)) (list_any turn_asks_links turns) h).0
+given_links (Turn t ∷ turns) last zero h = (or_parts (turn_asks_links (Turn t)) (list_any turn_asks_links turns) h).0
 given_links (Fault code ∷ turns) last zero h = tt
-given_links (x ∷ turns) last (suc k) h = given_links turns last k (or_none (turn_asks_links x) (list_any turn_asks_links turns) h).1
+given_links (x ∷ turns) last (suc k) h = given_links turns last k (or_parts (turn_asks_links x) (list_any turn_asks_links turns) h).1
 
 newest_links : (turns : List ScriptTurn) (last n : ℕ) → list_any turn_asks_links turns ≡ false → AskNone (newest (given turns last) n)
 newest_links turns last zero h = tt
@@ -95,7 +92,7 @@ with_links : (done : List Act) (x : Act) → NoLinks (changes done) → NoLinks 
 with_links [] x h one = one
 with_links (Create id command ∷ done) x h one = with_links done x h one
 with_links (Asks id ask ∷ done) x h one = with_links done x h one
-with_links (Change c ∷ done) x h one = let o = or_none (asks_links c) (list_any asks_links (changes done)) h in rw o.0 (with_links done x o.1 one)
+with_links (Change c ∷ done) x h one = let o = or_parts (asks_links c) (list_any asks_links (changes done)) h in rw o.0 (with_links done x o.1 one)
 with_links (Quit ∷ done) x h one = with_links done x h one
 with_links (QuitGracefully signal grace ∷ done) x h one = with_links done x h one
 
@@ -110,7 +107,7 @@ last_links false xs ys h k = k
 more_links : (x : Act) (xs : List Act) → (NoLinks (changes xs) → NoLinks (changes (without_last is_quit xs))) → NoLinks (changes (x ∷ xs)) → NoLinks (changes (x ∷ without_last is_quit xs))
 more_links (Create id command) xs more h = more h
 more_links (Asks id ask) xs more h = more h
-more_links (Change c) xs more h = let o = or_none (asks_links c) (list_any asks_links (changes xs)) h in rw o.0 (more o.1)
+more_links (Change c) xs more h = let o = or_parts (asks_links c) (list_any asks_links (changes xs)) h in rw o.0 (more o.1)
 more_links Quit xs more h = more h
 more_links (QuitGracefully signal grace) xs more h = more h
 
@@ -130,13 +127,13 @@ act_links p done (GetOrCreate id command) h l = perhaps_links (was_made id p && 
 performed_links : (p : List Entry) (done : List Act) (acts : List ScriptAct) → NoLinks (changes done) → list_any act_asks_links acts ≡ false → NoLinks (changes (performed p done acts))
 performed_links p done [] h l = h
 performed_links p done (act ∷ acts) h l =
-    let o = or_none (act_asks_links act) (list_any act_asks_links acts) l in
+    let o = or_parts (act_asks_links act) (list_any act_asks_links acts) l in
     performed_links p (with_act p done act) acts (act_links p done act h o.0) o.1
 
 line_links : (lines : List (List ScriptAct)) (k : ℕ) → list_any (list_any act_asks_links) lines ≡ false → list_any act_asks_links (get_or lines k []) ≡ false
 line_links [] k h = ap (list_any act_asks_links) (get_or_past [] k [] (omega arith))
-line_links (acts ∷ lines) zero h = (or_none (list_any act_asks_links acts) _ h).0
-line_links (acts ∷ lines) (suc k) h = line_links lines k (or_none (list_any act_asks_links acts) _ h).1
+line_links (acts ∷ lines) zero h = (or_parts (list_any act_asks_links acts) _ h).0
+line_links (acts ∷ lines) (suc k) h = line_links lines k (or_parts (list_any act_asks_links acts) _ h).1
 
 first_same : {A : Type 0} (x y : A) (xs ys : List A) → ◌≡◌ {A = List A} (x ∷ xs) (y ∷ ys) → x ≡ y
 first_same x y xs ys e = cc

@@ -17,7 +17,7 @@ use Rattle.wx_mem_tree.specs.Entries.{none_fails, put_node, tree_of}
 use Rattle.wx_fs.proofs.RootNames.{normal_names}
 use Rattle.wx_journal.specs.declared.entry.Entry.{Entry}
 use Rattle.wx_machine.specs.Start.{is_absolute}
-use Rattle.wx_calm.specs.Calm.{Foresees}
+use Rattle.wx_file_turns.specs.Calm.{Foresees}
 use Rattle.wx_script.specs.declared.script.FailingCall.{FailingCall}
 use Rattle.wx_script.specs.declared.script.Script.{Script}
 use Rattle.wx_script.specs.declared.script.TreeEdit.{TreeEdit}

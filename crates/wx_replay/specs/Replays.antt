@@ -12,7 +12,7 @@ use Rattle.wx_script.specs.declared.script.Script.{Script}
 use Rattle.wx_script.specs.Follows.{start_of, FollowsScript}
 use Rattle.wx_bytes.specs.Causes.{AddsFront}
 use Rattle.wx_script.specs.Scripts.{IsScriptOf, IsFirstBad}
-use Rattle.wx_calm.specs.FewSteps.{FewSteps}
+use Rattle.wx_file_turns.specs.FewSteps.{FewSteps}
 use Rattle.wx_replay.specs.Still.{IsStill, first_tree}
 use Rattle.wx_replay.specs.declared.status.Status.{Status}
 use Rattle.wx_replay.specs.declared.status.Status.TheVariants.{Done, Critical, Usage, NoScript, ReadFault, WriteFault, Memory}

@@ -1,3 +1,4 @@
 pub mod Looked
 pub mod Told
 pub mod Backings
+pub mod Checks

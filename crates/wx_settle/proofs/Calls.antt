@@ -1,18 +1,18 @@
 -- So is a reconcile.
 use Rattle.std.proofs.Common.{◌≡◌, ℕ, true, List, [], ◌∷◌, ◌++◌, refl, ap, sym, ◌∙◌, inl, inr}
-use Rattle.std.specs.Prelude.{◌||◌, map}
+use Rattle.std.specs.Prelude.{map}
 use Rattle.std.proofs.lemmas.Bool.{cases_Bool}
 use Rattle.wx_tree.specs.Paths.{Path, same}
 use Rattle.wx_tree.specs.declared.root.Root.{Root}
 use Rattle.wx_tree.proofs.ListLemmas.{In-filter}
 use Rattle.wx_recursor.specs.Calls.{fresh, kept_guard_watches, queued_guards, queued_retries, queued_roots, reconciled}
-use Rattle.wx_recursor.specs.Owners.{has_owner, has_root, unseen}
+use Rattle.wx_recursor.specs.Owners.{has_root, unseen}
 use Rattle.wx_recursor.specs.States.{RecursorState}
 use Rattle.wx_recursor.specs.declared.known.Identity.{Identity}
 use Rattle.wx_recursor.specs.declared.owner.GuardWatch.{GuardWatch}
-use Rattle.wx_recursor.specs.declared.owner.Owner.{Owner}
 use Rattle.wx_recursor.specs.declared.work.Item.TheVariants.{Guard, Visit}
 use Rattle.wx_recursor.specs.declared.work.Retry.{Retry}
+use Rattle.wx_recursor.proofs.SoundLemmas.{unseen_has}
 use Rattle.wx_walk.specs.Machine.{fresh as walk_fresh, kept_guards, reconciled as walk_reconciled, resets, visits}
 use Rattle.wx_settle.specs.Plain.{plain, plain_guard, plain_queue}
 use Rattle.wx_settle.proofs.Pieces.{is_plain_append, plain_append}
@@ -43,10 +43,6 @@ guards_are (g ∷ gs) = guards_are gs
 roots_are : (rs : List Root) → is_plain (queued_roots rs) ≡ true
 roots_are [] = refl
 roots_are (r ∷ rs) = roots_are rs
-
-unseen_has : (q : Path) (os : List Owner) → has_owner q (unseen os) ≡ has_owner q os
-unseen_has q [] = refl
-unseen_has q (o ∷ os) = ap (λ b. same o.path q || b) (unseen_has q os)
 
 queue_plain : (rs : List Root) (gs : List GuardWatch) (xs : List Retry) → xs ≡ [] → plain_queue (queued_guards (kept_guard_watches rs gs) ++ (queued_retries rs xs ++ queued_roots rs)) ≡ resets (kept_guards rs (map plain_guard gs)) ++ visits rs
 queue_plain rs gs xs e =

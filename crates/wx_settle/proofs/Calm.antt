@@ -1,7 +1,7 @@
 -- One step more.
 use Rattle.std.proofs.Common.{◌≡◌, ℕ, suc, zero, Bool, true, false, List, [], ◌∷◌, refl, sym, subst}
-use Rattle.std.specs.Prelude.{◌||◌}
 use Rattle.std.proofs.lemmas.List.{append-nil}
+use Rattle.std.proofs.Math.Bool.{or-false}
 use Rattle.wx_tree.specs.Lists.{In}
 use Rattle.wx_tree.specs.Paths.{Path}
 use Rattle.wx_tree.specs.Trees.{Tree}
@@ -32,16 +32,12 @@ full_stands t c cs u (n, s, before, steps) =
     let b = full_steps t c.ok c.steps (reconciled c.roots n s) u (call_stands t c.ok c.roots n cs s a.0 a.1) steps in
     b.0
 
-or-false : (b : Bool) → b ≡ (b || false)
-or-false true = refl
-or-false false = refl
-
 -- what it shows, and that it asks for no rebuild
 pub step_calm : (t : Tree) (c : Call) (cs : List Call) (u : RecursorState) (e : Evidence) → RecursorReached t (c ∷ cs) u → has_work u.queue u.sweep_due ≡ true → SeesFirst t c.ok u.queue e → NoneRefused e.releases
     → ((stepped e u).asks_rebuild ≡ false) × ((x : ShownError) → In x (stepped e u).shown → ShowsAbsentRoot t c.roots x)
 step_calm t c cs u e r work sees releases =
     let a = full_reached t (c ∷ cs) u r in
     let k = full_stands t c cs u r in
-    let one : RecursorShows t c.ok 1 u (told (stepped e u)) (stepped e u).shown (stepped e u).asks_rebuild = (e, [], false, work, sees, releases, sym (append-nil (stepped e u).shown), or-false (stepped e u).asks_rebuild, (refl, refl, refl)) in
+    let one : RecursorShows t c.ok 1 u (told (stepped e u)) (stepped e u).shown (stepped e u).asks_rebuild = (e, [], false, work, sees, releases, sym (append-nil (stepped e u).shown), sym (or-false (stepped e u).asks_rebuild), (refl, refl, refl)) in
     let d : Tells t c.roots u (told (stepped e u)) (stepped e u).shown (stepped e u).asks_rebuild = steps_show t c.ok 1 c.roots u (told (stepped e u)) (stepped e u).shown (stepped e u).asks_rebuild (reached_roots t (c ∷ cs) (plain u) a.1) (reached_quiet t (c ∷ cs) u r) k one in
     (d.calm, d.only)

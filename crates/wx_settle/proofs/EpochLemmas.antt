@@ -2,6 +2,7 @@
 use Rattle.std.proofs.Common.{◌≡◌, ℕ, suc, zero, ◌≤◌, Bool, true, false, List, [], ◌∷◌, ◌++◌, length, refl, ap, sym, ◌∙◌, subst, append_assoc}
 use Rattle.std.specs.Prelude.{◌||◌, map}
 use Rattle.std.proofs.lemmas.List.{append-nil}
+use Rattle.std.proofs.Math.Bool.{or_assoc, or-false}
 use Rattle.wx_tree.specs.Paths.{Path}
 use Rattle.wx_tree.specs.Trees.{Tree, settle}
 use Rattle.wx_recursor.specs.Calls.{has_work, reconciled}
@@ -22,14 +23,6 @@ shows_steps : (t : Tree) (ok : Path → Bool) (n : ℕ) (s u : RecursorState) (e
 shows_steps t ok zero s u errors asks (same, none, quiet) = same
 shows_steps t ok (suc n) s u errors asks (e, more, later, work, sees, releases, shown, asked, rest) = (e, work, sees, releases, shows_steps t ok n (told (stepped e s)) u more later rest)
 
-or-false : (b : Bool) → b ≡ (b || false)
-or-false true = refl
-or-false false = refl
-
-or-assoc : (a b c : Bool) → ((a || b) || c) ≡ (a || (b || c))
-or-assoc true b c = refl
-or-assoc false b c = refl
-
 first_shown : (t : Tree) (ok : Path → Bool) (u : RecursorState) (errors : List ShownError) (asks : Bool) (e : Evidence) → errors ≡ [] → asks ≡ false → has_work u.queue u.sweep_due ≡ true → SeesFirst t ok u.queue e → NoneRefused e.releases
     → RecursorShows t ok 1 u (told (stepped e u)) (errors ++ (stepped e u).shown) (asks || (stepped e u).asks_rebuild)
 first_shown t ok u errors asks e none quiet work sees releases = (
@@ -40,7 +33,7 @@ first_shown t ok u errors asks e none quiet work sees releases = (
   sees,
   releases,
   ap (λ xs. xs ++ (stepped e u).shown) none ∙ sym (append-nil (stepped e u).shown),
-  ap (λ b. b || (stepped e u).asks_rebuild) quiet ∙ or-false (stepped e u).asks_rebuild,
+  ap (λ b. b || (stepped e u).asks_rebuild) quiet ∙ sym (or-false (stepped e u).asks_rebuild),
   (refl, refl, refl),
 )
 
@@ -57,7 +50,7 @@ shows_more t ok (suc n) s u errors asks e (d, more, later, w, l, f, shown, asked
   l,
   f,
   ap (λ xs. xs ++ (stepped e u).shown) shown ∙ append_assoc (stepped d s).shown more (stepped e u).shown,
-  ap (λ b. b || (stepped e u).asks_rebuild) asked ∙ or-assoc (stepped d s).asks_rebuild later (stepped e u).asks_rebuild,
+  ap (λ b. b || (stepped e u).asks_rebuild) asked ∙ or_assoc (stepped d s).asks_rebuild later (stepped e u).asks_rebuild,
   shows_more t ok n (told (stepped d s)) u more later e rest work sees releases,
 )
 

@@ -2,6 +2,7 @@
 use Rattle.std.proofs.Common.{◌≡◌, Bool, true, false, cond, List, [], ◌∷◌, ◌++◌, refl, ap, sym, ◌∙◌, inl, inr, subst}
 use Rattle.std.specs.Prelude.{◌||◌, ◌⊎◌, Option, Some, None, map}
 use Rattle.std.proofs.lemmas.Bool.{cases_Bool}
+use Rattle.std.proofs.lemmas.List.{append_assoc, map-append}
 use Rattle.wx_watch.specs.declared.notify_fault.NotifyFault.{NotifyFault}
 use Rattle.wx_tree.specs.Lists.{In}
 use Rattle.wx_tree.specs.Paths.{Path, same}
@@ -26,20 +27,16 @@ use Rattle.wx_recursor.specs.declared.owner.Owner.{Owner}
 use Rattle.wx_recursor.specs.declared.work.Item.{Item}
 use Rattle.wx_recursor.specs.declared.work.Work.{Work}
 use Rattle.wx_recursor.specs.declared.work.Work.TheVariants.{Plain, Probe}
-use Rattle.wx_recursor.proofs.OwnerLemmas.{append_third, own_has}
+use Rattle.wx_recursor.proofs.OwnerLemmas.{own_has}
 use Rattle.wx_walk.specs.Machine.{State, release, watch}
 use Rattle.wx_walk.specs.declared.plain.Guarded.{Guarded}
 use Rattle.wx_settle.specs.Plain.{item_of, plain, plain_guard, plain_queue}
 use Rattle.wx_settle.proofs.Right.{AllRight, Tells, guards_right, has_identity-path, identity_right, none_lost, not_other, serving_release, still_identity, still_right}
 use Rattle.wx_settle.proofs.Simple.{IsKept, QuietOf, RightOf, Simple, is_plain}
 
-pub map_append : {X Y : Type 0} → (f : X → Y) (xs ys : List X) → map f (xs ++ ys) ≡ map f xs ++ map f ys
-map_append f [] ys = refl
-map_append f (x ∷ xs) ys = ap (λ zs. f x ∷ zs) (map_append f xs ys)
-
 pub plain_append : (q u : List Work) → plain_queue (q ++ u) ≡ plain_queue q ++ plain_queue u
 plain_append [] u = refl
-plain_append (w ∷ q) u = ap (λ xs. item_of w ++ xs) (plain_append q u) ∙ sym (append_third (item_of w) (plain_queue q) (plain_queue u))
+plain_append (w ∷ q) u = ap (λ xs. item_of w ++ xs) (plain_append q u) ∙ sym (append_assoc (item_of w) (plain_queue q) (plain_queue u))
 
 pub plain_map : (is : List Item) → plain_queue (map Plain is) ≡ is
 plain_map [] = refl
@@ -137,7 +134,7 @@ put_reg_plain id tells p registrations right =
     let e : has_identity (id p) registrations ≡ has_path p (map known_path registrations) = has_identity-path id tells p registrations right in
     elim (cases_Bool (has_path p (map known_path registrations))) [
       | inl h ↦ rw (e, h) refl
-      | inr h ↦ rw (e, h) (map_append known_path registrations (named p (id p) ∷ []))
+      | inr h ↦ rw (e, h) (map-append known_path registrations (named p (id p) ∷ []))
     ]
 
 -- the one call of watch

@@ -8,7 +8,7 @@ use Rattle.wx_tree.specs.Roots.{same_root}
 use Rattle.wx_tree.specs.Trees.{Tree, is_directory}
 use Rattle.wx_tree.specs.declared.root.Root.{Root}
 use Rattle.wx_tree.proofs.ListLemmas.{In-filter}
-use Rattle.wx_tree.proofs.PathLemmas.{same-refl, same-true}
+use Rattle.wx_tree.proofs.PathLemmas.{same-refl, same-true, same_truth, same-sym}
 use Rattle.wx_recursor.specs.Guarding.{guards_of_others}
 use Rattle.wx_recursor.specs.Holding.{has_met, is_lost, serves, still_known}
 use Rattle.wx_recursor.specs.Identities.{guard_known, has_identity, has_known, identity_of, is_identity, is_other, known_path, same_identity}
@@ -23,23 +23,14 @@ use Rattle.wx_recursor.specs.declared.owner.Owner.{Owner}
 use Rattle.wx_walk.specs.Machine.{has_guard, has_seen, release, unguard}
 use Rattle.wx_settle.specs.Plain.{plain_guard}
 
-pub bool_same : (a b : Bool) → (a ≡ true → b ≡ true) → (b ≡ true → a ≡ true) → a ≡ b
-bool_same true true f g = refl
-bool_same true false f g = sym (f refl)
-bool_same false true f g = g refl
-bool_same false false f g = refl
-
-pub same-sym : (p q : Path) → same p q ≡ same q p
-same-sym p q = bool_same (same p q) (same q p) (λ h. rw (same-true p q h) (same-refl q)) (λ h. rw (same-true q p h) (same-refl p))
-
 -- identities that tell paths apart
 abbrev pub Tells : (Path → Identity) → Type 0
 Tells id = (p q : Path) → same_identity (id p) (id q) ≡ same p q
 
 apart : (a b : Bool) (p q : Path) → (p ≡ q → a ≡ b) → same_identity (cond a (Canonical p) (Lexical p)) (cond b (Canonical q) (Lexical q)) ≡ same p q
 apart true true p q e = refl
-apart true false p q e = bool_same false (same p q) (λ h. cc) (λ h. let k : true ≡ false = e (same-true p q h) in cc)
-apart false true p q e = bool_same false (same p q) (λ h. cc) (λ h. let k : false ≡ true = e (same-true p q h) in cc)
+apart true false p q e = same_truth false (same p q) (λ h. cc) (λ h. let k : true ≡ false = e (same-true p q h) in cc)
+apart false true p q e = same_truth false (same p q) (λ h. cc) (λ h. let k : false ≡ true = e (same-true p q h) in cc)
 apart false false p q e = refl
 
 pub tells_tree : (t : Tree) → Tells (identity_at t)

@@ -1,6 +1,7 @@
 -- A step in which nothing fails is one of the plain machine.
 use Rattle.std.proofs.Common.{◌≡◌, Bool, true, false, cond, List, [], ◌∷◌, ◌++◌, refl, ap, sym, ◌∙◌, inl, inr, subst}
 use Rattle.std.specs.Prelude.{◌&&◌, not, Option, Some, None, filter, map}
+use Rattle.std.proofs.lemmas.List.{append-nil, map-append}
 use Rattle.wx_tree.specs.Lists.{In}
 use Rattle.wx_tree.specs.Paths.{Path, has_entry, holds}
 use Rattle.wx_tree.specs.Roots.{same_root}
@@ -29,12 +30,12 @@ use Rattle.wx_recursor.specs.declared.work.Item.{Item}
 use Rattle.wx_recursor.specs.declared.work.Item.TheVariants.{Candidate, Guard, Scan, Visit}
 use Rattle.wx_recursor.specs.declared.work.Work.{Work}
 use Rattle.wx_recursor.specs.declared.work.Work.TheVariants.{Plain, Probe}
-use Rattle.wx_recursor.proofs.OwnerLemmas.{filter_has, nil_right}
+use Rattle.wx_recursor.proofs.OwnerLemmas.{filter_has}
 use Rattle.wx_walk.specs.Machine.{State, did, scan_entries, scan_new, set_guard, stepped as walk_stepped, stepped_at as walk_stepped_at, try_candidate, unguard, visit, watch, watch_guard}
 use Rattle.wx_walk.specs.declared.plain.Guarded.{Guarded}
 use Rattle.wx_walk.specs.declared.plain.Saw.TheVariants.{Held, Leaf, Listed, Lost, Unsafe}
 use Rattle.wx_settle.specs.Plain.{plain, plain_guard, plain_queue}
-use Rattle.wx_settle.proofs.Pieces.{added_is, added_stands, is_plain_append, is_plain_map, know_all, know_right, left, map_append, plain_append, plain_map, put_reg_plain, put_reg_right, registers, registers_quiet, release_plain, released_is, trimmed_plain, trimmed_simple}
+use Rattle.wx_settle.proofs.Pieces.{added_is, added_stands, is_plain_append, is_plain_map, know_all, know_right, left, plain_append, plain_map, put_reg_plain, put_reg_right, registers, registers_quiet, release_plain, released_is, trimmed_plain, trimmed_simple}
 use Rattle.wx_settle.proofs.Right.{Tells, met_seen, unserved_plain}
 use Rattle.wx_settle.proofs.Simple.{IsClear, IsClearFirst, IsClearRoot, IsClearScan, IsClearSpot, IsClearTry, IsKept, Simple, first_saw, first_shows, is_plain, item_saw, item_shows, scan_saw, spot_path, try_saw, visit_saw, visit_shows}
 
@@ -147,7 +148,7 @@ serves_makes id tells r p root_is_safe s k = record {
   };
   same = states s.roots _ _ s.owners _ _ _ _ s.sweep_due
       (plain_append s.queue _ ∙ ap (λ x. plain_queue s.queue ++ x) (again_plain root_is_safe r))
-      (map_append plain_guard (guards_of_others r s.guards) (the_guard r p (id p) ∷ []) ∙ ap (λ x. x ++ record { root = r; path = p } ∷ []) (unserved_plain r s.guards))
+      (map-append plain_guard (guards_of_others r s.guards) (the_guard r p (id p) ∷ []) ∙ ap (λ x. x ++ record { root = r; path = p } ∷ []) (unserved_plain r s.guards))
       (put_reg_plain id tells p s.registrations k.right.registrations);
   shown = refl;
 }
@@ -221,10 +222,10 @@ bared_plain : (r : Root) (s : RecursorState) → plain (unguarded r (refound r s
 bared_plain r s = states s.roots _ _ s.owners _ _ _ _ s.sweep_due refl (unserved_plain r s.guards) refl
 
 no_more : (s : State) → record s { queue = s.queue ++ [] } ≡ s
-no_more s = states s.roots _ _ s.owners _ _ _ _ s.sweep_due (nil_right s.queue) refl refl
+no_more s = states s.roots _ _ s.owners _ _ _ _ s.sweep_due (append-nil s.queue) refl refl
 
 same_shown : (id : Path → Identity) (u : RecursorState) (x : State) (es : List ShownError) → Does id u x es → Does id u x (es ++ [])
-same_shown id u x es d = record { simple = d.simple; same = d.same; shown = d.shown ∙ sym (nil_right es) }
+same_shown id u x es d = record { simple = d.simple; same = d.same; shown = d.shown ∙ sym (append-nil es) }
 
 -- an unsafe root with no second look
 visit_unsafe : (r : Root) (g : Option (Path)) (s : State) → visit r (Unsafe g) s ≡ release_plain (guard_plain r g false (lose_plain r r.path s))
@@ -250,7 +251,7 @@ visit_does id tells r (Here i) e s k d =
     subst (λ j. Makes id (owned r r.path j scans (Plain (Visit r)) e.watched e.undone u) (own_plain r r.path scans (plain u)) s.shown) (sym d.0)
     (owned_makes id tells r r.path scans (Plain (Visit r)) e u (bared_simple id r s k) (subst (λ j. IsKept r.path j e.watched) d.0 d.1)) in
     let n = from_makes id _ _ _ m in
-    record { simple = n.simple; same = visit_held scans r (plain s) ∙ ap (λ x. release_plain (own_plain r r.path scans x)) (sym (bared_plain r s)) ∙ n.same; shown = n.shown ∙ sym (nil_right s.shown) }
+    record { simple = n.simple; same = visit_held scans r (plain s) ∙ ap (λ x. release_plain (own_plain r r.path scans x)) (sym (bared_plain r s)) ∙ n.same; shown = n.shown ∙ sym (append-nil s.shown) }
 visit_does id tells r (Entries cs) e s k d = absurd d
 
 -- a scan
@@ -270,15 +271,15 @@ scan_does id r p (Entries cs) s k d =
     subst (λ xs. Does id (enqueue (map Plain (candidates r xs)) s) (scan_entries r (Listed cs) (plain s)) (s.shown ++ [])) (sym e) record {
       simple = record { right = k.right; quiet = k.quiet; plain = is_plain_append s.queue _ k.plain (is_plain_map (candidates r cs)) };
       same = ap release_plain (sym (states s.roots _ _ s.owners _ _ _ _ s.sweep_due (plain_append s.queue (map Plain (candidates r cs)) ∙ ap (λ x. plain_queue s.queue ++ x) (plain_map (candidates r cs))) refl refl));
-      shown = sym (nil_right s.shown);
+      shown = sym (append-nil s.shown);
     }
 
 -- a candidate
 lost_does : (id : Path → Identity) (r : Root) (p : Path) (s : RecursorState) → Simple id s → Does id (lose r p s) (try_candidate r p Lost (plain s)) (s.shown ++ [])
 lost_does id r p s k = record {
   simple = lose_simple id r p s k;
-  same = ap release_plain (states s.roots _ _ (disown r p s.owners) _ _ _ _ s.sweep_due (nil_right (plain_queue s.queue)) refl refl);
-  shown = sym (nil_right s.shown);
+  same = ap release_plain (states s.roots _ _ (disown r p s.owners) _ _ _ _ s.sweep_due (append-nil (plain_queue s.queue)) refl refl);
+  shown = sym (append-nil s.shown);
 }
 
 try_does : (id : Path → Identity) → Tells id → (r : Root) (p : Path) (f : Found) (e : Evidence) (s : RecursorState) → Simple id s → IsClearTry id p f e.watched → Does id (tried r p f e s) (try_candidate r p (try_saw f) (plain s)) (s.shown ++ [])
@@ -310,7 +311,7 @@ first_does : (id : Path → Identity) → Tells id → (q : List Work) (e : Evid
 first_does id tells [] e s h k c = record {
   simple = sweep_simple id s k;
   same = ap release_plain (states s.roots _ _ (sweep s.owners) _ _ _ _ false (sym (ap plain_queue h)) refl refl);
-  shown = sym (nil_right s.shown);
+  shown = sym (append-nil s.shown);
 }
 first_does id tells (Plain i ∷ q) e s h k c =
     let at : is_plain (Plain i ∷ q) ≡ true = subst (λ x. is_plain x ≡ true) h k.plain in

@@ -3,12 +3,12 @@ use Rattle.std.proofs.Common.{◌≡◌, Bool, true, false, cond, List, [], ◌�
 use Rattle.std.specs.Prelude.{◌&&◌, Option, Some, None}
 use Rattle.std.proofs.lemmas.Bool.{cases_Bool, and_parts}
 use Rattle.wx_tree.specs.Paths.{Path, has_entry, same}
-use Rattle.wx_tree.specs.Trees.{Tree, guard_of, is_chain, is_chain_above, is_directory, is_directory_node, is_fit_node, is_safe, is_there, last_of_chain, node_at, reaches}
+use Rattle.wx_tree.specs.Trees.{Tree, guard_of, is_chain_above, is_directory, is_directory_node, is_fit_node, is_safe, is_there, node_at, reaches}
 use Rattle.wx_tree.specs.declared.node.Node.{Node}
 use Rattle.wx_tree.specs.declared.node.Node.TheVariants.{Dir, File, Link}
 use Rattle.wx_tree.specs.declared.root.Root.{Root}
 use Rattle.wx_tree.proofs.PathLemmas.{same-refl, same-true}
-use Rattle.wx_tree.proofs.Reaching.{entry-apart, reaches-inside}
+use Rattle.wx_tree.proofs.Reaching.{entry-apart, reaches-inside, guard_dir}
 use Rattle.wx_recursor.specs.Identities.{is_of_directory}
 use Rattle.wx_recursor.specs.Seen.{Sees, SeesCandidate, SeesRoot, Watches, guard_found_at, identity_at, is_gap, passes, watch_of_node, watched_at}
 use Rattle.wx_recursor.specs.States.{Evidence}
@@ -26,29 +26,6 @@ use Rattle.wx_walk.proofs.Kept.{Fits}
 use Rattle.wx_settle.proofs.Simple.{IsClear, IsClearRoot, IsClearScan, IsClearSpot, IsClearTry, IsKept, item_saw, scan_saw, spot_path, try_saw, visit_saw}
 
 -- a guard is a directory
-
-chain_dir : (t : Tree) (p : Path) → is_chain t p ≡ true → is_directory t p ≡ true
-chain_dir t [] h = h
-chain_dir t (x ∷ p) h = let a = and_parts (is_directory t (x ∷ p)) (is_chain t p) h in a.0
-
-some_is : (p q : Path) → Some p ≡ Some q → p ≡ q
-some_is p q e = cc
-
-last_dir : (t : Tree) (q p : Path) → last_of_chain t q ≡ Some p → is_directory t p ≡ true
-last_dir t [] p e =
-    elim (cases_Bool (is_directory t [])) [
-      | inl a ↦ subst (λ x. is_directory t x ≡ true) (some_is [] p (rw a at e)) a
-      | inr a ↦ (let f : None ≡ Some p = rw a at e in cc)
-    ]
-last_dir t (x ∷ q) p e =
-    elim (cases_Bool (is_chain t (x ∷ q))) [
-      | inl a ↦ subst (λ y. is_directory t y ≡ true) (some_is (x ∷ q) p (rw a at e)) (chain_dir t (x ∷ q) a)
-      | inr a ↦ last_dir t q p (rw a at e)
-    ]
-
-guard_dir : (t : Tree) (q p : Path) → guard_of t q ≡ Some p → is_directory t p ≡ true
-guard_dir t [] p e = cc
-guard_dir t (x ∷ q) p e = last_dir t q p e
 
 -- what is watched is still what was found
 

@@ -1,6 +1,6 @@
 -- Each call keeps that what is queued and guarded is about the roots of the last reconcile.
 use Rattle.std.proofs.Common.{◌≡◌, ℕ, Bool, true, false, cond, List, [], ◌∷◌, ◌++◌, refl, sym, ◌∙◌, inl, inr, subst}
-use Rattle.std.specs.Prelude.{◌&&◌, ◌||◌, not, Option, Some, None, filter}
+use Rattle.std.specs.Prelude.{◌&&◌, not, Option, Some, None, filter}
 use Rattle.std.proofs.lemmas.Bool.{and_parts, or_cases}
 use Rattle.wx_watch.specs.declared.notify_fault.NotifyFault.{NotifyFault}
 use Rattle.wx_tree.specs.Lists.{In}
@@ -8,7 +8,7 @@ use Rattle.wx_tree.specs.Paths.{Path, has_entry, holds, holds_below, same}
 use Rattle.wx_tree.specs.Roots.{same_root}
 use Rattle.wx_tree.specs.declared.root.Root.{Root}
 use Rattle.wx_tree.proofs.ListLemmas.{In-cases, In-filter}
-use Rattle.wx_tree.proofs.PathLemmas.{holds-refl, same-true, same_root-true}
+use Rattle.wx_tree.proofs.PathLemmas.{holds-refl, same-true}
 use Rattle.wx_recursor.specs.declared.answers.AddResult.{AddResult}
 use Rattle.wx_recursor.specs.declared.answers.AddResult.TheVariants.{LeftOut, Stands, TryAgain, Vanished}
 use Rattle.wx_recursor.specs.declared.answers.Found.{Found}
@@ -38,6 +38,8 @@ use Rattle.wx_recursor.specs.Steps.{acted, acted_item, candidates_of, idle_regis
 use Rattle.wx_recursor.specs.Calls.{aliases, cleared_below, created, created_one, for_each, guards_below, guards_of_roots_below, kept_guard_watches, owners_above, owners_at, queued_guards, queued_retries, queued_roots, reconciled, removed, removed_one, renamed, rescanned, retried, roots_below, stirred, tombstones_lifted, unsure, unsure_one}
 use Rattle.wx_recursor.specs.Rebuilds.{guards_to_replay, is_left_out, is_replay_over, path_gone, prepared, replayed, replayed_all, replayed_one, waits_by_alias}
 use Rattle.wx_recursor.specs.Sound.{AreCovered, FitsItem, FitsWork, IsItemOf, parts}
+use Rattle.wx_recursor.proofs.Coverage.{has_root_in}
+use Rattle.wx_recursor.proofs.GivenRoots.{others_given, seekers_given}
 use Rattle.wx_step.specs.Asking.{AreAllowed, FirstAsksBelow, ItemAsksBelow, WorkAsksBelow}
 use Rattle.wx_step.specs.Current.{AreAbout, IsWorkAbout, current}
 
@@ -119,18 +121,15 @@ about_owned v r p i scans item w u s h fits k = about_taken v r p i scans item (
 
 -- guards
 
-others_about : (v : List Root) (r : Root) (gs : List GuardWatch) → ((g : GuardWatch) → In g gs → In g.root v) → (g : GuardWatch) → In g (guards_of_others r gs) → In g.root v
-others_about v r gs k g m = let a = In-filter (λ (g : GuardWatch). not (same_root r g.root)) g gs m in k g a.0
-
 about_unguarded : (v : List Root) (r : Root) (s : RecursorState) → AboutOf v s → AboutOf v (unguarded r s)
-about_unguarded v r s k = record { roots = k.roots; stand = k.stand; guards = others_about v r s.guards k.guards; queue = k.queue }
+about_unguarded v r s k = record { roots = k.roots; stand = k.stand; guards = others_given v r s.guards k.guards; queue = k.queue }
 
 about_set : (v : List Root) (r : Root) (p : Path) (i : Identity) (s : RecursorState) → In r v → AboutOf v s → AboutOf v (guard_set r p i s)
 about_set v r p i s h k = record {
   roots = k.roots;
   stand = k.stand;
   guards = λ g m. elim (In-cases g (guards_of_others r s.guards) (record { root = r; path = p; identity = i } ∷ []) m) [
-    | inl a ↦ others_about v r s.guards k.guards g a
+    | inl a ↦ others_given v r s.guards k.guards g a
     | inr b ↦ elim b [ inl e ↦ subst (λ y. In y.root v) e h | inr c ↦ absurd c ]
   ];
   queue = k.queue;
@@ -189,9 +188,6 @@ each_candidate_about v p [] h w m = absurd m
 each_candidate_about v p (r ∷ rs) h w (inl e) = subst (λ y. IsWorkAbout v y) e (h r (inl refl))
 each_candidate_about v p (r ∷ rs) h w (inr m) = each_candidate_about v p rs (λ x n. h x (inr n)) w m
 
-seekers_about : (v : List Root) (p : Path) (owners rs : List Root) (os : List Owner) → ((r : Root) → In r rs → In r v) → (r : Root) → In r (seekers p owners rs os) → In r v
-seekers_about v p owners rs os h r m = let a = In-filter (λ r. r.recursive && (owns_parent r p os || has_root r owners)) r rs m in h r a.0
-
 retries_about : (v : List Root) (p : Path) (rs : List Root) (s : RecursorState) → ((r : Root) → In r rs → In r v) → AboutOf v s → AboutOf v (retry_all p rs s)
 retries_about v p [] s h k = k
 retries_about v p (r ∷ rs) s h k = retries_about v p rs (keep_retry r p s) (λ x m. h x (inr m)) (about_retry v r p s (h r (inl refl)) k)
@@ -200,11 +196,11 @@ about_probed : (v : List Root) (p : Path) (os : List Root) (f : Found) (s : Recu
 about_probed v p os Missing s k = k
 about_probed v p os Barred s k = k
 about_probed v p os Rejected s k = k
-about_probed v p os (Fault q c) s k = retries_about v p (seekers p os s.roots s.owners) (show (PathScan q (Io c)) s) (seekers_about v p os s.roots s.owners k.roots) k
+about_probed v p os (Fault q c) s k = retries_about v p (seekers p os s.roots s.owners) (show (PathScan q (Io c)) s) (seekers_given v p os s.roots s.owners k.roots) k
 about_probed v p os (Refused c) s k = k
 about_probed v p os (Here i) s k =
     let q : List Work = candidates_of p (seekers p os s.roots s.owners) in
-    about_later v (cond (is_of_directory i) q []) s k (λ w m. perhaps_about (is_of_directory i) v q w (each_candidate_about v p (seekers p os s.roots s.owners) (seekers_about v p os s.roots s.owners k.roots) w) m)
+    about_later v (cond (is_of_directory i) q []) s k (λ w m. perhaps_about (is_of_directory i) v q w (each_candidate_about v p (seekers p os s.roots s.owners) (seekers_given v p os s.roots s.owners k.roots) w) m)
 about_probed v p os (Entries cs) s k = k
 
 about_item : (v : List Root) (i : Item) (e : Evidence) (s : RecursorState) → IsItemOf v i → AboutOf v s → AboutOf v (acted_item i e s)
@@ -244,22 +240,18 @@ retried_about : (v : List Root) (x : Retry) → In x.root v → IsWorkAbout v (r
 retried_about v x h = elim (same x.root.path x.path) as (λ b. IsWorkAbout v (cond b (Plain (Visit x.root)) (Plain (Candidate x.root x.path)))) [ true ↦ h | false ↦ h ]
 
 -- a root that is found among these is one of them
-has_root-In : (r : Root) (rs : List Root) → has_root r rs ≡ true → In r rs
-has_root-In r [] h = cc
-has_root-In r (s ∷ rs) h = elim (or_cases (same_root s r) (has_root r rs) h) [ inl a ↦ inl (same_root-true s r a) | inr b ↦ inr (has_root-In r rs b) ]
-
 queued_retries_about : (rs : List Root) (xs : List Retry) (w : Work) → In w (queued_retries rs xs) → IsWorkAbout rs w
 queued_retries_about rs [] w m = absurd m
 queued_retries_about rs (x ∷ xs) w m = go (has_root x.root rs) refl (queued_retries_about rs xs w) m
   where
     go : (b : Bool) → has_root x.root rs ≡ b → (In w (queued_retries rs xs) → IsWorkAbout rs w) → In w (cond b (retried x ∷ queued_retries rs xs) (queued_retries rs xs)) → IsWorkAbout rs w
-    go true e k (inl f) = subst (λ y. IsWorkAbout rs y) f (retried_about rs x (has_root-In x.root rs e))
+    go true e k (inl f) = subst (λ y. IsWorkAbout rs y) f (retried_about rs x (has_root_in x.root rs e))
     go true e k (inr n) = k n
     go false e k n = k n
 
 pub reconcile_about : (rs : List Root) (n : ℕ) (s : RecursorState) → AboutOf rs (reconciled rs n s)
 reconcile_about rs n s =
-    let guards : (g : GuardWatch) → In g (kept_guard_watches rs s.guards) → In g.root rs = λ g m. (let a = In-filter (λ (g : GuardWatch). has_root g.root rs) g s.guards m in has_root-In g.root rs a.1) in
+    let guards : (g : GuardWatch) → In g (kept_guard_watches rs s.guards) → In g.root rs = λ g m. (let a = In-filter (λ (g : GuardWatch). has_root g.root rs) g s.guards m in has_root_in g.root rs a.1) in
     record {
       roots = λ r m. m;
       stand = λ r m. m;

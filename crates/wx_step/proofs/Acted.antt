@@ -22,6 +22,7 @@ use Rattle.wx_recursor.specs.declared.work.Item.TheVariants.{Candidate, Guard, S
 use Rattle.wx_recursor.specs.declared.work.Work.{Work}
 use Rattle.wx_recursor.specs.declared.work.Work.TheVariants.{Plain, Probe}
 use Rattle.wx_holding.specs.Effects.{Guards, Releases, Tries, Visits}
+use Rattle.wx_holding.proofs.CalmActs.{found_free}
 use Rattle.wx_step.specs.Asking.{FirstAsksBelow, ItemAsksBelow, WorkAsksBelow}
 use Rattle.wx_step.specs.Stepped.{Acts, ActsItem, Firsts, Hands, Steps}
 
@@ -31,21 +32,16 @@ no_evidence = record { found = Missing; guard_found = Nowhere; watched = Kept Ab
 
 -- what isn't looked at doesn't count
 
-search_found : (r : Root) (g : GuardFound) (h : Found) (e : Evidence) (s : RecursorState) → guarded_at r g (record e { found = h }) s ≡ guarded_at r g e s
-search_found r Nowhere h e s = refl
-search_found r (At p i) h e s = refl
-search_found r (Faulty p c) h e s = refl
-
 search_released : (r : Root) (g : GuardFound) (us : List (Option NotifyFault)) (e : Evidence) (s : RecursorState) → guarded_at r g (record e { releases = us }) s ≡ guarded_at r g e s
 search_released r Nowhere us e s = refl
 search_released r (At p i) us e s = refl
 search_released r (Faulty p c) us e s = refl
 
 visited_found : (r : Root) (f h : Found) (e : Evidence) (s : RecursorState) → visited r f (record e { found = h }) s ≡ visited r f e s
-visited_found r Missing h e s = search_found r e.guard_found h e (lose r r.path (show (PathScan r.path NotFound) s))
-visited_found r Barred h e s = search_found r e.guard_found h e (lose r r.path s)
+visited_found r Missing h e s = found_free r e.guard_found h e (lose r r.path (show (PathScan r.path NotFound) s))
+visited_found r Barred h e s = found_free r e.guard_found h e (lose r r.path s)
 visited_found r Rejected h e s = refl
-visited_found r (Fault p c) h e s = search_found r e.guard_found h e (keep_retry r r.path (show (PathScan p (Io c)) s))
+visited_found r (Fault p c) h e s = found_free r e.guard_found h e (keep_retry r r.path (show (PathScan p (Io c)) s))
 visited_found r (Refused c) h e s = refl
 visited_found r (Here i) h e s = refl
 visited_found r (Entries cs) h e s = refl

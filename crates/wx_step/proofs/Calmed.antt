@@ -30,6 +30,7 @@ use Rattle.wx_recursor.specs.declared.work.Work.TheVariants.{Plain, Probe}
 use Rattle.wx_recursor.proofs.SoundSteps.{first_sound, things_retry}
 use Rattle.wx_holding.specs.Calm.{FindsEntries, GuardsCalmly, IsCalm, IsStill, ReleasesCalmly, StandsBy, TriesCalmly, VisitsCalmly}
 use Rattle.wx_holding.proofs.Watching.{rose_later, rose_sooner}
+use Rattle.wx_holding.proofs.StandingBy.{stands_same}
 use Rattle.wx_step.specs.Calmly.{ActsCalmly, FirstsCalmly, HandsCalmly, IsFirstReadable, IsReadableItem, StepsCalmly, judged_found}
 use Rattle.wx_step.proofs.Acted.{first_released, no_evidence}
 
@@ -46,9 +47,6 @@ calm_first t follow a b c ks x X h f g = record { links = h.links; still = still
 
 pub calm_then : (t : Tree) (follow : Bool) (a b c : Looked) (ks : List Known) (x : Backing) (X : Type 0) → IsCalm t follow a c ks x X → OnlyLooks a b → OnlyLooks b c → IsCalm t follow b c ks x X
 calm_then t follow a b c ks x X h f g = record { links = h.links; still = still_then t a b c h.still f g; stands = h.stands }
-
-pub stands_on : (t : Tree) (gs hs : List Known) (x : Backing) (X : Type 0) → hs ≡ gs → StandsBy t gs x X → StandsBy t hs x X
-stands_on t gs hs x X e h = subst (λ ks. StandsBy t ks x X) (sym e) h
 
 -- a look at a candidate
 
@@ -133,7 +131,7 @@ scanned_registrations r p (Here i) s = refl
 scanned_registrations r p (Entries cs) s = refl
 
 pub scan_stands : (t : Tree) (r : Root) (p : Path) (f : Found) (s u : RecursorState) (x : Backing) (X : Type 0) → u ≡ scanned r p f s → StandsBy t s.registrations x X → StandsBy t u.registrations x X
-scan_stands t r p f s u x X h k = stands_on t s.registrations u.registrations x X (ap (λ (y : RecursorState). y.registrations) h ∙ scanned_registrations r p f s) k
+scan_stands t r p f s u x X h k = stands_same t s.registrations u.registrations x X (ap (λ (y : RecursorState). y.registrations) h ∙ scanned_registrations r p f s) k
 
 -- the first of the queue, or the sweep
 

@@ -3,12 +3,12 @@ use Rattle.std.proofs.Common.{◌≡◌, ◌≤◌, Bool, true, false, cond, Lis
 use Rattle.std.specs.Prelude.{◌&&◌, ◌||◌, not, filter, map, Option, Some, None}
 use Rattle.std.specs.Coded.{Coded-set, coded_bool}
 use Rattle.std.proofs.Math.Logic.{∥∥₁_elim, ∥∥₁_map}
-use Rattle.std.proofs.lemmas.Bool.{and_from, and_parts, cases_Bool, or_cases}
+use Rattle.std.proofs.lemmas.Bool.{and_from, and_parts, cases_Bool, or_cases, or_left, or_right}
 use Rattle.wx_watch.specs.declared.notify_fault.NotifyFault.{NotifyFault}
 use Rattle.wx_tree.specs.Paths.{Path, holds, holds_below, same}
 use Rattle.wx_tree.specs.Roots.{same_root}
 use Rattle.wx_tree.specs.declared.root.Root.{Root}
-use Rattle.wx_tree.proofs.PathLemmas.{or_left, or_right, same-refl, same-true}
+use Rattle.wx_tree.proofs.PathLemmas.{same-refl, same-true}
 use Rattle.wx_recursor.specs.Holding.{ask_rebuild, deepest_first, has_retry, is_held, keep_retry, serves, show, still_known}
 use Rattle.wx_recursor.specs.Identities.{guard_known, has_identity, has_known, is_path_gone, know, named, refusal, same_identity, without}
 use Rattle.wx_recursor.specs.Owners.{disown, has_owner, has_path, is_owner, own}

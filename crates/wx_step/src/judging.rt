@@ -13,12 +13,11 @@ ghost use Rattle.wx_tree.specs.Lists.{In};
 ghost use Rattle.wx_tree.specs.Paths.{Path, holds};
 
 use std::alloc::Global;
-use wx_dir_check::DirCheck;
 use wx_error::RuntimeError;
 use wx_holding::{Held, look};
 use wx_recursor::{Found, Identity, Item, Look, Work};
 use wx_recursor_lists::has_path;
-use wx_scan::Scanner;
+use wx_scan::{DirCheck, Scanner};
 use wx_text::{Copies, Memory};
 use wx_tree::{Place, Root};
 

@@ -19,10 +19,9 @@ use crate::probing::probe;
 use crate::resting::{leaves_guards, let_go};
 use std::alloc::Global;
 use std::mem;
-use wx_dir_check::DirCheck;
 use wx_holding::{Held, list, look_at_root, look_here};
 use wx_recursor::{Item, ShownError, Work};
-use wx_scan::{Backend, Scanner};
+use wx_scan::{Backend, DirCheck, Scanner};
 use wx_text::Memory;
 
 /// What a step shows, in order, whether it asks for a rebuild of the backend, and whether nothing is left that could be let go.

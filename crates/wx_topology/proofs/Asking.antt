@@ -1,37 +1,14 @@
 -- Who owns the parent of a path, where what is cleared is owned no more.
-use Rattle.std.proofs.Common.{◌≡◌, ◌≤◌, Bool, true, false, not, ◌&&◌, ◌||◌, List, [], ◌∷◌, length, drop, get_or, arith, refl, ap, sym, ◌∙◌, inl, inr}
+use Rattle.std.proofs.Common.{◌≡◌, ◌≤◌, true, false, not, ◌&&◌, ◌||◌, List, [], ◌∷◌, length, drop, get_or, arith, refl, sym, ◌∙◌, inl, inr}
 use Rattle.std.proofs.lemmas.Bool.{cases_Bool}
-use Rattle.wx_tree.specs.Paths.{Path, has_entry, same}
+use Rattle.wx_tree.specs.Paths.{Path, has_entry}
 use Rattle.wx_tree.specs.Roots.{same_root}
 use Rattle.wx_tree.specs.declared.root.Root.{Root}
-use Rattle.wx_tree.proofs.PathLemmas.{same-refl, same-true}
 use Rattle.wx_recursor.specs.Rebuilds.{is_under_any}
 use Rattle.wx_recursor.specs.Steps.{owns_parent}
 use Rattle.wx_recursor.specs.declared.owner.Owner.{Owner}
+use Rattle.wx_recursor.proofs.OwnerLemmas.{owns_more}
 use Rattle.wx_topology.specs.Drafts.{spared}
-
-both_true : (a b : Bool) → (a ≡ true → b ≡ true) → (b ≡ true → a ≡ true) → a ≡ b
-both_true true b h k = sym (h refl)
-both_true false true h k = k refl
-both_true false false h k = refl
-
-same-turned : (p q : Path) → same p q ≡ true → same q p ≡ true
-same-turned p q h = let e : p ≡ q = same-true p q h in rw e (same-refl q)
-
-same-sym : (p q : Path) → same p q ≡ same q p
-same-sym p q = both_true (same p q) (same q p) (same-turned p q) (same-turned q p)
-
-and_false : (b : Bool) → (b && false) ≡ false
-and_false true = refl
-and_false false = refl
-
-owns_none : (r : Root) (os : List Owner) → owns_parent r [] os ≡ false
-owns_none r [] = refl
-owns_none r (o ∷ os) = refl
-
-owns_more : (r : Root) (p : Path) (o : Owner) (os : List Owner) → owns_parent r p (o ∷ os) ≡ ((same_root r o.root && has_entry o.path p) || owns_parent r p os)
-owns_more r [] o os = rw (and_false (same_root r o.root)) (sym (owns_none r os))
-owns_more r (x ∷ p) o os = ap (λ b. (same_root r o.root && b) || owns_parent r (x ∷ p) os) (same-sym p o.path)
 
 spared_owns : (r : Root) (p : Path) (cs : List Path) (o : Owner) (os : List Owner) → owns_parent r p (spared cs (o ∷ os)) ≡ ((not (is_under_any o.path cs) && (same_root r o.root && has_entry o.path p)) || owns_parent r p (spared cs os))
 spared_owns r p cs o os =

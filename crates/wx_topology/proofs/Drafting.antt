@@ -2,6 +2,9 @@
 use Rattle.std.proofs.Common.{◌≡◌, ◌≤◌, ◌<◌, ◌-◌, ℕ, length, take, drop, get_or, arith, Bool, true, false, not, ◌&&◌, ◌||◌, List, [], ◌∷◌, ◌++◌, filter, append_assoc, refl, ap, sym, ◌∙◌, inl, inr}
 use Rattle.std.proofs.Math.Seq.{take-length}
 use Rattle.std.proofs.lemmas.Bool.{cases_Bool}
+use Rattle.std.proofs.lemmas.List.{append-nil}
+use Rattle.std.proofs.Math.Bool.{or-false, or_assoc}
+use Rattle.std.proofs.lemmas.List.Elements.{filter-append}
 use Rattle.wx_tree.specs.Paths.{Path, holds}
 use Rattle.wx_recursor.specs.Calls.{aliases, cleared_below, created_one, for_each, guards_below, guards_of_roots_below, owners_above, owners_at, removed_one, renamed, roots_below, tombstones_lifted, unsure_one}
 use Rattle.wx_recursor.specs.Holding.{enqueue}
@@ -14,18 +17,6 @@ use Rattle.wx_recursor.specs.declared.work.Work.TheVariants.{Probe}
 use Rattle.wx_topology.specs.Drafts.{buried, is_lifted, spared, unlifted}
 
 -- lists and filters
-
-nil_right : {X : Type 0} → (xs : List X) → xs ++ [] ≡ xs
-nil_right [] = refl
-nil_right (x ∷ xs) = ap (λ ys. x ∷ ys) (nil_right xs)
-
-filter_append : {X : Type 0} (f : X → Bool) (xs ys : List X) → filter f (xs ++ ys) ≡ filter f xs ++ filter f ys
-filter_append f [] ys = refl
-filter_append f (x ∷ xs) ys =
-    elim (cases_Bool (f x)) [
-      | inl e ↦ rw e (ap (λ zs. x ∷ zs) (filter_append f xs ys))
-      | inr e ↦ rw e (filter_append f xs ys)
-    ]
 
 filter_twice : {X : Type 0} (f g h : X → Bool) → ((x : X) → h x ≡ (f x && g x)) → (xs : List X) → filter h xs ≡ filter g (filter f xs)
 filter_twice f g h both [] = refl
@@ -42,19 +33,11 @@ not_or : (a b : Bool) → not (a || b) ≡ (not a && not b)
 not_or true b = refl
 not_or false b = refl
 
-or_third : (a b c : Bool) → (a || (b || c)) ≡ ((a || b) || c)
-or_third true b c = refl
-or_third false b c = refl
-
-or_false : (a : Bool) → (a || false) ≡ a
-or_false true = refl
-or_false false = refl
-
 -- owners
 
 under_more : (q p : Path) (ps : List Path) → is_under_any q (ps ++ p ∷ []) ≡ (is_under_any q ps || holds p q)
-under_more q p [] = or_false (holds p q)
-under_more q p (a ∷ ps) = ap (λ b. holds a q || b) (under_more q p ps) ∙ or_third (holds a q) (is_under_any q ps) (holds p q)
+under_more q p [] = or-false (holds p q)
+under_more q p (a ∷ ps) = ap (λ b. holds a q || b) (under_more q p ps) ∙ sym (or_assoc (holds a q) (is_under_any q ps) (holds p q))
 
 pub spared_none : (os : List Owner) → spared [] os ≡ os
 spared_none [] = refl
@@ -85,8 +68,8 @@ spared_more p ps os =
 -- tombstones
 
 lifted_more : (q p : Path) (ps : List Path) → is_lifted q (ps ++ p ∷ []) ≡ (is_lifted q ps || (holds p q || holds q p))
-lifted_more q p [] = or_false (holds p q || holds q p)
-lifted_more q p (a ∷ ps) = ap (λ b. (holds a q || holds q a) || b) (lifted_more q p ps) ∙ or_third (holds a q || holds q a) (is_lifted q ps) (holds p q || holds q p)
+lifted_more q p [] = or-false (holds p q || holds q p)
+lifted_more q p (a ∷ ps) = ap (λ b. (holds a q || holds q a) || b) (lifted_more q p ps) ∙ sym (or_assoc (holds a q || holds q a) (is_lifted q ps) (holds p q || holds q p))
 
 unlifted_more : (p : Path) (ps qs : List Path) → unlifted (ps ++ p ∷ []) qs ≡ filter (λ q. not (holds p q || holds q p)) (unlifted ps qs)
 unlifted_more p ps qs =
@@ -101,7 +84,7 @@ unlifted_none (q ∷ qs) = ap (λ zs. q ∷ zs) (unlifted_none qs)
 
 pub new_drafts : (s : RecursorState) (q : List Work) (ps ls ts : List Path) → q ≡ [] → ps ≡ [] → ls ≡ [] → ts ≡ [] → record s { queue = s.queue ++ q; sweep_due = s.sweep_due; owners = spared ps s.owners; tombstones = unlifted ls s.tombstones ++ ts } ≡ s
 new_drafts s q ps ls ts a b c d =
-    rw (a, b, c, d) (rw (nil_right s.queue, spared_none s.owners, nil_right (unlifted [] s.tombstones), unlifted_none s.tombstones) refl)
+    rw (a, b, c, d) (rw (append-nil s.queue, spared_none s.owners, append-nil (unlifted [] s.tombstones), unlifted_none s.tombstones) refl)
 
 pub clears : (x : RecursorState) (p p' : Path) (ps qs : List Path) (os : List Owner) → x.owners ≡ spared ps os → qs ≡ ps ++ p' ∷ [] → p' ≡ p → record x { sweep_due = true; owners = spared qs os } ≡ cleared_below p x
 clears x p p' ps qs os a b c =
@@ -109,7 +92,7 @@ clears x p p' ps qs os a b c =
 
 pub lifts : (x : RecursorState) (p p' : Path) (ps qs ts new new' : List Path) → x.tombstones ≡ unlifted ps ts ++ new → qs ≡ ps ++ p' ∷ [] → p' ≡ p → new' ≡ filter (λ q. not (holds p q || holds q p)) new → record x { tombstones = unlifted qs ts ++ new' } ≡ tombstones_lifted p x
 lifts x p p' ps qs ts new new' a b c d =
-    ap {A = List Path} (λ zs. record x { tombstones = zs }) (rw (b, c, d, a) (ap (λ zs. zs ++ filter (λ q. not (holds p q || holds q p)) new) (unlifted_more p ps ts) ∙ sym (filter_append (λ q. not (holds p q || holds q p)) (unlifted ps ts) new)))
+    ap {A = List Path} (λ zs. record x { tombstones = zs }) (rw (b, c, d, a) (ap (λ zs. zs ++ filter (λ q. not (holds p q || holds q p)) new) (unlifted_more p ps ts) ∙ sym (filter-append (λ q. not (holds p q || holds q p)) (unlifted ps ts) new)))
 
 pub buries : (x : RecursorState) (p p' : Path) (ts new new' : List Path) → x.tombstones ≡ ts ++ new → new' ≡ new ++ p' ∷ [] → p' ≡ p → record x { tombstones = ts ++ new' } ≡ buried p x
 buries x p p' ts new new' a b c =

@@ -1,6 +1,7 @@
 -- What stands for a path.
 use Rattle.std.proofs.Common.{◌≡◌, ◌≤◌, ℕ, true, false, ◌||◌, List, [], ◌∷◌, ◌++◌, map, length, take, drop, get_or, append_assoc, arith, refl, ap, sym, subst, ◌∙◌, inl, inr}
 use Rattle.std.proofs.lemmas.Bool.{cases_Bool}
+use Rattle.std.proofs.lemmas.List.{append-nil}
 use Rattle.wx_tree.specs.Paths.{Part, Path, same}
 use Rattle.wx_tree.specs.Places.{AreParts, parts_spelled, place, spelled}
 use Rattle.wx_tree.proofs.PathLemmas.{same-true}
@@ -15,10 +16,6 @@ use Rattle.wx_topology.specs.Entries.{entries_at, entries_in_each, entry_in, ide
 
 pub appends_two : {X : Type 0} (a b c xs ys zs : List X) → b ≡ a ++ xs → c ≡ b ++ ys → zs ≡ xs ++ ys → c ≡ a ++ zs
 appends_two a b c xs ys zs e f g = f ∙ (ap (λ u. u ++ ys) e ∙ (append_assoc a xs ys ∙ ap (λ u. a ++ u) (sym g)))
-
-nil_right : {X : Type 0} → (xs : List X) → xs ++ [] ≡ xs
-nil_right [] = refl
-nil_right (x ∷ xs) = ap (λ ys. x ∷ ys) (nil_right xs)
 
 pub paths_both : (i : Identity) (ks ls : List Known) → paths_of i (ks ++ ls) ≡ paths_of i ks ++ paths_of i ls
 paths_both i [] ls = refl
@@ -67,11 +64,11 @@ all_entries (x ∷ p) q is ks below e f =
     ap (λ z. entries_in_each (x ∷ p) z ks) g ∙ each_entries x p (identities_at p ks) ks
 
 pub no_entries : (p : Path) (ks : List Known) (out : List Path) → length p ≡ 0 → out ≡ out ++ entries_at p ks
-no_entries [] ks out h = sym (nil_right out)
+no_entries [] ks out h = sym (append-nil out)
 no_entries (x ∷ p) ks out h = absurd (omega arith)
 
 pub all_aliases : (p : Path) (ks : List Known) → aliases_at p ks ≡ paths_of (Canonical p) ks ++ entries_at p ks
-all_aliases [] ks = sym (nil_right (paths_of (Canonical []) ks))
+all_aliases [] ks = sym (append-nil (paths_of (Canonical []) ks))
 all_aliases (x ∷ p) ks = refl
 
 -- each once

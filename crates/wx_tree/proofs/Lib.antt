@@ -2,3 +2,4 @@ pub mod ListLemmas
 pub mod PathLemmas
 pub mod PlaceLemmas
 pub mod Reaching
+pub mod ResultLemmas

@@ -1,7 +1,7 @@
 -- Which paths are the same, and which hold others.
 use Rattle.std.proofs.Common.{◌≡◌, suc, ◌≤◌, Bool, true, false, [], ◌∷◌, length, arith, refl, ap, sym, ◌∙◌, eq-eqb, inl, inr}
-use Rattle.std.specs.Prelude.{◌||◌, ◌==◌}
-use Rattle.std.proofs.lemmas.Bool.{and_parts, and_from, or_cases, eqb-true, both_ways}
+use Rattle.std.specs.Prelude.{◌==◌}
+use Rattle.std.proofs.lemmas.Bool.{and_parts, and_from, or_cases, eqb-true, both_ways, or_left, or_right}
 use Rattle.wx_tree.specs.Paths.{Part, Path, same_part, has_entry, holds, holds_below, same}
 use Rattle.wx_tree.specs.Roots.{same_bool, same_root}
 use Rattle.wx_tree.specs.declared.root.Root.{Root}
@@ -57,13 +57,6 @@ same_root-true r s h =
 
 pub same_root-refl : (r : Root) → same_root r r ≡ true
 same_root-refl r = and_from (same r.path r.path) (same_bool r.recursive r.recursive) (same-refl r.path) (same_bool-refl r.recursive)
-
-pub or_left : (a b : Bool) → a ≡ true → (a || b) ≡ true
-or_left a b h = rw h refl
-
-pub or_right : (a b : Bool) → b ≡ true → (a || b) ≡ true
-or_right true b h = refl
-or_right false b h = h
 
 pub holds-refl : (p : Path) → holds p p ≡ true
 holds-refl [] = refl
@@ -122,3 +115,14 @@ entry-below p c (x ∷ q) e h =
           rw k (holds-refl q)
       | inr b ↦ below-holds p q (entry-below p c q e b)
     ]
+
+pub same_truth : (a b : Bool) → (a ≡ true → b ≡ true) → (b ≡ true → a ≡ true) → a ≡ b
+same_truth true b f g = sym (f refl)
+same_truth false true f g = g refl
+same_truth false false f g = refl
+
+pub same-turned : (p q : Path) → same p q ≡ true → same q p ≡ true
+same-turned p q h = let e : p ≡ q = same-true p q h in rw e (same-refl q)
+
+pub same-sym : (p q : Path) → same p q ≡ same q p
+same-sym p q = same_truth (same p q) (same q p) (same-turned p q) (same-turned q p)

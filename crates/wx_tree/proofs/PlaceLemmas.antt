@@ -1,16 +1,13 @@
 -- The bytes of a path lead back to it, and the place that bytes name has parts.
 use Rattle.std.proofs.Common.{◌≡◌, ℕ, zero, suc, true, false, List, [], ◌∷◌, ◌++◌, refl, ap, sym, ◌∙◌, inl, inr, append_assoc}
-use Rattle.std.specs.Prelude.{◌==◌, not, drop, take, ◌&&◌}
+use Rattle.std.specs.Prelude.{◌==◌, not, drop, take}
 use Rattle.std.proofs.lemmas.Bool.{cases_Bool, and_parts, and_from}
+use Rattle.std.proofs.lemmas.List.{append-nil}
 use Rattle.wx_tree.specs.Paths.{Part, Path}
 use Rattle.wx_tree.specs.Places.{slash, push_part, place_from, place, parts_spelled, spelled, has_no_slash, is_part, AreParts}
 
-nil_right : (xs : List ℕ) → xs ++ [] ≡ xs
-nil_right [] = refl
-nil_right (y ∷ xs) = ap (λ z. y ∷ z) (nil_right xs)
-
-part-read : (x bytes part : List ℕ) (path : Path) → has_no_slash x ≡ true → place_from (x ++ bytes) part path ≡ place_from bytes (part ++ x) path
-part-read [] bytes part path h = ap (λ c. place_from bytes c path) (sym (nil_right part))
+pub part-read : (x bytes part : List ℕ) (path : Path) → has_no_slash x ≡ true → place_from (x ++ bytes) part path ≡ place_from bytes (part ++ x) path
+part-read [] bytes part path h = ap (λ c. place_from bytes c path) (sym (append-nil part))
 part-read (b ∷ x) bytes part path h =
     let a = and_parts (not (b == slash)) (has_no_slash x) h in
     elim (cases_Bool (b == slash)) [
@@ -18,11 +15,11 @@ part-read (b ∷ x) bytes part path h =
       | inr e ↦ rw e (part-read x bytes (part ++ b ∷ []) path a.1 ∙ ap (λ c. place_from bytes c path) (append_assoc part (b ∷ []) x))
     ]
 
-part-pushed : (x : Part) (path : Path) → is_part x ≡ true → push_part x path ≡ x ∷ path
+pub part-pushed : (x : Part) (path : Path) → is_part x ≡ true → push_part x path ≡ x ∷ path
 part-pushed [] path h = cc
 part-pushed (b ∷ x) path h = refl
 
-part-clean : (x : Part) → is_part x ≡ true → has_no_slash x ≡ true
+pub part-clean : (x : Part) → is_part x ≡ true → has_no_slash x ≡ true
 part-clean [] h = cc
 part-clean (b ∷ x) h = h
 
@@ -37,7 +34,7 @@ place_spelled [] g = refl
 place_spelled (x ∷ p) g =
     let a : has_no_slash x ≡ true = part-clean x g.0 in
     let b : place_from (x ++ []) [] p ≡ place_from [] x p = part-read x [] [] p a in
-    parts-read p x g.1 ∙ (ap (λ y. place_from y [] p) (sym (nil_right x)) ∙ (b ∙ part-pushed x p g.0))
+    parts-read p x g.1 ∙ (ap (λ y. place_from y [] p) (sym (append-nil x)) ∙ (b ∙ part-pushed x p g.0))
 
 clean-more : (x : Part) (b : ℕ) → has_no_slash x ≡ true → (b == slash) ≡ false → has_no_slash (x ++ b ∷ []) ≡ true
 clean-more [] b h e = rw e refl

@@ -1,9 +1,12 @@
 -- What a walk reaches is a chain of directories below its root.
-use Rattle.std.proofs.Common.{◌≡◌, suc, ◌≤◌, ◌<◌, Bool, true, false, [], ◌∷◌, length, arith, refl, ap, inl, inr}
-use Rattle.std.specs.Prelude.{◌&&◌}
+use Rattle.std.proofs.Common.{◌≡◌, suc, ◌≤◌, ◌<◌, Bool, true, false, [], ◌∷◌, Some, None, length, arith, refl, ap, subst, inl, inr}
+use Rattle.std.specs.Prelude.{Option, ◌&&◌}
 use Rattle.std.proofs.lemmas.Bool.{cases_Bool, and_parts, and_from, or_cases}
+use Rattle.std.proofs.lemmas.Option.{same_Some}
 use Rattle.wx_tree.specs.Paths.{Part, Path, has_entry, holds, same}
-use Rattle.wx_tree.specs.Trees.{Tree, is_chain, is_chain_above, is_directory, is_fit_node, is_safe, node_at, reaches}
+use Rattle.wx_tree.specs.Trees.{Tree, guard_of, is_chain, is_chain_above, is_directory, is_directory_node, is_fit_node, is_safe, is_there_node, last_of_chain, node_at, reaches}
+use Rattle.wx_tree.specs.declared.node.Node.{Node}
+use Rattle.wx_tree.specs.declared.node.Node.TheVariants.{Dir, File, Link}
 use Rattle.wx_tree.specs.declared.root.Root.{Root}
 use Rattle.wx_tree.proofs.PathLemmas.{entry-length, holds-length, same-refl, same-true}
 
@@ -94,7 +97,7 @@ reaches-down t ok r c (x ∷ q) h k lt =
           ]
     ]
 
-chain_here : (t : Tree) (p : Path) → is_chain_above t p ≡ true → is_directory t p ≡ true → is_chain t p ≡ true
+pub chain_here : (t : Tree) (p : Path) → is_chain_above t p ≡ true → is_directory t p ≡ true → is_chain t p ≡ true
 chain_here t [] a d = d
 chain_here t (x ∷ p) a d = and_from (is_directory t (x ∷ p)) (is_chain t p) d a
 
@@ -111,3 +114,35 @@ reaches-chain t ok r (x ∷ p) h =
 pub entry-chain : (t : Tree) (ok : Path → Bool) (r : Root) (p c : Path) → has_entry p c ≡ true → is_directory t p ≡ true → reaches t ok r p ≡ true → is_chain_above t c ≡ true
 entry-chain t ok r p [] e d h = cc
 entry-chain t ok r p (x ∷ c) e d h = let f : p ≡ c = same-true p c e in rw (← f) (chain_here t p (reaches-chain t ok r p h) d)
+
+pub there_from_dir : (n : Option Node) → is_directory_node n ≡ true → is_there_node n ≡ true
+there_from_dir None e = e
+there_from_dir (Some Dir) e = refl
+there_from_dir (Some (File _)) e = refl
+there_from_dir (Some (Link l)) e = refl
+
+pub fit_from_dir : (n : Option Node) → is_directory_node n ≡ true → is_fit_node n ≡ true
+fit_from_dir None e = e
+fit_from_dir (Some Dir) e = refl
+fit_from_dir (Some (File _)) e = refl
+fit_from_dir (Some (Link l)) e = cc
+
+pub chain_dir : (t : Tree) (p : Path) → is_chain t p ≡ true → is_directory t p ≡ true
+chain_dir t [] h = h
+chain_dir t (x ∷ p) h = let a = and_parts (is_directory t (x ∷ p)) (is_chain t p) h in a.0
+
+pub last_chain : (t : Tree) (q p : Path) → last_of_chain t q ≡ Some p → is_chain t p ≡ true
+last_chain t [] p e =
+    elim (cases_Bool (is_directory t [])) [
+      | inl a ↦ subst (λ y. is_chain t y ≡ true) (same_Some [] p (rw a at e)) a
+      | inr a ↦ absurd (let f : None ≡ Some p = rw a at e in cc)
+    ]
+last_chain t (x ∷ q) p e =
+    elim (cases_Bool (is_chain t (x ∷ q))) [
+      | inl a ↦ subst (λ y. is_chain t y ≡ true) (same_Some (x ∷ q) p (rw a at e)) a
+      | inr a ↦ last_chain t q p (rw a at e)
+    ]
+
+pub guard_dir : (t : Tree) (q p : Path) → guard_of t q ≡ Some p → is_directory t p ≡ true
+guard_dir t [] p e = cc
+guard_dir t (x ∷ q) p e = chain_dir t p (last_chain t q p e)

@@ -1,22 +1,21 @@
 -- Each step keeps it.
 use Rattle.std.proofs.Common.{◌≡◌, ℕ, suc, zero, ◌≤◌, ◌<◌, Bool, true, false, cond, List, [], ◌∷◌, ◌++◌, length, arith, refl, ap, sym, inl, inr, subst}
-use Rattle.std.specs.Prelude.{◌&&◌, ◌⊎◌, Option, Some, None}
-use Rattle.std.proofs.lemmas.Bool.{cases_Bool, and_parts, and_from, or_cases, both_ways}
+use Rattle.std.specs.Prelude.{◌&&◌, ◌⊎◌, Option}
+use Rattle.std.proofs.lemmas.Bool.{cases_Bool, and_parts, and_from, both_ways}
 use Rattle.wx_tree.specs.Lists.{In}
 use Rattle.wx_tree.specs.Paths.{Path, has_entry, holds, same}
 use Rattle.wx_tree.specs.Roots.{same_root}
-use Rattle.wx_tree.specs.Trees.{IsListing, Tree, guard_of, is_directory, is_directory_node, is_safe, is_there_node, node_at, reaches}
-use Rattle.wx_tree.specs.declared.node.Node.{Node}
-use Rattle.wx_tree.specs.declared.node.Node.TheVariants.{Dir, File, Link}
+use Rattle.wx_tree.specs.Trees.{IsListing, Tree, guard_of, is_directory, is_safe, node_at, reaches}
 use Rattle.wx_tree.specs.declared.root.Root.{Root}
 use Rattle.wx_tree.proofs.ListLemmas.{In-cases, In-filter, In-left, In-right}
 use Rattle.wx_tree.proofs.PathLemmas.{entry-length, holds-refl, same-refl, same-true, same_root-true}
-use Rattle.wx_tree.proofs.Reaching.{entry-reached, reaches-down, reaches-inside, reaches-length, reaches-root, reaches-safe}
+use Rattle.wx_tree.proofs.Reaching.{entry-reached, reaches-down, reaches-inside, reaches-length, reaches-root, reaches-safe, there_from_dir}
 use Rattle.wx_recursor.specs.Owners.{candidates, disown, has_root, own}
 use Rattle.wx_recursor.specs.declared.owner.Owner.{Owner}
 use Rattle.wx_recursor.specs.declared.work.Item.{Item}
 use Rattle.wx_recursor.specs.declared.work.Item.TheVariants.{Candidate, Guard, Scan, Visit}
 use Rattle.wx_recursor.proofs.OwnerLemmas.{saw}
+use Rattle.wx_recursor.proofs.Coverage.{has_root_in}
 use Rattle.wx_walk.specs.Machine.{State, did, has_seen, kept_guards, reconciled, resets, rest_of, scan_new, stepped, stepped_at, visits}
 use Rattle.wx_walk.specs.Reached.{Finds, FindsFirst, Steps}
 use Rattle.wx_walk.specs.declared.plain.Guarded.{Guarded}
@@ -112,12 +111,6 @@ try_held false e = cc
 pub try_other : (a : Bool) (f : Saw) → f ≡ cond a Held Lost → (f ≡ Held) ⊎ (f ≡ Lost)
 try_other true f e = inl e
 try_other false f e = inr e
-
-pub there_from_dir : (n : Option Node) → is_directory_node n ≡ true → is_there_node n ≡ true
-there_from_dir None e = e
-there_from_dir (Some Dir) e = refl
-there_from_dir (Some (File _)) e = refl
-there_from_dir (Some (Link l)) e = refl
 
 -- a path whose root is lost, or that is rejected, with what lies below it
 moves_lost : (t : Tree) (ok : Path → Bool) (roots : List Root) (i : Item) (q : List Item) (owners : List Owner) (r : Root) (p : Path)
@@ -318,16 +311,8 @@ resets_is [] j h = absurd h
 resets_is (g ∷ gs) j (inl e) = (g, inl refl, e)
 resets_is (g ∷ gs) j (inr h) = let k = resets_is gs j h in (k.0, inr k.1, k.2)
 
-root_there : (r : Root) (rs : List Root) → has_root r rs ≡ true → In r rs
-root_there r [] h = cc
-root_there r (s ∷ rs) h =
-    elim (or_cases (same_root s r) (has_root r rs) h) [
-      | inl a ↦ inl (same_root-true s r a)
-      | inr a ↦ inr (root_there r rs a)
-    ]
-
 pub kept_root : (rs : List Root) (gs : List Guarded) (g : Guarded) → In g (kept_guards rs gs) → In g.root rs
-kept_root rs gs g h = let k = In-filter (λ (x : Guarded). has_root x.root rs) g gs h in root_there g.root rs k.1
+kept_root rs gs g h = let k = In-filter (λ (x : Guarded). has_root x.root rs) g gs h in has_root_in g.root rs k.1
 
 pub kept_there : (rs : List Root) (gs : List Guarded) (g : Guarded) → In g (kept_guards rs gs) → In g gs
 kept_there rs gs g h = let k = In-filter (λ (x : Guarded). has_root x.root rs) g gs h in k.0

@@ -1,13 +1,13 @@
 -- What is owned, guarded and registered after calls and steps.
 use Rattle.std.proofs.Common.{◌≡◌, ℕ, suc, zero, ◌≤◌, Bool, true, false, cond, List, [], ◌∷◌, length, refl, ap, sym, ◌∙◌, inl, inr, subst}
 use Rattle.std.specs.Prelude.{◌||◌, ◌⊎◌, ◌↔◌, Option, Some, None}
-use Rattle.std.proofs.lemmas.Bool.{cases_Bool, or_cases}
+use Rattle.std.proofs.lemmas.Bool.{cases_Bool, or_cases, or_left, or_right}
 use Rattle.wx_tree.specs.Lists.{AllOnce, In}
 use Rattle.wx_tree.specs.Paths.{Path, same}
 use Rattle.wx_tree.specs.Trees.{Tree, guard_of, guards, is_safe, listed, settle, walk}
 use Rattle.wx_tree.specs.declared.root.Root.{Root}
 use Rattle.wx_tree.proofs.ListLemmas.{In-cases, In-filter, In-left, In-right}
-use Rattle.wx_tree.proofs.PathLemmas.{or_left, or_right, same-refl, same-true}
+use Rattle.wx_tree.proofs.PathLemmas.{same-refl, same-true}
 use Rattle.wx_recursor.specs.Owners.{has_owner, sweep}
 use Rattle.wx_recursor.specs.declared.owner.Owner.{Owner}
 use Rattle.wx_recursor.specs.declared.work.Item.{Item}

@@ -1,25 +1,23 @@
 -- What is known of registered paths at every step.
-use Rattle.std.proofs.Common.{◌≡◌, Bool, true, false, cond, List, [], ◌∷◌, ◌++◌, refl, ap, sym, ◌∙◌, inl, inr, subst}
+use Rattle.std.proofs.Common.{◌≡◌, Bool, true, false, cond, List, [], ◌∷◌, ◌++◌, refl, sym, ◌∙◌, inl, inr, subst}
 use Rattle.std.specs.Prelude.{◌&&◌, ◌||◌, ◌⊎◌, not, Option, Some, None, filter}
-use Rattle.std.proofs.lemmas.Bool.{cases_Bool, both_ways, or_cases}
+use Rattle.std.proofs.lemmas.Bool.{cases_Bool, both_ways, or_cases, or_left, or_right}
 use Rattle.wx_tree.specs.Lists.{AllOnce, In}
 use Rattle.wx_tree.specs.Paths.{Path, holds, same}
 use Rattle.wx_tree.specs.Roots.{same_root}
 use Rattle.wx_tree.specs.declared.root.Root.{Root}
 use Rattle.wx_tree.proofs.ListLemmas.{In-cases, In-filter, In-kept, In-left, In-right}
-use Rattle.wx_tree.proofs.PathLemmas.{or_left, or_right, same-refl, same-true}
-use Rattle.wx_recursor.specs.Owners.{disown, has_owner, has_path, has_root, is_owner, own, sweep, unseen}
+use Rattle.wx_tree.proofs.PathLemmas.{same-refl, same-true}
+use Rattle.wx_recursor.specs.Owners.{disown, has_owner, has_path, has_root, own, sweep, unseen}
 use Rattle.wx_recursor.specs.declared.owner.Owner.{Owner}
 use Rattle.wx_recursor.specs.declared.work.Item.{Item}
 use Rattle.wx_recursor.specs.declared.work.Item.TheVariants.{Candidate, Guard, Scan, Visit}
+use Rattle.wx_recursor.proofs.OwnerLemmas.{has_path_in, filter_has, own_has}
+use Rattle.wx_recursor.proofs.SoundLemmas.{unseen_has}
 use Rattle.wx_walk.specs.Machine.{State, did, has_guard, kept_guards, reconciled, release, rest_of, set_guard, stepped_at, unguard, watch, watch_guard}
 use Rattle.wx_walk.specs.declared.plain.Guarded.{Guarded}
 use Rattle.wx_walk.specs.declared.plain.Saw.{Saw}
 use Rattle.wx_walk.specs.declared.plain.Saw.TheVariants.{Held, Leaf, Listed, Lost, Reset, Unsafe}
-
-pub has_path-true : (p : Path) (qs : List Path) → has_path p qs ≡ true → In p qs
-has_path-true p [] h = cc
-has_path-true p (q ∷ qs) h = elim (or_cases (same q p) (has_path p qs) h) [ inl a ↦ inl (same-true q p a) | inr b ↦ inr (has_path-true p qs b) ]
 
 pub has_path-false : (p : Path) (qs : List Path) → has_path p qs ≡ false → In p qs → ⊥
 has_path-false p [] e h = h
@@ -50,7 +48,7 @@ watch-kept : (p q : Path) (registrations : List Path) → In q registrations →
 watch-kept p q registrations h = elim (has_path p registrations) as (λ b. In q (cond b registrations (registrations ++ p ∷ []))) [ true ↦ h | false ↦ In-left q registrations (p ∷ []) h ]
 
 watch-there : (p : Path) (registrations : List Path) → In p (watch p registrations)
-watch-there p registrations = elim (cases_Bool (has_path p registrations)) [ inl a ↦ rw a (has_path-true p registrations a) | inr a ↦ rw a (In-right p registrations (p ∷ []) (inl refl)) ]
+watch-there p registrations = elim (cases_Bool (has_path p registrations)) [ inl a ↦ rw a (has_path_in p registrations a) | inr a ↦ rw a (In-right p registrations (p ∷ []) (inl refl)) ]
 
 -- registrations without repeats, one for each owned path and each guard
 pub record Regs (os : List Owner) (gs : List Guarded) (registrations : List Path) : Type 0 where
@@ -65,35 +63,6 @@ regs_release os gs registrations k = record {
   owned = λ p h. In-kept (λ p. has_owner p os || has_guard p gs) p registrations (or_left (has_owner p os) (has_guard p gs) h) (k.owned p h);
   guarded = λ p h. In-kept (λ p. has_owner p os || has_guard p gs) p registrations (or_right (has_owner p os) (has_guard p gs) h) (k.guarded p h);
 }
-
-own-has : (r : Root) (p q : Path) (os : List Owner) → has_owner q (own r p os) ≡ true → (has_owner q os ≡ true) ⊎ (p ≡ q)
-own-has r p q [] h = elim (or_cases (same p q) false h) [ inl a ↦ inr (same-true p q a) | inr b ↦ cc ]
-own-has r p q (o ∷ os) h =
-    elim (cases_Bool (is_owner r p o)) [
-      | inl a ↦ elim (or_cases (same p q) (has_owner q os) (rw a at h)) [
-        | inl b ↦ inr (same-true p q b)
-        | inr b ↦ inl (or_right (same o.path q) (has_owner q os) b)
-      ]
-      | inr a ↦ elim (or_cases (same o.path q) (has_owner q (own r p os)) (rw a at h)) [
-        | inl b ↦ inl (or_left (same o.path q) (has_owner q os) b)
-        | inr b ↦ elim (own-has r p q os b) [ inl c ↦ inl (or_right (same o.path q) (has_owner q os) c) | inr c ↦ inr c ]
-      ]
-    ]
-
-filter-has : (f : Owner → Bool) (q : Path) (os : List Owner) → has_owner q (filter f os) ≡ true → has_owner q os ≡ true
-filter-has f q [] h = h
-filter-has f q (o ∷ os) h =
-    elim (cases_Bool (f o)) [
-      | inl a ↦ elim (or_cases (same o.path q) (has_owner q (filter f os)) (rw a at h)) [
-        | inl b ↦ or_left (same o.path q) (has_owner q os) b
-        | inr b ↦ or_right (same o.path q) (has_owner q os) (filter-has f q os b)
-      ]
-      | inr a ↦ or_right (same o.path q) (has_owner q os) (filter-has f q os (rw a at h))
-    ]
-
-unseen-has : (q : Path) (os : List Owner) → has_owner q (unseen os) ≡ has_owner q os
-unseen-has q [] = refl
-unseen-has q (o ∷ os) = ap (λ b. same o.path q || b) (unseen-has q os)
 
 guards-has : (f : Guarded → Bool) (q : Path) (gs : List Guarded) → has_guard q (filter f gs) ≡ true → has_guard q gs ≡ true
 guards-has f q [] h = h
@@ -118,7 +87,7 @@ append-has q p r (g ∷ gs) h =
 regs_own : (r : Root) (p : Path) (os : List Owner) (gs hs : List Guarded) (registrations : List Path) → ((q : Path) → has_guard q hs ≡ true → has_guard q gs ≡ true) → Regs os gs registrations → Regs (own r p os) hs (watch p registrations)
 regs_own r p os gs hs registrations less k = record {
   once = once-watch p registrations k.once;
-  owned = λ q h. elim (own-has r p q os h) [ inl a ↦ watch-kept p q registrations (k.owned q a) | inr e ↦ subst (λ x. In x (watch p registrations)) e (watch-there p registrations) ];
+  owned = λ q h. elim (own_has r p q os h) [ inl a ↦ watch-kept p q registrations (k.owned q a) | inr e ↦ subst (λ x. In x (watch p registrations)) e (watch-there p registrations) ];
   guarded = λ q h. watch-kept p q registrations (k.guarded q (less q h));
 }
 
@@ -152,7 +121,7 @@ regs_did (Guard r) Leaf s k = k
 regs_did (Guard r) Held s k = k
 regs_did (Guard r) (Listed cs) s k = k
 regs_did (Visit r) Lost s k = k
-regs_did (Visit r) (Unsafe g) s k = regs_release _ _ _ (regs_set r g s.owners (disown r r.path s.owners) s.guards s.registrations (λ q h. filter-has (λ o. not (same_root r o.root && holds r.path o.path)) q s.owners h) k)
+regs_did (Visit r) (Unsafe g) s k = regs_release _ _ _ (regs_set r g s.owners (disown r r.path s.owners) s.guards s.registrations (λ q h. filter_has (λ o. not (same_root r o.root && holds r.path o.path)) q s.owners h) k)
 regs_did (Visit r) (Reset g root_is_safe) s k = k
 regs_did (Visit r) Leaf s k = regs_release _ _ _ (regs_own r r.path s.owners s.guards (unguard r s.guards) s.registrations (λ q h. guards-has (λ g. not (same_root r g.root)) q s.guards h) k)
 regs_did (Visit r) Held s k = regs_release _ _ _ (regs_own r r.path s.owners s.guards (unguard r s.guards) s.registrations (λ q h. guards-has (λ g. not (same_root r g.root)) q s.guards h) k)
@@ -163,7 +132,7 @@ regs_did (Scan r p) (Reset g root_is_safe) s k = k
 regs_did (Scan r p) Leaf s k = k
 regs_did (Scan r p) Held s k = k
 regs_did (Scan r p) (Listed cs) s k = regs_release _ _ _ k
-regs_did (Candidate r p) Lost s k = regs_release _ _ _ (regs_less s.owners (disown r p s.owners) s.guards s.guards s.registrations (λ q h. filter-has (λ o. not (same_root r o.root && holds p o.path)) q s.owners h) (λ q h. h) k)
+regs_did (Candidate r p) Lost s k = regs_release _ _ _ (regs_less s.owners (disown r p s.owners) s.guards s.guards s.registrations (λ q h. filter_has (λ o. not (same_root r o.root && holds p o.path)) q s.owners h) (λ q h. h) k)
 regs_did (Candidate r p) (Unsafe g) s k = k
 regs_did (Candidate r p) (Reset g root_is_safe) s k = k
 regs_did (Candidate r p) Leaf s k = k
@@ -171,8 +140,8 @@ regs_did (Candidate r p) Held s k = regs_release _ _ _ (regs_own r p s.owners s.
 regs_did (Candidate r p) (Listed cs) s k = k
 
 pub regs_at : (q : List Item) (f : Saw) (s : State) → RegsOf s → RegsOf (stepped_at q f s)
-regs_at [] f s k = regs_release _ _ _ (regs_less s.owners (sweep s.owners) s.guards s.guards s.registrations (λ q h. filter-has (λ o. o.seen) q s.owners h) (λ q h. h) k)
+regs_at [] f s k = regs_release _ _ _ (regs_less s.owners (sweep s.owners) s.guards s.guards s.registrations (λ q h. filter_has (λ o. o.seen) q s.owners h) (λ q h. h) k)
 regs_at (i ∷ q) f s k = regs_did i f (rest_of s q) k
 
 pub regs_reconciled : (rs : List Root) (s : State) → RegsOf s → RegsOf (reconciled rs s)
-regs_reconciled rs s k = regs_less s.owners (unseen s.owners) s.guards (kept_guards rs s.guards) s.registrations (λ q h. sym (unseen-has q s.owners) ∙ h) (λ q h. guards-has (λ g. has_root g.root rs) q s.guards h) k
+regs_reconciled rs s k = regs_less s.owners (unseen s.owners) s.guards (kept_guards rs s.guards) s.registrations (λ q h. sym (unseen_has q s.owners) ∙ h) (λ q h. guards-has (λ g. has_root g.root rs) q s.guards h) k

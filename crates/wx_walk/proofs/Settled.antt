@@ -1,7 +1,7 @@
 -- Where nothing is left to do, the walk is owned.
 use Rattle.std.proofs.Common.{◌≡◌, ℕ, suc, zero, Bool, true, false, List, [], ◌∷◌, refl, ap, ◌∙◌, inl, inr, subst}
 use Rattle.std.specs.Prelude.{◌↔◌, Option, Some, None, map}
-use Rattle.std.proofs.lemmas.Bool.{cases_Bool, and_parts, or_cases}
+use Rattle.std.proofs.lemmas.Bool.{cases_Bool, and_parts, or_cases, or_left, or_right}
 use Rattle.wx_tree.specs.Lists.{In}
 use Rattle.wx_tree.specs.Paths.{Path, same}
 use Rattle.wx_tree.specs.Trees.{Tree, any_reaches, is_chain_above, is_fit_node, is_safe, is_there, is_there_node, node_at, reaches, walk}
@@ -9,8 +9,8 @@ use Rattle.wx_tree.specs.declared.node.Node.{Node}
 use Rattle.wx_tree.specs.declared.node.Node.TheVariants.{Dir, File, Link}
 use Rattle.wx_tree.specs.declared.root.Root.{Root}
 use Rattle.wx_tree.proofs.ListLemmas.{In-filter, In-kept}
-use Rattle.wx_tree.proofs.PathLemmas.{or_left, or_right, same-true}
-use Rattle.wx_tree.proofs.Reaching.{reaches-inside}
+use Rattle.wx_tree.proofs.PathLemmas.{same-true}
+use Rattle.wx_tree.proofs.Reaching.{reaches-inside, there_from_dir}
 use Rattle.wx_recursor.specs.declared.owner.Owner.{Owner}
 use Rattle.wx_recursor.specs.declared.work.Item.{Item}
 use Rattle.wx_recursor.specs.declared.work.Item.TheVariants.{Candidate, Guard, Scan, Visit}
@@ -20,7 +20,7 @@ use Rattle.wx_walk.specs.Reached.{Steps}
 use Rattle.wx_walk.specs.declared.plain.Saw.{Saw}
 use Rattle.wx_walk.specs.declared.plain.Saw.TheVariants.{Held, Leaf, Listed, Lost, Reset, Unsafe}
 use Rattle.wx_walk.proofs.Kept.{Keeps, Kept}
-use Rattle.wx_walk.proofs.Moves.{complete, there_from_dir}
+use Rattle.wx_walk.proofs.Moves.{complete}
 use Rattle.wx_walk.proofs.OwnerLemmas.{saw_is}
 
 pub any_from : (t : Tree) (ok : Path → Bool) (rs : List Root) (r : Root) (p : Path) → In r rs → reaches t ok r p ≡ true → any_reaches t ok rs p ≡ true

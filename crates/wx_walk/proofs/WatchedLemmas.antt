@@ -1,17 +1,15 @@
 -- What is watched, some root wants.
 use Rattle.std.proofs.Common.{◌≡◌, ℕ, suc, zero, ◌≤◌, Bool, true, false, cond, List, [], ◌∷◌, ◌++◌, length, arith, refl, ap, sym, ◌∙◌, inl, inr, subst}
 use Rattle.std.specs.Prelude.{◌&&◌, ◌||◌, ◌⊎◌, not, Option, Some, None, filter, map}
-use Rattle.std.proofs.lemmas.Bool.{cases_Bool, and_parts, and_from, both_ways}
+use Rattle.std.proofs.lemmas.Bool.{cases_Bool, and_parts, and_from, both_ways, not-true}
 use Rattle.wx_tree.specs.Lists.{AllOnce, In}
 use Rattle.wx_tree.specs.Paths.{Path, same}
 use Rattle.wx_tree.specs.Roots.{same_root}
-use Rattle.wx_tree.specs.Trees.{Tree, guard_of, is_chain, is_chain_above, is_directory, is_directory_node, is_fit_node, is_safe, last_of_chain, node_at, reaches, settle}
-use Rattle.wx_tree.specs.declared.node.Node.{Node}
-use Rattle.wx_tree.specs.declared.node.Node.TheVariants.{Dir, File, Link}
+use Rattle.wx_tree.specs.Trees.{Tree, guard_of, is_chain, is_chain_above, is_directory, is_fit_node, is_safe, node_at, reaches, settle}
 use Rattle.wx_tree.specs.declared.root.Root.{Root}
 use Rattle.wx_tree.proofs.ListLemmas.{In-cases, In-filter, In-left, In-right}
 use Rattle.wx_tree.proofs.PathLemmas.{same_root-refl}
-use Rattle.wx_tree.proofs.Reaching.{entry-reached, reaches-chain, reaches-inside, reaches-root}
+use Rattle.wx_tree.proofs.Reaching.{entry-reached, reaches-chain, reaches-inside, reaches-root, fit_from_dir, last_chain}
 use Rattle.wx_recursor.specs.Owners.{has_owner, has_path, has_root, sweep}
 use Rattle.wx_recursor.specs.declared.owner.Owner.{Owner}
 use Rattle.wx_recursor.specs.declared.work.Item.{Item}
@@ -30,12 +28,6 @@ use Rattle.wx_walk.proofs.Settled.{roots_at, roots_stay}
 
 -- what is wanted stands in the tree, below directories
 
-fit_from_dir : (n : Option Node) → is_directory_node n ≡ true → is_fit_node n ≡ true
-fit_from_dir None e = e
-fit_from_dir (Some Dir) e = refl
-fit_from_dir (Some (File _)) e = refl
-fit_from_dir (Some (Link l)) e = cc
-
 covers-fit : (t : Tree) (ok : Path → Bool) (r : Root) (p : Path) → reaches t ok r p ≡ true → is_fit_node (node_at t p) ≡ true
 covers-fit t ok r [] h =
     let a = and_parts (same r.path []) (is_safe t []) h in
@@ -53,24 +45,9 @@ chain-safe t (x ∷ p) h =
     let a = and_parts (is_directory t (x ∷ p)) (is_chain t p) h in
     and_from (is_chain_above t (x ∷ p)) (is_fit_node (node_at t (x ∷ p))) a.1 (fit_from_dir (node_at t (x ∷ p)) a.0)
 
-some_is : (p q : Path) → Some p ≡ Some q → p ≡ q
-some_is p q e = cc
-
-last-chain : (t : Tree) (q p : Path) → last_of_chain t q ≡ Some p → is_chain t p ≡ true
-last-chain t [] p e =
-    elim (cases_Bool (is_directory t [])) [
-      | inl a ↦ subst (λ y. is_chain t y ≡ true) (some_is [] p (rw a at e)) a
-      | inr a ↦ absurd (let f : None ≡ Some p = rw a at e in cc)
-    ]
-last-chain t (x ∷ q) p e =
-    elim (cases_Bool (is_chain t (x ∷ q))) [
-      | inl a ↦ subst (λ y. is_chain t y ≡ true) (some_is (x ∷ q) p (rw a at e)) a
-      | inr a ↦ last-chain t q p (rw a at e)
-    ]
-
 guard-safe : (t : Tree) (q p : Path) → guard_of t q ≡ Some p → is_safe t p ≡ true
 guard-safe t [] p e = cc
-guard-safe t (x ∷ q) p e = chain-safe t p (last-chain t q p e)
+guard-safe t (x ∷ q) p e = chain-safe t p (last_chain t q p e)
 
 wants-safe : (t : Tree) (ok : Path → Bool) (rs : List Root) (p : Path) → Wants t ok rs p → is_safe t p ≡ true
 wants-safe t ok rs p (r, h, inl c) = and_from (is_chain_above t p) (is_fit_node (node_at t p)) (reaches-chain t ok r p c) (covers-fit t ok r p c)
@@ -202,10 +179,6 @@ once_push (g ∷ gs) x o n = (
       ]),
   once_push gs x o.1 (λ h. n (inr h)),
 )
-
-not-true : (b : Bool) → not b ≡ true → b ≡ false
-not-true true e = sym e
-not-true false e = refl
 
 unguard-apart : (r : Root) (gs : List Guarded) → In r (map guarded_root (unguard r gs)) → ⊥
 unguard-apart r gs h =

@@ -1,5 +1,5 @@
 -- Forms made of forms: one behind the other, and one for each first word.
-use Rattle.std.specs.Prelude.{◌≡◌, ℕ, ◌==◌, length, nat_lt, if◌then◌else◌, Option, None, Some, option_map, List, [], ◌∷◌, ◌++◌}
+use Rattle.std.specs.Prelude.{ℕ, ◌==◌, length, nat_lt, if◌then◌else◌, Option, None, Some, option_map, List, [], ◌∷◌, ◌++◌}
 use Rattle.std.specs.Str.{bytes_eq}
 use Rattle.wx_words.specs.Line.{◌>>=◌}
 
@@ -38,11 +38,6 @@ read_some make read ws = do
   a ← read ws
   x ← make a.0
   Some (x, a.1)
-
--- where something is read, it is made of what is read
-abbrev pub IsMade : {A X : Type 0} → (A → X → Type 0) → List (List ℕ) → Option X → Option (A × List (List ℕ)) → Type 0
-IsMade made new None read = read ≡ None
-IsMade {A} made new (Some x) read = (a : A) × (read ≡ Some (a, new)) × made a x
 
 -- a number below a limit
 abbrev pub read_below : ℕ → Reader ℕ → Reader ℕ

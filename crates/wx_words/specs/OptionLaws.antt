@@ -1,6 +1,7 @@
 -- What a step that did not fail says.
 use Rattle.std.proofs.Common.{◌≡◌, Bool, true, false, cond, Option, None, Some, refl, inl, inr, ◌⊎◌}
 use Rattle.std.specs.Prelude.{option_map}
+use Rattle.std.specs.Option.{option_or}
 use Rattle.wx_words.specs.Line.{◌>>=◌}
 
 pub bind_some : {A B : Type 0} (o : Option A) (f : A → Option B) (y : B) → (o >>= f) ≡ Some y → (x : A) × (o ≡ Some x) × (f x ≡ Some y)
@@ -18,6 +19,10 @@ guarded false o y e = absurd cc
 pub refused : {A : Type 0} (b : Bool) (o : Option A) (y : A) → cond b None o ≡ Some y → (b ≡ false) × (o ≡ Some y)
 refused true o y e = absurd cc
 refused false o y e = (refl, e)
+
+pub first_or : {A : Type 0} (first second : Option A) (x : A) → option_or first second ≡ Some x → (first ≡ Some x) ⊎ (second ≡ Some x)
+first_or None second x e = inr e
+first_or (Some y) second x e = inl e
 
 pub neither : {A : Type 0} (b : Bool) (x : A) (o : Option A) → cond b (Some x) o ≡ None → (b ≡ false) × (o ≡ None)
 neither true x o e = absurd cc

@@ -1,11 +1,11 @@
 -- A value or an error as words: the words of an error are never those of a value.
-use Rattle.std.proofs.Common.{◌≡◌, ℕ, ◌++◌, refl, Option, None, Some, Result, Ok, Err, List, inl, inr, ◌⊎◌}
+use Rattle.std.proofs.Common.{◌≡◌, ℕ, ◌++◌, refl, Option, None, Some, Result, Ok, Err, List, inl, inr}
 use Rattle.std.specs.Option.{option_or}
 use Rattle.std.specs.List.{AllByRecursion}
 use Rattle.wx_words.specs.Combine.{Reader, read_as}
 use Rattle.wx_words.specs.Forms.{Stood, IsForm}
 use Rattle.wx_words.specs.FormLaws.{same_read}
-use Rattle.wx_words.specs.OptionLaws.{bind_some}
+use Rattle.wx_words.specs.OptionLaws.{bind_some, first_or}
 use Rattle.wx_words.specs.Spellings.{Kind, Spelling}
 
 abbrev pub ResultFits : {kind : Kind} {A E : Type 0} → Spelling kind A → Spelling kind E → Result A E → Type 0
@@ -22,10 +22,6 @@ read_result s t ws = option_or (read_as Ok s.read ws) (read_as Err t.read ws)
 
 abbrev pub AreApart : {kind : Kind} {A E : Type 0} → Spelling kind A → Spelling kind E → Type 0
 AreApart {kind} {A} {E} s t = (e : E) (rest : List (List ℕ)) → s.read (t.words e ++ rest) ≡ None
-
-first_or : {A : Type 0} (first second : Option A) (x : A) → option_or first second ≡ Some x → (first ≡ Some x) ⊎ (second ≡ Some x)
-first_or None second x e = inr e
-first_or (Some y) second x e = inl e
 
 pub result_form : {kind : Kind} {A E : Type 0} (s : Spelling kind A) (t : Spelling kind E) → AreApart s t → IsForm kind.see (ResultFits s t) (result_words s t) (read_result s t)
 result_form {kind} {A} {E} s t apart = record { again = again; takes = takes }

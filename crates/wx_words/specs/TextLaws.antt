@@ -17,7 +17,8 @@ use Rattle.wx_words.specs.Texts.{AllBytes, escaped, text_in, read_text, text_wor
 not_percent : (b : ℕ) → is_plain b ≡ true → (b == 37) ≡ false
 not_percent b p = grind arith
 
-plain_head : (b : ℕ) (bs : List ℕ) → is_plain b ≡ true → unescaped (b ∷ bs) ≡ onto b (unescaped bs)
+-- what stands behind plain bytes is read apart
+pub plain_head : (b : ℕ) (bs : List ℕ) → is_plain b ≡ true → unescaped (b ∷ bs) ≡ onto b (unescaped bs)
 plain_head b [] p = rw p refl
 plain_head b (c ∷ []) p = rw p refl
 plain_head b (c ∷ d ∷ bs) p = rw (p, not_percent b p) refl

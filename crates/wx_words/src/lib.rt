@@ -23,9 +23,7 @@ pub use lists::{put_items, read_to_end};
 pub use numbers::number_of;
 pub use path::TextPath;
 pub use results::{ResultRef, read_result};
-pub use rows::{
-    Fields, NamedFields, begin_row, is_word, put_row, put_word, read_made, take_literal,
-};
+pub use rows::{Fields, NamedFields, begin_row, is_word, put_row, put_word, take_literal};
 pub use spelled::Spelled;
 pub use texts::{Escaped, text_in};
 pub use wx_text::Memory;

@@ -1,12 +1,11 @@
 // Values that are told apart by their first word.
-ghost use Rattle.std.specs.Prelude.{◌≡◌, ℕ, false, List, [], ◌∷◌, ◌++◌, Some, None, IfOk, OnOk, MatchBool};
+ghost use Rattle.std.specs.Prelude.{◌≡◌, ℕ, false, List, [], ◌∷◌, ◌++◌, Some, None, OnOk, MatchBool};
 ghost use Rattle.std.specs.Str.{bytes_eq};
-ghost use Rattle.wx_words.specs.Combine.{read_literal, IsMade};
+ghost use Rattle.wx_words.specs.Combine.{read_literal};
 ghost use Rattle.wx_words.specs.Line.{behind, joined};
 
 use crate::cursor::Words;
 use crate::spelled::Spelled;
-use std::alloc::Global;
 use wx_text::{Memory, Text};
 
 /// What stands behind a first word, lent to be written: a value, or one behind the other.
@@ -128,18 +127,6 @@ pub fn take_literal(word: &[u8], line: &mut Words) -> bool
     }
 }
 
-/// Takes the value at the front, and makes another of it, or loses the place.
-pub fn read_made<T: Spelled, V, F: FnOnce(T) -> V>(
-    alloc: Global,
-    line: &mut Words,
-    make: F,
-) -> Result<Option<V>, Memory>
-    requires { F.IsAlwaysCallable make }
-    ensures { IfOk result (λ x. IsMade (F.post make) line.new x (T.spelling.read line.old)) }
-{
-    Ok(T::read(alloc, line)?.map(make))
-}
-
 /// Takes the first word, and then the fields that stand behind this word, or loses the place. A row may name what reads
 /// its fields, where that is not their type.
 #[macro_export]
@@ -163,9 +150,15 @@ macro_rules! read_row {
         Ok(Some($value))
     };
     ($alloc:expr, $line:expr; ($($field:pat),+) => $value:expr) => {
-        $crate::read_made($alloc, $line, |($($field),+)| $value)
+        match $crate::Spelled::read($alloc, $line)? {
+            Some(($($field),+)) => Ok(Some($value)),
+            None => Ok(None),
+        }
     };
     ($alloc:expr, $line:expr; ($($field:pat),+ = $reader:path) => $value:expr) => {
-        Ok($reader($alloc, $line)?.map(|($($field),+)| $value))
+        match $reader($alloc, $line)? {
+            Some(($($field),+)) => Ok(Some($value)),
+            None => Ok(None),
+        }
     };
 }

@@ -13,7 +13,7 @@ use Rattle.wx_machine.proofs.BatchLaws.{run_led, run_is_batched, run_has_batches
 use Rattle.wx_engine.proofs.MainLaws.{leads_world, leads_hooks, dying_hooks, answered_ran, ran_is_batched, ran_has_batches}
 use Rattle.wx_engine.proofs.BeginLemmas.{begun_run}
 use Rattle.wx_engine.proofs.RunLemmas.{stopped, caused_by, broken, wants, calm_stops, calm_begun}
-use Rattle.wx_calm.proofs.Journals.{few_first}
+use Rattle.wx_file_turns.proofs.Journals.{few_first}
 use Rattle.wx_engine.proofs.SettleLemmas.{begun_few, ended_calm, ended_few, first_settles}
 use Rattle.wx_engine.proofs.WatchLemmas.{few_steps}
 use Rattle.wx_engine.proofs.running.run.Goals as goal

@@ -1,10 +1,12 @@
 use Rattle.std.proofs.Common.{sym, ◌∙◌}
+use Rattle.wx_tree.proofs.ResultLemmas.{ok_always}
 use Rattle.wx_file_turns.specs.Standing.{owing}
-use Rattle.wx_calm.proofs.Journals.{follows_adds}
+use Rattle.wx_file_turns.proofs.Journals.{follows_adds}
 use Rattle.wx_file_turns.proofs.Settled.{ok_never, settling_beside}
+use Rattle.wx_file_turns.proofs.Standing.{files_still}
 use Rattle.wx_engine.proofs.SettleLemmas.{aside_beside}
 use Rattle.wx_engine.proofs.TurnLemmas.{serves_other}
-use Rattle.wx_engine.proofs.WatchLemmas.{Aside, ok_always, about_files, files_over, aside, aside_source, aside_pays, aside_makes_none}
+use Rattle.wx_engine.proofs.WatchLemmas.{Aside, about_files, aside, aside_source, aside_pays, aside_makes_none}
 use Rattle.wx_engine.proofs.running.serve.Goals.{After-serve_other}
 use Rattle.wx_engine.proofs.running.serve.Goals as goal
 
@@ -22,7 +24,7 @@ pub returns-clause-serves : goal.returns-clause-serves
 returns-clause-serves g c = serves_other _ _ _ g.start _ _ _ _ _ _ _ _ c.serve_other.ensures.continues
 
 pub returns-clause-files : goal.returns-clause-files
-returns-clause-files g c = ok_always c.serve_other.result _ (files_over g.start c.args.files.now c.args.journal.now.past c.serve_other.new.journal.past (aside_source g.start _ _ (other g (goal.at.returns-clause-files g c).After-serve_other)) c.requires.1.1.1.1.1)
+returns-clause-files g c = ok_always c.serve_other.result _ (files_still g.start c.args.files.now c.args.journal.now.past c.serve_other.new.journal.past (aside_source g.start _ _ (other g (goal.at.returns-clause-files g c).After-serve_other)) c.requires.1.1.1.1.1)
 
 pub returns-clause-paid : goal.returns-clause-paid
 returns-clause-paid g c = aside_pays g.start c.args.journal.now.past c.serve_other.new.journal.past (g.W.Outside.seen c.args.world.now) (g.W.Outside.seen c.serve_other.new.world) (owing c.args.files.now) (other g (goal.at.returns-clause-paid g c).After-serve_other) c.serve_other.ensures.continues.serves.steady.looked_kept.looks_kept

@@ -1,8 +1,8 @@
 use Rattle.std.proofs.Common.{ℕ, Bool, ◌+◌, ◌≤◌, ◌∷◌, Ok, ap, arith, refl, sym, ◌∙◌}
 use Rattle.wx_tree.specs.Paths.{Path}
 use Rattle.wx_tree.specs.Trees.{Tree}
-use Rattle.wx_calm.specs.Calm.{StaysCalm}
-use Rattle.wx_calm.specs.FewSteps.{FewSteps}
+use Rattle.wx_file_turns.specs.Calm.{StaysCalm}
+use Rattle.wx_file_turns.specs.FewSteps.{FewSteps}
 use Rattle.wx_file_turns.specs.Settling.{AreSettling}
 use Rattle.wx_action.specs.declared.work_turn.Worked.TheVariants as worked
 use Rattle.wx_journal.specs.declared.entry.Entry.TheVariants.{Turn as Turned, TurnFault}
@@ -24,9 +24,11 @@ use Rattle.wx_action.proofs.TurnLaws.{next_turn}
 use Rattle.wx_machine.specs.Told.{is_last}
 use Rattle.wx_engine.specs.Run.{Rests, ServesTurns}
 use Rattle.wx_engine.proofs.TurnLemmas.{Drawn, turn_drawn, fault_drawn, drawn_follows, drawn_quiet, drawn_counts, early_drawn, served, turn_stands, fault_stands, turns_then}
-use Rattle.wx_calm.proofs.Journals.{follows_adds}
-use Rattle.wx_engine.proofs.SettleLemmas.{SettlesInTurn, fault_beside, few_between, few_turned, same_beside, since_served, since_turn, turn_settles}
-use Rattle.wx_engine.proofs.WatchLemmas.{files_over, pays_over, pays_none}
+use Rattle.wx_file_turns.proofs.Journals.{follows_adds}
+use Rattle.wx_file_turns.proofs.Settled.{beside_none}
+use Rattle.wx_file_turns.proofs.Standing.{files_still}
+use Rattle.wx_engine.proofs.SettleLemmas.{SettlesInTurn, fault_beside, few_between, few_turned, since_served, since_turn, turn_settles}
+use Rattle.wx_engine.proofs.WatchLemmas.{pays_over, pays_none}
 use Rattle.wx_engine.proofs.running.serve_turns.Goals.{After-push-in-turns, After-serve}
 use Rattle.wx_engine.proofs.running.serve_turns.Goals as goal
 
@@ -125,7 +127,7 @@ serve-requires g c = λ κs lives.
           lives.1.1,
           (
             rw (rw c.in_ok-kind.was at c.kind_again-kind.ensures.same, rw c.in_ok-kind.was at c.kind_again-kind.ensures.again) (next_turn g.start c.turns.state c.turns.journal.past c.push-in-turns.new.self.past c.in-Ok.given.turn.at c.in-Ok.given.turn.kind c.turns.invariant.stands c.turns.invariant.open_is grown),
-            (rw grown ((drawn g at).due, run_before g at), rw grown (files_over g.start c.turns.files c.turns.journal.past (Turned c.in-Ok.given.turn ∷ c.turns.journal.past) refl c.turns.invariant.files)),
+            (rw grown ((drawn g at).due, run_before g at), rw grown (files_still g.start c.turns.files c.turns.journal.past (Turned c.in-Ok.given.turn ∷ c.turns.journal.past) refl c.turns.invariant.files)),
           ),
         ),
       ),
@@ -215,7 +217,7 @@ pub returns-in-End-clause-settles : goal.returns-in-End-clause-settles
 returns-in-End-clause-settles g c = let at = goal.at.returns-in-End-clause-settles g c in few_served g at.After-serve (settles g at.After-push-in-turns) (turn_faults g at.After-push-in-turns)
 
 pub returns-in_err-make_room-clause-settles : goal.returns-in_err-make_room-clause-settles
-returns-in_err-make_room-clause-settles g c = few_between _ _ g.start c.args.journal.now.past c.args.files.now (g.W.Outside.seen c.args.world.now).looked c.turns.journal.past _ c.turns.files (g.W.Outside.seen c.turns.world).looked _ c.turns.invariant.settles (same_beside _ _ c.in_err-make_room.ensures.same) c.in_err-make_room.ensures.rest.steady.looked_kept.faults_kept
+returns-in_err-make_room-clause-settles g c = few_between _ _ g.start c.args.journal.now.past c.args.files.now (g.W.Outside.seen c.args.world.now).looked c.turns.journal.past _ c.turns.files (g.W.Outside.seen c.turns.world).looked _ c.turns.invariant.settles (beside_none _ _ c.in_err-make_room.ensures.same) c.in_err-make_room.ensures.rest.steady.looked_kept.faults_kept
 
 pub returns-in-Err-clause-settles : goal.returns-in-Err-clause-settles
 returns-in-Err-clause-settles g c =

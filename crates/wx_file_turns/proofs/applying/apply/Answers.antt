@@ -8,6 +8,7 @@ use Rattle.wx_machine.proofs.SteadyLemmas.{only_none}
 use Rattle.wx_action.specs.Stands.{Stands}
 use Rattle.wx_file_turns.specs.Serves.{AttendsAlone}
 use Rattle.wx_file_turns.specs.Standing.{IntakeStands}
+use Rattle.wx_file_turns.proofs.Journals.{follows_adds}
 use Rattle.wx_file_turns.proofs.Applied.{empty_known, intake_begun, is_behind, none_owed, none_watched}
 use Rattle.wx_file_turns.proofs.Entries.{applied_alone, applied_stands}
 use Rattle.wx_file_turns.proofs.Onward.{alone_room, alone_then}
@@ -15,7 +16,6 @@ use Rattle.wx_file_turns.proofs.SameRoots.{keeps_known}
 use Rattle.wx_file_turns.proofs.Steps.{applied_now_due}
 use Rattle.wx_file_turns.specs.declared.intake.Intake.{Intake}
 use Rattle.wx_file_turns.proofs.applying.apply.Goals.{After-push, After-begin}
-use Rattle.wx_calm.proofs.Journals.{follows_adds}
 use Rattle.wx_file_turns.proofs.Settled.{applied_none, applied_settles, same_lane, unapplied_settles}
 use Rattle.wx_file_turns.proofs.applying.apply.Goals as goal
 

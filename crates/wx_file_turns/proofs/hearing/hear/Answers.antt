@@ -1,10 +1,10 @@
 use Rattle.std.proofs.Common.{List, None, inr, refl, subst}
+use Rattle.wx_tree.proofs.ResultLemmas.{ok_always}
 use Rattle.wx_journal.specs.declared.entry.Entry.{Entry}
 use Rattle.wx_action.specs.Stands.{MayShow}
+use Rattle.wx_file_turns.proofs.Journals.{adds_then, beside_of, follows_adds}
 use Rattle.wx_file_turns.proofs.Hearings.{called_heard, called_room, called_steps, called_then, fault_wants, heard_intake, heard_owes, heard_watched, heard_worked, heard_works, kind_applied, rests_wants}
 use Rattle.wx_file_turns.proofs.Onward.{leaves_none}
-use Rattle.wx_calm.proofs.Journals.{adds_then, beside_of, follows_adds}
-use Rattle.wx_holding.proofs.Results.{ok_always}
 use Rattle.wx_file_turns.proofs.Settled.{beside_none, beside_one}
 use Rattle.wx_file_turns.proofs.hearing.hear.Goals as goal
 

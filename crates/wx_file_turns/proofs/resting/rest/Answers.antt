@@ -1,5 +1,6 @@
 use Rattle.std.proofs.Common.{arith, refl}
 use Rattle.std.specs.Prelude.{true, None}
+use Rattle.wx_tree.proofs.ResultLemmas.{ok_always}
 use Rattle.wx_journal.specs.declared.entry.Word.TheVariants.{Quiet}
 use Rattle.wx_machine.specs.Due.{Open}
 use Rattle.wx_machine.proofs.WordLaws.{steps_alone}
@@ -7,7 +8,7 @@ use Rattle.wx_file_turns.proofs.Nexts.{next_found}
 use Rattle.wx_file_turns.proofs.Onward.{attends_alone, attends_grown, attends_heard}
 use Rattle.wx_file_turns.proofs.Rests.{attends_offered, gone_rested, heard_paid, offered_rested, quiet_rested, ready_rested, rested_paid, same_paid}
 use Rattle.wx_file_turns.proofs.Steps.{quiet_due}
-use Rattle.wx_file_turns.proofs.Settled.{beside_none, beside_one, heard_harmless, left_harmless, next_silent, ok_anyway, walking_left, walking_same, walking_well}
+use Rattle.wx_file_turns.proofs.Settled.{beside_none, beside_one, heard_harmless, left_harmless, next_silent, walking_left, walking_same, walking_well}
 use Rattle.wx_file_turns.proofs.Telling.{rests_heard, rests_silent}
 use Rattle.wx_file_turns.proofs.resting.rest.Goals as goal
 
@@ -207,7 +208,7 @@ pub returns-in_ok-tell_ready-in-Ready-clause-settles : goal.returns-in_ok-tell_r
 returns-in_ok-tell_ready-in-Ready-clause-settles g c = walking_well _ _ g.start c.args.watching.now c.args.watching.now c.args.intake.now c.tell_ready.new.intake _ _ _ _ (beside_one _ _ _ (record { none_applied = refl; none_done = refl }) c.in_ok-tell_ready-in-Ready.ensures.told.0) refl (λ h. rw c.in_ok-tell_ready-in-Ready.ensures.told.1 h)
 
 pub returns-in-Hear-clause-settles : goal.returns-in-Hear-clause-settles
-returns-in-Hear-clause-settles g c = walking_same _ _ g.start c.hear.result c.args.watching.now c.hear.new.watching c.args.intake.now c.hear.new.intake _ _ _ _ c.hear.ensures.beside (λ h. ok_anyway c.hear.result _ (c.hear.ensures.silent (next_silent c.args.watching.now c.args.intake.now _ _ _ c.in_ok-coming.ensures c.in-Hear.is h))) (λ h. heard_harmless c.hear.result c.in-Hear.hearing.name c.args.intake.now c.hear.new.intake c.hear.ensures.lane h)
+returns-in-Hear-clause-settles g c = walking_same _ _ g.start c.hear.result c.args.watching.now c.hear.new.watching c.args.intake.now c.hear.new.intake _ _ _ _ c.hear.ensures.beside (λ h. ok_always c.hear.result _ (c.hear.ensures.silent (next_silent c.args.watching.now c.args.intake.now _ _ _ c.in_ok-coming.ensures c.in-Hear.is h))) (λ h. heard_harmless c.hear.result c.in-Hear.hearing.name c.args.intake.now c.hear.new.intake c.hear.ensures.lane h)
 
 pub returns-in_err-let_go-in-LetGo-clause-settles : goal.returns-in_err-let_go-in-LetGo-clause-settles
 returns-in_err-let_go-in-LetGo-clause-settles g c = walking_left _ _ g.start c.from_residual-in_err-let_go-in-LetGo.result _ c.args.watching.now c.args.watching.now c.args.intake.now c.let_go.new.intake _ _ _ _ c.from_residual-in_err-let_go-in-LetGo.ensures.1 (beside_none _ _ c.in_err-let_go-in-LetGo.ensures.err)

@@ -1,4 +1,4 @@
-use Rattle.wx_calm.proofs.Journals.{few_still, follows_adds}
+use Rattle.wx_file_turns.proofs.Journals.{few_still, follows_adds}
 use Rattle.wx_file_turns.proofs.Onward.{attends_grown, attends_then}
 use Rattle.wx_file_turns.proofs.Walks.{stepped_walks}
 use Rattle.wx_file_turns.proofs.Steps.{brought_stepped}

@@ -1,5 +1,5 @@
 use Rattle.std.proofs.Common.{ap, None}
-use Rattle.wx_calm.proofs.Journals.{follows_adds}
+use Rattle.wx_file_turns.proofs.Journals.{follows_adds}
 use Rattle.wx_file_turns.proofs.Onward.{onward_leaves, steps_by_hand, steps_then}
 use Rattle.wx_file_turns.proofs.Rebuilt.{at_step_still, work_worth}
 use Rattle.wx_file_turns.proofs.Shown.{step_shows}

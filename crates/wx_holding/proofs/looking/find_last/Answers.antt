@@ -1,10 +1,11 @@
 use Rattle.std.proofs.Common.{ℕ, arith, refl, ◌-◌, ◌∙◌}
 use Rattle.wx_tree.specs.Paths.{Path}
 use Rattle.wx_scan.specs.Looked.{Looked}
-use Rattle.wx_holding.proofs.Looks.{more_looks}
+use Rattle.wx_scan.proofs.LookLemmas.{more_looks}
 use Rattle.wx_holding.proofs.Watching.{rose_sooner}
-use Rattle.wx_holding.proofs.StillLooks.{finds_above, last_ends, last_goes_on, still_first}
+use Rattle.wx_holding.proofs.StillLooks.{finds_above, last_ends, last_goes_on}
 use Rattle.wx_holding.proofs.looking.find_last.Goals as goal
+use Rattle.wx_holding.proofs.StandingBy.{still_before}
 
 pub returns-in-Absent-clause-told : goal.returns-in-Absent-clause-told
 returns-in-Absent-clause-told g c t still names =
@@ -14,7 +15,7 @@ returns-in-Absent-clause-told g c t still names =
     let a : Looked = g.S.Looks.looked c.args.scan.now in
     let b : Looked = g.S.Looks.looked c.loop-level.scan in
     let d : Looked = g.S.Looks.looked c.look.new.scan in
-    let last = c.loop-level.invariant.told t (still_first t a b d c.in_ok-canonical.ensures.looked still) names in
+    let last = c.loop-level.invariant.told t (still_before t a b d c.in_ok-canonical.ensures.looked still) names in
     let looked = finds_above t n p above c.in_ok-canonical.field-0 a b d c.loop-level.invariant.looked c.in_ok-above.ensures last.way still names (c.in_ok-canonical.ensures.told t refl) in
     last_ends t n p above c.loop-level.found c.in_ok-canonical.field-0 (omega (arith, c.loop-level-test.true)) c.in_ok-above.ensures looked c.in-Absent.is last
 
@@ -34,7 +35,7 @@ loop-level-preserved g c =
       raised = λ _. rose_sooner a.looks b.looks d.looks c.loop-level.invariant.looked.looks c.in_ok-canonical.ensures.raised;
       top = λ empty. absurd (omega (arith, empty, c.loop-level-test.true, c.loop-level.invariant.within));
       told = λ t still names.
-          (let last = c.loop-level.invariant.told t (still_first t a b d c.in_ok-canonical.ensures.looked still) names in
+          (let last = c.loop-level.invariant.told t (still_before t a b d c.in_ok-canonical.ensures.looked still) names in
           let looked = finds_above t n p above c.in_ok-canonical.field-0 a b d c.loop-level.invariant.looked c.in_ok-above.ensures last.way still names (c.in_ok-canonical.ensures.told t refl) in
           last_goes_on t n (n - 1) p above c.in-Directory.canonical c.loop-level.found c.in_ok-canonical.field-0 (omega (arith, c.loop-level-test.true)) c.loop-level.invariant.within c.in_ok-above.ensures looked c.in-Directory.is last);
     }

@@ -2,8 +2,9 @@ use Rattle.std.specs.Prelude.{true, ◌≡◌}
 use Rattle.std.proofs.Common.{ap, ◌∙◌, sym, subst}
 use Rattle.wx_tree.specs.Paths.{same}
 use Rattle.wx_tree.proofs.PathLemmas.{same-refl}
+use Rattle.wx_scan.proofs.LookLemmas.{spells_place}
 use Rattle.wx_mem_tree.specs.Entries.{tree_of}
-use Rattle.wx_mem_tree.proofs.Found.{found_path, no_link_on, spells_place}
+use Rattle.wx_mem_tree.proofs.Found.{found_path, no_link_on}
 use Rattle.wx_mem_tree.proofs.Answered.{is_there_found, listed_found, no_directory_file, no_directory_link}
 use Rattle.wx_mem_tree.proofs.answers.listed_at.Goals as goal
 

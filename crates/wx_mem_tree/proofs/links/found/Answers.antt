@@ -1,8 +1,9 @@
 use Rattle.std.proofs.Common.{◌≡◌, false, ap, ◌∙◌, subst, sym}
 use Rattle.wx_scan.specs.Told.{IsAbsent}
 use Rattle.wx_tree.specs.Trees.{node_at}
+use Rattle.wx_scan.proofs.LookLemmas.{spells_place}
 use Rattle.wx_mem_tree.specs.Entries.{has_link_on, tree_of}
-use Rattle.wx_mem_tree.proofs.Found.{absent, found_there, spells_place}
+use Rattle.wx_mem_tree.proofs.Found.{absent, found_there}
 use Rattle.wx_mem_tree.proofs.links.found.Goals as goal
 
 pub returns-in-Err-clause-err : goal.returns-in-Err-clause-err

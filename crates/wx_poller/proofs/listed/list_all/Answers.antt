@@ -1,9 +1,10 @@
 use Rattle.std.proofs.Common.{None, refl, ap, sym, subst, ◌∙◌}
 use Rattle.std.specs.Option.{option_or}
 use Rattle.wx_scan.specs.Backings.{AllSpellPaths}
+use Rattle.wx_scan.proofs.LookLemmas.{no_looks, more_looks}
 use Rattle.wx_poller.specs.Fitting.{shown}
 use Rattle.wx_poller.specs.Listings.{type_at}
-use Rattle.wx_poller.proofs.Looks.{more_looks, no_looks, told_after, told_before}
+use Rattle.wx_poller.proofs.Looks.{told_after, told_before}
 use Rattle.wx_poller.proofs.Shown.{none_seen, shown_next}
 use Rattle.wx_poller.proofs.Sights.{none_left, rest_is}
 use Rattle.wx_poller.proofs.listed.list_all.Goals as goal

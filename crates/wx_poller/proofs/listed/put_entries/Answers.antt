@@ -3,9 +3,10 @@ use Rattle.std.specs.Option.{option_or}
 use Rattle.wx_tree.specs.Places.{place}
 use Rattle.wx_tree.specs.Trees.{node_at}
 use Rattle.wx_scan.specs.Backings.{AllSpellPaths, is_registered}
+use Rattle.wx_scan.proofs.LookLemmas.{no_looks, more_looks}
 use Rattle.wx_poller.specs.Fitting.{type_of}
 use Rattle.wx_poller.specs.Listings.{type_at}
-use Rattle.wx_poller.proofs.Looks.{more_looks, no_looks, told_after, told_before}
+use Rattle.wx_poller.proofs.Looks.{told_after, told_before}
 use Rattle.wx_poller.proofs.Shown.{entry_next}
 use Rattle.wx_poller.proofs.Sights.{none_left, rest_is}
 use Rattle.wx_poller.proofs.listed.put_entries.Goals as goal

@@ -1,12 +1,12 @@
 use Rattle.std.proofs.Common.{arith, ap, refl, sym, ◌∙◌, [], ◌∷◌}
 use Rattle.std.proofs.lemmas.Grind.{common_steps}
 use Rattle.wx_holding.specs.Holding.{state_of}
-use Rattle.wx_holding.proofs.Looks.{more_looks, no_looks}
 use Rattle.wx_holding.proofs.Results.{ok_map}
 use Rattle.wx_holding.proofs.Watching.{keeps_more, keeps_same}
 use Rattle.wx_rebuild.proofs.Caused.{more_causes, same_causes}
 use Rattle.wx_rebuild.proofs.Replayed.{none_left, one_more, replayed_end, replayed_more, replayed_over, unread, unread_each}
 use Rattle.wx_rebuild.proofs.replaying.replay_all.Goals as goal
+use Rattle.wx_scan.proofs.LookLemmas.{no_looks, more_looks}
 
 pub loop-rest-init : goal.loop-rest-init
 loop-rest-init g c = record { looked = no_looks _; others = refl; place = refl; rest = λ vs each. (vs, each, refl); causes = same_causes (state_of c.args.held.now) (state_of c.args.held.now) _ refl refl; watches = keeps_same _ _ _ refl }

@@ -6,7 +6,7 @@ use Rattle.wx_machine.specs.Answer.{Answers}
 use Rattle.wx_machine.specs.Start.{Start}
 use Rattle.wx_print.proofs.OneSpelling.{one_spelling}
 use Rattle.wx_script.specs.FollowLaws.{follows_turns, follows_answers, wished_follows}
-use Rattle.wx_calm.specs.FewSteps.{FewSteps}
+use Rattle.wx_file_turns.specs.FewSteps.{FewSteps}
 use Rattle.wx_machine.specs.Journal.{Verdict}
 use Rattle.wx_script.specs.Acted.{dirs}
 use Rattle.wx_script.specs.Answered.{AreAnswered}

@@ -1,11 +1,11 @@
 use Rattle.std.proofs.Common.{sym, ◌∙◌}
-use Rattle.wx_holding.proofs.Results.{if_map}
+use Rattle.std.proofs.lemmas.Result.{IfOk-weaker}
 use Rattle.wx_step.proofs.Calmed.{found_absent, found_broken, found_directory, found_linked_or_other}
 use Rattle.wx_step.proofs.judging.look_at_candidate.Goals as goal
 
 pub returns-in-Directory-clause-told : goal.returns-in-Directory-clause-told
 returns-in-Directory-clause-told g c = λ t ok links still readable agreed.
-    if_map c.check_dirs.result _ _
+    IfOk-weaker c.check_dirs.result _ _
     (λ f h. found_directory t ok c.args.root.now c.args.path.now c.in-Directory.canonical f (sym c.in-Directory.is ∙ c.in_ok-canonical.ensures.told t links still readable) h)
     (c.check_dirs.ensures.judged ok agreed)
 

@@ -3,8 +3,9 @@ use Rattle.wx_recursor.specs.States.{RecursorState}
 use Rattle.wx_recursor.specs.Steps.{swept}
 use Rattle.wx_holding.specs.Holding.{state_of}
 use Rattle.wx_holding.proofs.Results.{ok_map}
+use Rattle.wx_holding.proofs.StandingBy.{stands_same}
 use Rattle.wx_step.proofs.Acted.{drop_self, first_asks, firsts_sweep, firsts_work}
-use Rattle.wx_step.proofs.Calmed.{first_plain, firsts_calm, stands_on, sweep_calm}
+use Rattle.wx_step.proofs.Calmed.{first_plain, firsts_calm, sweep_calm}
 use Rattle.wx_step.proofs.stepping.first.Goals as goal
 
 pub act-requires : goal.act-requires
@@ -28,7 +29,7 @@ pub returns-in-None-clause-calm : goal.returns-in-None-clause-calm
 returns-in-None-clause-calm g c = λ t ok calm named agreed readable.
     let a = c.in-None.ensures.items in (
       sweep_calm t ok (state_of c.args.held.now) (state_of c.sweep.new.self) (drop_self _ _ a c.in-None.ensures.rest) (c.sweep.ensures ∙ ap (λ q. record (swept (state_of c.args.held.now)) { queue = q }) (sym a)),
-      stands_on t (state_of c.args.held.now).registrations (state_of c.sweep.new.self).registrations (g.B.Backend.backing c.args.back.now) (g.B.Backend.fits c.args.back.now t) (ap (λ (x : RecursorState). x.registrations) c.sweep.ensures) calm.stands,
+      stands_same t (state_of c.args.held.now).registrations (state_of c.sweep.new.self).registrations (g.B.Backend.backing c.args.back.now) (g.B.Backend.fits c.args.back.now t) (ap (λ (x : RecursorState). x.registrations) c.sweep.ensures) calm.stands,
     )
 
 pub returns-in-Some-clause-calm : goal.returns-in-Some-clause-calm

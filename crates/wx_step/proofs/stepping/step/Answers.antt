@@ -1,8 +1,9 @@
 use Rattle.std.proofs.Common.{ap, sym, ◌∙◌}
 use Rattle.wx_recursor.specs.States.{RecursorState}
 use Rattle.wx_holding.specs.Holding.{state_of}
+use Rattle.wx_holding.proofs.StandingBy.{stands_same}
 use Rattle.wx_step.proofs.Acted.{hands_from}
-use Rattle.wx_step.proofs.Calmed.{hands_calm, stands_on}
+use Rattle.wx_step.proofs.Calmed.{hands_calm}
 use Rattle.wx_step.proofs.Raised.{looks_or_sweeps}
 use Rattle.wx_step.proofs.Rests.{told_rests}
 use Rattle.wx_step.proofs.stepping.step.Goals as goal
@@ -20,5 +21,5 @@ pub returns-clause-calm : goal.returns-clause-calm
 returns-clause-calm g c = λ t ok calm named agreed readable sound.
     let a = c.in_ok-rests.ensures.calm t ok calm named agreed readable sound in (
       hands_calm t ok (state_of c.args.held.now) (state_of c.run.new.held) (state_of c.hand_out.new.held) c.hand_out.result.errors.items c.hand_out.result.asks_rebuild a.0 c.hand_out.ensures.state c.hand_out.ensures.errors c.hand_out.ensures.rebuild,
-      stands_on t (state_of c.run.new.held).registrations (state_of c.hand_out.new.held).registrations (g.B.Backend.backing c.run.new.back) (g.B.Backend.fits c.run.new.back t) (ap (λ (x : RecursorState). x.registrations) c.hand_out.ensures.state) a.1,
+      stands_same t (state_of c.run.new.held).registrations (state_of c.hand_out.new.held).registrations (g.B.Backend.backing c.run.new.back) (g.B.Backend.fits c.run.new.back t) (ap (λ (x : RecursorState). x.registrations) c.hand_out.ensures.state) a.1,
     )

@@ -1,8 +1,9 @@
 use Rattle.std.proofs.Common.{ap, refl, subst, sym, ◌∙◌}
 use Rattle.std.specs.Prelude.{None}
+use Rattle.std.proofs.lemmas.Result.{IfOk-weaker}
 use Rattle.wx_recursor.specs.declared.answers.Watched.TheVariants.{Failed, Kept}
 use Rattle.wx_holding.specs.Holding.{state_of}
-use Rattle.wx_holding.proofs.Results.{if_both, if_map, ok_map}
+use Rattle.wx_holding.proofs.Results.{if_both, ok_map}
 use Rattle.wx_holding.proofs.Added.{answers, excludes, leaves, shares}
 use Rattle.wx_holding.proofs.Watching.{keeps_failed, keeps_same}
 use Rattle.wx_holding.proofs.LettingGo.{keeps_added, not_registered, refused_registrations}
@@ -22,7 +23,7 @@ returns-then-is_held_back-clause-state g c = leaves c.args.path.now c.args.ident
 
 pub returns-in-Ok-clause-state : goal.returns-in-Ok-clause-state
 returns-in-Ok-clause-state g c =
-    if_map c.confirm.result _ _
+    IfOk-weaker c.confirm.result _ _
     (λ end h. answers c.args.path.now c.args.identity.now (Kept h.0) h.1 (state_of c.args.self.now) _ end (sym c.is_known_otherwise.ensures ∙ c.if-is_known_otherwise.false) (sym c.is_registered.ensures ∙ c.if-is_registered.false) (sym c.is_held_back.ensures ∙ c.if-is_held_back.false) h.2 h.3)
     c.confirm.ensures.state
 
@@ -71,7 +72,7 @@ returns-in-Ok-clause-calm g c = λ t calm fit named.
     let here = at_tree t _ _ _ calm.stands in
     let spells = spells_as t c.args.path.now _ c.in_ok-spelled.ensures.spelled fit.0 in
     let seen = c.in-Ok.ensures.fits t (is_exact t _ _ _ here.exact first) (spell_all t _ c.args.path.now _ _ spells here) (λ never. cc) here.seen in
-    if_map c.confirm.result _ _
+    IfOk-weaker c.confirm.result _ _
     (λ end h. (
       calm_registers t c.args.path.now c.args.identity.now s _ end (sym c.is_known_otherwise.ensures ∙ c.if-is_known_otherwise.false) (sym c.is_registered.ensures ∙ c.if-is_registered.false) (sym c.is_held_back.ensures ∙ c.if-is_held_back.false) fit named h.0 h.1,
       subst (λ x. StandsBy t (state_of c.confirm.new.self).registrations (g.B.Backend.backing x) (g.B.Backend.fits x t)) (sym h.2)

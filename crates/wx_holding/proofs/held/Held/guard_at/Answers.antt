@@ -1,12 +1,14 @@
 use Rattle.wx_holding.specs.Holding.{state_of}
-use Rattle.wx_holding.proofs.Results.{ok_always, ok_map}
+use Rattle.wx_holding.proofs.Results.{ok_map}
 use Rattle.wx_holding.proofs.Acts.{guards_faulty, guards_nowhere, not_at, not_faulty}
 use Rattle.std.proofs.Common.{ap, sym, ◌∙◌}
+use Rattle.wx_tree.proofs.ResultLemmas.{ok_always}
 use Rattle.wx_holding.proofs.Watching.{keeps_same}
 use Rattle.wx_holding.proofs.LettingGo.{retry_registrations}
 use Rattle.wx_tree.specs.Trees.{guard_of}
-use Rattle.wx_holding.proofs.CalmActs.{guards_calm_nowhere, never_faulty, stands_same}
+use Rattle.wx_holding.proofs.CalmActs.{guards_calm_nowhere, never_faulty}
 use Rattle.wx_holding.proofs.held.Held.guard_at.Goals as goal
+use Rattle.wx_holding.proofs.StandingBy.{stands_same}
 
 pub returns-in-Nowhere-clause-state : goal.returns-in-Nowhere-clause-state
 returns-in-Nowhere-clause-state g c =

@@ -6,8 +6,9 @@ use Rattle.wx_holding.proofs.Acts.{guards_by}
 use Rattle.std.proofs.Common.{ap, ◌∙◌}
 use Rattle.wx_holding.proofs.Watching.{keeps_more, keeps_same}
 use Rattle.wx_holding.proofs.LettingGo.{retry_registrations}
-use Rattle.wx_holding.proofs.CalmActs.{calm_sooner, fit_guard, guard_identity, guards_calm_at, stands_same, still_later}
+use Rattle.wx_holding.proofs.CalmActs.{calm_sooner, fit_guard, guard_identity, guards_calm_at, still_later}
 use Rattle.wx_holding.proofs.held.Held.guard_by.Goals as goal
+use Rattle.wx_holding.proofs.StandingBy.{stands_same}
 
 pub returns-in-Stands-clause-state : goal.returns-in-Stands-clause-state
 returns-in-Stands-clause-state g c =

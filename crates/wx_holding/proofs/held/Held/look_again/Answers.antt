@@ -1,4 +1,4 @@
-use Rattle.wx_holding.proofs.Results.{ok_always}
+use Rattle.wx_tree.proofs.ResultLemmas.{ok_always}
 use Rattle.wx_holding.proofs.held.Held.look_again.Goals as goal
 
 pub returns-clause-raised : goal.returns-clause-raised

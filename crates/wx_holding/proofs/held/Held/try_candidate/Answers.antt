@@ -8,8 +8,9 @@ use Rattle.wx_holding.proofs.LettingGo.{retry_registrations}
 use Rattle.wx_recursor.specs.Holding.{show}
 use Rattle.wx_recursor.specs.declared.errors.ScanFault.TheVariants.{Io}
 use Rattle.wx_recursor.specs.declared.errors.ShownError.TheVariants.{Filter, PathScan}
-use Rattle.wx_holding.proofs.CalmActs.{candidate_identity, fit_candidate, stands_same, tries_calm}
+use Rattle.wx_holding.proofs.CalmActs.{candidate_identity, fit_candidate, tries_calm}
 use Rattle.wx_holding.proofs.held.Held.try_candidate.Goals as goal
+use Rattle.wx_holding.proofs.StandingBy.{stands_same}
 
 pub returns-in-Missing-clause-state : goal.returns-in-Missing-clause-state
 returns-in-Missing-clause-state g c = ok_map c.miss_candidate.result _ _ (λ h. tries_any c.args.root.now c.args.path.now c.args.found _ (state_of c.args.self.now) _ c.in-Missing.is h) c.miss_candidate.ensures

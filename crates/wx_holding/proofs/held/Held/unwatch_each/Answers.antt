@@ -3,9 +3,9 @@ use Rattle.std.proofs.lemmas.Grind.{common_steps}
 use Rattle.wx_holding.specs.Holding.{state_of}
 use Rattle.wx_holding.proofs.Added.{unwatched_end, unwatched_more}
 use Rattle.wx_holding.proofs.LettingGo.{more_gone, none_gone}
-use Rattle.wx_holding.proofs.Looks.{more_looks, no_looks}
 use Rattle.wx_holding.proofs.StandingBy.{first_there, leaving_begins, leaving_ends, leaving_goes_on, still_after, still_before}
 use Rattle.wx_holding.proofs.held.Held.unwatch_each.Goals as goal
+use Rattle.wx_scan.proofs.LookLemmas.{no_looks, more_looks}
 
 pub loop-rest-init : goal.loop-rest-init
 loop-rest-init g c = record { looked = no_looks _; others = refl; place = refl; rest = λ vs. (vs, refl); watches = λ d h. h; calm = λ t still h to_go. leaving_begins t _ _ _ _ h to_go }

@@ -1,7 +1,8 @@
 use Rattle.std.proofs.Common.{refl, sym, ◌∙◌}
-use Rattle.wx_poller.proofs.Fits.{next_fits, none_pending, not_pending, ok_map, pending_given, take_gives}
-use Rattle.wx_poller.proofs.Looks.{no_looks}
+use Rattle.std.proofs.lemmas.Result.{IfOk-weaker}
+use Rattle.wx_poller.proofs.Fits.{next_fits, none_pending, not_pending, pending_given, take_gives}
 use Rattle.wx_poller.proofs.poller.Poller.find_next.Goals as goal
+use Rattle.wx_scan.proofs.LookLemmas.{no_looks}
 
 pub returns-then-is_empty-clause-looked : goal.returns-then-is_empty-clause-looked
 returns-then-is_empty-clause-looked g c = c.find_new.ensures.looked
@@ -20,7 +21,7 @@ returns-then-is_empty-clause-polls g c =
 pub returns-then-is_empty-clause-gives : goal.returns-then-is_empty-clause-gives
 returns-then-is_empty-clause-gives g c =
     let e = sym c.is_empty.ensures ∙ c.if-is_empty.true in
-    ok_map c.find_new.result _ _ (λ found h. (none_pending c.args.self.now.pending _ _ found e h, λ i. absurd (not_pending c.args.self.now.pending e i))) c.find_new.ensures.gives
+    IfOk-weaker c.find_new.result _ _ (λ found h. (none_pending c.args.self.now.pending _ _ found e h, λ i. absurd (not_pending c.args.self.now.pending e i))) c.find_new.ensures.gives
 
 pub returns-then-is_empty-clause-unpolled : goal.returns-then-is_empty-clause-unpolled
 returns-then-is_empty-clause-unpolled g c = c.find_new.ensures.unpolled

@@ -2,11 +2,11 @@ use Rattle.std.proofs.Common.{None, Ok, Err, arith, cond, refl, ap, subst, sym, 
 use Rattle.std.specs.Prelude.{◌&&◌, is_some}
 use Rattle.std.proofs.lemmas.Bool.{both_ways}
 use Rattle.wx_scan.specs.Backings.{is_memory, is_registered, is_unwatch_fault, unregister}
+use Rattle.wx_scan.proofs.LookLemmas.{no_looks}
 use Rattle.wx_poller.specs.Covering.{is_lone}
 use Rattle.wx_poller.specs.Listings.{seen_at}
 use Rattle.wx_poller.specs.Polled.{IsRefused}
 use Rattle.wx_poller.proofs.Fits.{gone_only, no_fault, unwatch_fits}
-use Rattle.wx_poller.proofs.Looks.{no_looks}
 use Rattle.wx_poller.proofs.poller.PollerBackend.unwatch.Goals as goal
 
 pub returns-then-not-is_registered-clause-looked : goal.returns-then-not-is_registered-clause-looked

@@ -1,3 +1,0 @@
-pub mod Calm
-pub mod FewSteps
-pub mod Walking
