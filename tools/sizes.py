@@ -2,7 +2,7 @@
 """Prints the sizes of each crate: lines without comments, blank ones and imports, edits (of the gate and beside it), and functions.
 
 Call it at the top of the repository. Definitions and laws are the files of specs/, laws those whose name says so; proofs are
-the files of proofs/. Tests are the files of src/ with `test`, `random` or `own_hooks` in their names; a test that stands in a
+the files of proofs/. Tests are the files of src/ with `test`, `trial`, `random` or `own_hooks` in their names; a test that stands in a
 file of code is counted there.
 """
 import glob
@@ -32,7 +32,7 @@ def column_of(path):
         return "proofs"
     if "/specs/" in path:
         return "laws" if "Laws" in name else "definitions"
-    return "tests" if re.search("test|random|own_hooks", name) else "code"
+    return "tests" if re.search("test|trial|random|own_hooks", name) else "code"
 
 
 def sizes_of(crate):

@@ -85,9 +85,9 @@ class Clocked:
 
 def table():
     """Returns the ten dearest crates of each kind, as rows of a page."""
-    ranked = [SPENT[it].most_common(10) for it in KINDS[:3]]
+    ranked = [[(name, seconds) for name, seconds in SPENT[it].most_common() if name][:10] for it in KINDS[:3]]
     rows = ["| Library | s | Tests | s | Edits | s |", "|---|---|---|---|---|---|"]
-    for at in range(10):
+    for at in range(max(len(it) for it in ranked)):
         cells = [cell for of in ranked for cell in ((f"`{of[at][0]}`", f"{of[at][1]:.0f}") if at < len(of) else ("", ""))]
         rows.append(f"| {' | '.join(cells)} |")
     return "\n".join(rows)

@@ -1,13 +1,14 @@
 // Setters and changes of the settings, and who watches them: the expected values are worked out by hand.
 //
 // Cases stand in tables that are texts, a case a line. Where a line has a value, ` = ` and what is expected follow.
+use crate::expecting::{expect_none, expect_yes};
 use std::alloc::Global;
 use std::process::Abort;
 use wx_config::{Change, Config, ConfigWatched, Id, RevisionSpent, WatchedPath, Watcher};
 use wx_text::{Copies, List, Memory, Text};
 use wx_words::TextPath;
 use wx_words_trial::{
-    begins, each_is_refused, each_pair, each_value, expect_yes, is_written, read_line,
+    begins, first_accepted, first_wrong_pair, first_wrong_value, is_written, read_line,
 };
 
 /// Whether this change has such fields, and is written by this line, as is its copy.
@@ -59,8 +60,11 @@ onaction 1 2
 
 #[test]
 fn changes_as_words(rt: HostRuntime) {
-    each_value(&rt, rt.alloc(), CHANGES, " = ", is_change);
-    each_is_refused::<Change>(&rt, rt.alloc(), NO_CHANGES);
+    expect_none(
+        &rt,
+        first_wrong_value(rt.alloc(), CHANGES, " = ", is_change),
+    );
+    expect_none(&rt, first_accepted::<Change>(rt.alloc(), NO_CHANGES));
 }
 
 /// Whether the settings that a change can set are these: the revision, the numbers of the action handler, the error handler
@@ -189,18 +193,24 @@ onaction 7 = 1 7 0 0 Native true false 50000000 0
 
 #[test]
 fn a_change_does_what_its_setter_does(rt: HostRuntime) {
-    each_pair(&rt, rt.alloc(), APPLIED, " = ", |alloc, line, expected| {
-        is_applied(alloc, 0, line, Ok(()), expected)
-    });
+    expect_none(
+        &rt,
+        first_wrong_pair(rt.alloc(), APPLIED, " = ", |alloc, line, expected| {
+            is_applied(alloc, 0, line, Ok(()), expected)
+        }),
+    );
 }
 
 const SPENT: &str = "18446744073709551615 0 0 0 Native true false 50000000 0";
 
 #[test]
 fn each_change_is_refused_at_the_last_revision(rt: HostRuntime) {
-    each_pair(&rt, rt.alloc(), APPLIED, " = ", |alloc, line, _| {
-        is_applied(alloc, u64::MAX, line, Err(RevisionSpent), SPENT)
-    });
+    expect_none(
+        &rt,
+        first_wrong_pair(rt.alloc(), APPLIED, " = ", |alloc, line, _| {
+            is_applied(alloc, u64::MAX, line, Err(RevisionSpent), SPENT)
+        }),
+    );
     let before = is_applied(rt.alloc(), u64::MAX - 1, "signal", Ok(()), SPENT);
     expect_yes(&rt, before, "the revision before the last");
 }

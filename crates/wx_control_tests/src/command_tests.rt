@@ -1,4 +1,5 @@
 // Commands by the rules of their words: the expected values are worked out by hand.
+use crate::expecting::expect_none;
 use std::alloc::Global;
 use std::hash::{DefaultHasher, Hash, Hasher};
 use std::process::Abort;
@@ -6,8 +7,8 @@ use wx_command::{Command, Program, Shell, SpawnOptions, Spawnable, is_execable};
 use wx_text::{Copies, List, Memory, Text};
 use wx_words::Spelled;
 use wx_words_trial::{
-    each_is_read, each_is_refused, each_line, each_value, equals_its_copy, is_read, is_shown,
-    is_written, line_of, read_line,
+    equals_its_copy, first_accepted, first_misread, first_wrong_line, first_wrong_value, is_read,
+    is_shown, is_written, line_of, read_line,
 };
 
 /// These texts as a list.
@@ -120,7 +121,7 @@ gsrf = SpawnOptions { grouped: true, session: true, reset_sigmask: true, grant_f
 
 #[test]
 fn options_are_four_letters(rt: HostRuntime) {
-    each_is_read::<SpawnOptions>(&rt, rt.alloc(), OPTIONS);
+    expect_none(&rt, first_misread::<SpawnOptions>(rt.alloc(), OPTIONS));
     expect_spelled(&rt, rt.alloc(), SpawnOptions::default(), b"----");
 }
 
@@ -315,12 +316,15 @@ fn what_is_spawned_by_its_words(rt: HostRuntime) {
 #[test]
 fn lines_that_are_no_values(rt: HostRuntime) {
     let alloc = rt.alloc();
-    each_is_refused::<Command>(&rt, alloc, BAD_COMMANDS);
-    each_line(&rt, alloc, SHELLS, |alloc, line| {
-        is_read::<Command>(alloc, line.as_bytes())
-    });
-    each_is_refused::<Command>(&rt, alloc, BAD_SHELLS);
-    each_is_refused::<Spawnable>(&rt, alloc, BAD_SPAWNABLES);
+    expect_none(&rt, first_accepted::<Command>(alloc, BAD_COMMANDS));
+    expect_none(
+        &rt,
+        first_wrong_line(alloc, SHELLS, |alloc, line| {
+            is_read::<Command>(alloc, line.as_bytes())
+        }),
+    );
+    expect_none(&rt, first_accepted::<Command>(alloc, BAD_SHELLS));
+    expect_none(&rt, first_accepted::<Spawnable>(alloc, BAD_SPAWNABLES));
 }
 
 /// Whether this command spawns what this other line spells.
@@ -352,7 +356,10 @@ shell g--- sh quoted 0 some % exec%20a 0 = g--- 3 sh % exec%20a
 
 #[test]
 fn commands_and_what_they_spawn(rt: HostRuntime) {
-    each_value(&rt, rt.alloc(), SPAWNED, " = ", is_spawned);
+    expect_none(
+        &rt,
+        first_wrong_value(rt.alloc(), SPAWNED, " = ", is_spawned),
+    );
 }
 
 /// Holds `sh` to be spawned with `-c` and the second text to run the first.
@@ -524,7 +531,10 @@ shell ---- sh quoted 0 none %C3 0 = %C3
 
 #[test]
 fn commands_are_shown(rt: HostRuntime) {
-    each_value(&rt, rt.alloc(), SHOWN, " = ", is_command_shown);
+    expect_none(
+        &rt,
+        first_wrong_value(rt.alloc(), SHOWN, " = ", is_command_shown),
+    );
 }
 
 /// Whether a copy of this command has its hash.

@@ -4,6 +4,7 @@
 // Cases stand in tables that are texts, a case a line. Where a line has a value, ` = ` and the beginning of the value's
 // fields follow.
 use crate::command_tests::{hash_of, text};
+use crate::expecting::{expect_none, expect_yes};
 use std::alloc::Global;
 use std::fmt;
 use std::process::Abort;
@@ -14,7 +15,7 @@ use wx_text::{Copies, List, Memory, Text};
 use wx_watch::{EntryKind, FsWatcherError, NotifyFault, ScanFault, WatchedPath, Watcher};
 use wx_words::{Spelled, TextPath};
 use wx_words_trial::{
-    begins, each_is_read, each_is_refused, each_value, expect_yes, is_shown, is_written, read_line,
+    begins, first_accepted, first_misread, first_wrong_value, is_shown, is_written, read_line,
 };
 
 /// Whether this value is written and shown by this line.
@@ -238,29 +239,50 @@ memory = Memory
 #[test]
 fn faults_and_errors_and_their_words(rt: HostRuntime) {
     let alloc = rt.alloc();
-    each_value(
+    expect_none(
         &rt,
-        alloc,
-        FAULTS_OF_BACKENDS,
-        " = ",
-        is_told::<NotifyFault>,
+        first_wrong_value(alloc, FAULTS_OF_BACKENDS, " = ", is_told::<NotifyFault>),
     );
-    each_value(&rt, alloc, FAULTS_OF_SCANS, " = ", is_told::<ScanFault>);
-    each_value(&rt, alloc, ENTRIES, " = ", is_told::<EntryKind>);
-    each_value(&rt, alloc, FILE_ERRORS, " = ", is_told::<FsWatcherError>);
-    each_value(&rt, alloc, RUNTIME_ERRORS, " = ", is_told::<RuntimeError>);
-    each_value(&rt, alloc, CRITICAL_ERRORS, " = ", is_told::<CriticalError>);
+    expect_none(
+        &rt,
+        first_wrong_value(alloc, FAULTS_OF_SCANS, " = ", is_told::<ScanFault>),
+    );
+    expect_none(
+        &rt,
+        first_wrong_value(alloc, ENTRIES, " = ", is_told::<EntryKind>),
+    );
+    expect_none(
+        &rt,
+        first_wrong_value(alloc, FILE_ERRORS, " = ", is_told::<FsWatcherError>),
+    );
+    expect_none(
+        &rt,
+        first_wrong_value(alloc, RUNTIME_ERRORS, " = ", is_told::<RuntimeError>),
+    );
+    expect_none(
+        &rt,
+        first_wrong_value(alloc, CRITICAL_ERRORS, " = ", is_told::<CriticalError>),
+    );
 }
 
 #[test]
 fn lines_that_are_no_values(rt: HostRuntime) {
     let alloc = rt.alloc();
-    each_is_refused::<Watcher>(&rt, alloc, "poll");
-    each_is_refused::<NotifyFault>(&rt, alloc, NO_FAULTS_OF_BACKENDS);
-    each_is_refused::<ScanFault>(&rt, alloc, NO_FAULTS_OF_SCANS);
-    each_is_refused::<FsWatcherError>(&rt, alloc, NO_FILE_ERRORS);
-    each_is_refused::<RuntimeError>(&rt, alloc, NO_RUNTIME_ERRORS);
-    each_is_refused::<CriticalError>(&rt, alloc, NO_CRITICAL_ERRORS);
+    expect_none(&rt, first_accepted::<Watcher>(alloc, "poll"));
+    expect_none(
+        &rt,
+        first_accepted::<NotifyFault>(alloc, NO_FAULTS_OF_BACKENDS),
+    );
+    expect_none(&rt, first_accepted::<ScanFault>(alloc, NO_FAULTS_OF_SCANS));
+    expect_none(&rt, first_accepted::<FsWatcherError>(alloc, NO_FILE_ERRORS));
+    expect_none(
+        &rt,
+        first_accepted::<RuntimeError>(alloc, NO_RUNTIME_ERRORS),
+    );
+    expect_none(
+        &rt,
+        first_accepted::<CriticalError>(alloc, NO_CRITICAL_ERRORS),
+    );
 }
 
 #[test]
@@ -382,7 +404,7 @@ fn paths_are_watched_with_all_below_them(rt: HostRuntime) {
 
 #[test]
 fn what_can_be_replaced_and_its_default(rt: HostRuntime) {
-    each_is_read::<Watcher>(&rt, rt.alloc(), WATCHERS);
+    expect_none(&rt, first_misread::<Watcher>(rt.alloc(), WATCHERS));
     let watcher: Changeable<Watcher> = Changeable::default();
     assert!(rt; *watcher.get() == Watcher::Native);
     let mut throttle: Changeable<u64> = Changeable::default();

@@ -1,4 +1,5 @@
 // Words, asks, levels and lists: the expected values are worked out by hand.
+use crate::expecting::{expect_next, expect_none};
 use std::alloc::Global;
 use std::cmp::Ordering;
 use std::process::Abort;
@@ -9,7 +10,7 @@ use wx_control::{
 use wx_text::{Copies, Memory, Text};
 use wx_words::{Spelled, Words};
 use wx_words_trial::{
-    each_is_read, each_is_refused, each_pair, each_value, expect_next, is_refused, is_spelled,
+    first_accepted, first_misread, first_wrong_pair, first_wrong_value, is_refused, is_spelled,
     line_of, read_line,
 };
 
@@ -125,23 +126,26 @@ const BAD_NAMES: &str = "\
 #[test]
 fn values_and_their_words(rt: HostRuntime) {
     let alloc = rt.alloc();
-    each_is_read::<Level>(&rt, alloc, LEVELS);
-    each_is_read::<Control>(&rt, alloc, CONTROLS);
-    each_is_read::<Ask>(&rt, alloc, ASKS);
-    each_value(&rt, alloc, CONTROLS, " = ", is_one);
-    each_is_read::<Id>(&rt, alloc, NAMES);
+    expect_none(&rt, first_misread::<Level>(alloc, LEVELS));
+    expect_none(&rt, first_misread::<Control>(alloc, CONTROLS));
+    expect_none(&rt, first_misread::<Ask>(alloc, ASKS));
+    expect_none(&rt, first_wrong_value(alloc, CONTROLS, " = ", is_one));
+    expect_none(&rt, first_misread::<Id>(alloc, NAMES));
 }
 
 #[test]
 fn lines_that_are_no_values(rt: HostRuntime) {
     let alloc = rt.alloc();
-    each_is_refused::<Level>(&rt, alloc, BAD_LEVELS);
-    each_is_refused::<Ask>(&rt, alloc, BAD_ASKS);
-    each_is_refused::<Control>(&rt, alloc, BAD_ASKS);
-    each_pair(&rt, alloc, ASKS, " = ", |alloc, line, _| {
-        is_refused::<Control>(alloc, line.as_bytes())
-    });
-    each_is_refused::<Id>(&rt, alloc, BAD_NAMES);
+    expect_none(&rt, first_accepted::<Level>(alloc, BAD_LEVELS));
+    expect_none(&rt, first_accepted::<Ask>(alloc, BAD_ASKS));
+    expect_none(&rt, first_accepted::<Control>(alloc, BAD_ASKS));
+    expect_none(
+        &rt,
+        first_wrong_pair(alloc, ASKS, " = ", |alloc, line, _| {
+            is_refused::<Control>(alloc, line.as_bytes())
+        }),
+    );
+    expect_none(&rt, first_accepted::<Id>(alloc, BAD_NAMES));
 }
 
 #[test]
@@ -203,8 +207,11 @@ towait = nextending; high
 
 #[test]
 fn asks_and_their_controls(rt: HostRuntime) {
-    each_value(&rt, rt.alloc(), SENDS, " = ", is_sent);
-    each_value(&rt, rt.alloc(), CONTROLS, " = ", is_sent_alone);
+    expect_none(&rt, first_wrong_value(rt.alloc(), SENDS, " = ", is_sent));
+    expect_none(
+        &rt,
+        first_wrong_value(rt.alloc(), CONTROLS, " = ", is_sent_alone),
+    );
 }
 
 /// Whether these levels compare as their places do, and the rank of the first is its place.

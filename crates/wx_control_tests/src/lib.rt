@@ -11,6 +11,8 @@ mod config_tests;
 #[cfg(test)]
 mod control_tests;
 #[cfg(test)]
+mod expecting;
+#[cfg(test)]
 mod flag_tests;
 #[cfg(test)]
 mod sender_tests;

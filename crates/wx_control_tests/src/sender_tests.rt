@@ -2,6 +2,7 @@
 ghost use Rattle.std.specs.Prelude.{Some, []};
 
 use crate::control_tests::{copy_of, expect_so, new_flag, put_sends};
+use crate::expecting::expect_yes;
 use crate::flag_tests::is_ready;
 use futures::executor::block_on;
 use futures::future::join;
@@ -14,7 +15,7 @@ use wx_control::{Ask, Control, Controls, Flag, Id, Job, Mirror, Refused, Ticket}
 use wx_events::Signal;
 use wx_text::{Copies, List, Memory, Text};
 use wx_words::Spelled;
-use wx_words_trial::{equals_its_copy, expect_yes, line_of};
+use wx_words_trial::{equals_its_copy, line_of};
 
 /// A sink that keeps the asks that it takes with the flag of the last one, counts all sends, and refuses each where it
 /// is told to.

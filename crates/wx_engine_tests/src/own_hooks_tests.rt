@@ -1,6 +1,7 @@
 // Hooks as a user writes them, and runs with them: their texts are worked out by hand.
 ghost use Rattle.std.specs.Prelude.{◌≡◌, ◌^◌, [], false, None, OnErr};
 
+use crate::trial::{Setup, behind_first, command_of, created, text_by};
 use std::alloc::Global;
 use std::process::Abort;
 use std::test::Fail;
@@ -14,8 +15,7 @@ use wx_job::{JobHooks, JobTaskContext};
 use wx_journal::{Entry, HostFault};
 use wx_machine::CommandState;
 use wx_text::{Copies, List, Memory, Text};
-use wx_trial::{Setup, command_of, created, text_by};
-use wx_words::{TextPath, cut};
+use wx_words::TextPath;
 
 /// What hooks do in a call.
 #[derive(Clone, Copy)]
@@ -430,12 +430,6 @@ const INTERRUPT: &[u8] =
 const ENDED: &[u8] =
     b"turn 0 arrive urgent 0\noffer 0 - queued urgent 0\nturn 0 work\ntake 0\nhand 0 1 0 create 0 exec ---- 1 a ask 0 start\nmade 0\nasked 0 0 normal start\nturn 1 job 0\npick 0 0\nspawn 0 0 default ---- 1 a ok\nraise 0\nturn 2 signal interrupt\noffer 1 - queued urgent 2 source keyboard signal interrupt\nturn 3 work\ntake 1\nhand 0 1 1 quitgracefully terminate 10000000000\nasked 1 0 normal gracefulstop terminate 10000000000\nasked 2 0 normal stop\nasked 3 0 normal delete\nturn 4 job 0\npick 0 1\nsignal 0 15 ok\nturn 5 ended 0\nwait 0 success\nraise 1\nturn 6 job 0\npick 0 2\nraise 2\nturn 7 job 0\npick 0 3\nraise 3\ngone 0\nend ok lost 0\n";
 
-#[test]
-fn a_handler_ends_at_an_interrupt(rt: HostRuntime) -> Result<(), Fail> {
-    assert!(rt; runs_so(rt.alloc(), Does::Ends, INTERRUPT, ENDED)?);
-    Ok(())
-}
-
 /// One batch.
 const BATCH: &[u8] = b"turn 0 arrive urgent 0\nturn 0 work\n";
 
@@ -445,43 +439,39 @@ const ASKED_TWO: &[u8] =
 const LOOKED: &[u8] =
     b"turn 0 arrive urgent 0\noffer 0 - queued urgent 0\nturn 0 work\ntake 0\nhand 0 1 0 create 0 exec ---- 1 a\nmade 0\nturn 0 last\ngone 0\nend ok lost 0\n";
 
-/// The default throttle, and the first of each kind of hook.
-pub(crate) const SETUP: Setup = Setup {
-    throttle: 50_000_000,
-    revision: 0,
-    filterer: 0,
-    error_handler: 0,
-    action_handler: 0,
-};
+/// A run: what it shows, from which revision of the settings it goes on, what the hooks do, the lines that it follows, and what is
+/// written behind the first line.
+pub(crate) type Run = (&'static str, u64, Does, &'static [u8], &'static [u8]);
 
-/// Whether hooks that do this saw what is right, and the run that follows these lines has this text behind its first line. Jobs
+/// The text of this run, with the default throttle and the first of each kind of hook, and whether what the hooks saw was right. Jobs
 /// and commands are dropped above by generic code, which is quicker to prove.
-fn runs_so(alloc: Global, does: Does, lines: &[u8], want: &[u8]) -> Result<bool, Fail> {
+fn ran(alloc: Global, run: &Run) -> Result<(Text, bool), Fail> {
+    let (_, revision, does, lines, _) = *run;
+    let setup = Setup {
+        throttle: 50_000_000,
+        revision,
+        filterer: 0,
+        error_handler: 0,
+        action_handler: 0,
+    };
     let mut hooks = Own::new(alloc, does);
-    let text = text_by(alloc, SETUP, lines, &mut hooks)?;
-    Ok(hooks.is_right && is_behind(text.as_slice(), want))
+    let text = text_by(alloc, setup, lines, &mut hooks)?;
+    Ok((text, hooks.is_right))
 }
 
-/// Whether the text has this behind its first line.
-pub(crate) fn is_behind(text: &[u8], want: &[u8]) -> bool {
-    cut(text, 10).map(|parts| parts.1) == Some(want)
-}
-
-#[test]
-fn hooks_of_a_user(rt: HostRuntime) -> Result<(), Fail> {
-    assert!(rt; runs_so(rt.alloc(), Does::Restarts, BATCHES, RESTARTED)?);
+/// Holds this run to what it is to be.
+fn expect_run(rt: &impl Abort, alloc: Global, run: &Run) -> Result<(), Fail> {
+    let (text, is_right) = ran(alloc, run)?;
+    let so = is_right && behind_first(&text) == Some(run.4);
+    assert!(rt; so, "{}", run.0);
     Ok(())
 }
 
-#[test]
-fn a_handler_lists_acts(rt: HostRuntime) -> Result<(), Fail> {
-    assert!(rt; runs_so(rt.alloc(), Does::AsksTwo, BATCH, ASKED_TWO)?);
-    Ok(())
-}
-
-#[test]
-fn a_handler_shows_no_job_that_it_created(rt: HostRuntime) -> Result<(), Fail> {
-    assert!(rt; runs_so(rt.alloc(), Does::Looks, BATCH, LOOKED)?);
+/// Holds each of these runs to what it is to be.
+pub(crate) fn expect_runs(rt: &impl Abort, alloc: Global, runs: &[Run]) -> Result<(), Fail> {
+    for run in runs {
+        expect_run(rt, alloc, run)?;
+    }
     Ok(())
 }
 
@@ -492,20 +482,8 @@ const STARTS: &[u8] =
 const VARIABLE: &[u8] =
     b"turn 0 arrive urgent 0\noffer 0 - queued urgent 0\nturn 0 work\ntake 0\nhand 0 1 0 create 0 exec ---- 1 make ask 0 sethook 3 ask 0 start\nmade 0\nasked 0 0 normal sethook 3\nasked 1 0 normal start\nturn 0 job 0\npick 0 0\nraise 0\nturn 1 job 0\npick 0 1\nhook 0 3 ---- 3 env RUN=first make\nspawn 0 0 default ---- 3 env RUN=first make ok\nraise 1\nturn 2 ended 0\nwait 0 success\nturn 3 arrive urgent 0\noffer 1 - queued urgent 0\nturn 3 work\ntake 1\nhand 0 1 1 ask 0 start\nasked 2 0 normal start\nturn 4 job 0\npick 0 2\nhook 0 3 ---- 3 env RUN=again make\nspawn 1 0 default ---- 3 env RUN=again make ok\nraise 2\nturn 4 last\ndrop 1\ngone 0\nend ok lost 0\n";
 
-#[test]
-fn a_hook_sets_a_variable(rt: HostRuntime) -> Result<(), Fail> {
-    assert!(rt; runs_so(rt.alloc(), Does::SetsVariable, STARTS, VARIABLE)?);
-    Ok(())
-}
-
 const WANTED: &[u8] =
     b"turn 0 arrive urgent 0\noffer 0 - queued urgent 0\nturn 0 work\ntake 0\nhand 0 1 0 create 0 exec ---- 1 make ask 0 sethook 3 ask 0 start\nmade 0\nasked 0 0 normal sethook 3\nasked 1 0 normal start\nturn 0 job 0\npick 0 0\nraise 0\nturn 1 job 0\npick 0 1\nhook 0 3 memory\ngone 0\nend error memory lost 0\n";
-
-#[test]
-fn a_hook_without_memory_ends_the_run(rt: HostRuntime) -> Result<(), Fail> {
-    assert!(rt; runs_so(rt.alloc(), Does::WantsMemory, STARTS, WANTED)?);
-    Ok(())
-}
 
 /// The first batch creates the job. The second is shown it, though it is gone. The third is shown none, and creates the next.
 const DELETES: &[u8] =
@@ -513,12 +491,6 @@ const DELETES: &[u8] =
 
 const DELETED: &[u8] =
     b"turn 0 arrive urgent 0\noffer 0 - queued urgent 0\nturn 0 work\ntake 0\nhand 0 1 0 create 0 exec ---- 1 a ask 0 deletenow\nmade 0\nasked 0 0 urgent stop\nasked 1 0 urgent delete\nturn 0 job 0\npick 0 0\nraise 0\nturn 0 job 0\npick 0 1\nraise 1\ngone 0\nturn 1 arrive urgent 0\noffer 1 - queued urgent 0\nturn 1 work\ntake 1\nhand 0 1 1 ask 0 restart\nword ignored\nturn 2 arrive urgent 0\noffer 2 - queued urgent 0\nturn 2 work\ntake 2\nhand 0 1 2 create 1 exec ---- 1 a ask 1 deletenow\nmade 1\nasked 2 1 urgent stop\nasked 3 1 urgent delete\nturn 2 job 0\nword ignored\nturn 2 last\ngone 1\nend ok lost 0\n";
-
-#[test]
-fn a_job_that_is_gone_is_shown_once_more(rt: HostRuntime) -> Result<(), Fail> {
-    assert!(rt; runs_so(rt.alloc(), Does::Deletes, DELETES, DELETED)?);
-    Ok(())
-}
 
 /// One event, which the filter is asked about, and a turn behind it.
 const SHOWN: &[u8] = b"turn 0 arrive low 1 unknown\nturn 0 work\nturn 1 arrive low 0\n";
@@ -535,32 +507,6 @@ const CLOSED: &[u8] =
 const UNWISHED: &[u8] =
     b"turn 0 arrive low 1 unknown\noffer 0 - queued low 1 unknown\nturn 0 work\ntake 0\nfilter 0 0 fail deadonarrival\nshow 0 deadonarrival none\nturn 1 arrive low 0\noffer 1 - queued low 0\nturn 1 last\nend ok lost 0\n";
 
-/// What an error handler wishes, one after the other, and what comes of it.
-const WISHES: [(&[Says], &[u8]); 8] = [
-    (&[], UNWISHED),
-    (&[Says::Elevate], ELEVATED),
-    (&[Says::Elevate, Says::Critical], ELEVATED),
-    (&[Says::Elevate, Says::Exit], ELEVATED),
-    (&[Says::Critical, Says::Exit], CRITICAL),
-    (&[Says::Critical, Says::Elevate], CRITICAL),
-    (&[Says::Exit, Says::Critical], CLOSED),
-    (&[Says::Exit, Says::Elevate], CLOSED),
-];
-
-/// Ends the test where this isn't so of a run that was to have this text.
-fn expect_so(rt: &impl Abort, so: bool, want: &[u8]) {
-    assert!(rt; so, "of {want:?}");
-}
-
-#[test]
-fn the_first_wish_stands(rt: HostRuntime) -> Result<(), Fail> {
-    for (wishes, want) in &WISHES {
-        let so = runs_so(rt.alloc(), Does::Wishes(wishes), SHOWN, want)?;
-        expect_so(&rt, so, want);
-    }
-    Ok(())
-}
-
 /// Two directories are to be watched with all below them. The one has a directory that the filter refuses, with another in it.
 const FILES: &[u8] =
     b"node dir /\nnode dir /w\nnode dir /w/b\nnode dir /w/b/c\nnode dir /v\nnode dir /v/a\nturn 0 change paths 2 r /w r /v\nturn 1 file\nturn 1 file\nturn 1 file\nturn 1 file\nturn 1 file\nturn 1 file\nturn 1 file\nturn 1 file\nturn 1 file\nturn 1 file\n";
@@ -569,8 +515,116 @@ const FILES: &[u8] =
 const JUDGED: &[u8] =
     b"turn 0 change paths 2 r /w r /v\nchanged 1\nturn 1 file\napplied 1\nmake 0 native on ok\nturn 1 file\nword stepped\nturn 1 file\nword stepped\nturn 1 file\nword stepped\nturn 1 file\nword stepped\nturn 1 file\ndir 0 /w/b reject\nword stepped\nturn 1 file\ndir 0 /v/a pass\nword stepped\nturn 1 file\nword stepped\nturn 1 file\nword stepped\nturn 1 file\nready 1\nturn 1 last\nend ok lost 0\n";
 
+const RUNS: [Run; 16] = [
+    (
+        "each batch starts the job where no child runs",
+        0,
+        Does::Restarts,
+        BATCHES,
+        RESTARTED,
+    ),
+    (
+        "an interrupt ends the run gracefully",
+        0,
+        Does::Ends,
+        INTERRUPT,
+        ENDED,
+    ),
+    (
+        "what is asked for is told in a list",
+        0,
+        Does::AsksTwo,
+        BATCH,
+        ASKED_TWO,
+    ),
+    (
+        "a handler is shown no job that it created",
+        0,
+        Does::Looks,
+        BATCH,
+        LOOKED,
+    ),
+    (
+        "a spawn hook sets a variable",
+        0,
+        Does::SetsVariable,
+        STARTS,
+        VARIABLE,
+    ),
+    (
+        "a spawn hook without memory ends the run",
+        0,
+        Does::WantsMemory,
+        STARTS,
+        WANTED,
+    ),
+    (
+        "a job that is gone is shown once more",
+        0,
+        Does::Deletes,
+        DELETES,
+        DELETED,
+    ),
+    (
+        "directories are judged by their paths",
+        0,
+        Does::Judges,
+        FILES,
+        JUDGED,
+    ),
+    ("no wish", 0, Does::Wishes(&[]), SHOWN, UNWISHED),
+    (
+        "a wish to elevate",
+        0,
+        Does::Wishes(&[Says::Elevate]),
+        SHOWN,
+        ELEVATED,
+    ),
+    (
+        "a critical error behind it",
+        0,
+        Does::Wishes(&[Says::Elevate, Says::Critical]),
+        SHOWN,
+        ELEVATED,
+    ),
+    (
+        "an exit behind it",
+        0,
+        Does::Wishes(&[Says::Elevate, Says::Exit]),
+        SHOWN,
+        ELEVATED,
+    ),
+    (
+        "an exit behind a critical error",
+        0,
+        Does::Wishes(&[Says::Critical, Says::Exit]),
+        SHOWN,
+        CRITICAL,
+    ),
+    (
+        "a wish to elevate behind a critical error",
+        0,
+        Does::Wishes(&[Says::Critical, Says::Elevate]),
+        SHOWN,
+        CRITICAL,
+    ),
+    (
+        "a critical error behind an exit",
+        0,
+        Does::Wishes(&[Says::Exit, Says::Critical]),
+        SHOWN,
+        CLOSED,
+    ),
+    (
+        "a wish to elevate behind an exit",
+        0,
+        Does::Wishes(&[Says::Exit, Says::Elevate]),
+        SHOWN,
+        CLOSED,
+    ),
+];
+
 #[test]
-fn directories_are_judged_by_their_paths(rt: HostRuntime) -> Result<(), Fail> {
-    assert!(rt; runs_so(rt.alloc(), Does::Judges, FILES, JUDGED)?);
-    Ok(())
+fn hooks_of_a_user(rt: HostRuntime) -> Result<(), Fail> {
+    expect_runs(&rt, rt.alloc(), &RUNS)
 }

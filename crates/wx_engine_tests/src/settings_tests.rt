@@ -1,5 +1,6 @@
 // Changes of settings near the last revision, which no script reaches: the expected texts are worked out by hand.
-use crate::own_hooks_tests::{Does, Own, SETUP, is_behind};
+use crate::own_hooks_tests::{Does, Own, Run, expect_runs};
+use crate::trial::{root, text_of};
 use std::alloc::Global;
 use std::test::Fail;
 use wx_config::Config;
@@ -7,21 +8,6 @@ use wx_control::Flag;
 use wx_engine::Watchexec;
 use wx_hooks::ChangeRefused;
 use wx_text::Memory;
-use wx_trial::{Setup, root, text_by, text_of};
-
-/// Whether a run of `BATCH` from this revision on has this text behind its first line, and the last three changes of the action
-/// handler were answered so.
-fn runs_at(
-    alloc: Global,
-    revision: u64,
-    answers: [Result<(), ChangeRefused>; 3],
-    want: &[u8],
-) -> Result<bool, Fail> {
-    let mut hooks = Own::new(alloc, Does::Changes(answers));
-    let setup = Setup { revision, ..SETUP };
-    let text = text_by(alloc, setup, BATCH, &mut hooks)?;
-    Ok(hooks.is_right && is_behind(text.as_slice(), want))
-}
 
 const SPENT: Result<(), ChangeRefused> = Err(ChangeRefused::RevisionSpent);
 
@@ -38,13 +24,34 @@ const TWO: &[u8] =
 const NONE: &[u8] =
     b"turn 0 arrive urgent 0\noffer 0 - queued urgent 0\nturn 0 work\ntake 0\nhand 0 1 0\nturn 1 change onaction 7\nword ignored\nturn 2 arrive normal 1 unknown\noffer 1 - queued normal 1 unknown\nturn 2 work\ntake 1\nfilter 0 1 pass\nturn 2 last\nend ok lost 1 1\n";
 
+/// From which revision on, and how the three changes are answered.
+const LAST: [Run; 3] = [
+    (
+        "three revisions are left",
+        18_446_744_073_709_551_612,
+        Does::Changes([Ok(()), Ok(()), Ok(())]),
+        BATCH,
+        ALL,
+    ),
+    (
+        "two revisions are left",
+        18_446_744_073_709_551_613,
+        Does::Changes([Ok(()), Ok(()), SPENT]),
+        BATCH,
+        TWO,
+    ),
+    (
+        "no revision is left",
+        u64::MAX,
+        Does::Changes([SPENT, SPENT, SPENT]),
+        BATCH,
+        NONE,
+    ),
+];
+
 #[test]
 fn the_last_revision_is_refused(rt: HostRuntime) -> Result<(), Fail> {
-    let alloc = rt.alloc();
-    assert!(rt; runs_at(alloc, u64::MAX - 3, [Ok(()), Ok(()), Ok(())], ALL)?);
-    assert!(rt; runs_at(alloc, u64::MAX - 2, [Ok(()), Ok(()), SPENT], TWO)?);
-    assert!(rt; runs_at(alloc, u64::MAX, [SPENT, SPENT, SPENT], NONE)?);
-    Ok(())
+    expect_runs(&rt, rt.alloc(), &LAST)
 }
 
 /// An engine that doesn't follow links, and a copy of the flag of its settings.

@@ -4,6 +4,8 @@
 #[cfg(test)]
 mod case_tests;
 #[cfg(test)]
+mod expecting;
+#[cfg(test)]
 mod player;
 #[cfg(test)]
 mod seen;

@@ -10,6 +10,7 @@
 //
 // A block of lines is the story of one job, each line of which goes on from the one before. Where its first line is `MOVES:` each
 // other line has a job of its own, with which these moves are made before.
+use crate::expecting::expect_yes;
 use crate::player::{Given, One, Played, new_job};
 use std::alloc::Global;
 use std::fmt;
@@ -18,7 +19,6 @@ use wx_job::JobTask;
 use wx_journal::{Entry, Journal};
 use wx_machine::{CommandState, Stepped};
 use wx_text::{Memory, Text};
-use wx_words_trial::expect_yes;
 
 /// A state, shown by its words: `pending`, `runs CHILD from MOMENT`, or `END from MOMENT to MOMENT`. A child that was let go has
 /// `left`.

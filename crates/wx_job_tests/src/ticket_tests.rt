@@ -1,6 +1,7 @@
 // Tickets of jobs as futures, and what handles tell of jobs: worked out by hand, move by move.
 //
 // Behind ` => ` in a line stands what one poll of each ticket finds, in the order of the asks, and what the handle tells then.
+use crate::expecting::expect_yes;
 use crate::player::{One, new_job};
 use crate::seen::expect_line;
 use crate::test_world::command_a;
@@ -14,7 +15,6 @@ use wx_control::{Ask, Control, Flag, Id, Job, Ticket};
 use wx_job::start_job;
 use wx_machine::{Stepped, children_are_reaped};
 use wx_text::{Copies, Memory};
-use wx_words_trial::expect_yes;
 
 /// Whether one poll by this task finds the ticket ready.
 fn is_ready(task: &MockTask, ticket: &mut Ticket) -> bool {

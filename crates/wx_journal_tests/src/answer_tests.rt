@@ -1,4 +1,5 @@
 // What filters, makers of backends and hosts answer, as words.
+use crate::expecting::{expect_no, expect_yes};
 use std::alloc::Global;
 use std::num::NonZeroI32;
 use std::process::Abort;
@@ -6,7 +7,6 @@ use wx_events::ProcessEnd;
 use wx_journal::{BackedRef, HostFault, VerdictRef, read_backed, read_verdict};
 use wx_text::{Memory, Text};
 use wx_words::{Fields, ResultRef, Spelled, Words, read_result};
-use wx_words_trial::{expect_no, expect_yes};
 
 /// Whether this whole line is an answer, which is read by `read` and put by `put`, each word behind a space, and is written so
 /// again.

@@ -1,10 +1,11 @@
 // Entries: their lines, the values that are read from them, and what is no entry.
+use crate::expecting::{expect_no, expect_none, expect_yes};
 use std::alloc::Global;
 use std::process::Abort;
 use wx_journal::Entry;
 use wx_text::{Memory, Text};
 use wx_words::Words;
-use wx_words_trial::{each_line, each_pair, expect_no, expect_yes, has_fields};
+use wx_words_trial::{first_wrong_line, first_wrong_pair, has_fields};
 
 /// The entry whose words are this whole line.
 pub(crate) fn read_entry(alloc: Global, line: &str) -> Result<Option<Entry>, Memory> {
@@ -38,12 +39,14 @@ fn is_value(alloc: Global, line: &str, fields: &str) -> Result<bool, Memory> {
 
 /// Holds each line of this table to be the entry with the fields that stand behind it, and to be written so again.
 fn expect_values(rt: &impl Abort, alloc: Global, table: &str) {
-    each_pair(
+    expect_none(
         rt,
-        alloc,
-        table,
-        " = ",
-        |alloc, line, fields| Ok(is_value(alloc, line, fields)? && is_entry(alloc, line)?),
+        first_wrong_pair(
+            alloc,
+            table,
+            " = ",
+            |alloc, line, fields| Ok(is_value(alloc, line, fields)? && is_entry(alloc, line)?),
+        ),
     );
 }
 
@@ -193,11 +196,9 @@ ready 0";
 
 #[test]
 fn entries_are_read_again(rt: HostRuntime) {
-    each_line(
+    expect_none(
         &rt,
-        rt.alloc(),
-        ENTRIES,
-        |alloc, line| is_entry(alloc, line),
+        first_wrong_line(rt.alloc(), ENTRIES, |alloc, line| is_entry(alloc, line)),
     );
 }
 
@@ -314,11 +315,9 @@ fn is_left(alloc: Global, line: &str) -> Result<bool, Memory> {
 
 #[test]
 fn what_is_no_entry_is_left(rt: HostRuntime) {
-    each_line(
+    expect_none(
         &rt,
-        rt.alloc(),
-        NO_ENTRIES,
-        |alloc, line| is_left(alloc, line),
+        first_wrong_line(rt.alloc(), NO_ENTRIES, |alloc, line| is_left(alloc, line)),
     );
 }
 

@@ -7,6 +7,8 @@ mod answer_tests;
 #[cfg(test)]
 mod entry_tests;
 #[cfg(test)]
+mod expecting;
+#[cfg(test)]
 mod keeping_tests;
 #[cfg(test)]
 mod list_tests;

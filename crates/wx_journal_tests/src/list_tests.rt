@@ -1,10 +1,10 @@
 // The journal: what it counts, and its entries in order.
 use crate::entry_tests::read_entry;
+use crate::expecting::expect_yes;
 use std::alloc::Global;
 use std::process::Abort;
 use wx_journal::{Entry, Journal};
 use wx_text::{Memory, Text};
-use wx_words_trial::expect_yes;
 
 /// Lists an entry, which takes the room of one.
 fn list(rt: &impl Abort, journal: &mut Journal, entry: Entry) {

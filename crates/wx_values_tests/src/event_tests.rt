@@ -1,6 +1,7 @@
 // What events are written with, by the rules of the words: the expected values are worked out by hand.
 //
 // Cases stand in tables that are texts, a case a line. Where a word has a value, ` = ` and the value's fields follow.
+use crate::expecting::{expect_none, expect_yes};
 use std::alloc::Global;
 use std::fmt;
 use std::process::Abort;
@@ -10,8 +11,7 @@ use wx_events::{
 use wx_text::{Copies, List, Memory};
 use wx_words::Spelled;
 use wx_words_trial::{
-    each_is_refused, each_value, equals_its_copy, expect_yes, has_fields, is_shown, is_written,
-    read_line,
+    equals_its_copy, first_accepted, first_wrong_value, has_fields, is_shown, is_written, read_line,
 };
 
 /// Whether this value has these fields, and is written and shown by this line.
@@ -184,7 +184,10 @@ fn is_not_written(alloc: Global, key: &Keyboard, line: &str, fields: &str) -> Re
 
 #[test]
 fn escapes_that_are_not_written(rt: HostRuntime) {
-    each_value(&rt, rt.alloc(), ESCAPES, " = ", is_not_written);
+    expect_none(
+        &rt,
+        first_wrong_value(rt.alloc(), ESCAPES, " = ", is_not_written),
+    );
 }
 
 // The first line is empty, here and in the other tables that begin so.
@@ -361,32 +364,59 @@ continued.continued
 #[test]
 fn values_and_their_words(rt: HostRuntime) {
     let alloc = rt.alloc();
-    each_value(&rt, alloc, PRIORITIES, " = ", is_named::<Priority>);
-    each_value(&rt, alloc, TAGS, " = ", is_named::<Tag>);
-    each_value(&rt, alloc, FILE_TYPES, " = ", is_named::<FileType>);
-    each_value(&rt, alloc, SOURCES, " = ", is_named::<Source>);
-    each_value(&rt, alloc, KINDS, " = ", is_named::<FileEventKind>);
-    each_value(&rt, alloc, MODIFICATIONS, " = ", is_named::<FileEventKind>);
-    each_value(&rt, alloc, KEYS, " = ", is_named::<Keyboard>);
-    each_value(&rt, alloc, SIGNALS, " = ", is_copied::<Signal>);
-    each_value(&rt, alloc, ENDS, " = ", is_copied::<ProcessEnd>);
+    expect_none(
+        &rt,
+        first_wrong_value(alloc, PRIORITIES, " = ", is_named::<Priority>),
+    );
+    expect_none(&rt, first_wrong_value(alloc, TAGS, " = ", is_named::<Tag>));
+    expect_none(
+        &rt,
+        first_wrong_value(alloc, FILE_TYPES, " = ", is_named::<FileType>),
+    );
+    expect_none(
+        &rt,
+        first_wrong_value(alloc, SOURCES, " = ", is_named::<Source>),
+    );
+    expect_none(
+        &rt,
+        first_wrong_value(alloc, KINDS, " = ", is_named::<FileEventKind>),
+    );
+    expect_none(
+        &rt,
+        first_wrong_value(alloc, MODIFICATIONS, " = ", is_named::<FileEventKind>),
+    );
+    expect_none(
+        &rt,
+        first_wrong_value(alloc, KEYS, " = ", is_named::<Keyboard>),
+    );
+    expect_none(
+        &rt,
+        first_wrong_value(alloc, SIGNALS, " = ", is_copied::<Signal>),
+    );
+    expect_none(
+        &rt,
+        first_wrong_value(alloc, ENDS, " = ", is_copied::<ProcessEnd>),
+    );
 }
 
 #[test]
 fn lines_that_are_no_values(rt: HostRuntime) {
     let alloc = rt.alloc();
-    each_is_refused::<Priority>(&rt, alloc, "Low");
-    each_is_refused::<Tag>(&rt, alloc, BAD_TAGS);
-    each_is_refused::<Event>(&rt, alloc, BAD_EVENTS);
-    each_is_refused::<FileEventKind>(&rt, alloc, BAD_KINDS);
-    each_is_refused::<Keyboard>(&rt, alloc, BAD_KEYS);
-    each_is_refused::<Signal>(&rt, alloc, BAD_SIGNALS);
-    each_is_refused::<ProcessEnd>(&rt, alloc, BAD_ENDS);
+    expect_none(&rt, first_accepted::<Priority>(alloc, "Low"));
+    expect_none(&rt, first_accepted::<Tag>(alloc, BAD_TAGS));
+    expect_none(&rt, first_accepted::<Event>(alloc, BAD_EVENTS));
+    expect_none(&rt, first_accepted::<FileEventKind>(alloc, BAD_KINDS));
+    expect_none(&rt, first_accepted::<Keyboard>(alloc, BAD_KEYS));
+    expect_none(&rt, first_accepted::<Signal>(alloc, BAD_SIGNALS));
+    expect_none(&rt, first_accepted::<ProcessEnd>(alloc, BAD_ENDS));
 }
 
 #[test]
 fn signals_have_their_numbers(rt: HostRuntime) {
-    each_value(&rt, rt.alloc(), NATIVES, " = ", has_number);
+    expect_none(
+        &rt,
+        first_wrong_value(rt.alloc(), NATIVES, " = ", has_number),
+    );
 }
 
 #[test]

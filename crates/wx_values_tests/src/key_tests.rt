@@ -1,10 +1,11 @@
 // Signals and keys as events, and what tags hold, by their rules: the expected values are worked out by hand.
+use crate::expecting::{expect_none, expect_yes};
 use std::alloc::Global;
 use wx_events::{Event, KeyCode, Keyboard, Priority, Signal};
 use wx_keys::{Tagged, byte_to_keyboard, ends_input, hears_signal, key_events, signal_event};
 use wx_text::{List, Memory, Text};
 use wx_words::{Spelled, number_of};
-use wx_words_trial::{each_pair, each_value, expect_yes};
+use wx_words_trial::{first_wrong_pair, first_wrong_value};
 
 /// What each byte from 0 to 255 is as a key, sixteen in a row: the end of the input at 3 and 4, Enter at 13, Escape at 27,
 /// `^` and a letter for this letter with Ctrl, and the character itself from 32, the space, to 126.
@@ -136,7 +137,7 @@ const READS: &str = "\
 
 #[test]
 fn reads_as_events_and_their_end(rt: HostRuntime) {
-    each_pair(&rt, rt.alloc(), READS, "|", is_read);
+    expect_none(&rt, first_wrong_pair(rt.alloc(), READS, "|", is_read));
 }
 
 /// Whether this signal is heard then.
@@ -192,8 +193,8 @@ custom.-7|2 source os signal custom.-7 high
 
 #[test]
 fn signals_that_are_heard_and_their_events(rt: HostRuntime) {
-    each_value(&rt, rt.alloc(), HEARD, "|", is_heard);
-    each_value(&rt, rt.alloc(), SIGNALS, "|", has_event);
+    expect_none(&rt, first_wrong_value(rt.alloc(), HEARD, "|", is_heard));
+    expect_none(&rt, first_wrong_value(rt.alloc(), SIGNALS, "|", has_event));
 }
 
 /// Appends the words of this value behind what stands there, or `none`.
@@ -306,6 +307,12 @@ const BATCHES: &str = "\
 
 #[test]
 fn what_events_and_batches_hold(rt: HostRuntime) {
-    each_value(&rt, rt.alloc(), TAGGED, "|", holds::<Event>);
-    each_value(&rt, rt.alloc(), BATCHES, "|", holds::<List<Event>>);
+    expect_none(
+        &rt,
+        first_wrong_value(rt.alloc(), TAGGED, "|", holds::<Event>),
+    );
+    expect_none(
+        &rt,
+        first_wrong_value(rt.alloc(), BATCHES, "|", holds::<List<Event>>),
+    );
 }

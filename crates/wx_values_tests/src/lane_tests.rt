@@ -1,9 +1,10 @@
 // What a lane does: the expected values are worked out by hand.
+use crate::expecting::{expect_none, expect_yes};
 use std::alloc::Global;
 use wx_lane::{Lane, LaneItem, Notify, NotifyFault};
 use wx_text::{List, Memory};
 use wx_watch::NotifyFaultKind;
-use wx_words_trial::{each_pair, expect_yes, read_line};
+use wx_words_trial::{first_wrong_pair, read_line};
 
 // For each case the calls on a new lane for two events, and what each answers. `t N` puts an event that says something of the tree,
 // `d N` one that doesn't, and `f N` a fault, each named N: the answer is whether there was room. `<N` asks for the fence, `hN` says
@@ -123,7 +124,7 @@ fn has_answers(alloc: Global, calls: &str, wanted: &str) -> Result<bool, Memory>
 
 #[test]
 fn lanes_answer(rt: HostRuntime) {
-    each_pair(&rt, rt.alloc(), CALLS, " =", has_answers);
+    expect_none(&rt, first_wrong_pair(rt.alloc(), CALLS, " =", has_answers));
 }
 
 /// Whether an event in a lane for none is refused, and is kept where it says something of the tree.

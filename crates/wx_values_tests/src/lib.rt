@@ -5,6 +5,8 @@
 #[cfg(test)]
 mod event_tests;
 #[cfg(test)]
+mod expecting;
+#[cfg(test)]
 mod key_tests;
 #[cfg(test)]
 mod lane_tests;

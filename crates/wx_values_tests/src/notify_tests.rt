@@ -1,11 +1,13 @@
 // What a backend brings, as words: the expected values are worked out by hand.
 //
 // Cases stand in tables that are texts, a case a line: the words, ` = `, and the fields of the value.
+use crate::expecting::expect_none;
 use std::alloc::Global;
 use wx_notify::{Notify, NotifyPath};
 use wx_text::Memory;
 use wx_words_trial::{
-    each_is_refused, each_line, each_value, equals_its_copy, is_spelled, is_written, read_line,
+    equals_its_copy, first_accepted, first_wrong_line, first_wrong_value, is_spelled, is_written,
+    read_line,
 };
 
 /// Whether this notification has these fields, is written by this line, and equals its copy.
@@ -68,7 +70,10 @@ fn is_path(alloc: Global, line: &str) -> Result<bool, Memory> {
 
 #[test]
 fn notifications_and_their_words(rt: HostRuntime) {
-    each_value(&rt, rt.alloc(), NOTIFICATIONS, " = ", is_notification);
-    each_is_refused::<Notify>(&rt, rt.alloc(), BAD_NOTIFICATIONS);
-    each_line(&rt, rt.alloc(), PATHS, is_path);
+    expect_none(
+        &rt,
+        first_wrong_value(rt.alloc(), NOTIFICATIONS, " = ", is_notification),
+    );
+    expect_none(&rt, first_accepted::<Notify>(rt.alloc(), BAD_NOTIFICATIONS));
+    expect_none(&rt, first_wrong_line(rt.alloc(), PATHS, is_path));
 }

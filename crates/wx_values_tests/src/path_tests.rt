@@ -1,9 +1,10 @@
 // Paths by the rules of their components: the expected values are worked out by hand.
+use crate::expecting::expect_none;
 use std::alloc::Global;
 use wx_paths::{common_prefix, components, normalize, parent, path_of, starts_with};
 use wx_text::{List, Memory, Text};
 use wx_words::TextPath;
-use wx_words_trial::each_pair;
+use wx_words_trial::first_wrong_pair;
 
 /// The path of this text.
 fn path_in(alloc: Global, text: &str) -> Result<TextPath, Memory> {
@@ -97,7 +98,7 @@ a/../b/../c|a .. b .. c|c|a/../b/..
 
 #[test]
 fn components_normal_paths_and_parents(rt: HostRuntime) {
-    each_pair(&rt, rt.alloc(), PATHS, "|", is_path);
+    expect_none(&rt, first_wrong_pair(rt.alloc(), PATHS, "|", is_path));
 }
 
 /// Whether this path starts with the other one of the case just where it says so.
@@ -188,8 +189,8 @@ a/b/c a/b a|a
 
 #[test]
 fn starts_and_common_prefixes(rt: HostRuntime) {
-    each_pair(&rt, rt.alloc(), STARTS, "|", is_start);
-    each_pair(&rt, rt.alloc(), COMMON, "|", is_common);
+    expect_none(&rt, first_wrong_pair(rt.alloc(), STARTS, "|", is_start));
+    expect_none(&rt, first_wrong_pair(rt.alloc(), COMMON, "|", is_common));
 }
 
 /// Whether these components spell this path.
@@ -213,5 +214,5 @@ a b c|a/b/c
 
 #[test]
 fn spelled_paths(rt: HostRuntime) {
-    each_pair(&rt, rt.alloc(), SPELLED, "|", is_spelled);
+    expect_none(&rt, first_wrong_pair(rt.alloc(), SPELLED, "|", is_spelled));
 }

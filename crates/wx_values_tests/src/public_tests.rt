@@ -1,10 +1,11 @@
 // Which notifications are public: the expected values are worked out by hand.
+use crate::expecting::expect_none;
 use std::alloc::Global;
 use wx_lane::{Notify, event_is_public};
 use wx_text::{Memory, Text};
 use wx_tree::{Place, Root};
 use wx_words::TextPath;
-use wx_words_trial::{each_pair, each_value, read_line};
+use wx_words_trial::{first_wrong_pair, first_wrong_value, read_line};
 
 // Roots, and below each the paths that are of it (`yes`) or aren't (`no`), seen from /w/d.
 const PATHS: &str = "\
@@ -85,7 +86,7 @@ fn is_of_root(alloc: Global, root_words: &str, more: &str) -> Result<bool, Memor
 
 #[test]
 fn paths_are_of_roots(rt: HostRuntime) {
-    each_pair(&rt, rt.alloc(), PATHS, " | ", is_of_root);
+    expect_none(&rt, first_wrong_pair(rt.alloc(), PATHS, " | ", is_of_root));
 }
 
 // Notifications, and whether they are public for /a with all below it and for /b with its entries.
@@ -121,5 +122,8 @@ fn is_public(
 
 #[test]
 fn one_path_suffices(rt: HostRuntime) {
-    each_value(&rt, rt.alloc(), NOTIFICATIONS, " | ", is_public);
+    expect_none(
+        &rt,
+        first_wrong_value(rt.alloc(), NOTIFICATIONS, " | ", is_public),
+    );
 }

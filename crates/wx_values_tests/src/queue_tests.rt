@@ -1,9 +1,10 @@
 // What a queue takes and gives, before and after it is closed: the expected values are worked out by hand.
+use crate::expecting::expect_none;
 use prio_channel::PrioQueue;
 use std::alloc::Global;
 use wx_events::Priority;
 use wx_text::Memory;
-use wx_words_trial::{each_pair, read_line};
+use wx_words_trial::{first_wrong_pair, read_line};
 
 // For each case the size of a new queue, the calls on it, and what each answers. `1 low` sends 1 with this priority, `take` takes
 // one, `close` closes it, and `look` asks whether it is open and whether it is empty, how many are in, and for how many it is.
@@ -73,5 +74,5 @@ fn has_answers(alloc: Global, case: &str, wanted: &str) -> Result<bool, Memory> 
 
 #[test]
 fn queues_give_the_greatest_first_and_what_is_left_after_close(rt: HostRuntime) {
-    each_pair(&rt, rt.alloc(), CALLS, " = ", has_answers);
+    expect_none(&rt, first_wrong_pair(rt.alloc(), CALLS, " = ", has_answers));
 }

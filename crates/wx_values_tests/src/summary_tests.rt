@@ -1,10 +1,11 @@
 // Summaries of events by their rules: the expected values are worked out by hand.
+use crate::expecting::{expect_none, expect_yes};
 use std::alloc::Global;
 use std::process::Abort;
 use wx_events::Event;
 use wx_summary::{PATH_SEPARATOR, Summary, summarise_events_to_env};
 use wx_text::{Copies, List, Memory, Text};
-use wx_words_trial::{each_value, expect_yes, read_line};
+use wx_words_trial::{first_wrong_value, read_line};
 
 /// All names that a summary may have.
 const NAMES: &str = "COMMON CREATED META_CHANGED OTHERWISE_CHANGED REMOVED RENAMED WRITTEN";
@@ -90,7 +91,7 @@ const SUMMARIES: &str = "\
 
 #[test]
 fn summaries(rt: HostRuntime) {
-    each_value(&rt, rt.alloc(), SUMMARIES, "|", comes_to);
+    expect_none(&rt, first_wrong_value(rt.alloc(), SUMMARIES, "|", comes_to));
 }
 
 /// Four events, two of which are about one path.

@@ -1,9 +1,10 @@
 // What notifications say of the tree: the expected values are worked out by hand.
+use crate::expecting::expect_none;
 use std::alloc::Global;
 use wx_lane::{Notify, Topology, topology_messages};
 use wx_text::Memory;
 use wx_words::Escaped;
-use wx_words_trial::each_value;
+use wx_words_trial::first_wrong_value;
 
 // A notification by its words, and its messages.
 const MESSAGES: &str = "\
@@ -70,5 +71,8 @@ fn has_messages(
 
 #[test]
 fn notifications_have_their_messages(rt: HostRuntime) {
-    each_value(&rt, rt.alloc(), MESSAGES, " =", has_messages);
+    expect_none(
+        &rt,
+        first_wrong_value(rt.alloc(), MESSAGES, " =", has_messages),
+    );
 }

@@ -1,11 +1,12 @@
 // Lines and values by the rules of the words: the expected values are worked out by hand.
+use crate::expecting::{expect_next, expect_none};
 use std::alloc::Global;
 use std::fmt;
 use std::num::{NonZeroI32, NonZeroI64};
 use std::process::Abort;
 use wx_text::{Copies, List, Memory, Text, copy_twice};
 use wx_words::{Spelled, TextPath, Words, take_literal};
-use wx_words_trial::{each_is_refused, expect_next, is_written, read_line};
+use wx_words_trial::{first_accepted, is_written, read_line};
 
 /// Ends the test where the answer isn't yes, and says at which line.
 fn expect_yes(rt: &impl Abort, answer: Result<bool, Memory>, line: &[u8]) {
@@ -196,16 +197,16 @@ const NO_LISTS: &str = "\
 #[test]
 fn lines_that_are_no_values(rt: HostRuntime) {
     let alloc = rt.alloc();
-    each_is_refused::<Text>(&rt, alloc, NO_TEXTS);
-    each_is_refused::<u64>(&rt, alloc, NO_UNSIGNED);
-    each_is_refused::<i64>(&rt, alloc, NO_SIGNED);
-    each_is_refused::<i32>(&rt, alloc, NO_SMALL);
-    each_is_refused::<u32>(&rt, alloc, "4294967296");
-    each_is_refused::<NonZeroI64>(&rt, alloc, "0");
-    each_is_refused::<NonZeroI32>(&rt, alloc, "0");
-    each_is_refused::<Option<u64>>(&rt, alloc, NOT_OPTIONAL);
-    each_is_refused::<List<u64>>(&rt, alloc, NO_LISTS);
-    each_is_refused::<bool>(&rt, alloc, "On");
+    expect_none(&rt, first_accepted::<Text>(alloc, NO_TEXTS));
+    expect_none(&rt, first_accepted::<u64>(alloc, NO_UNSIGNED));
+    expect_none(&rt, first_accepted::<i64>(alloc, NO_SIGNED));
+    expect_none(&rt, first_accepted::<i32>(alloc, NO_SMALL));
+    expect_none(&rt, first_accepted::<u32>(alloc, "4294967296"));
+    expect_none(&rt, first_accepted::<NonZeroI64>(alloc, "0"));
+    expect_none(&rt, first_accepted::<NonZeroI32>(alloc, "0"));
+    expect_none(&rt, first_accepted::<Option<u64>>(alloc, NOT_OPTIONAL));
+    expect_none(&rt, first_accepted::<List<u64>>(alloc, NO_LISTS));
+    expect_none(&rt, first_accepted::<bool>(alloc, "On"));
 }
 
 /// Takes the next part, and holds it to be this one.

@@ -5,10 +5,10 @@ mod lines;
 mod tables;
 
 pub use lines::{
-    begins, equals_its_copy, expect_next, has_fields, is_read, is_read_again, is_refused, is_shown,
-    is_written, line_of, read_line,
+    begins, equals_its_copy, has_fields, is_read, is_read_again, is_refused, is_shown, is_written,
+    line_of, read_line,
 };
 pub use tables::{
-    each_is_read, each_is_refused, each_line, each_pair, each_value, expect_no, expect_yes,
+    first_accepted, first_misread, first_wrong_line, first_wrong_pair, first_wrong_value,
     is_spelled,
 };

@@ -1,7 +1,6 @@
 // Values and their lines.
 use std::alloc::Global;
 use std::fmt;
-use std::process::Abort;
 use wx_text::{Copies, Memory, Text};
 use wx_words::{Spelled, Words};
 
@@ -70,15 +69,4 @@ pub fn is_read_again<T: Spelled>(alloc: Global, line: &[u8]) -> Result<bool, Mem
         Some(value) => is_written(alloc, &value, line),
         None => Ok(false),
     }
-}
-
-/// Takes the value at the front of these words, and holds it to be this one, or none.
-pub fn expect_next<T: Spelled + PartialEq>(
-    rt: &impl Abort,
-    alloc: Global,
-    words: &mut Words,
-    want: Option<T>,
-) {
-    let found = T::take(alloc, words).expect(rt, "a word");
-    assert!(rt; found == want);
 }

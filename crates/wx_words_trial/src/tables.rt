@@ -2,42 +2,37 @@
 use crate::lines::{has_fields, is_refused, is_written, read_line};
 use std::alloc::Global;
 use std::fmt;
-use std::process::Abort;
 use wx_text::Memory;
 use wx_words::Spelled;
 
-/// Ends the test where the answer isn't yes, and says at which case.
-pub fn expect_yes(rt: &impl Abort, answer: Result<bool, Memory>, case: &str) {
-    assert!(rt; answer == Ok(true), "at {case}");
+/// Whether the answer is yes, and not want of memory.
+fn is_yes(answer: Result<bool, Memory>) -> bool {
+    answer == Ok(true)
 }
 
-/// Ends the test where the answer isn't no, and says at which case.
-pub fn expect_no(rt: &impl Abort, answer: Result<bool, Memory>, case: &str) {
-    assert!(rt; answer == Ok(false), "at {case}");
-}
-
-/// Ends the test at the first line of this table that isn't so.
-pub fn each_line<F: Fn(Global, &str) -> Result<bool, Memory>>(
-    rt: &impl Abort,
+/// The first line of this table that isn't so.
+pub fn first_wrong_line<'a, F: Fn(Global, &str) -> Result<bool, Memory>>(
     alloc: Global,
-    table: &str,
+    table: &'a str,
     is_so: F,
-)
+) -> Option<&'a str>
     requires { F.IsAlwaysCallable is_so }
 {
     for case in table.lines() {
-        expect_yes(rt, is_so(alloc, case), case);
+        if !is_yes(is_so(alloc, case)) {
+            return Some(case);
+        }
     }
+    None
 }
 
-/// Ends the test at the first line of this table where what stands before this mark and what stands behind it aren't so.
-pub fn each_pair<F: Fn(Global, &str, &str) -> Result<bool, Memory>>(
-    rt: &impl Abort,
+/// The first line of this table where what stands before this mark and what stands behind it aren't so.
+pub fn first_wrong_pair<'a, F: Fn(Global, &str, &str) -> Result<bool, Memory>>(
     alloc: Global,
-    table: &str,
+    table: &'a str,
     mark: &str,
     is_so: F,
-)
+) -> Option<&'a str>
     requires { F.IsAlwaysCallable is_so }
 {
     for case in table.lines() {
@@ -45,8 +40,11 @@ pub fn each_pair<F: Fn(Global, &str, &str) -> Result<bool, Memory>>(
             Some((line, expected)) => is_so(alloc, line, expected),
             None => Ok(false),
         };
-        expect_yes(rt, answer, case);
+        if !is_yes(answer) {
+            return Some(case);
+        }
     }
+    None
 }
 
 /// Whether this line is read as a value that is so beside it and what is expected.
@@ -64,15 +62,14 @@ fn is_value<T: Spelled, F: Fn(Global, &T, &str, &str) -> Result<bool, Memory>>(
     }
 }
 
-/// Ends the test at the first line of this table that isn't a value before this mark, or where this value, its line and what
-/// stands behind the mark aren't so.
-pub fn each_value<T: Spelled, F: Fn(Global, &T, &str, &str) -> Result<bool, Memory>>(
-    rt: &impl Abort,
+/// The first line of this table that isn't a value before this mark, or where this value, its line and what stands behind the mark
+/// aren't so.
+pub fn first_wrong_value<'a, T: Spelled, F: Fn(Global, &T, &str, &str) -> Result<bool, Memory>>(
     alloc: Global,
-    table: &str,
+    table: &'a str,
     mark: &str,
     is_so: F,
-)
+) -> Option<&'a str>
     requires { F.IsAlwaysCallable is_so }
 {
     for case in table.lines() {
@@ -80,8 +77,11 @@ pub fn each_value<T: Spelled, F: Fn(Global, &T, &str, &str) -> Result<bool, Memo
             Some((line, expected)) => is_value(alloc, line, expected, &is_so),
             None => Ok(false),
         };
-        expect_yes(rt, answer, case);
+        if !is_yes(answer) {
+            return Some(case);
+        }
     }
+    None
 }
 
 /// Whether this value has these fields, and is written by this line.
@@ -94,16 +94,21 @@ pub fn is_spelled<T: Spelled + fmt::Debug>(
     Ok(has_fields(alloc, value, fields)? && is_written(alloc, value, line.as_bytes())?)
 }
 
-/// Each line of the table is read as the value with the fields behind ` = `, which is written by the line.
-pub fn each_is_read<T: Spelled + fmt::Debug>(rt: &impl Abort, alloc: Global, table: &str) {
-    each_value(rt, alloc, table, " = ", |alloc, value: &T, line, fields| {
+/// The first line of the table that isn't read as the value with the fields behind ` = `, or that this value isn't written by.
+pub fn first_misread<'a, T: Spelled + fmt::Debug>(
+    alloc: Global,
+    table: &'a str,
+) -> Option<&'a str> {
+    first_wrong_value(alloc, table, " = ", |alloc, value: &T, line, fields| {
         is_spelled(alloc, value, line, fields)
-    });
+    })
 }
 
-/// No line of the table is a value of this type.
-pub fn each_is_refused<T: Spelled>(rt: &impl Abort, alloc: Global, table: &str) {
-    for line in table.lines() {
-        expect_yes(rt, is_refused::<T>(alloc, line.as_bytes()), line);
-    }
+/// The first line of the table that is a value of this type.
+pub fn first_accepted<'a, T: Spelled>(alloc: Global, table: &'a str) -> Option<&'a str> {
+    first_wrong_line(
+        alloc,
+        table,
+        |alloc, line| is_refused::<T>(alloc, line.as_bytes()),
+    )
 }

@@ -1,19 +1,22 @@
-// A world that follows a script, asked for turns, looks and backends: the expected values are worked out by hand.
+// A world that follows a script, asked for turns, looks, calls on children and backends: the expected values are worked out by hand.
 //
 // A run is a text. Each line asks the world or one of its backends for something, with what it answers behind ` = `.
-ghost use Rattle.std.specs.Prelude.{IfOk};
-ghost use Rattle.wx_script.specs.Follows.{IsScript};
+ghost use Rattle.std.specs.Prelude.{◌≤◌};
 
+use crate::trial::world_of;
 use std::alloc::Global;
 use std::process::Abort;
 use std::test::Fail;
+use wx_command::{SpawnOptions, Spawnable};
+use wx_control::{Flag, Id};
+use wx_events::ProcessEnd;
 use wx_follow::{ScriptBackend, ScriptWorld};
 use wx_hooks::World;
 use wx_job::Host;
+use wx_journal::SpawnTag;
 use wx_notify::Notify;
 use wx_scan::{Backend, EntryKind, ScanError, Scanner};
-use wx_script::{Script, read_script};
-use wx_text::{Memory, Text};
+use wx_text::{List, Memory, Text};
 use wx_watch::{NotifyFault, Watcher};
 use wx_words::{Spelled, TextPath};
 
@@ -39,24 +42,11 @@ fn path(alloc: Global, bytes: &str) -> Result<TextPath, Memory> {
     Ok(TextPath::new(Text::from_slice(alloc, bytes.as_bytes())?))
 }
 
-/// The script of these lines.
-fn script_of(alloc: Global, lines: &str) -> Result<Script, Fail>
-    ensures { IfOk result IsScript }
-{
-    match read_script(alloc, lines.as_bytes())? {
-        Ok(script) => Ok(script),
-        Err(_) => Err(Fail::new("no script")),
-    }
-}
-
 /// A world that follows the script of these lines.
 fn make_trial(alloc: Global, lines: &str) -> Result<Trial, Fail> {
-    let script = script_of(alloc, lines)?;
-    let world = ScriptWorld::new(alloc, &script);
-    drop(script);
     Ok(Trial {
         alloc,
-        world: world?,
+        world: world_of(alloc, lines.as_bytes())?,
         back: None,
     })
 }
@@ -106,6 +96,25 @@ fn shown_look(alloc: Global, answer: Result<EntryKind, ScanError>) -> Result<Tex
     Ok(shown)
 }
 
+/// Spawns child 0 for job 1, kills it and waits for it, and answers whether each call went well.
+fn child_ends<W: Host>(world: &mut W, what: Spawnable) -> bool
+    requires { 3 ≤ (W.seen world.old).spare }
+{
+    let spawned = world.spawn(0, Id(1), what, SpawnTag::Default);
+    let killed = world.kill(0);
+    let end = world.wait(0);
+    spawned == Ok(()) && killed == Ok(()) && end == Ok(ProcessEnd::Success)
+}
+
+/// Lets go of child 0, raises the flag as that of ticket 0, and then as that of job 1.
+fn let_go<W: Host>(world: &mut W, flag: &Flag)
+    requires { 3 ≤ (W.seen world.old).spare }
+{
+    world.drop_child(0);
+    world.raise(0, flag);
+    world.gone(Id(1), flag);
+}
+
 impl Trial {
     /// Asks for a turn.
     fn turn(&mut self) -> Result<Text, Memory> {
@@ -131,6 +140,24 @@ impl Trial {
             }
             Err(fault) => shown_fault(self.alloc, &fault),
         }
+    }
+
+    /// Spawns a child, kills it and waits for it.
+    fn child(&mut self) -> Result<Text, Memory> {
+        let what = Spawnable {
+            words: List::new(self.alloc),
+            options: SpawnOptions::default(),
+        };
+        self.world.reserve(3)?;
+        let ends = child_ends(&mut self.world, what);
+        Text::from_slice(self.alloc, if ends { b"ends" } else { b"fails" })
+    }
+
+    /// Lets go of the child, and raises what waits for it and for its job.
+    fn leave(&mut self) -> Result<Text, Memory> {
+        self.world.reserve(3)?;
+        let_go(&mut self.world, &Flag::new(self.alloc, false)?);
+        Text::from_slice(self.alloc, b"ok")
     }
 
     /// Asks the backend that was made last.
@@ -159,6 +186,8 @@ impl Trial {
         match call {
             "turn" => self.turn(),
             "make" => self.make(),
+            "child" => self.child(),
+            "letgo" => self.leave(),
             "look" => {
                 let answer = self.world.classify(at, false);
                 shown_look(self.alloc, answer)
@@ -189,13 +218,30 @@ fn each_line_holds(rt: &impl Abort, trial: &mut Trial, run: &str) {
     assert!(rt; !trial.world.short());
 }
 
-/// Each line of this run holds in a world that follows this script, one after the other, and nothing is refused.
-fn each_holds(rt: &impl Abort, alloc: Global, script: &str, run: &str) -> Result<(), Fail> {
-    let mut trial = make_trial(alloc, script)?;
-    each_line_holds(rt, &mut trial, run);
-    drop(trial);
-    Ok(())
-}
+// Two turns with a fault between them. Behind them the last turn comes again and again.
+const TURNS: &str = "\
+set throttle 10
+set size 4
+action quit
+turn 5 arrive high 0
+turnfault 3
+turn 8 work
+";
+
+const GIVEN: &str = "\
+turn - = 5 arrive high 0
+turn - = fault 3
+turn - = 8 work
+turn - = 8 last
+turn - = 8 last
+";
+
+// Calls on a child go well, and take no turn.
+const CALLED: &str = "\
+child - = ends
+letgo - = ok
+turn - = 5 arrive high 0
+";
 
 // Changes before the first turn, before a turn, before a fault, and behind all of them. Two before one turn are made in order.
 const EDITS: &str = "\
@@ -294,22 +340,28 @@ make - = ok
 next - = none
 ";
 
-#[test]
-fn changes_are_made_before_their_turn(rt: HostRuntime) -> Result<(), Fail> {
-    each_holds(&rt, rt.alloc(), EDITS, EDITED)
+/// Each line of this run holds in a world that follows this script, one after the other, and nothing is refused.
+fn each_holds(rt: &impl Abort, alloc: Global, script: &str, run: &str) -> Result<(), Fail> {
+    let mut trial = make_trial(alloc, script)?;
+    each_line_holds(rt, &mut trial, run);
+    drop(trial);
+    Ok(())
 }
 
-#[test]
-fn looks_fail_where_a_script_says_so(rt: HostRuntime) -> Result<(), Fail> {
-    each_holds(&rt, rt.alloc(), FAILING_LOOKS, FAILED_LOOKS)
-}
+/// Scripts, and runs of the worlds that follow them.
+const RUNS: [(&str, &str); 6] = [
+    (TURNS, GIVEN),
+    (TURNS, CALLED),
+    (EDITS, EDITED),
+    (FAILING_LOOKS, FAILED_LOOKS),
+    (FAILING_WATCHES, FAILED_WATCHES),
+    (MAKING, MADE),
+];
 
 #[test]
-fn calls_on_each_backend_fail_where_a_script_says_so(rt: HostRuntime) -> Result<(), Fail> {
-    each_holds(&rt, rt.alloc(), FAILING_WATCHES, FAILED_WATCHES)
-}
-
-#[test]
-fn makes_are_answered_in_order(rt: HostRuntime) -> Result<(), Fail> {
-    each_holds(&rt, rt.alloc(), MAKING, MADE)
+fn a_world_answers_as_its_script_says(rt: HostRuntime) -> Result<(), Fail> {
+    for (script, run) in &RUNS {
+        each_holds(&rt, rt.alloc(), script, run)?;
+    }
+    Ok(())
 }

@@ -1,6 +1,7 @@
 // An executor that awaits the tickets of a handler while turns go on.
 ghost use Rattle.std.specs.Prelude.{◌≡◌, false};
 
+use crate::trial::{behind_first, created, root, text_in, world_of};
 use futures::Future;
 use futures::executor::{LocalPool, LocalSpawner};
 use futures::task::{Context, Poll};
@@ -17,9 +18,8 @@ use wx_journal::{HostFault, SpawnTag, TurnKind};
 use wx_notify::Notify;
 use wx_scan::{EntryKind, Looks, ScanError, Scanner};
 use wx_text::{Copies, List, Memory, Text};
-use wx_trial::{created, root, text_in, world_of};
 use wx_watch::{NotifyFault, Watcher};
-use wx_words::{TextPath, cut};
+use wx_words::TextPath;
 
 /// Awaits a ticket, and then raises a flag.
 #[derive(Drop)]
@@ -279,20 +279,43 @@ fn text_between<W: World + Drop>(
     flags: (Flag, Flag),
     hooks: &mut BoxedHooks,
 ) -> Result<(Text, Text), Memory> {
+    let asked = Flag::new(alloc, false)?;
+    let engine = Watchexec::new(alloc, 0, root(alloc)?)?;
     let between = Between {
         alloc,
         pool,
         started: flags.0,
         stopped: flags.1,
-        asked: Flag::new(alloc, false)?,
+        asked,
         noted: Text::new(alloc),
     };
     let mut world = Polls { inner, between };
-    let engine = Watchexec::new(alloc, 0, root(alloc)?)?;
-    let text = text_in(alloc, engine, &mut world, hooks)?;
-    let noted = world.between.noted.copy(alloc)?;
+    let text = text_in(alloc, engine, &mut world, hooks);
+    let noted = world.between.noted.copy(alloc);
     drop(world);
-    Ok((text, noted))
+    Ok((text?, noted?))
+}
+
+/// Hooks that hold the handler. Its tickets are awaited by tasks of this pool, which raise these flags.
+fn hooks_of(
+    alloc: Global,
+    spawner: LocalSpawner<Awaits>,
+    started: &Flag,
+    stopped: &Flag,
+) -> Result<BoxedHooks, Memory> {
+    let started = started.copy(alloc)?;
+    let stopped = stopped.copy(alloc)?;
+    let boxed = StartsAndStops {
+        alloc,
+        spawner,
+        started,
+        stopped,
+    };
+    let mut actions: List<Box<dyn OnAction + Drop>> = List::new(alloc);
+    actions.push(Box::new(alloc, boxed)?)?;
+    let (filters, errors, functions) = (List::new(alloc), List::new(alloc), List::new(alloc));
+    let (hooks, faults) = (List::new(alloc), List::new(alloc));
+    Ok(BoxedHooks::new(alloc, filters, actions, errors, functions, hooks, faults))
 }
 
 #[test]
@@ -301,30 +324,12 @@ fn tickets_are_awaited_while_turns_go_on(rt: HostRuntime) -> Result<(), Fail> {
     let pool = LocalPool::new(&rt)?;
     let started = Flag::new(alloc, false)?;
     let stopped = Flag::new(alloc, false)?;
-    let spawner = pool.spawner()?;
-    let boxed = StartsAndStops {
-        alloc,
-        spawner,
-        started: started.copy(alloc)?,
-        stopped: stopped.copy(alloc)?,
-    };
-    let mut actions: List<Box<dyn OnAction + Drop>> = List::new(alloc);
-    actions.push(Box::new(alloc, boxed)?)?;
-    let mut hooks = BoxedHooks::new(
-        alloc,
-        List::new(alloc),
-        actions,
-        List::new(alloc),
-        List::new(alloc),
-        List::new(alloc),
-        List::new(alloc),
-    );
+    let mut hooks = hooks_of(alloc, pool.spawner()?, &started, &stopped)?;
     let inner = world_of(alloc, TURNS)?;
     let ran = text_between(alloc, inner, pool, (started, stopped), &mut hooks);
     drop(hooks);
     let (text, noted) = ran?;
-    let rest = cut(text.as_slice(), 10).map(|parts| parts.1);
-    assert!(rt; rest == Some(STOPPED));
+    assert!(rt; behind_first(&text) == Some(STOPPED));
     assert!(rt; noted.as_slice() == NOTED);
     Ok(())
 }

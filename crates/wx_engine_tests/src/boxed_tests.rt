@@ -2,6 +2,7 @@
 ghost use Rattle.std.specs.Prelude.{◌≡◌, ◌⊎◌, false, true, Ok as Well, Err as Wrong, codes};
 ghost use Rattle.wx_error.specs.declared.runtime.RuntimeError.TheVariants.{ProcessDeadOnArrival};
 
+use crate::trial::{Setup, behind_first, created, dir_verdict, text_by};
 use std::alloc::Global;
 use std::process::Abort;
 use std::test::Fail;
@@ -11,13 +12,12 @@ use wx_config::Filterer;
 use wx_control::{Flag, Id, Job};
 use wx_error::RuntimeError;
 use wx_events::{Event, Priority, Signal};
-use wx_hooks::{ActionHandler, ErrorHook, Hooks};
-use wx_job::{JobHooks, JobTaskContext};
+use wx_hooks::{ActionHandler, ErrorHook};
+use wx_job::JobTaskContext;
 use wx_journal::HostFault;
 use wx_machine::CommandState;
 use wx_text::{Copies, List, Memory, Text};
-use wx_trial::{Setup, created, text_by};
-use wx_words::{TextPath, cut};
+use wx_words::TextPath;
 
 /// Rejects each event.
 #[derive(Drop)]
@@ -159,8 +159,7 @@ fn runs_so(
         action_handler: numbers.2,
     };
     let text = text_by(alloc, setup, lines, hooks)?;
-    let rest = cut(text.as_slice(), 10).map(|parts| parts.1);
-    Ok(rest == Some(want))
+    Ok(behind_first(&text) == Some(want))
 }
 
 /// Appends this to a list.
@@ -182,68 +181,14 @@ const BATCHES: &[u8] =
     b"turn 0 arrive urgent 0\nturn 0 work\nturn 1 job 0\nturn 2 job 0\nturn 3 arrive urgent 1 signal hangup\nturn 3 work\nturn 4 job 0\nturn 5 job 0\nturn 6 arrive urgent 1 signal interrupt\nturn 6 work\n";
 
 const RESTARTED: &[u8] =
-    b"turn 0 arrive urgent 0\noffer 0 - queued urgent 0\nturn 0 work\ntake 0\nhand 0 1 0 create 0 exec ---- 1 make ask 0 restart\nmade 0\nasked 0 0 normal stop\nasked 1 0 normal start\nturn 1 job 0\npick 0 0\nraise 0\nturn 2 job 0\npick 0 1\nspawn 0 0 default ---- 1 make ok\nraise 1\nturn 3 arrive urgent 1 signal hangup\noffer 1 - queued urgent 1 signal hangup\nturn 3 work\ntake 1\nhand 0 1 1 ask 0 restart\nasked 2 0 normal stop\nasked 3 0 normal start\nturn 4 job 0\npick 0 2\nkill 0 ok\nwait 0 success\nraise 2\nturn 5 job 0\npick 0 3\nspawn 1 0 default ---- 1 make ok\nraise 3\nturn 6 arrive urgent 1 signal interrupt\noffer 2 - queued urgent 1 signal interrupt\nturn 6 work\ntake 2\nhand 0 1 2 quit\ndrop 1\ngone 0\nend ok lost 0\n";
-
-#[test]
-fn a_boxed_handler_restarts_a_program(rt: HostRuntime) -> Result<(), Fail> {
-    let alloc = rt.alloc();
-    let mut actions: List<Box<dyn OnAction + Drop>> = List::new(alloc);
-    add(
-        &rt,
-        &mut actions,
-        boxed(&rt, alloc, Restarts { alloc, job: None }),
-    );
-    let mut hooks = BoxedHooks::new(
-        alloc,
-        List::new(alloc),
-        actions,
-        List::new(alloc),
-        List::new(alloc),
-        List::new(alloc),
-        List::new(alloc),
-    );
-    let is_so = runs_so(alloc, (0, 0, 0), BATCHES, &mut hooks, RESTARTED);
-    drop(hooks);
-    assert!(rt; is_so?);
-    Ok(())
-}
+    b"turn 0 arrive urgent 0\noffer 0 - queued urgent 0\nturn 0 work\ntake 0\nhand 2 1 0 create 0 exec ---- 1 make ask 0 restart\nmade 0\nasked 0 0 normal stop\nasked 1 0 normal start\nturn 1 job 0\npick 0 0\nraise 0\nturn 2 job 0\npick 0 1\nspawn 0 0 default ---- 1 make ok\nraise 1\nturn 3 arrive urgent 1 signal hangup\noffer 1 - queued urgent 1 signal hangup\nturn 3 work\ntake 1\nhand 2 1 1 ask 0 restart\nasked 2 0 normal stop\nasked 3 0 normal start\nturn 4 job 0\npick 0 2\nkill 0 ok\nwait 0 success\nraise 2\nturn 5 job 0\npick 0 3\nspawn 1 0 default ---- 1 make ok\nraise 3\nturn 6 arrive urgent 1 signal interrupt\noffer 2 - queued urgent 1 signal interrupt\nturn 6 work\ntake 2\nhand 2 1 2 quit\ndrop 1\ngone 0\nend ok lost 0\n";
 
 /// One event, which the filter is asked about.
 const SHOWN: &[u8] = b"turn 0 arrive low 1 unknown\nturn 0 work\n";
 
-#[test]
-fn boxes_are_called_by_their_numbers(rt: HostRuntime) -> Result<(), Fail> {
-    let alloc = rt.alloc();
-    let mut filters: List<Box<dyn Filterer + Drop>> = List::new(alloc);
-    add(&rt, &mut filters, boxed(&rt, alloc, Rejects));
-    add(&rt, &mut filters, boxed(&rt, alloc, Fails));
-    let mut actions: List<Box<dyn OnAction + Drop>> = List::new(alloc);
-    add(&rt, &mut actions, boxed(&rt, alloc, Idle));
-    add(
-        &rt,
-        &mut actions,
-        boxed(&rt, alloc, Restarts { alloc, job: None }),
-    );
-    let mut errors: List<Box<dyn OnError + Drop>> = List::new(alloc);
-    add(&rt, &mut errors, boxed(&rt, alloc, Idle));
-    add(&rt, &mut errors, boxed(&rt, alloc, Elevates));
-    let mut hooks = BoxedHooks::new(
-        alloc,
-        filters,
-        actions,
-        errors,
-        List::new(alloc),
-        List::new(alloc),
-        List::new(alloc),
-    );
-    let held = expect_ends(&rt, alloc, &mut hooks);
-    drop(hooks);
-    held
-}
-
-/// The numbers of a filter, an error handler and an action handler, and what is written behind the taking of the event. Two
-/// numbers of each kind are held.
-const NUMBERS: [((u32, u32, u32), &[u8]); 8] = [
+/// The numbers of a filter, an error handler and an action handler, and what is written behind the taking of the event. Three filters,
+/// two error handlers and three action handlers are held.
+const NUMBERS: [((u32, u32, u32), &[u8]); 9] = [
     (
         (0, 0, 1),
         b"filter 0 0 reject\nturn 0 last\nend ok lost 0\n",
@@ -265,16 +210,20 @@ const NUMBERS: [((u32, u32, u32), &[u8]); 8] = [
         b"filter 2 0 pass\nhand 0 1 0\nturn 0 last\nend ok lost 0\n",
     ),
     (
-        (4_294_967_295, 1, 2),
-        b"filter 4294967295 0 pass\nhand 2 1 0\nturn 0 last\nend ok lost 0\n",
+        (3, 1, 0),
+        b"filter 3 0 pass\nhand 0 1 0\nturn 0 last\nend ok lost 0\n",
     ),
     (
-        (2, 1, 4_294_967_295),
-        b"filter 2 0 pass\nhand 4294967295 1 0\nturn 0 last\nend ok lost 0\n",
+        (4_294_967_295, 1, 3),
+        b"filter 4294967295 0 pass\nhand 3 1 0\nturn 0 last\nend ok lost 0\n",
     ),
     (
-        (2, 1, 1),
-        b"filter 2 0 pass\nhand 1 1 0 create 0 exec ---- 1 make ask 0 restart\nmade 0\nasked 0 0 normal stop\nasked 1 0 normal start\nturn 0 last\ngone 0\nend ok lost 0\n",
+        (3, 1, 4_294_967_295),
+        b"filter 3 0 pass\nhand 4294967295 1 0\nturn 0 last\nend ok lost 0\n",
+    ),
+    (
+        (3, 1, 1),
+        b"filter 3 0 pass\nhand 1 1 0 create 0 exec ---- 1 make ask 0 restart\nmade 0\nasked 0 0 normal stop\nasked 1 0 normal start\nturn 0 last\ngone 0\nend ok lost 0\n",
     ),
 ];
 
@@ -301,76 +250,78 @@ fn ends_so(
     runs_so(alloc, numbers, SHOWN, hooks, want.as_slice())
 }
 
-/// What a filter answered, as a word.
-fn word_of(answer: Result<bool, RuntimeError>) -> &'static str {
-    let word = match &answer {
-        Ok(true) => "pass",
-        Ok(false) => "reject",
-        Err(RuntimeError::ProcessDeadOnArrival) => "gone",
-        Err(_) => "fail",
-    };
-    drop(answer);
-    word
-}
-
-/// What the filter of this number answers about this directory, as a word.
-fn dir_word(
-    alloc: Global,
-    hooks: &mut BoxedHooks,
-    n: u32,
-    path: &[u8],
-) -> Result<&'static str, Memory> {
-    let path = TextPath::new(Text::from_slice(alloc, path)?);
-    hooks.reserve(1)?;
-    Ok(word_of(hooks.check_dir(n, path)))
-}
-
-/// The number of a filter, a directory, and what is answered. Two filters are held, of which the first judges events alone.
+/// The number of a filter, a directory, and what is answered. Of the three filters the first two judge events alone.
 const DIRS: [(u32, &[u8], &str); 8] = [
     (0, b"/w/out", "pass"),
-    (1, b"/w/out", "reject"),
-    (1, b"/w/gone", "gone"),
-    (1, b"/w/out", "reject"),
-    (1, b"/w/out/a", "pass"),
-    (1, b"/", "pass"),
-    (2, b"/w/out", "pass"),
+    (2, b"/w/out", "reject"),
+    (2, b"/w/gone", "fail deadonarrival"),
+    (2, b"/w/out", "reject"),
+    (2, b"/w/out/a", "pass"),
+    (2, b"/", "pass"),
+    (3, b"/w/out", "pass"),
     (4_294_967_295, b"/w/gone", "pass"),
 ];
 
 /// Holds the answers of the filters to those of the table.
 fn expect_dirs(rt: &impl Abort, alloc: Global, hooks: &mut BoxedHooks) -> Result<(), Fail> {
     for (n, path, want) in &DIRS {
-        let word = dir_word(alloc, hooks, *n, path)?;
-        assert!(rt; word == *want, "filter {n} at {path:?}");
+        let words = dir_verdict(alloc, hooks, *n, path)?;
+        let so = words.as_slice() == want.as_bytes();
+        assert!(rt; so, "filter {n} at {path:?}");
     }
     Ok(())
 }
 
+/// Holds what the boxes of each number answer to the tables. The third action handler follows `BATCHES`.
+fn expect_numbers(rt: &impl Abort, alloc: Global, hooks: &mut BoxedHooks) -> Result<(), Fail> {
+    expect_ends(rt, alloc, hooks)?;
+    expect_dirs(rt, alloc, hooks)?;
+    assert!(rt; runs_so(alloc, (0, 0, 2), BATCHES, hooks, RESTARTED)?);
+    Ok(())
+}
+
 #[test]
-fn directories_are_judged_by_the_filter_of_a_number(rt: HostRuntime) -> Result<(), Fail> {
+fn boxes_are_called_by_their_numbers(rt: HostRuntime) -> Result<(), Fail> {
     let alloc = rt.alloc();
     let mut filters: List<Box<dyn Filterer + Drop>> = List::new(alloc);
     add(&rt, &mut filters, boxed(&rt, alloc, Rejects));
+    add(&rt, &mut filters, boxed(&rt, alloc, Fails));
     add(&rt, &mut filters, boxed(&rt, alloc, Excludes));
+    let mut actions: List<Box<dyn OnAction + Drop>> = List::new(alloc);
+    add(&rt, &mut actions, boxed(&rt, alloc, Idle));
+    add(
+        &rt,
+        &mut actions,
+        boxed(&rt, alloc, Restarts { alloc, job: None }),
+    );
+    add(
+        &rt,
+        &mut actions,
+        boxed(&rt, alloc, Restarts { alloc, job: None }),
+    );
+    let mut errors: List<Box<dyn OnError + Drop>> = List::new(alloc);
+    add(&rt, &mut errors, boxed(&rt, alloc, Idle));
+    add(&rt, &mut errors, boxed(&rt, alloc, Elevates));
     let mut hooks = BoxedHooks::new(
         alloc,
         filters,
-        List::new(alloc),
-        List::new(alloc),
+        actions,
+        errors,
         List::new(alloc),
         List::new(alloc),
         List::new(alloc),
     );
-    let held = expect_dirs(&rt, alloc, &mut hooks);
+    let held = expect_numbers(&rt, alloc, &mut hooks);
     drop(hooks);
     held
 }
 
-/// A function that raises a flag where it is called for the first job and no child of this ran yet. Once begun, its second poll
-/// finds it ready.
+/// A function that raises a flag where it is called for the first job and no child of this ran yet. Once begun, so many polls find it
+/// not ready.
 #[derive(Drop)]
 struct Function {
     called: Flag,
+    lasts: u32,
     left: u32,
 }
 
@@ -382,7 +333,7 @@ impl OnJob for Function {
     }
 
     fn begin(&mut self, _job: Id, _cx: &JobTaskContext<'_>) {
-        self.left = 1;
+        self.left = self.lasts;
     }
 
     fn poll(&mut self, _job: Id) -> bool {
@@ -392,25 +343,20 @@ impl OnJob for Function {
     }
 }
 
-/// Is never ready.
-#[derive(Drop)]
-struct Never;
-
-impl OnJob for Never {
-    fn run(&mut self, _job: Id, _cx: &JobTaskContext<'_>) {}
-
-    fn begin(&mut self, _job: Id, _cx: &JobTaskContext<'_>) {}
-
-    fn poll(&mut self, _job: Id) -> bool {
-        false
+/// A function that raises this flag, and once begun isn't ready at so many polls.
+fn function_of(rt: &impl Abort, alloc: Global, flag: &Flag, lasts: u32) -> Function {
+    Function {
+        called: copy_of(rt, alloc, flag),
+        lasts,
+        left: 0,
     }
 }
 
-/// Adds a word to what is spawned.
+/// Adds a word to what is spawned, or has no memory.
 #[derive(Drop)]
 struct Adds {
     alloc: Global,
-    word: &'static [u8],
+    word: Option<&'static [u8]>,
 }
 
 impl OnSpawn for Adds {
@@ -420,23 +366,8 @@ impl OnSpawn for Adds {
         what: &mut Spawnable,
         _cx: &JobTaskContext<'_>,
     ) -> Result<(), Memory> {
-        let word = Text::from_slice(self.alloc, self.word)?;
+        let word = Text::from_slice(self.alloc, self.word.ok_or(Memory)?)?;
         what.words.push(word)
-    }
-}
-
-/// Has no memory, and adds nothing.
-#[derive(Drop)]
-struct Wants;
-
-impl OnSpawn for Wants {
-    fn hook(
-        &mut self,
-        _job: Id,
-        _what: &mut Spawnable,
-        _cx: &JobTaskContext<'_>,
-    ) -> Result<(), Memory> {
-        Err(Memory)
     }
 }
 
@@ -462,6 +393,20 @@ const ASKED: &[u8] =
 const DONE: &[u8] =
     b"turn 0 arrive urgent 0\noffer 0 - queued urgent 0\nturn 0 work\ntake 0\nhand 0 1 0 create 0 exec ---- 1 make\nmade 0\nturn 0 ask 0 run 1\nasked 0 0 normal run 1\nturn 0 ask 0 run 5\nasked 1 0 normal run 5\nturn 0 ask 0 runasync 1\nasked 2 0 normal runasync 1\nturn 0 ask 0 runasync 5\nasked 3 0 normal runasync 5\nturn 0 ask 0 sethook 1\nasked 4 0 normal sethook 1\nturn 0 ask 0 start\nasked 5 0 normal start\nturn 0 ask 0 sethook 5\nasked 6 0 normal sethook 5\nturn 0 ask 0 tryrestart\nasked 7 0 normal tryrestart\nturn 0 ask 0 seterror 5\nasked 8 0 normal seterror 5\nturn 0 ask 0 signal hangup\nasked 9 0 normal signal hangup\nturn 0 ask 0 seterror 1\nasked 10 0 normal seterror 1\nturn 0 ask 0 signal hangup\nasked 11 0 normal signal hangup\nturn 1 job 0\npick 0 0\nrun 0 1\nraise 0\nturn 2 job 0\npick 0 1\nrun 0 5\nraise 1\nturn 3 job 0\npick 0 2\nbegun 0 1\nturn 4 job 0\npoll 0 1 later\nword later\nturn 5 job 0\npoll 0 1 ready\nraise 2\nturn 6 job 0\npick 0 3\nbegun 0 5\nturn 7 job 0\npoll 0 5 ready\nraise 3\nturn 8 job 0\npick 0 4\nraise 4\nturn 9 job 0\npick 0 5\nhook 0 1 ---- 2 make -v\nspawn 0 0 default ---- 2 make -v ok\nraise 5\nturn 10 job 0\npick 0 6\nraise 6\nturn 11 job 0\npick 0 7\nkill 0 ok\nwait 0 success\nhook 0 5 ---- 1 make\nspawn 1 0 default ---- 1 make ok\nraise 7\nturn 12 job 0\npick 0 8\nraise 8\nturn 13 job 0\npick 0 9\nsignal 1 1 fault 6\njoberror 0 5 6\nraise 9\nturn 14 job 0\npick 0 10\nraise 10\nturn 15 job 0\npick 0 11\nsignal 1 1 fault 7\njoberror 0 1 7\nraise 11\nturn 15 last\ndrop 1\ngone 0\nend ok lost 0\n";
 
+/// A spawn hook that has no memory.
+const WANTS: &[u8] =
+    b"turn 0 arrive urgent 0\nturn 0 work\nturn 0 ask 0 sethook 0\nturn 0 ask 0 start\nturn 1 job 0\nturn 2 job 0\n";
+
+const WANTED: &[u8] =
+    b"turn 0 arrive urgent 0\noffer 0 - queued urgent 0\nturn 0 work\ntake 0\nhand 0 1 0 create 0 exec ---- 1 make\nmade 0\nturn 0 ask 0 sethook 0\nasked 0 0 normal sethook 0\nturn 0 ask 0 start\nasked 1 0 normal start\nturn 1 job 0\npick 0 0\nraise 0\nturn 2 job 0\npick 0 1\nhook 0 0 memory\ngone 0\nend error memory lost 0\n";
+
+/// Holds the runs with boxes of jobs to their texts. Want of memory of a spawn hook is its answer.
+fn expect_jobs(rt: &impl Abort, alloc: Global, hooks: &mut BoxedHooks) -> Result<(), Fail> {
+    assert!(rt; runs_so(alloc, (0, 0, 0), ASKED, hooks, DONE)?);
+    assert!(rt; runs_so(alloc, (0, 0, 0), WANTS, hooks, WANTED)?);
+    Ok(())
+}
+
 #[test]
 fn boxes_of_jobs_are_called_by_their_numbers(rt: HostRuntime) -> Result<(), Fail> {
     let alloc = rt.alloc();
@@ -471,18 +416,18 @@ fn boxes_of_jobs_are_called_by_their_numbers(rt: HostRuntime) -> Result<(), Fail
     let mut actions: List<Box<dyn OnAction + Drop>> = List::new(alloc);
     add(&rt, &mut actions, boxed(&rt, alloc, Creates { alloc }));
     let mut functions: List<Box<dyn OnJob + Drop>> = List::new(alloc);
-    add(&rt, &mut functions, boxed(&rt, alloc, Never));
-    let function = Function {
-        called: copy_of(&rt, alloc, &called),
-        left: 0,
-    };
-    add(&rt, &mut functions, boxed(&rt, alloc, function));
+    let never = function_of(&rt, alloc, &other, u32::MAX);
+    add(&rt, &mut functions, boxed(&rt, alloc, never));
+    let second = function_of(&rt, alloc, &called, 1);
+    add(&rt, &mut functions, boxed(&rt, alloc, second));
     let mut spawn_hooks: List<Box<dyn OnSpawn + Drop>> = List::new(alloc);
-    add(&rt, &mut spawn_hooks, boxed(&rt, alloc, Wants));
+    let wants = Adds { alloc, word: None };
+    add(&rt, &mut spawn_hooks, boxed(&rt, alloc, wants));
+    let word: Option<&[u8]> = Some(b"-v");
     add(
         &rt,
         &mut spawn_hooks,
-        boxed(&rt, alloc, Adds { alloc, word: b"-v" }),
+        boxed(&rt, alloc, Adds { alloc, word }),
     );
     let mut faults: List<Box<dyn OnFault + Drop>> = List::new(alloc);
     for flag in [&other, &shown] {
@@ -501,38 +446,9 @@ fn boxes_of_jobs_are_called_by_their_numbers(rt: HostRuntime) -> Result<(), Fail
         spawn_hooks,
         faults,
     );
-    let is_so = runs_so(alloc, (0, 0, 0), ASKED, &mut hooks, DONE);
+    let held = expect_jobs(&rt, alloc, &mut hooks);
     drop(hooks);
-    assert!(rt; is_so?);
+    held?;
     assert!(rt; called.raised() && shown.raised() && !other.raised());
-    Ok(())
-}
-
-/// A spawn hook that has no memory.
-const WANTS: &[u8] =
-    b"turn 0 arrive urgent 0\nturn 0 work\nturn 0 ask 0 sethook 0\nturn 0 ask 0 start\nturn 1 job 0\nturn 2 job 0\n";
-
-const WANTED: &[u8] =
-    b"turn 0 arrive urgent 0\noffer 0 - queued urgent 0\nturn 0 work\ntake 0\nhand 0 1 0 create 0 exec ---- 1 make\nmade 0\nturn 0 ask 0 sethook 0\nasked 0 0 normal sethook 0\nturn 0 ask 0 start\nasked 1 0 normal start\nturn 1 job 0\npick 0 0\nraise 0\nturn 2 job 0\npick 0 1\nhook 0 0 memory\ngone 0\nend error memory lost 0\n";
-
-#[test]
-fn want_of_memory_of_a_boxed_hook_is_its_answer(rt: HostRuntime) -> Result<(), Fail> {
-    let alloc = rt.alloc();
-    let mut actions: List<Box<dyn OnAction + Drop>> = List::new(alloc);
-    add(&rt, &mut actions, boxed(&rt, alloc, Creates { alloc }));
-    let mut spawn_hooks: List<Box<dyn OnSpawn + Drop>> = List::new(alloc);
-    add(&rt, &mut spawn_hooks, boxed(&rt, alloc, Wants));
-    let mut hooks = BoxedHooks::new(
-        alloc,
-        List::new(alloc),
-        actions,
-        List::new(alloc),
-        List::new(alloc),
-        spawn_hooks,
-        List::new(alloc),
-    );
-    let is_so = runs_so(alloc, (0, 0, 0), WANTS, &mut hooks, WANTED);
-    drop(hooks);
-    assert!(rt; is_so?);
     Ok(())
 }

@@ -1,7 +1,7 @@
-//! Runs for tests: engines, worlds and scripts that several crates of tests share.
-#![tactic(auto)]
-
-ghost use Rattle.std.specs.Prelude.{◌≡◌, ◌∷◌, [], IfOk};
+// What the tests share: scripts, worlds, engines and their runs, and what hooks answer.
+ghost use Rattle.std.specs.Prelude.{◌≡◌, ◌≤◌, ◌∷◌, [], IfOk};
+ghost use Rattle.wx_journal.specs.Told.{tell};
+ghost use Rattle.wx_journal.specs.declared.entry.Entry.TheVariants.{Dir};
 ghost use Rattle.wx_machine.specs.Start.{IsSize};
 ghost use Rattle.wx_script.specs.Follows.{IsScript};
 
@@ -11,13 +11,15 @@ use wx_command::{Command, Program, SpawnOptions};
 use wx_config::Config;
 use wx_control::{Id, Job};
 use wx_engine::Watchexec;
+use wx_error::RuntimeError;
+use wx_events::{Event, Priority};
 use wx_follow::{ScriptHooks, ScriptWorld};
 use wx_hooks::{ActionHandler, Hooks, World};
 use wx_journal::Journal;
 use wx_print::print_journal;
 use wx_script::{Script, read_script};
 use wx_text::{List, Memory, Text};
-use wx_words::TextPath;
+use wx_words::{Spelled, TextPath, cut};
 
 /// The script of these lines.
 fn script_of(alloc: Global, lines: &[u8]) -> Result<Script, Fail>
@@ -30,14 +32,14 @@ fn script_of(alloc: Global, lines: &[u8]) -> Result<Script, Fail>
 }
 
 /// The topmost folder.
-pub fn root(alloc: Global) -> Result<TextPath, Memory>
+pub(crate) fn root(alloc: Global) -> Result<TextPath, Memory>
     ensures { IfOk result (λ folder. folder ≡ 47 ∷ []) }
 {
     Ok(TextPath::new(Text::from_slice(alloc, b"/")?))
 }
 
 /// A world that follows the script of these lines.
-pub fn world_of(alloc: Global, lines: &[u8]) -> Result<ScriptWorld, Fail> {
+pub(crate) fn world_of(alloc: Global, lines: &[u8]) -> Result<ScriptWorld, Fail> {
     let script = script_of(alloc, lines)?;
     let world = ScriptWorld::new(alloc, &script);
     drop(script);
@@ -45,7 +47,7 @@ pub fn world_of(alloc: Global, lines: &[u8]) -> Result<ScriptWorld, Fail> {
 }
 
 /// Hooks that follow the script of these lines.
-pub fn hooks_of(alloc: Global, lines: &[u8]) -> Result<ScriptHooks, Fail> {
+pub(crate) fn hooks_of(alloc: Global, lines: &[u8]) -> Result<ScriptHooks, Fail> {
     let script = script_of(alloc, lines)?;
     let hooks = ScriptHooks::new(alloc, &script);
     drop(script);
@@ -54,12 +56,12 @@ pub fn hooks_of(alloc: Global, lines: &[u8]) -> Result<ScriptHooks, Fail> {
 
 /// What an engine begins with: the throttle, the revision of its settings, and the numbers of its filter and its handlers.
 #[derive(Clone, Copy)]
-pub struct Setup {
-    pub throttle: u64,
-    pub revision: u64,
-    pub filterer: u32,
-    pub error_handler: u32,
-    pub action_handler: u32,
+pub(crate) struct Setup {
+    pub(crate) throttle: u64,
+    pub(crate) revision: u64,
+    pub(crate) filterer: u32,
+    pub(crate) error_handler: u32,
+    pub(crate) action_handler: u32,
 }
 
 /// An engine with this setup.
@@ -75,7 +77,7 @@ fn engine_by(alloc: Global, setup: Setup) -> Result<Watchexec, Memory> {
 }
 
 /// An engine with this throttle and a queue of this size.
-pub fn engine_with(alloc: Global, throttle: u64, size: u32) -> Result<Watchexec, Memory>
+pub(crate) fn engine_with(alloc: Global, throttle: u64, size: u32) -> Result<Watchexec, Memory>
     requires { IsSize size }
 {
     let folder = root(alloc)?;
@@ -86,7 +88,7 @@ pub fn engine_with(alloc: Global, throttle: u64, size: u32) -> Result<Watchexec,
 }
 
 /// The text of a run of this engine in this world.
-pub fn text_in<W: World, H: Hooks>(
+pub(crate) fn text_in<W: World, H: Hooks>(
     alloc: Global,
     engine: Watchexec,
     world: &mut W,
@@ -108,7 +110,7 @@ pub fn text_in<W: World, H: Hooks>(
 }
 
 /// The text of a run of an engine with this setup, in a world that follows the script of these lines.
-pub fn text_by<H: Hooks>(
+pub(crate) fn text_by<H: Hooks>(
     alloc: Global,
     setup: Setup,
     lines: &[u8],
@@ -119,16 +121,16 @@ pub fn text_by<H: Hooks>(
 }
 
 /// The text of a run of this engine, in a world that follows the script of these lines.
-pub fn text_of<H: Hooks>(
+pub(crate) fn text_of<H: Hooks>(
     alloc: Global,
     engine: Watchexec,
     lines: &[u8],
     hooks: &mut H,
 ) -> Result<Text, Fail> {
-    match script_of(alloc, lines) {
-        Ok(script) => {
-            let text = run_text(alloc, engine, &script, hooks);
-            drop(script);
+    match world_of(alloc, lines) {
+        Ok(mut world) => {
+            let text = text_in(alloc, engine, &mut world, hooks);
+            drop(world);
             Ok(text?)
         }
         Err(fail) => {
@@ -138,30 +140,67 @@ pub fn text_of<H: Hooks>(
     }
 }
 
-/// The text of a run of this engine, in a world that follows the script.
-fn run_text<H: Hooks>(
-    alloc: Global,
-    engine: Watchexec,
-    script: &Script,
-    hooks: &mut H,
-) -> Result<Text, Memory>
-    requires { IsScript script.now }
+/// What is behind the first line of a text.
+pub(crate) fn behind_first(text: &Text) -> Option<&[u8]> {
+    cut(text.as_slice(), 10).map(|parts| parts.1)
+}
+
+/// Shows a directory to the filter of this number. The hooks tell just that.
+fn check_and_tell<H: Hooks>(hooks: &mut H, n: u32, path: TextPath) -> Result<bool, RuntimeError>
+    requires { 1 ≤ (H.seen hooks.old).spare }
+    ensures { (H.seen hooks.new).told ≡ tell (Dir n path result) (H.seen hooks.old).told }
 {
-    match ScriptWorld::new(alloc, script) {
-        Ok(mut world) => {
-            let text = text_in(alloc, engine, &mut world, hooks);
-            drop(world);
-            text
-        }
-        Err(want) => {
-            drop(engine);
-            Err(want)
+    hooks.check_dir(n, path)
+}
+
+/// Appends what a filter answered, in words.
+fn put_verdict(answer: &Result<bool, RuntimeError>, words: &mut Text) -> Result<(), Memory> {
+    match answer {
+        Ok(true) => words.append(b"pass"),
+        Ok(false) => words.append(b"reject"),
+        Err(error) => {
+            words.append(b"fail ")?;
+            error.put(words)
         }
     }
 }
 
+/// What a filter answered, in words.
+fn verdict(alloc: Global, answer: Result<bool, RuntimeError>) -> Result<Text, Memory> {
+    let mut words = Text::new(alloc);
+    let put = put_verdict(&answer, &mut words);
+    drop(answer);
+    put?;
+    Ok(words)
+}
+
+/// What the filter of this number answers about this directory, in words.
+pub(crate) fn dir_verdict<H: Hooks>(
+    alloc: Global,
+    hooks: &mut H,
+    n: u32,
+    path: &[u8],
+) -> Result<Text, Memory> {
+    let path = TextPath::new(Text::from_slice(alloc, path)?);
+    hooks.reserve(1)?;
+    verdict(alloc, check_and_tell(hooks, n, path))
+}
+
+/// What the filter answers about the event of this name, which has no tags, in words.
+pub(crate) fn event_verdict<H: Hooks>(
+    alloc: Global,
+    hooks: &mut H,
+    name: u64,
+) -> Result<Text, Memory> {
+    let event = Event {
+        tags: List::new(alloc),
+    };
+    hooks.reserve(1)?;
+    verdict(alloc, hooks.check_event(0, name, &event, Priority::Low))
+}
+
 /// A command that runs this program, with no argument.
-pub fn command_of(alloc: Global, prog: &[u8]) -> Result<Command, Memory> {
+pub(crate) fn command_of(alloc: Global, prog: &[u8]) -> Result<Command, Memory> {
     Ok(Command {
         program: Program::Exec {
             prog: Text::from_slice(alloc, prog)?,
@@ -180,7 +219,12 @@ fn runs(alloc: Global, job: &Job, prog: &[u8]) -> Result<bool, Memory> {
 }
 
 /// Creates a job that runs this program, and answers the handle on it, where the job has this id and this command.
-pub fn created(alloc: Global, id: Id, prog: &[u8], handler: &mut ActionHandler<'_>) -> Option<Job>
+pub(crate) fn created(
+    alloc: Global,
+    id: Id,
+    prog: &[u8],
+    handler: &mut ActionHandler<'_>,
+) -> Option<Job>
     ensures same { handler.new ≡ record handler.old { acts = handler.new.acts } }
 {
     let command = command_of(alloc, prog).ok()?;

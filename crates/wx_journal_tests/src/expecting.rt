@@ -1,0 +1,18 @@
+// What ends a test.
+use std::process::Abort;
+use wx_text::Memory;
+
+/// Ends the test where the answer isn't yes, and says at which case.
+pub(crate) fn expect_yes(rt: &impl Abort, answer: Result<bool, Memory>, case: &str) {
+    assert!(rt; answer == Ok(true), "at {case}");
+}
+
+/// Ends the test where the answer isn't no, and says at which case.
+pub(crate) fn expect_no(rt: &impl Abort, answer: Result<bool, Memory>, case: &str) {
+    assert!(rt; answer == Ok(false), "at {case}");
+}
+
+/// Ends the test where a case is wrong, and says which.
+pub(crate) fn expect_none(rt: &impl Abort, wrong: Option<&str>) {
+    assert!(rt; wrong.is_none(), "at {wrong:?}");
+}
