@@ -1,20 +1,23 @@
-//! Tests of `wx_fs`, whose proofs are done without it: a crate with tests is proved once more with them.
+//! Tests of `wx_fs`, with a backend and a judge of directories that fail where they are told to, and with a poller; of `wx_poller` and
+//! `wx_mem_tree`, and of the places of `wx_tree`.
 #![tactic(auto)]
 
 #[cfg(test)]
-mod lending_tests;
+mod drawn;
 #[cfg(test)]
-mod native;
+mod drawn_tests;
+#[cfg(test)]
+mod mem_tree_tests;
+#[cfg(test)]
+mod outside;
+#[cfg(test)]
+mod place_tests;
+#[cfg(test)]
+mod poller_tests;
 #[cfg(test)]
 mod public_tests;
 #[cfg(test)]
-mod random_tests;
-#[cfg(test)]
-mod random_trees;
-#[cfg(test)]
 mod runs;
-#[cfg(test)]
-mod slow_walk;
 #[cfg(test)]
 mod tests;
 #[cfg(test)]

@@ -1,10 +1,10 @@
 // Which notifications are public for a recursor: the expected values are worked out by hand.
-use crate::trial::{Trial, expect_yes, path};
+use crate::runs::runs_hold;
+use crate::trial::{Trial, Tried};
 use std::alloc::Global;
-use std::process::Abort;
 use wx_events::FileEventKind;
-use wx_fs::{Backend, Notify, NotifyPath};
-use wx_fs_trial::FailingBackend;
+use wx_fs::{Notify, NotifyPath};
+use wx_fs_trial::{FailingBackend, path};
 use wx_text::{List, Memory};
 
 /// A notification of this path, or of no path where it is `none`.
@@ -24,52 +24,48 @@ fn notification(alloc: Global, at: &str) -> Result<Notify, Memory> {
     })
 }
 
-/// Whether a notification of this path is public exactly where this says so.
-fn is_public<B: Backend + Drop>(trial: &Trial<B>, wanted: &str, at: &str) -> Result<bool, Memory> {
+/// Whether a notification of this path is public.
+pub fn is_public<B: Tried + Drop>(trial: &Trial<B>, at: &str) -> Result<bool, Memory> {
     let n = notification(trial.alloc, at)?;
-    Ok(trial.recursor.event_is_public(&n) == (wanted == "yes"))
+    Ok(trial.recursor.event_is_public(&n))
 }
 
-// Paths of notifications, in the folder /w, and whether they are public for /w/a with all below it, and /b with its entries.
+// Paths of notifications, in the folder /w.
 const PUBLIC: &str = "\
-yes a
-yes a/x/y
-yes /w/a/x
-yes x/../a
-yes ../b
-yes /b/x
-yes ../w/../b/./x
-no ../b/x/y
-no b
-no /a
-no .
-no ab
-no /
-yes none
+# where there are no roots only what names no path is public
+/w ok
+public a = no
+public /w/a = no
+public / = no
+public none = yes
+# the roots are /w/a with all below it, and /b with its entries
+/w ok
+roots r a, n /b
+public a = yes
+public a/x/y = yes
+public /w/a/x = yes
+public x/../a = yes
+public ../b = yes
+public /b/x = yes
+public ../w/../b/./x = yes
+public ../b/x/y = no
+public b = no
+public /a = no
+public . = no
+public ab = no
+public / = no
+public none = yes
+# the roots of the last reconcile count
+/w ok
+roots r a, n /b
+roots n /w
+public a = yes
+public a/x = no
+public /b = no
+public . = yes
 ";
-
-/// Each of these paths is as it says.
-fn are_public<B: Backend + Drop>(rt: &impl Abort, trial: &Trial<B>, cases: &str) {
-    for case in cases.lines() {
-        if let Some((wanted, at)) = case.split_once(" ") {
-            expect_yes(rt, is_public(trial, wanted, at), case);
-        }
-    }
-}
-
-/// The roots of the last reconcile count. Where there are none, only what names no path is public.
-fn judges<B: Backend + Drop>(rt: &impl Abort, made: Result<Trial<B>, Memory>) {
-    let mut trial = made.expect(rt, "a recursor");
-    are_public(rt, &trial, "no a\nno /w/a\nno /\nyes none\n");
-    trial.reconcile("r a\nn /b\n").expect(rt, "roots");
-    are_public(rt, &trial, PUBLIC);
-    trial.reconcile("n /w\n").expect(rt, "other roots");
-    are_public(rt, &trial, "yes a\nno a/x\nno /b\nyes .\n");
-    drop(trial);
-}
 
 #[test]
 fn notifications_that_are_public(rt: HostRuntime) {
-    let back = FailingBackend::new(rt.alloc());
-    judges(&rt, Trial::new(rt.alloc(), "d /\n", "/w", back));
+    runs_hold::<FailingBackend>(&rt, rt.alloc(), PUBLIC);
 }

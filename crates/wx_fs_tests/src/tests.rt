@@ -1,43 +1,34 @@
-// A recursor by its calls: the expected values are worked out by hand from the rules.
-use crate::native::{over, run_holds, run_spends};
+// A recursor by its calls, over a backend that fails where it is told to: the expected values are worked out by hand from the rules.
+use crate::runs::runs_hold;
+use wx_fs_trial::FailingBackend;
 
-// A refused directory isn't owned, a root below it is, and an absent root is guarded and shown.
-const ALL_SORTS: &str = "\
+const RUNS: &str = "\
+# a refused directory isn't owned, a root below it is, and an absent root is guarded and shown
+/ ok
+tree / /w/ /w/d/ /w/d/e/ /w/f
 refused /w/d
+roots r /w, n /w/d/e, n /w/no
 settle
 watched = /w /w/d/e
 guards = /w
 shown = fswatcher native pathscan /w/no notfound
 rebuilds = 0
-";
-
-#[test]
-fn roots_of_all_sorts(rt: HostRuntime) {
-    let nodes = "d /\nd /w\nd /w/d\nd /w/d/e\nf /w/f\n";
-    let made = over(rt.alloc(), nodes, "/", "none");
-    run_holds(&rt, made, "r /w\nn /w/d/e\nn /w/no\n", ALL_SORTS);
-}
-
-// A recursive root owns all directories below it. Where only an inner root is left, the rest is unwatched, the deepest first.
-const NARROWED: &str = "\
+# a recursive root owns all below it; where only an inner root is left, the rest is unwatched, the deepest first
+/ ok
+tree / /w/ /w/a/ /w/a/b/
+roots r /w
 settle
 owned = /w /w/a /w/a/b
-root n /w/a
+roots n /w/a
 settle
 owned = /w/a
 watched = /w/a
 unwatched = /w/a/b /w
 shown = none
-";
-
-#[test]
-fn an_inner_root_is_left(rt: HostRuntime) {
-    let made = over(rt.alloc(), "d /\nd /w\nd /w/a\nd /w/a/b\n", "/", "none");
-    run_holds(&rt, made, "r /w\n", NARROWED);
-}
-
-// A watch that fails asks for a rebuild. It fails over the next backend too: then the path is skipped. It is shown each time.
-const FAILS_TWICE: &str = "\
+# a watch that fails asks for a rebuild; where it fails again the path is skipped; it is shown each time
+/ generic
+tree / /w/ /w/a/ /w/a/b/
+roots r /w
 asks
 rebuilds = 1
 shown = fswatcher native pathadd /w/a generic no 0
@@ -49,74 +40,83 @@ owned = /w
 watched = /w
 shown = fswatcher native pathadd /w/a generic no 0
 needs retry = yes
-";
-
-#[test]
-fn a_watch_that_fails_twice(rt: HostRuntime) {
-    let made = over(rt.alloc(), "d /\nd /w\nd /w/a\nd /w/a/b\n", "/", "generic");
-    run_holds(&rt, made, "r /w\n", FAILS_TWICE);
-}
-
-// Roots are taken from the folder, normalised, and kept once.
-const KEPT: &str = "\
+# roots are taken from the folder, normalised, and kept once
+/w ok
+tree / /w/ /w/d/
+roots r x/../d, r /w/d, n d, r ./d
 roots = 2
 settle
 watched = /w/d
-";
-
-#[test]
-fn roots_that_are_kept(rt: HostRuntime) {
-    let made = over(rt.alloc(), "d /\nd /w\nd /w/d\n", "/w", "none");
-    run_holds(&rt, made, "r x/../d\nr /w/d\nn d\nr ./d\n", KEPT);
-}
-
-// After a rebuild all that was watched is watched again, and nothing else: first what is owned, then the guard.
-const REBUILT: &str = "\
+# after a rebuild all that was watched is watched again, and nothing else: first what is owned, then the guard
+/ ok
+tree / /w/ /w/a/
+roots r /w, r /g/x
 settle
 watched = /w / /w/a
 replays = 4
 rescan
 asks
 rebuilds = 1
-rebuild none
+rebuild ok
 settle
 watched = /w /w/a /
 owned = /w /w/a
 rebuilds = 1
-";
-
-#[test]
-fn a_backend_that_is_rebuilt(rt: HostRuntime) {
-    let made = over(rt.alloc(), "d /\nd /w\nd /w/a\n", "/", "none");
-    run_holds(&rt, made, "r /w\nr /g/x\n", REBUILT);
-}
-
-// A step in which a watch finds no memory has spent the recursor. What was watched before stays so.
-#[test]
-fn a_step_without_memory(rt: HostRuntime) {
-    let made = over(rt.alloc(), "d /\nd /w\nd /w/a\n", "/", "memory");
-    run_spends(&rt, made, "short settle\nwatched = /w\n");
-}
-
-// So has a replay.
-#[test]
-fn a_replay_without_memory(rt: HostRuntime) {
-    let made = over(rt.alloc(), "d /\nd /w\nd /w/a\n", "/", "none");
-    run_spends(&rt, made, "settle\nshort rebuild memory\nwatched = /w\n");
-}
-
-// A replay that is deferred needs a retry until the next reconcile.
-const DEFERRED: &str = "\
+# a replay that is deferred needs a retry until the next reconcile
+/ ok
+tree / /w/
+roots r /w
 settle
 needs retry = no
 defer
 needs retry = yes
-root r /w
+roots r /w
 needs retry = no
+# a step in which a watch finds no memory has spent the recursor; what was watched stays so
+/ memory
+tree / /w/ /w/a/
+roots r /w
+short settle
+watched = /w
+looks
+has work = no
+short step
+short replay
+short roots r /w
+short rescan
+short prepare
+has work = no
+looks = 0
+# a replay in which a watch finds no memory has spent it too
+/ ok
+tree / /w/ /w/a/
+roots r /w
+settle
+short rebuild memory
+watched = /w
+looks
+has work = no
+short step
+short replay
+short roots r /w
+short rescan
+short prepare
+has work = no
+looks = 0
+# it hears of no change any more, and what it owned stays
+/ memory
+tree / /w/ /w/a/
+roots r /w
+short settle
+short create /w/a
+short remove /w/a
+short rename /w/a /w/b
+short ambiguous /w/a
+has work = no
+owned = /w
 ";
 
 #[test]
-fn a_replay_that_is_deferred(rt: HostRuntime) {
-    let made = over(rt.alloc(), "d /\nd /w\n", "/", "none");
-    run_holds(&rt, made, "r /w\n", DEFERRED);
+fn a_recursor_by_its_calls(rt: HostRuntime) {
+    runs_hold::<FailingBackend>(&rt, rt.alloc(), RUNS);
 }

@@ -1,59 +1,71 @@
 // A recursor with its outside. What a call asks for is looked at before it, so that each test says what it needs.
-ghost use Rattle.std.specs.Prelude.{◌≡◌, true};
+ghost use Rattle.std.specs.Prelude.{◌≡◌, [], true, IfOk};
 ghost use Rattle.wx_paths.specs.Paths.{is_absolute};
 ghost use Rattle.wx_fs_tests.specs.Allowed.{all_allowed};
 ghost use Rattle.wx_step.specs.Asking.{AreAllowed};
 
 use std::alloc::Global;
-use std::process::Abort;
 use wx_fs::{Backend, Recursor, StepResult};
-use wx_fs_trial::{FailingBackend, FailingCall, Refusing};
-use wx_mem_tree::{MemTree, Node};
+use wx_fs_trial::{FailingBackend, Refusing, path, put_place, shown_paths};
+use wx_mem_tree::MemTree;
 use wx_poller::Poller;
 use wx_recursor::BackendPlace;
 use wx_recursor_lists::has_path;
-use wx_text::{List, Memory, Text};
+use wx_text::{Copies, List, Memory};
 use wx_tree::{Place, Root};
-use wx_watch::{NotifyFaultKind, WatchedPath, Watcher};
-use wx_words::{Escaped, TextPath};
+use wx_watch::{WatchedPath, Watcher};
+use wx_words::TextPath;
 
-pub fn path(alloc: Global, bytes: &str) -> Result<TextPath, Memory> {
-    Ok(TextPath::new(Text::from_slice(alloc, bytes.as_bytes())?))
+/// A backend that a recursor is tried over.
+pub trait Tried: Backend {
+    /// One that watches nothing yet. Its second watch fails as the word says, or doesn't where it says `ok`.
+    fn make(alloc: Global, fails: &str) -> Result<Self, Memory>
+        ensures { IfOk result (λ back. (Self.backing back).registrations ≡ []) };
+
+    /// What it watches, in order, where it tells that.
+    fn watched(&self) -> &[TextPath];
+
+    /// What it was told to watch no more, in order, where it tells that.
+    fn unwatched(&self) -> &[TextPath];
 }
 
-/// Ends the test where the answer isn't yes, and says at which case.
-pub fn expect_yes(rt: &impl Abort, answer: Result<bool, Memory>, case: &str) {
-    assert!(rt; answer == Ok(true), "at {case}");
-}
-
-/// A tree: `d` a directory, `f` a file, `l` a link to `/`.
-fn tree(alloc: Global, nodes: &str) -> Result<MemTree, Memory> {
-    let mut tree = MemTree::new(alloc)?;
-    for line in nodes.lines() {
-        if let Some((kind, at)) = line.split_once(" ") {
-            let node = match kind {
-                "d" => Node::Dir,
-                "l" => Node::Link(path(alloc, "/")?),
-                _ => Node::File(1),
-            };
-            tree.node(path(alloc, at)?, node)?;
+impl Tried for FailingBackend {
+    fn make(alloc: Global, fails: &str) -> Result<FailingBackend, Memory> {
+        let mut back = FailingBackend::new(alloc);
+        if fails != "ok" {
+            back.fail(1, fails)?;
         }
+        Ok(back)
     }
-    Ok(tree)
+
+    fn watched(&self) -> &[TextPath] {
+        self.registered.as_slice()
+    }
+
+    fn unwatched(&self) -> &[TextPath] {
+        self.unwatched.as_slice()
+    }
 }
 
-/// The call of this number fails so.
-pub fn failing(alloc: Global, call: u64, kind: NotifyFaultKind) -> Result<FailingBackend, Memory> {
-    let mut back = FailingBackend::new(alloc);
-    back.failing.push(FailingCall { call, kind })?;
-    Ok(back)
+impl Tried for Poller {
+    fn make(alloc: Global, _fails: &str) -> Result<Poller, Memory> {
+        Poller::new(alloc, false)
+    }
+
+    fn watched(&self) -> &[TextPath] {
+        &[]
+    }
+
+    fn unwatched(&self) -> &[TextPath] {
+        &[]
+    }
 }
 
-/// Roots: `r` a recursive one, `n` another.
-fn roots(alloc: Global, lines: &str) -> Result<List<WatchedPath>, Memory> {
+/// Roots: `r` a recursive one, `n` another, with a comma between two. What says neither is no root.
+fn roots(alloc: Global, words: &str) -> Result<List<WatchedPath>, Memory> {
     let mut roots = List::new(alloc);
-    for line in lines.lines() {
-        if let Some((kind, at)) = line.split_once(" ") {
+    for root in words.split(", ") {
+        if let Some((kind, at)) = root.split_once(" ") {
             roots.push(WatchedPath {
                 path: path(alloc, at)?,
                 recursive: kind == "r",
@@ -89,18 +101,22 @@ fn is_absolute(path: &TextPath) -> bool
     matches!(path.text().as_slice(), [b'/', ..])
 }
 
-/// A recursor, its outside, what its steps showed so far, and how often they asked for a rebuild.
-pub struct Trial<B: Backend + Drop> {
+/// A recursor, its outside, what its steps showed so far, how often they asked for a rebuild, the backend where it is lent, how
+/// often the tree had been looked at when that was last noted, and how many nodes were put into it.
+pub struct Trial<B: Tried + Drop> {
     pub alloc: Global,
     pub recursor: Recursor<B>,
     pub tree: MemTree,
     pub dirs: Refusing,
     pub shown: String,
     pub rebuilds: u64,
+    pub lent: Option<B>,
+    pub looks: u64,
+    pub nodes: usize,
 }
 
 // Its parts are dropped by one call: docs/DESIGN.md, "What proofs cost".
-impl<B: Backend + Drop> Drop for Trial<B> {
+impl<B: Tried + Drop> Drop for Trial<B> {
     fn drop(self) {
         let Trial {
             alloc: _,
@@ -109,13 +125,23 @@ impl<B: Backend + Drop> Drop for Trial<B> {
             dirs: _,
             shown: _,
             rebuilds: _,
+            lent: _,
+            looks: _,
+            nodes: _,
         } = self;
     }
 }
 
-impl<B: Backend + Drop> Trial<B> {
-    fn over(alloc: Global, nodes: &str, recursor: Recursor<B>) -> Result<Trial<B>, Memory> {
-        let tree = tree(alloc, nodes)?;
+impl<B: Tried + Drop> Trial<B> {
+    /// Over an empty tree, in a folder, with a backend that fails so.
+    pub fn new(alloc: Global, folder: &str, fails: &str) -> Result<Trial<B>, Memory> {
+        let folder = path(alloc, folder)?;
+        if !is_absolute(&folder) {
+            return Err(Memory);
+        }
+        let tree = MemTree::new(alloc)?;
+        let back = B::make(alloc, fails)?;
+        let recursor = Recursor::new(alloc, back, Watcher::Native, false, folder)?;
         Ok(Trial {
             alloc,
             recursor,
@@ -123,16 +149,19 @@ impl<B: Backend + Drop> Trial<B> {
             dirs: Refusing::new(alloc),
             shown: String::new(alloc),
             rebuilds: 0,
+            lent: None,
+            looks: 0,
+            nodes: 0,
         })
     }
 
     /// Sets the roots. What judges directories may be asked below each.
-    pub fn reconcile(&mut self, lines: &str) -> Result<(), Memory> {
-        let given = roots(self.alloc, lines)?;
+    pub fn reconcile(&mut self, words: &str) -> Result<(), Memory> {
+        let given = roots(self.alloc, words)?;
         self.recursor.reconcile(&given, 0)?;
         let mut under = Vec::new(self.alloc);
         for root in self.recursor.held().roots.as_slice() {
-            under.push(copied(self.alloc, &root.path)?)?;
+            under.push(root.path.copy(self.alloc)?)?;
         }
         self.dirs.under = under;
         Ok(())
@@ -151,20 +180,27 @@ impl<B: Backend + Drop> Trial<B> {
         Ok(None)
     }
 
-    /// Lends the backend.
-    pub fn lend(&mut self) -> Option<B> {
-        self.recursor.lend()
+    /// Lends the backend. Meanwhile none is there, and it can't be lent again.
+    pub fn lend(&mut self) -> bool {
+        self.lent = self.recursor.lend();
+        self.lent.is_some()
+            && self.recursor.backend().is_none()
+            && self.recursor.lend().is_none()
+            && matches!(self.recursor.held().backend, BackendPlace::Lent)
     }
 
-    /// Restores this backend, where one was lent.
-    pub fn restore(&mut self, back: B) -> bool {
+    /// Restores the backend, where it was lent.
+    pub fn restore(&mut self) -> bool {
         if self.recursor.back.is_some() {
             return false;
         }
+        let Some(back) = self.lent.take() else {
+            return false;
+        };
         match self.recursor.held.backend {
             BackendPlace::Lent => {
                 self.recursor.restore(back);
-                true
+                matches!(self.recursor.held().backend, BackendPlace::Installed)
             }
             _ => false,
         }
@@ -229,6 +265,33 @@ impl<B: Backend + Drop> Trial<B> {
         !self.recursor.has_work() && !self.recursor.needs_retry()
     }
 
+    /// Installs this backend, which watches nothing yet, where the old one was dropped.
+    fn install(&mut self, back: B) -> Result<bool, Memory>
+        requires { (B.backing back).registrations ≡ [] }
+    {
+        match self.recursor.held.backend {
+            BackendPlace::Dropped => {
+                self.recursor.install_backend(back)?;
+                Ok(true)
+            }
+            _ => Ok(false),
+        }
+    }
+
+    /// Drops the backend, installs another one that fails so, and watches again what waits. No where one of these can't be done.
+    pub fn rebuild(&mut self, fails: &str) -> Result<bool, Memory> {
+        let back = B::make(self.alloc, fails)?;
+        self.recursor.prepare_backend_rebuild()?;
+        if !self.install(back)? {
+            return Ok(false);
+        }
+        let Some(told) = self.replay()? else {
+            return Ok(false);
+        };
+        self.note(&told)?;
+        Ok(true)
+    }
+
     /// What is owned, in order.
     pub fn owned(&self) -> Result<String, Memory> {
         let mut out = String::new(self.alloc);
@@ -246,97 +309,20 @@ impl<B: Backend + Drop> Trial<B> {
         }
         Ok(out)
     }
-}
-
-impl Trial<FailingBackend> {
-    pub fn new(
-        alloc: Global,
-        nodes: &str,
-        cwd: &str,
-        back: FailingBackend,
-    ) -> Result<Trial<FailingBackend>, Memory> {
-        let folder = path(alloc, cwd)?;
-        if !is_absolute(&folder) || !back.registered.is_empty() {
-            return Err(Memory);
-        }
-        let recursor = Recursor::new(alloc, back, Watcher::Native, false, folder)?;
-        Trial::over(alloc, nodes, recursor)
-    }
-
-    /// Installs this backend, which watches nothing yet, where the old one was dropped.
-    fn install(&mut self, back: FailingBackend) -> Result<bool, Memory> {
-        if !back.registered.is_empty() {
-            return Ok(false);
-        }
-        match self.recursor.held.backend {
-            BackendPlace::Dropped => {
-                self.recursor.install_backend(back)?;
-                Ok(true)
-            }
-            _ => Ok(false),
-        }
-    }
-
-    /// Drops the backend, installs this one, and watches again what waits. No where one of these can't be done.
-    pub fn rebuild(&mut self, back: FailingBackend) -> Result<bool, Memory> {
-        self.recursor.prepare_backend_rebuild()?;
-        if !self.install(back)? {
-            return Ok(false);
-        }
-        let Some(told) = self.replay()? else {
-            return Ok(false);
-        };
-        self.note(&told)?;
-        Ok(true)
-    }
 
     /// What is watched, in order.
     pub fn watched(&self) -> Result<String, Memory> {
-        let mut out = String::new(self.alloc);
-        if let Some(back) = self.recursor.backend() {
-            put_paths(self.alloc, back.registered.as_slice(), &mut out)?;
+        match self.recursor.backend() {
+            Some(back) => shown_paths(self.alloc, back.watched()),
+            None => Ok(String::new(self.alloc)),
         }
-        Ok(out)
     }
 
     /// What was to be watched no more, in order.
     pub fn unwatched(&self) -> Result<String, Memory> {
-        let mut out = String::new(self.alloc);
-        if let Some(back) = self.recursor.backend() {
-            put_paths(self.alloc, back.unwatched.as_slice(), &mut out)?;
+        match self.recursor.backend() {
+            Some(back) => shown_paths(self.alloc, back.unwatched()),
+            None => Ok(String::new(self.alloc)),
         }
-        Ok(out)
     }
-}
-
-impl Trial<Poller> {
-    /// Over a poller.
-    pub fn polled(alloc: Global, nodes: &str, cwd: &str) -> Result<Trial<Poller>, Memory> {
-        let folder = path(alloc, cwd)?;
-        if !is_absolute(&folder) {
-            return Err(Memory);
-        }
-        let back = Poller::new(alloc, false)?;
-        let recursor = Recursor::new(alloc, back, Watcher::Native, false, folder)?;
-        Trial::over(alloc, nodes, recursor)
-    }
-}
-
-fn copied(alloc: Global, place: &Place) -> Result<Place, Memory> {
-    Place::new(alloc, &place.path(alloc)?)
-}
-
-fn put_place(alloc: Global, place: &Place, out: &mut String) -> Result<(), Memory> {
-    let path = place.path(alloc)?;
-    let shown = format!(in alloc; "{} ", Escaped(path.text()))?;
-    out.push_str(shown.as_str())?;
-    Ok(())
-}
-
-fn put_paths(alloc: Global, paths: &[TextPath], out: &mut String) -> Result<(), Memory> {
-    for path in paths {
-        let shown = format!(in alloc; "{} ", Escaped(path.text()))?;
-        out.push_str(shown.as_str())?;
-    }
-    Ok(())
 }

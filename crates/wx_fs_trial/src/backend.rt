@@ -5,27 +5,27 @@ ghost use Rattle.wx_scan.specs.Backings.{is_registered, register, unregister};
 use std::alloc::Global;
 use wx_notify::Notify;
 use wx_scan::{Backend, Scanner};
-use wx_text::{Copies, List, Memory};
+use wx_text::{Copies, List, Memory, Text};
 use wx_watch::{NotifyFault, NotifyFaultKind};
 use wx_words::TextPath;
 
 /// A call on the backend that is to fail: which one, counted from 0, and how.
 #[derive(Drop, Debug)]
-pub struct FailingCall {
-    pub call: u64,
-    pub kind: NotifyFaultKind,
+struct FailingCall {
+    call: u64,
+    kind: NotifyFaultKind,
 }
 
 /// Watches what it is told to, and brings nothing. Its calls fail where they are told to. It keeps what it was told to watch no
 /// more, in order.
 #[derive(Drop, Debug)]
 pub struct FailingBackend {
-    pub alloc: Global,
+    alloc: Global,
     pub registered: Vec<TextPath>,
     pub unwatched: Vec<TextPath>,
-    pub failing: Vec<FailingCall>,
+    failing: Vec<FailingCall>,
     pub calls: u64,
-    pub faults: u64,
+    faults: u64,
 }
 
 fn is_registered(path: &TextPath, registered: &[TextPath]) -> bool
@@ -59,6 +59,20 @@ fn unregister(path: &TextPath, registered: &mut Vec<TextPath>)
     registered.retain(|q| q != path);
 }
 
+/// How a call fails that fails as this word says.
+fn fault_kind(alloc: Global, word: &str) -> Result<NotifyFaultKind, Memory> {
+    Ok(match word {
+        "io" => NotifyFaultKind::Io(5),
+        "handles" => NotifyFaultKind::Io(24),
+        "space" => NotifyFaultKind::Io(28),
+        "nopath" => NotifyFaultKind::PathNotFound,
+        "nowatch" => NotifyFaultKind::WatchNotFound,
+        "maxwatches" => NotifyFaultKind::MaxFilesWatch,
+        "memory" => NotifyFaultKind::Memory,
+        _ => NotifyFaultKind::Generic(Text::from_slice(alloc, b"no")?),
+    })
+}
+
 fn fault(alloc: Global, kind: NotifyFaultKind) -> NotifyFault
     ensures { result.kind ≡ kind }
 {
@@ -69,7 +83,9 @@ fn fault(alloc: Global, kind: NotifyFaultKind) -> NotifyFault
 }
 
 impl FailingBackend {
-    pub fn new(alloc: Global) -> FailingBackend {
+    pub fn new(alloc: Global) -> FailingBackend
+        ensures { result.registered.items ≡ [] }
+    {
         FailingBackend {
             alloc,
             registered: Vec::new(alloc),
@@ -78,6 +94,15 @@ impl FailingBackend {
             calls: 0,
             faults: 0,
         }
+    }
+
+    /// The call of this number, counted from 0, is to fail as the word says.
+    pub fn fail(&mut self, call: u64, word: &str) -> Result<(), Memory>
+        ensures { self.new.registered ≡ self.old.registered }
+    {
+        let kind = fault_kind(self.alloc, word)?;
+        self.failing.push(FailingCall { call, kind })?;
+        Ok(())
     }
 
     fn note(&mut self, path: &TextPath) -> Result<(), Memory>

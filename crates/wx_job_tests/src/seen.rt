@@ -145,10 +145,20 @@ fn raises(entry: &Entry, name: u64) -> bool {
     }
 }
 
+/// Whether the journal lists that the ticket of this name was raised.
+fn is_raised(name: u64, journal: &Journal) -> bool {
+    for entry in journal.as_slice() {
+        if raises(entry, name) {
+            return true;
+        }
+    }
+    false
+}
+
 /// Whether the flags of a ticket are raised just where the journal says so, of a job that is gone or isn't.
 fn is_flagged(given: &Given, gone: bool, journal: &Journal) -> bool {
     let done = match given.name {
-        Some(name) => journal.as_slice().iter().any(|entry| raises(entry, name)),
+        Some(name) => is_raised(name, journal),
         None => gone,
     };
     given.ticket.done.raised() == done && given.ticket.gone.raised() == gone

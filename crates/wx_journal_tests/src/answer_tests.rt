@@ -3,84 +3,86 @@ use crate::expecting::{expect_no, expect_yes};
 use std::alloc::Global;
 use std::num::NonZeroI32;
 use std::process::Abort;
+use wx_error::RuntimeError;
 use wx_events::ProcessEnd;
 use wx_journal::{BackedRef, HostFault, VerdictRef, read_backed, read_verdict};
 use wx_text::{Memory, Text};
+use wx_watch::NotifyFault;
 use wx_words::{Fields, ResultRef, Spelled, Words, read_result};
 
-/// Whether this whole line is an answer, which is read by `read` and put by `put`, each word behind a space, and is written so
-/// again.
-fn is_again<A, R, P>(alloc: Global, line: &str, read: R, put: P) -> Result<bool, Memory>
-where
-    A: Drop,
-    R: Fn(Global, &mut Words) -> Result<Option<A>, Memory>,
-    P: Fn(&A, &mut Text) -> Result<(), Memory>,
-    requires read { R.IsAlwaysCallable read }
-    requires put { P.IsAlwaysCallable put }
-{
-    let mut words = Words::new(line.as_bytes());
-    let Some(answer) = read(alloc, &mut words)? else {
-        return Ok(false);
-    };
+/// Whether these words, each behind a space, are those of this whole line, of which nothing is left.
+fn is_whole(written: &Text, words: &Words, line: &str) -> bool {
+    words.is_done() && written.as_slice().strip_prefix(b" ") == Some(line.as_bytes())
+}
+
+/// The words of an answer of a filter, where there is one.
+fn verdict_words(
+    alloc: Global,
+    found: &Option<Result<bool, RuntimeError>>,
+) -> Result<Text, Memory> {
     let mut text = Text::new(alloc);
-    put(&answer, &mut text)?;
-    let again = text.as_slice().strip_prefix(b" ") == Some(line.as_bytes());
-    Ok(words.is_done() && again)
+    if let Some(answer) = found {
+        VerdictRef { answer }.put_fields(&mut text)?;
+    }
+    Ok(text)
 }
 
-/// Whether this line is the answer of a filter.
+/// Whether this whole line is the answer of a filter, and is written so again. The answer is dropped by generic code, which is
+/// quicker to prove.
 fn is_verdict(alloc: Global, line: &str) -> Result<bool, Memory> {
-    is_again(
-        alloc,
-        line,
-        |alloc, words| read_verdict(alloc, words),
-        |answer, text| VerdictRef { answer }.put_fields(text),
-    )
+    let mut words = Words::new(line.as_bytes());
+    let found = read_verdict(alloc, &mut words)?;
+    let written = verdict_words(alloc, &found);
+    drop(found);
+    Ok(is_whole(&written?, &words, line))
 }
 
-/// Whether this line is the answer of a maker of backends.
+/// The words of an answer of a maker, where there is one.
+fn backed_words(alloc: Global, found: &Option<Result<(), NotifyFault>>) -> Result<Text, Memory> {
+    let mut text = Text::new(alloc);
+    if let Some(answer) = found {
+        BackedRef { answer }.put_fields(&mut text)?;
+    }
+    Ok(text)
+}
+
+/// Whether this whole line is the answer of a maker of backends, and is written so again.
 fn is_backed(alloc: Global, line: &str) -> Result<bool, Memory> {
-    is_again(
-        alloc,
-        line,
-        |alloc, words| read_backed(alloc, words),
-        |answer, text| BackedRef { answer }.put_fields(text),
-    )
+    let mut words = Words::new(line.as_bytes());
+    let found = read_backed(alloc, &mut words)?;
+    let written = backed_words(alloc, &found);
+    drop(found);
+    Ok(is_whole(&written?, &words, line))
 }
 
-/// The answer of a host at the front of these words.
-fn read_answer<T: Spelled>(
+/// The words of an answer of a host, where there is one.
+fn answer_words<T: Spelled>(
     alloc: Global,
-    words: &mut Words,
-) -> Result<Option<Result<T, HostFault>>, Memory> {
-    read_result(alloc, words)
+    found: &Option<Result<T, HostFault>>,
+) -> Result<Text, Memory> {
+    let mut text = Text::new(alloc);
+    if let Some(result) = found {
+        ResultRef { result }.put_fields(&mut text)?;
+    }
+    Ok(text)
 }
 
-/// Whether this line is the answer of a host.
+/// Whether this whole line is the answer of a host, and is written so again.
 fn is_answer<T: Spelled>(alloc: Global, line: &str) -> Result<bool, Memory> {
-    is_again(
-        alloc,
-        line,
-        |alloc, words| read_answer::<T>(alloc, words),
-        |answer, text| ResultRef { result: answer }.put_fields(text),
-    )
+    let mut words = Words::new(line.as_bytes());
+    let found: Option<Result<T, HostFault>> = read_result(alloc, &mut words)?;
+    let written = answer_words(alloc, &found);
+    drop(found);
+    Ok(is_whole(&written?, &words, line))
 }
 
-/// Holds the first lines to be answers, and the others to be none.
-fn expect_answers<F: Fn(Global, &str) -> Result<bool, Memory>>(
-    rt: &impl Abort,
-    alloc: Global,
-    lines: &str,
-    others: &str,
-    is_answer: F,
-)
-    requires { F.IsAlwaysCallable is_answer }
-{
+/// Holds the first lines to be answers of a host, and the others to be none.
+fn expect_answers<T: Spelled>(rt: &impl Abort, alloc: Global, lines: &str, others: &str) {
     for line in lines.lines() {
-        expect_yes(rt, is_answer(alloc, line), line);
+        expect_yes(rt, is_answer::<T>(alloc, line), line);
     }
     for line in others.lines() {
-        expect_no(rt, is_answer(alloc, line), line);
+        expect_no(rt, is_answer::<T>(alloc, line), line);
     }
 }
 
@@ -101,13 +103,12 @@ fail no";
 
 #[test]
 fn what_filters_answer(rt: HostRuntime) {
-    expect_answers(
-        &rt,
-        rt.alloc(),
-        VERDICTS,
-        NO_VERDICTS,
-        |alloc, line| is_verdict(alloc, line),
-    );
+    for line in VERDICTS.lines() {
+        expect_yes(&rt, is_verdict(rt.alloc(), line), line);
+    }
+    for line in NO_VERDICTS.lines() {
+        expect_no(&rt, is_verdict(rt.alloc(), line), line);
+    }
 }
 
 const BACKED: &str = "\
@@ -134,13 +135,12 @@ fail exit";
 
 #[test]
 fn what_makers_answer(rt: HostRuntime) {
-    expect_answers(
-        &rt,
-        rt.alloc(),
-        BACKED,
-        NOT_BACKED,
-        |alloc, line| is_backed(alloc, line),
-    );
+    for line in BACKED.lines() {
+        expect_yes(&rt, is_backed(rt.alloc(), line), line);
+    }
+    for line in NOT_BACKED.lines() {
+        expect_no(&rt, is_backed(rt.alloc(), line), line);
+    }
 }
 
 const DONE: &str = "\
@@ -168,20 +168,8 @@ ok";
 
 #[test]
 fn what_hosts_answer(rt: HostRuntime) {
-    expect_answers(
-        &rt,
-        rt.alloc(),
-        DONE,
-        NOT_DONE,
-        |alloc, line| is_answer::<()>(alloc, line),
-    );
-    expect_answers(
-        &rt,
-        rt.alloc(),
-        ENDS,
-        NO_ENDS,
-        |alloc, line| is_answer::<ProcessEnd>(alloc, line),
-    );
+    expect_answers::<()>(&rt, rt.alloc(), DONE, NOT_DONE);
+    expect_answers::<ProcessEnd>(&rt, rt.alloc(), ENDS, NO_ENDS);
 }
 
 /// Takes the answer at the front of these words, and holds it to be this one.
@@ -191,7 +179,8 @@ fn expect_next<T: Spelled + PartialEq>(
     words: &mut Words,
     want: Option<Result<T, HostFault>>,
 ) {
-    let found = read_answer(alloc, words).expect(rt, "an answer");
+    let answer: Result<Option<Result<T, HostFault>>, Memory> = read_result(alloc, words);
+    let found = answer.expect(rt, "an answer");
     assert!(rt; found == want);
 }
 

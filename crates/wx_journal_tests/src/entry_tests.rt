@@ -1,11 +1,11 @@
 // Entries: their lines, the values that are read from them, and what is no entry.
-use crate::expecting::{expect_no, expect_none, expect_yes};
+use crate::expecting::{expect_no, expect_yes};
 use std::alloc::Global;
 use std::process::Abort;
 use wx_journal::Entry;
 use wx_text::{Memory, Text};
 use wx_words::Words;
-use wx_words_trial::{first_wrong_line, first_wrong_pair, has_fields};
+use wx_words_trial::has_fields;
 
 /// The entry whose words are this whole line.
 pub(crate) fn read_entry(alloc: Global, line: &str) -> Result<Option<Entry>, Memory> {
@@ -39,15 +39,11 @@ fn is_value(alloc: Global, line: &str, fields: &str) -> Result<bool, Memory> {
 
 /// Holds each line of this table to be the entry with the fields that stand behind it, and to be written so again.
 fn expect_values(rt: &impl Abort, alloc: Global, table: &str) {
-    expect_none(
-        rt,
-        first_wrong_pair(
-            alloc,
-            table,
-            " = ",
-            |alloc, line, fields| Ok(is_value(alloc, line, fields)? && is_entry(alloc, line)?),
-        ),
-    );
+    for case in table.lines() {
+        let (line, fields) = case.split_once(" = ").expect(rt, "a line and fields");
+        expect_yes(rt, is_value(alloc, line, fields), case);
+        expect_yes(rt, is_entry(alloc, line), case);
+    }
 }
 
 // Each line stands with the value that it is read as, in which texts stand as their bytes.
@@ -196,10 +192,9 @@ ready 0";
 
 #[test]
 fn entries_are_read_again(rt: HostRuntime) {
-    expect_none(
-        &rt,
-        first_wrong_line(rt.alloc(), ENTRIES, |alloc, line| is_entry(alloc, line)),
-    );
+    for line in ENTRIES.lines() {
+        expect_yes(&rt, is_entry(rt.alloc(), line), line);
+    }
 }
 
 // The first line is empty.
@@ -315,10 +310,9 @@ fn is_left(alloc: Global, line: &str) -> Result<bool, Memory> {
 
 #[test]
 fn what_is_no_entry_is_left(rt: HostRuntime) {
-    expect_none(
-        &rt,
-        first_wrong_line(rt.alloc(), NO_ENTRIES, |alloc, line| is_left(alloc, line)),
-    );
+    for line in NO_ENTRIES.lines() {
+        expect_yes(&rt, is_left(rt.alloc(), line), line);
+    }
 }
 
 /// Whether the entry at the front of these words, which is taken, has this line.

@@ -11,8 +11,3 @@ pub(crate) fn expect_yes(rt: &impl Abort, answer: Result<bool, Memory>, case: &s
 pub(crate) fn expect_no(rt: &impl Abort, answer: Result<bool, Memory>, case: &str) {
     assert!(rt; answer == Ok(false), "at {case}");
 }
-
-/// Ends the test where a case is wrong, and says which.
-pub(crate) fn expect_none(rt: &impl Abort, wrong: Option<&str>) {
-    assert!(rt; wrong.is_none(), "at {wrong:?}");
-}

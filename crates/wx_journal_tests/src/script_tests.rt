@@ -1,7 +1,9 @@
 // Tests of reading scripts: what each has is counted by hand.
 use std::alloc::Global;
 use std::process::Abort;
+use wx_error::RuntimeError;
 use wx_script::{Script, read_script};
+use wx_text::{List, Text};
 
 /// What the script of these bytes is, if it is one.
 fn script_in(alloc: Global, bytes: &[u8]) -> Option<Script> {
@@ -15,15 +17,15 @@ fn bad_line(alloc: Global, bytes: &[u8]) -> Option<u64> {
 }
 
 /// How many sends, turns and actions the script has, and its throttle, its size and the moment of its last turn.
-fn turn_counts(script: &Script) -> (usize, usize, usize, u64, u32, u64) {
-    (
-        script.sends.len(),
-        script.turns.len(),
-        script.actions.len(),
+fn turn_counts(script: &Script) -> [u64; 6] {
+    [
+        script.sends.len() as u64,
+        script.turns.len() as u64,
+        script.actions.len() as u64,
         script.throttle,
-        script.size,
+        script.size as u64,
         script.last,
-    )
+    ]
 }
 
 /// Ends the test where this isn't so of the script of these bytes.
@@ -31,32 +33,51 @@ fn expect_so(rt: &impl Abort, so: bool, bytes: &[u8]) {
     assert!(rt; so, "at {bytes:?}");
 }
 
-/// Holds what `of` tells of each of these scripts to what stands beside it.
-fn each_script<T: PartialEq + Drop, F: Fn(&Script) -> T>(
-    rt: &impl Abort,
-    alloc: Global,
-    table: &[(&[u8], T)],
-    of: F,
-)
-    requires { F.IsAlwaysCallable of }
-{
-    for (bytes, want) in table {
-        expect_so(rt, is_told(alloc, bytes, want, &of), bytes);
+/// Of what in a script something is counted.
+#[derive(Clone, Copy)]
+enum Counted {
+    Turns,
+    Jobs,
+    Filters,
+    Dirs,
+    Files,
+    Errors,
+    Hooks,
+}
+
+/// What is counted of this in a script, and zeros behind it.
+fn counts(script: &Script, of: Counted) -> [u64; 6] {
+    match of {
+        Counted::Turns => turn_counts(script),
+        Counted::Jobs => job_counts(script),
+        Counted::Filters => filter_counts(script),
+        Counted::Dirs => dir_counts(script),
+        Counted::Files => file_counts(script),
+        Counted::Errors => error_counts(script),
+        Counted::Hooks => hook_counts(script),
     }
 }
 
-/// Whether this is told of the script of these bytes, if it is one. A script is long to drop: it is done here alone.
-fn is_told<T: PartialEq + Drop, F: Fn(&Script) -> T>(
-    alloc: Global,
-    bytes: &[u8],
-    want: &T,
-    of: &F,
-) -> bool
-    requires { F.IsAlwaysCallable of.now }
-{
+/// Whether this is counted of the script of these bytes, if it is one. A script is long to drop: it is done here alone.
+fn is_counted(alloc: Global, bytes: &[u8], of: Counted, want: &[u64]) -> bool {
     match script_in(alloc, bytes) {
-        Some(script) => of(&script) == *want,
+        Some(script) => counts(&script, of).starts_with(want),
         None => false,
+    }
+}
+
+/// Holds what is counted of this in each of these scripts to what stands beside it.
+fn each_script(rt: &impl Abort, alloc: Global, of: Counted, table: &[(&[u8], &[u64])]) {
+    for (bytes, want) in table {
+        expect_so(rt, is_counted(alloc, bytes, of, want), bytes);
+    }
+}
+
+/// How many items the first of these lists has, 0 where there is none.
+fn first_len<T>(lists: &[List<T>]) -> u64 {
+    match lists.first() {
+        Some(list) => list.len() as u64,
+        None => 0,
     }
 }
 
@@ -67,144 +88,157 @@ fn each_is_bad(rt: &impl Abort, alloc: Global, table: &[&[u8]]) {
     }
 }
 
-const SCRIPTS: [(&[u8], (usize, usize, usize, u64, u32, u64)); 5] = [
-    (b"", (0, 0, 0, 50_000_000, 4096, 0)),
+const SCRIPTS: [(&[u8], &[u64]); 5] = [
+    (b"", &[0, 0, 0, 50_000_000, 4096, 0]),
     (
         b"# a script\nset size 64\n\nset size 2\nset throttle 7\nsend urgent 0\nsend low 0\naction quit quit\nturn 0 arrive normal 0\nturnfault 5\naction\nturn 10000000 work\nturn 10000000 arrive high 0\n",
-        (2, 4, 2, 7, 2, 10_000_000),
+        &[2, 4, 2, 7, 2, 10_000_000],
     ),
-    (b"set size 65536\n", (0, 0, 0, 50_000_000, 65_536, 0)),
+    (b"set size 65536\n", &[0, 0, 0, 50_000_000, 65_536, 0]),
     (
         b"set throttle 18446744073709551615\nturn 18446744073709551615 work\n",
-        (0, 1, 0, u64::MAX, 4096, u64::MAX),
+        &[0, 1, 0, u64::MAX, 4096, u64::MAX],
     ),
     (
         b"action\nset size 1\nturnfault 4294967295\n",
-        (0, 1, 1, 50_000_000, 1, 0),
+        &[0, 1, 1, 50_000_000, 1, 0],
     ),
 ];
 
 #[test]
 fn reads_scripts(rt: HostRuntime) {
-    each_script(&rt, rt.alloc(), &SCRIPTS, |script| turn_counts(script));
+    each_script(&rt, rt.alloc(), Counted::Turns, &SCRIPTS);
 }
 
 /// How many acts the first action of the script has, and how many answers to spawns, signals, kills and waits the script has.
-fn job_counts(script: &Script) -> (usize, usize, usize, usize, usize) {
-    let first = script.actions.as_slice().first();
-    (
-        first.map_or(0, |acts| acts.len()),
-        script.answers.spawns.len(),
-        script.answers.signals.len(),
-        script.answers.kills.len(),
-        script.answers.waits.len(),
-    )
+fn job_counts(script: &Script) -> [u64; 6] {
+    [
+        first_len(script.actions.as_slice()),
+        script.answers.spawns.len() as u64,
+        script.answers.signals.len() as u64,
+        script.answers.kills.len() as u64,
+        script.answers.waits.len() as u64,
+        0,
+    ]
 }
 
-const JOBS: [(&[u8], (usize, usize, usize, usize, usize)); 10] = [
+const JOBS: [(&[u8], &[u64]); 10] = [
     (
         b"action getcreate 0 exec ---- 1 a create exec ---- 1 b getcreate 4294967295 exec g-r- 2 a %20 quit\n",
-        (4, 0, 0, 0, 0),
+        &[4, 0, 0, 0, 0],
     ),
     (
         b"action create exec ---- 1 a ask 0 start quit\n",
-        (3, 0, 0, 0, 0),
+        &[3, 0, 0, 0, 0],
     ),
     (
         b"action ask 4294967295 stop create exec g-r- 2 a %20 create exec ---- 1 b\n",
-        (3, 0, 0, 0, 0),
+        &[3, 0, 0, 0, 0],
     ),
     (
         b"action ask 0 gracefulstop custom.-3 0 ask 0 tryrestart ask 0 trygracefulrestart quit 18446744073709551615 ask 0 continue ask 0 signal hangup ask 0 delete ask 0 nextending\n",
-        (7, 0, 0, 0, 0),
+        &[7, 0, 0, 0, 0],
     ),
     (
         b"action ask 0 restart ask 0 restartsignal user1 5 ask 0 stopdelete ask 0 deletenow ask 0 towait\n",
-        (5, 0, 0, 0, 0),
+        &[5, 0, 0, 0, 0],
     ),
     (
         b"spawn ok\nspawn fault 5\nkill ok\nspawn ok\n",
-        (0, 3, 0, 1, 0),
+        &[0, 3, 0, 1, 0],
     ),
     (
         b"signal fault 4294967295\nkill ok\nsignal ok\nturn 0 ask 0 signal suspend\nsignal fault 0\n",
-        (0, 0, 3, 1, 0),
+        &[0, 0, 3, 1, 0],
     ),
     (
         b"kill fault 4294967295\nwait success\nwait error.7\nwait fault 2\nwait signal.custom.64\n",
-        (0, 0, 0, 1, 4),
+        &[0, 0, 0, 1, 4],
     ),
     (
         b"turn 0 job 0\nspawn ok\nturn 0 ended 18446744073709551615\nturn 1 ask 3 stop\nwait continued\n",
-        (0, 1, 0, 0, 1),
+        &[0, 1, 0, 0, 1],
     ),
     (
         b"spawn ok\nset size 2\nkill ok\nsend low 0\nsignal ok\nwait success\nturn 0 work\n",
-        (0, 1, 1, 1, 1),
+        &[0, 1, 1, 1, 1],
     ),
 ];
 
 #[test]
 fn reads_lines_about_jobs(rt: HostRuntime) {
-    each_script(&rt, rt.alloc(), &JOBS, |script| job_counts(script));
+    each_script(&rt, rt.alloc(), Counted::Jobs, &JOBS);
 }
 
 /// How many sends, turns and answers of the filter the script has.
-fn filter_counts(script: &Script) -> (usize, usize, usize) {
-    (script.sends.len(), script.turns.len(), script.filters.len())
+fn filter_counts(script: &Script) -> [u64; 6] {
+    let (sends, turns) = (script.sends.len(), script.turns.len());
+    let filters = script.filters.len();
+    [sends as u64, turns as u64, filters as u64, 0, 0, 0]
 }
 
-const FILTERS: [(&[u8], (usize, usize, usize)); 4] = [
-    (b"filter pass\nfilter reject\n", (0, 0, 2)),
+const FILTERS: [(&[u8], &[u64]); 4] = [
+    (b"filter pass\nfilter reject\n", &[0, 0, 2]),
     (
         b"filter fail exit\nfilter fail filterer glob bad%20rule\nfilter fail memory\n",
-        (0, 0, 3),
+        &[0, 0, 3],
     ),
     (
         b"send normal 2 process 7 signal quit\nfilter pass\nturn 0 arrive low 1 path /a%20b dir\n",
-        (1, 1, 1),
+        &[1, 1, 1],
     ),
     (
         b"turn 0 arrive urgent 3 kind create.file source os key ctrl.char.a\nfilter pass\n",
-        (0, 1, 1),
+        &[0, 1, 1],
     ),
 ];
 
 #[test]
 fn reads_lines_about_filters(rt: HostRuntime) {
-    each_script(&rt, rt.alloc(), &FILTERS, |script| filter_counts(script));
+    each_script(&rt, rt.alloc(), Counted::Filters, &FILTERS);
+}
+
+/// How many of these answers stand before the first that is no.
+fn before_first_no(answers: &[Result<bool, RuntimeError>]) -> u64 {
+    let mut before = 0u64;
+    for answer in answers {
+        if matches!(answer, Ok(false)) {
+            return before;
+        }
+        before = before.saturating_add(1);
+    }
+    before
 }
 
 /// How many answers of the filter about events and about directories the script has, and how many of the latter stand before the
 /// first that excludes one.
-fn dir_counts(script: &Script) -> (usize, usize, usize) {
-    let dirs = script.dirs.as_slice();
-    let first = dirs.iter().position(|answer| matches!(answer, Ok(false)));
-    let before = first.unwrap_or(dirs.len());
-    (script.filters.len(), dirs.len(), before)
+fn dir_counts(script: &Script) -> [u64; 6] {
+    let (filters, dirs) = (script.filters.len(), script.dirs.len());
+    let before = before_first_no(script.dirs.as_slice());
+    [filters as u64, dirs as u64, before, 0, 0, 0]
 }
 
-const DIRS: [(&[u8], (usize, usize, usize)); 6] = [
-    (b"", (0, 0, 0)),
-    (b"dir pass\n", (0, 1, 1)),
-    (b"dir reject\ndir pass\n", (0, 2, 0)),
+const DIRS: [(&[u8], &[u64]); 6] = [
+    (b"", &[0, 0, 0]),
+    (b"dir pass\n", &[0, 1, 1]),
+    (b"dir reject\ndir pass\n", &[0, 2, 0]),
     (
         b"dir fail exit\nfilter reject\ndir pass\nfilter pass\ndir reject\n",
-        (2, 3, 2),
+        &[2, 3, 2],
     ),
     (
         b"dir fail filterer glob bad%20rule\ndir fail memory\n",
-        (0, 2, 2),
+        &[0, 2, 2],
     ),
     (
         b"dir pass\nset size 2\nsend low 0\ndir reject\nturn 0 work\ndir pass\nturnfault 5\ndir reject\n",
-        (0, 4, 1),
+        &[0, 4, 1],
     ),
 ];
 
 #[test]
 fn reads_lines_about_directories(rt: HostRuntime) {
-    each_script(&rt, rt.alloc(), &DIRS, |script| dir_counts(script));
+    each_script(&rt, rt.alloc(), Counted::Dirs, &DIRS);
 }
 
 const NO_DIRS: [&[u8]; 19] = [
@@ -236,53 +270,49 @@ fn refuses_lines_about_directories(rt: HostRuntime) {
 
 /// What the script has of files: for how many turns it has changes of the tree, how many changes before the first of these, how many
 /// behind the last, and how many answers of the maker, looks that fail and calls on backends that fail.
-fn file_counts(script: &Script) -> ((usize, usize, usize), (usize, usize, usize)) {
-    let first = script.edits.as_slice().first();
-    let edits = (
-        script.edits.len(),
-        first.map_or(0, |edits| edits.len()),
-        script.pending.len(),
-    );
-    let answers = (
-        script.answers.makes.len(),
-        script.failing_looks.len(),
-        script.failing_watches.len(),
-    );
-    (edits, answers)
+fn file_counts(script: &Script) -> [u64; 6] {
+    [
+        script.edits.len() as u64,
+        first_len(script.edits.as_slice()),
+        script.pending.len() as u64,
+        script.answers.makes.len() as u64,
+        script.failing_looks.len() as u64,
+        script.failing_watches.len() as u64,
+    ]
 }
 
-const FILES: [(&[u8], ((usize, usize, usize), (usize, usize, usize))); 8] = [
-    (b"", ((0, 0, 0), (0, 0, 0))),
-    (b"node dir /\nnode dir /w\n", ((0, 0, 2), (0, 0, 0))),
+const FILES: [(&[u8], &[u64]); 8] = [
+    (b"", &[0, 0, 0, 0, 0, 0]),
+    (b"node dir /\nnode dir /w\n", &[0, 0, 2, 0, 0, 0]),
     (
         b"node dir /\nnode dir /w\nturn 0 file\ngone /w\n",
-        ((1, 2, 1), (0, 0, 0)),
+        &[1, 2, 1, 0, 0, 0],
     ),
     (
         b"turn 0 work\nnode file /f 18446744073709551615\nturnfault 5\nnode link /l ../x\nnode link /m %\nturn 0 file\n",
-        ((3, 0, 0), (0, 0, 0)),
+        &[3, 0, 0, 0, 0, 0],
     ),
     (
         b"node dir /a%20b\nset size 2\nsend low 0\nnode file /a%20b/.x 0\nturn 0 file\n",
-        ((1, 2, 0), (0, 0, 0)),
+        &[1, 2, 0, 0, 0, 0],
     ),
     (
         b"make ok\nturn 0 file\nmake fail nopath 0\nmake fail io 28 1 /w\nmake fail memory 0\n",
-        ((1, 0, 0), (4, 0, 0)),
+        &[1, 0, 0, 4, 0, 0],
     ),
     (
         b"fail scan 0 4294967295\nturn 0 file\nfail scan 18446744073709551615 0\nfail watch 3 5\n",
-        ((1, 0, 0), (0, 2, 1)),
+        &[1, 0, 0, 0, 2, 1],
     ),
     (
         b"fail watch 3 5\nfail watch 3 6\nset follow off\nmake fail generic a%20b 2 / /w\n",
-        ((0, 0, 0), (1, 0, 2)),
+        &[0, 0, 0, 1, 0, 2],
     ),
 ];
 
 #[test]
 fn reads_lines_about_files(rt: HostRuntime) {
-    each_script(&rt, rt.alloc(), &FILES, |script| file_counts(script));
+    each_script(&rt, rt.alloc(), Counted::Files, &FILES);
 }
 
 const NO_FILES: [&[u8]; 45] = [
@@ -339,59 +369,69 @@ fn refuses_lines_about_files(rt: HostRuntime) {
 }
 
 /// How many answers of the filter and wishes of the error handler the script has, and the size of the channel of errors.
-fn error_counts(script: &Script) -> (usize, usize, u32) {
-    (script.filters.len(), script.errors.len(), script.error_size)
+fn error_counts(script: &Script) -> [u64; 6] {
+    let (filters, errors) = (script.filters.len(), script.errors.len());
+    let size = script.error_size;
+    [filters as u64, errors as u64, size as u64, 0, 0, 0]
 }
 
-const ERRORS: [(&[u8], (usize, usize, u32)); 5] = [
-    (b"", (0, 0, 64)),
-    (b"error none\nset errors 1\n", (0, 1, 1)),
+const ERRORS: [(&[u8], &[u64]); 5] = [
+    (b"", &[0, 0, 64]),
+    (b"error none\nset errors 1\n", &[0, 1, 1]),
     (
         b"set errors 9\nset size 3\nset errors 65536\nsend low 0\nerror elevate\n",
-        (0, 1, 65_536),
+        &[0, 1, 65_536],
     ),
     (
         b"error critical exit\nerror critical memory\nturn 0 work\nerror critical send low 1 process 4\n",
-        (0, 3, 64),
+        &[0, 3, 64],
     ),
     (
         b"filter fail nocommands\nerror critical elevated trysend a full low 0 some b\nerror critical init native event nopath 0\n",
-        (1, 2, 64),
+        &[1, 2, 64],
     ),
 ];
 
 #[test]
 fn reads_lines_about_errors(rt: HostRuntime) {
-    each_script(&rt, rt.alloc(), &ERRORS, |script| error_counts(script));
+    each_script(&rt, rt.alloc(), Counted::Errors, &ERRORS);
+}
+
+/// How many bytes the first of these words has, 0 where there is none.
+fn first_size(words: &[Text]) -> u64 {
+    match words.first() {
+        Some(word) => word.len() as u64,
+        None => 0,
+    }
 }
 
 /// How many calls of hooks the script has words for, and how many words and bytes of them the first has.
-fn hook_counts(script: &Script) -> (usize, usize, usize) {
-    let first = script.hooks.as_slice().first();
-    let words = first.map_or(0, |words| words.len());
-    let size = first
-        .and_then(|words| words.first())
-        .map_or(0, |word| word.len());
-    (script.hooks.len(), words, size)
+fn hook_counts(script: &Script) -> [u64; 6] {
+    let hooks = script.hooks.as_slice();
+    let size = match hooks.first() {
+        Some(words) => first_size(words.as_slice()),
+        None => 0,
+    };
+    [hooks.len() as u64, first_len(hooks), size, 0, 0, 0]
 }
 
-const HOOKS: [(&[u8], (usize, usize, usize)); 5] = [
-    (b"", (0, 0, 0)),
-    (b"hook 0\nhook 1 -v\n", (2, 0, 0)),
-    (b"hook 2 a%20b %\n", (1, 2, 3)),
+const HOOKS: [(&[u8], &[u64]); 5] = [
+    (b"", &[0, 0, 0]),
+    (b"hook 0\nhook 1 -v\n", &[2, 0, 0]),
+    (b"hook 2 a%20b %\n", &[1, 2, 3]),
     (
         b"send low 0\nhook 1 %\nturn 0 work\nhook 0\naction ask 0 sethook 4294967295 ask 0 unsethook\nhook 0\n",
-        (3, 1, 0),
+        &[3, 1, 0],
     ),
     (
         b"turn 0 ask 0 setspawn 0\nturn 0 ask 0 setchild 7\nturn 0 ask 0 clearspawn\nhook 3 x y z\n",
-        (1, 3, 1),
+        &[1, 3, 1],
     ),
 ];
 
 #[test]
 fn reads_lines_about_hooks(rt: HostRuntime) {
-    each_script(&rt, rt.alloc(), &HOOKS, |script| hook_counts(script));
+    each_script(&rt, rt.alloc(), Counted::Hooks, &HOOKS);
 }
 
 const NO_HOOKS: [&[u8]; 16] = [

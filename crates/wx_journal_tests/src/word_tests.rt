@@ -1,23 +1,20 @@
 // Values that stand in entries: what handlers ask, what turns bring, what spawns, and why items are let go.
-use crate::expecting::expect_none;
+use crate::expecting::{expect_no, expect_yes};
 use std::alloc::Global;
 use std::process::Abort;
 use wx_journal::{Act, LetGoCause, SpawnTag, TurnKind};
 use wx_text::{Copies, Memory};
 use wx_words::Spelled;
-use wx_words_trial::{first_accepted, first_wrong_line, is_read_again, is_written, read_line};
+use wx_words_trial::{is_read, is_read_again, is_written, read_line};
 
 /// Holds the first lines to be values of a type that are written so again, and the others to be none.
 fn expect_words<T: Spelled>(rt: &impl Abort, alloc: Global, lines: &str, others: &str) {
-    expect_none(
-        rt,
-        first_wrong_line(
-            alloc,
-            lines,
-            |alloc, line| is_read_again::<T>(alloc, line.as_bytes()),
-        ),
-    );
-    expect_none(rt, first_accepted::<T>(alloc, others));
+    for line in lines.lines() {
+        expect_yes(rt, is_read_again::<T>(alloc, line.as_bytes()), line);
+    }
+    for line in others.lines() {
+        expect_no(rt, is_read::<T>(alloc, line.as_bytes()), line);
+    }
 }
 
 const ACTS: &str = "\
@@ -164,12 +161,7 @@ fn is_copied<T: Spelled + Copies>(alloc: Global, line: &str) -> Result<bool, Mem
 #[test]
 fn what_turns_bring(rt: HostRuntime) {
     expect_words::<TurnKind>(&rt, rt.alloc(), TURNS, NO_TURNS);
-    expect_none(
-        &rt,
-        first_wrong_line(
-            rt.alloc(),
-            TURNS,
-            |alloc, line| is_copied::<TurnKind>(alloc, line),
-        ),
-    );
+    for line in TURNS.lines() {
+        expect_yes(&rt, is_copied::<TurnKind>(rt.alloc(), line), line);
+    }
 }

@@ -1,8 +1,8 @@
 // Links, and what one directory is reached by: the expected values are worked out by hand from the rules.
-use crate::runs::run_holds;
+use crate::runs::runs_hold;
 
-// A link below a root isn't owned where links aren't followed.
-const LEFT_OUT: &str = "\
+const LINKS: &str = "\
+# a link below a root isn't owned where links aren't followed
 d /
 d /w
 d /w/a
@@ -15,10 +15,7 @@ unwatched = none
 guards = none
 shown = none
 rebuilds = 0
-";
-
-// Where they are it shares the registration of its directory.
-const FOLLOWED: &str = "\
+# a link below a root shares the registration of its directory where links are followed
 follow
 d /
 d /w
@@ -32,10 +29,7 @@ unwatched = none
 guards = none
 shown = none
 rebuilds = 0
-";
-
-// A link back to the root is owned and not scanned again.
-const LEADS_BACK: &str = "\
+# a link back to the root is owned and not scanned again
 follow
 d /
 d /w
@@ -49,10 +43,7 @@ unwatched = none
 guards = none
 shown = none
 rebuilds = 0
-";
-
-// A link to a directory beside the root is scanned, since it is new there.
-const LEADS_BESIDE: &str = "\
+# a link to a directory beside the root is scanned, since it is new there
 follow
 d /
 d /w
@@ -67,10 +58,7 @@ unwatched = none
 guards = none
 shown = none
 rebuilds = 0
-";
-
-// A link that leads nowhere is absent, and shown.
-const LEADS_NOWHERE: &str = "\
+# a link that leads nowhere is absent, and shown
 follow
 d /
 d /w
@@ -83,10 +71,7 @@ unwatched = none
 guards = none
 shown = absent /w/l
 rebuilds = 0
-";
-
-// One to a file is no directory.
-const LEADS_TO_FILE: &str = "\
+# a link that leads to a file is no directory
 follow
 d /
 d /w
@@ -100,10 +85,7 @@ unwatched = none
 guards = none
 shown = none
 rebuilds = 0
-";
-
-// A root that is a link: a guard, and nothing is shown.
-const ROOT_IS_LINK: &str = "\
+# a root that is a link: a guard, and nothing is shown
 d /
 d /o
 l /l /o
@@ -115,10 +97,7 @@ unwatched = none
 guards = /
 shown = none
 rebuilds = 0
-";
-
-// So is one below a link.
-const ROOT_BELOW_LINK: &str = "\
+# a root below a link: the same
 d /
 d /o
 d /o/x
@@ -131,10 +110,7 @@ unwatched = none
 guards = /
 shown = none
 rebuilds = 0
-";
-
-// So is one below a file.
-const ROOT_BELOW_FILE: &str = "\
+# a root below a file: the same
 d /
 f /f
 roots r /f/x
@@ -145,10 +121,7 @@ unwatched = none
 guards = /
 shown = none
 rebuilds = 0
-";
-
-// A root that is a link, where links are followed.
-const ROOT_FOLLOWED: &str = "\
+# a root that is a link, where links are followed
 follow
 d /
 d /o
@@ -162,10 +135,7 @@ unwatched = none
 guards = none
 shown = none
 rebuilds = 0
-";
-
-// Two roots that lead to one tree own it each by its own path, and share what is registered.
-const TWO_ROOTS: &str = "\
+# two roots that lead to one tree own it each by its own path, and share what is registered
 follow
 d /
 d /w
@@ -179,31 +149,7 @@ unwatched = none
 guards = none
 shown = none
 rebuilds = 0
-";
-
-const SETTLED: [&str; 11] = [
-    LEFT_OUT,
-    FOLLOWED,
-    LEADS_BACK,
-    LEADS_BESIDE,
-    LEADS_NOWHERE,
-    LEADS_TO_FILE,
-    ROOT_IS_LINK,
-    ROOT_BELOW_LINK,
-    ROOT_BELOW_FILE,
-    ROOT_FOLLOWED,
-    TWO_ROOTS,
-];
-
-#[test]
-fn links_and_what_they_lead_to(rt: HostRuntime) {
-    for run in SETTLED {
-        run_holds(&rt, rt.alloc(), run);
-    }
-}
-
-// Between the look at a candidate and the watch its link came to lead elsewhere: it is unwatched and counts as gone.
-const CANDIDATE_CHANGES: &str = "\
+# between the look at a candidate and the watch its link came to lead elsewhere: it is unwatched and counts as gone
 follow
 d /
 d /w
@@ -225,10 +171,7 @@ guards = none
 shown = changed /w/l
 retries = 0
 rebuilds = 0
-";
-
-// The same of a root: it is found again through its guard, which then goes.
-const ROOT_CHANGES: &str = "\
+# between the look at a root and the watch its link came to lead elsewhere: it is found again through its guard, which then goes
 follow
 d /
 d /o
@@ -247,10 +190,7 @@ unwatched = /l /
 guards = none
 shown = changed /l
 rebuilds = 0
-";
-
-// The path isn't there any more at the second look: it is unwatched and counts as gone.
-const CANDIDATE_GOES: &str = "\
+# the path isn't there any more at the second look: it is unwatched and counts as gone
 follow
 d /
 d /w
@@ -266,17 +206,7 @@ unwatched = /w/a
 guards = none
 shown = absent /w/a
 rebuilds = 0
-";
-
-#[test]
-fn what_changes_before_it_is_watched(rt: HostRuntime) {
-    run_holds(&rt, rt.alloc(), CANDIDATE_CHANGES);
-    run_holds(&rt, rt.alloc(), ROOT_CHANGES);
-    run_holds(&rt, rt.alloc(), CANDIDATE_GOES);
-}
-
-// What a registration was made by is owned no more, and others share it: it stays, and a rebuild is asked for once.
-const REPRESENTATIVES: &str = "\
+# what a registration was made by is owned no more, and others share it: it stays, and a rebuild is asked for once
 follow
 d /
 d /w
@@ -295,10 +225,7 @@ unwatched = none
 guards = none
 shown = none
 rebuilds = 1
-";
-
-// A path whose link leads elsewhere by now is known under another identity: it is left out of the next replay, and isn't owned.
-const KNOWN_OTHERWISE: &str = "\
+# a path whose link leads elsewhere by now is known under another identity: it is left out of the next replay, and isn't owned
 follow
 d /
 d /w
@@ -322,10 +249,7 @@ guards = none
 shown = none
 excluded = 1
 rebuilds = 1
-";
-
-// A guard keeps the registration that it shares, and is a path by which it was made.
-const GUARD_KEEPS: &str = "\
+# a guard keeps the registration that it shares, and is a path by which it was made
 d /
 d /w
 roots n /w, r /w/no
@@ -341,8 +265,6 @@ rebuilds = 0
 ";
 
 #[test]
-fn what_is_shared(rt: HostRuntime) {
-    run_holds(&rt, rt.alloc(), REPRESENTATIVES);
-    run_holds(&rt, rt.alloc(), KNOWN_OTHERWISE);
-    run_holds(&rt, rt.alloc(), GUARD_KEEPS);
+fn links_and_what_they_lead_to(rt: HostRuntime) {
+    runs_hold(&rt, rt.alloc(), LINKS);
 }

@@ -1,6 +1,0 @@
-//! Tests of `wx_holding` and `wx_recursor_lists`, whose proofs are done without it: a crate with tests is proved once more with
-//! them.
-#![tactic(auto)]
-
-#[cfg(test)]
-mod tests;
