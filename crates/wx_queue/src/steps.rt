@@ -1,9 +1,8 @@
 // The steps on the queue, each under its rule.
-ghost use Rattle.std.specs.Prelude.{◌≡◌, ℕ, ◌+◌, ◌<◌, ◌≤◌, true, false, List, [], ◌∷◌, ◌++◌, map, MatchOption, MatchResult, length};
+ghost use Rattle.std.specs.Prelude.{◌≡◌, ◌+◌, ◌<◌, ◌≤◌, true, false, List, [], ◌∷◌, ◌++◌, map, MatchOption, MatchResult, length};
 ghost use Rattle.crossbeam_queue.specs.Passes.{view, IsPassOf, ruled_capacity};
 ghost use Rattle.crossbeam_queue.specs.Fifo.{Held};
 ghost use Rattle.wx_queue.specs.Rule.{known, Tells};
-ghost use Rattle.wx_queue.specs.declared.rule.Known.{Known as a-Known};
 ghost use Rattle.wx_queue.specs.declared.parcel.Queued.{Queued as a-Queued};
 
 use crate::parcel::Queued;
