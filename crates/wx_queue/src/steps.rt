@@ -10,7 +10,7 @@ use crate::rule::{Deals, Known, Notes, Puts, Ruled, Takes};
 use crossbeam_queue::Pass;
 use std::sync::Wait;
 
-/// Puts a queued in. A refused one leaves the pass as it was, and the queue held its size at a step of this call.
+/// Puts an item in. A refused one leaves the pass as it was, and the queue held its size at a step of this call.
 pub(crate) fn put<R: Wait, I, F>(
     rt: &R,
     queue: &Ruled<I, F>,
@@ -26,7 +26,7 @@ pub(crate) fn put<R: Wait, I, F>(
     queue.push_as::<Puts, R>(rt, pass, queued)
 }
 
-/// Takes a queued. None only where the queue was empty at a step of this call.
+/// Takes an item. None only where the queue was empty at a step of this call.
 pub(crate) fn take<R: Wait, I, F>(
     rt: &R,
     queue: &Ruled<I, F>,
