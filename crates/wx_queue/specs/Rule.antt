@@ -1,5 +1,5 @@
 -- What each pass sent is what was given of it, and then what the queue holds of it.
-use Rattle.std.specs.Prelude.{◌≡◌, ℕ, ◌==◌, ◌<◌, ◌≤◌, Bool, true, List, [], ◌∷◌, ◌++◌, filter, map, nat_eq, slice_get, Some}
+use Rattle.std.specs.Prelude.{◌≡◌, ℕ, ◌==◌, ◌<◌, ◌≤◌, Bool, true, List, [], ◌++◌, filter, map, nat_eq, slice_get, Some}
 use Rattle.std.specs.List.{IsDistinct}
 use mathlib.Core.Option.{Option, some, none}
 use lib.ListN.{get_elem?}

@@ -1,9 +1,8 @@
 // The steps on the queue, each under its rule.
-ghost use Rattle.std.specs.Prelude.{◌≡◌, ℕ, ◌+◌, ◌<◌, ◌≤◌, true, false, List, [], ◌∷◌, ◌++◌, map, MatchOption, MatchResult, length};
+ghost use Rattle.std.specs.Prelude.{◌≡◌, ◌+◌, ◌<◌, ◌≤◌, true, false, List, [], ◌∷◌, ◌++◌, map, MatchOption, MatchResult, length};
 ghost use Rattle.crossbeam_queue.specs.Passes.{view, IsPassOf, ruled_capacity};
 ghost use Rattle.crossbeam_queue.specs.Fifo.{Held};
 ghost use Rattle.wx_queue.specs.Rule.{known, Tells};
-ghost use Rattle.wx_queue.specs.declared.rule.Known.{Known as a-Known};
 ghost use Rattle.wx_queue.specs.declared.parcel.Queued.{Queued as a-Queued};
 
 use crate::parcel::Queued;
@@ -11,7 +10,7 @@ use crate::rule::{Deals, Known, Notes, Puts, Ruled, Takes};
 use crossbeam_queue::Pass;
 use std::sync::Wait;
 
-/// Puts a queued in. A refused one leaves the pass as it was, and the queue held its size at a step of this call.
+/// Puts an item in. A refused one leaves the pass as it was, and the queue held its size at a step of this call.
 pub(crate) fn put<R: Wait, I, F>(
     rt: &R,
     queue: &Ruled<I, F>,
@@ -27,7 +26,7 @@ pub(crate) fn put<R: Wait, I, F>(
     queue.push_as::<Puts, R>(rt, pass, queued)
 }
 
-/// Takes a queued. None only where the queue was empty at a step of this call.
+/// Takes an item. None only where the queue was empty at a step of this call.
 pub(crate) fn take<R: Wait, I, F>(
     rt: &R,
     queue: &Ruled<I, F>,

@@ -1,4 +1,4 @@
-use Rattle.std.proofs.Common.{◌≡◌, ◌≤◌, List, [], ◌∷◌, ◌++◌, length, length-append, map, sym, ap, ◌∙◌, append_assoc, vec_len, vec_capacity, arith}
+use Rattle.std.proofs.Common.{◌≡◌, List, [], ◌∷◌, ◌++◌, length-append, map, ap, ◌∙◌, append_assoc, arith}
 use Rattle.std.proofs.Math.ListN.{length-map}
 use Rattle.crossbeam_queue.specs.Passes.{view as told}
 use Rattle.wx_queue.specs.declared.rule.Known.{Known}

@@ -1,7 +1,5 @@
-use Rattle.std.proofs.Common.{◌≡◌, ◌≤◌, true, List, ◌++◌, length, map, vec_capacity}
+use Rattle.std.proofs.Common.{◌≡◌, ◌≤◌, true, ◌++◌, vec_capacity}
 use Rattle.crossbeam_queue.specs.Passes.{view as told, IsPassOf, ruled_capacity}
-use Rattle.wx_queue.specs.declared.parcel.Sent.{Sent}
-use Rattle.wx_queue.specs.Rule.{Tells}
 use Rattle.wx_queue.proofs.finish.drain.Given as goal
 
 abbrev pub invariant-loop : goal.invariant-loop

@@ -1,4 +1,4 @@
-use Rattle.std.proofs.Common.{◌≡◌, ◌≤◌, true, List, ◌++◌, length, map, vec_len, All}
+use Rattle.std.proofs.Common.{◌≡◌, ◌≤◌, true, List, ◌++◌, map, vec_len, All}
 use Rattle.crossbeam_queue.specs.Passes.{view as told, IsPassOf}
 use Rattle.wx_queue.specs.Rule.{IsNoted}
 use Rattle.wx_queue.specs.Ends.{entry}

@@ -1,4 +1,4 @@
-use Rattle.std.proofs.Common.{◌≡◌, ◌≤◌, ℕ, List, [], ◌∷◌, ◌++◌, length, map, sym, ap, ◌∙◌, subst, take, arith, Some, slice_get, All}
+use Rattle.std.proofs.Common.{◌≡◌, ◌≤◌, ℕ, List, length, map, sym, ap, ◌∙◌, subst, take, arith, Some, slice_get, All}
 use Rattle.std.proofs.Math.ListN.{length-map}
 use Rattle.crossbeam_queue.specs.Passes.{view as told}
 use Rattle.wx_queue.specs.declared.rule.Known.{Known}
