@@ -77,11 +77,11 @@ def is_refused(edit):
             status, said = checked(crate, only)
             if "has no function" in said:
                 continue
-            told = next((it for it in said.split("\n") if re.search(r": (error|note)", it)), "")
+            told = next((it for it in said.split("\n") if re.search(r"^note: src/|: error|not proved", it)), "no reason was told")
             if status == 1 and re.search(r"\berror\[", said):
                 return False, f"it did not reach the prover: {told}"
             if status:
-                return status == 1, told or said[-200:]
+                return status == 1, told
         return False, "it is still proved"
     finally:
         for path, text in kept.items():
