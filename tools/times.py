@@ -69,7 +69,7 @@ class Clocked:
     """Standard output, with the minutes and seconds since the begin before each line in which a step ended."""
 
     def __init__(self, out):
-        self.out, self.begin, self.line = out, time.time(), ""
+        self.out, self.begin, self.line, self.buffer = out, time.time(), "", out.buffer
 
     def write(self, text):
         *lines, self.line = (self.line + text).split("\n")
