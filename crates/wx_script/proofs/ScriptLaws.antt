@@ -56,13 +56,13 @@ all_other : {A : Type 0} (p : A → Bool) (xs : List A) (x y : A) → (p x ≡ t
 all_other p [] x y one all = rw (one (and_parts (p x) true all).0) refl
 all_other p (z ∷ xs) x y one all = let parts = and_parts (p z) (list_all p (xs ++ x ∷ [])) all in rw parts.0 (all_other p xs x y one parts.1)
 
-start_lawful : IsScript start
+pub start_lawful : IsScript start
 start_lawful = record { size = record { some = omega arith; few = omega arith }; error_size = record { some = omega arith; few = omega arith }; sends = omega arith; folder = refl; comes = refl; rises = refl; placed = refl }
 
 some_same : {A : Type 0} {x y : A} → ◌≡◌ {A = Option A} (Some x) (Some y) → x ≡ y
 some_same e = cc
 
-accepts_lawful : (s t : Script) (said : Line) → IsScript s → LineComes said → accepts s said ≡ Some t → IsScript t
+pub accepts_lawful : (s t : Script) (said : Line) → IsScript s → LineComes said → accepts s said ≡ Some t → IsScript t
 accepts_lawful s t Nothing is come e = let same : s ≡ t = cc in subst IsScript same is
 accepts_lawful s t (Throttle n) is come e =
     let g = cond_some (is_early s) (record s { throttle = n }) t e in

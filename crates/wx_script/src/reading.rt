@@ -1,16 +1,14 @@
 // A script from its lines.
-ghost use Rattle.std.specs.Prelude.{◌≡◌, ◌==◌, ◌&&◌, true, false, [], ◌∷◌, ◌++◌, Some, None, Ok, Err, ℕ, length, IfOk, OnOk, MatchBool, MatchOption, MatchResult};
+ghost use Rattle.std.specs.Prelude.{◌≡◌, ◌==◌, ◌&&◌, true, false, [], ◌∷◌, ◌++◌, Some, None, Ok, Err, ℕ, length, IfOk, MatchBool, MatchOption, MatchResult};
 ghost use Rattle.wx_machine.specs.Start.{is_absolute};
 ghost use Rattle.wx_script.specs.Follows.{IsScript};
 ghost use Rattle.wx_script.specs.declared.script.Script.{Script};
 ghost use Rattle.wx_script.specs.declared.lines.Line.TheVariants.{Size, ErrorSize, Folder, Path, Send, Turn as Turned, Fault as Failed, Edit};
-ghost use Rattle.wx_script.specs.Scripts.{is_early, is_placed, edited_path, with_turn, accepts, step, start, IsScriptOf, IsFirstBad};
+ghost use Rattle.wx_script.specs.Scripts.{is_early, is_placed, edited_path, accepts, step, start, IsScriptOf, IsFirstBad};
 
-use crate::answers::Answers;
 use crate::lines::{Line, line_in};
 use crate::script::{Script, ScriptTurn, TreeEdit};
 use std::alloc::Global;
-use std::mem;
 use wx_events::{Event, Priority};
 use wx_journal::Turn;
 use wx_paths::normalize;
@@ -21,37 +19,6 @@ use wx_words::{TextPath, cut};
 /// The number of the first bad line, counted from 1.
 #[derive(Clone, Copy, Debug, PartialEq, Eq)]
 pub struct BadLine(pub u64);
-
-/// The script of no lines.
-fn start(alloc: Global) -> Script
-    ensures { result ≡ start }
-{
-    Script {
-        throttle: 50_000_000,
-        size: 4096,
-        error_size: 64,
-        keyboard: false,
-        follow: true,
-        job_signals: false,
-        watcher: Watcher::Native,
-        folder: None,
-        paths: List::new(alloc),
-        sends: List::new(alloc),
-        turns: List::new(alloc),
-        edits: List::new(alloc),
-        pending: List::new(alloc),
-        actions: List::new(alloc),
-        filters: List::new(alloc),
-        dirs: List::new(alloc),
-        errors: List::new(alloc),
-        polls: List::new(alloc),
-        hooks: List::new(alloc),
-        answers: Answers::new(alloc),
-        failing_looks: List::new(alloc),
-        failing_watches: List::new(alloc),
-        last: 0,
-    }
-}
 
 /// Whether settings can still stand here.
 fn is_early(script: &Script) -> bool
@@ -140,15 +107,6 @@ fn add_send(script: &mut Script, event: Event, priority: Priority) -> Result<boo
     Ok(fits)
 }
 
-/// Adds a turn, before which what pends is edited. It fails only for want of memory.
-fn give(alloc: Global, script: &mut Script, turn: ScriptTurn) -> Result<(), Memory>
-    ensures { OnOk result (script.new ≡ with_turn script.old turn) }
-{
-    let edits = mem::replace(&mut script.pending, List::new(alloc));
-    script.edits.push(edits)?;
-    script.turns.push(turn)
-}
-
 /// Adds a turn, where it can stand here.
 fn add_turn(alloc: Global, script: &mut Script, turn: Turn) -> Result<bool, Memory>
     ensures { IfOk result (λ fits. MatchBool fits (accepts script.old (Turned turn) ≡ Some script.new) (accepts script.old (Turned turn) ≡ None)) }
@@ -156,7 +114,7 @@ fn add_turn(alloc: Global, script: &mut Script, turn: Turn) -> Result<bool, Memo
     let fits = script.last <= turn.at;
     if fits {
         script.last = turn.at;
-        give(alloc, script, ScriptTurn::Turn(turn))?;
+        script.give(alloc, ScriptTurn::Turn(turn))?;
     }
     Ok(fits)
 }
@@ -165,7 +123,7 @@ fn add_turn(alloc: Global, script: &mut Script, turn: Turn) -> Result<bool, Memo
 fn add_fault(alloc: Global, script: &mut Script, code: u32) -> Result<bool, Memory>
     ensures { IfOk result (λ fits. (fits ≡ true) × (accepts script.old (Failed code) ≡ Some script.new)) }
 {
-    give(alloc, script, ScriptTurn::Fault(code))?;
+    script.give(alloc, ScriptTurn::Fault(code))?;
     Ok(true)
 }
 
@@ -288,7 +246,7 @@ fn unless_bad<T: Drop>(script: T, bad: Option<BadLine>) -> Result<T, BadLine>
 fn scan(alloc: Global, bytes: &[u8]) -> Result<Result<Script, BadLine>, Memory>
     ensures { IfOk result (λ r. MatchResult r (λ s. IsScriptOf bytes.now s) (λ bad. IsFirstBad bytes.now bad.0)) }
 {
-    let mut script = start(alloc);
+    let mut script = Script::new(alloc);
     match scan_into(alloc, &mut script, bytes) {
         Ok(bad) => Ok(unless_bad(script, bad)),
         Err(memory) => {

@@ -1,8 +1,10 @@
 // What is written down for a run.
-ghost use Rattle.std.specs.Prelude.{◌≡◌, IfOk};
+ghost use Rattle.std.specs.Prelude.{◌≡◌, IfOk, OnOk};
+ghost use Rattle.wx_script.specs.Scripts.{start, with_turn};
 
 use crate::answers::Answers;
 use std::alloc::Global;
+use std::mem;
 use wx_command::Command;
 use wx_control::Id;
 use wx_error::RuntimeError;
@@ -226,5 +228,47 @@ impl Drop for Script {
             failing_watches: _,
             last: _,
         } = self;
+    }
+}
+
+impl Script {
+    /// The script of no lines: the settings are the usual ones, and nothing is sent or given.
+    pub fn new(alloc: Global) -> Script
+        ensures { result ≡ start }
+    {
+        Script {
+            throttle: 50_000_000,
+            size: 4096,
+            error_size: 64,
+            keyboard: false,
+            follow: true,
+            job_signals: false,
+            watcher: Watcher::Native,
+            folder: None,
+            paths: List::new(alloc),
+            sends: List::new(alloc),
+            turns: List::new(alloc),
+            edits: List::new(alloc),
+            pending: List::new(alloc),
+            actions: List::new(alloc),
+            filters: List::new(alloc),
+            dirs: List::new(alloc),
+            errors: List::new(alloc),
+            polls: List::new(alloc),
+            hooks: List::new(alloc),
+            answers: Answers::new(alloc),
+            failing_looks: List::new(alloc),
+            failing_watches: List::new(alloc),
+            last: 0,
+        }
+    }
+
+    /// Adds a turn, before which what pends is edited. It fails only for want of memory.
+    pub fn give(&mut self, alloc: Global, turn: ScriptTurn) -> Result<(), Memory>
+        ensures { OnOk result (self.new ≡ with_turn self.old turn) }
+    {
+        let edits = mem::replace(&mut self.pending, List::new(alloc));
+        self.edits.push(edits)?;
+        self.turns.push(turn)
     }
 }

@@ -5,7 +5,7 @@ use Rattle.std.specs.List.{AllByRecursion, join_with_byte}
 use Rattle.std.specs.Str.Parse.{AllDigits}
 use Rattle.std.proofs.lemmas.Fmt.{decimal_is_IsNumeral}
 use Rattle.std.proofs.lemmas.Str.Parse.{digit_from_value}
-use Rattle.std.proofs.lemmas.Bool.{eqb-true, and_parts}
+use Rattle.std.proofs.lemmas.Bool.{eqb-true, and_parts, not-true}
 use Rattle.std.proofs.lemmas.List.{append-nil, nil_from_length, map-id}
 use Rattle.std.proofs.lemmas.List.Elements.{All-from_recursion}
 use Rattle.std.proofs.lemmas.List.Splits.{slice_split_none, slice_split_at, join_with_byte-slice_split}
@@ -28,11 +28,7 @@ no_dot (b ∷ w) = not (b == 46) && no_dot w
 
 pub undotted : (w : List ℕ) → no_dot w ≡ true → NoDot w
 undotted [] e = tt
-undotted (b ∷ w) e = let h = and_parts (not (b == 46)) (no_dot w) e in (is_false (b == 46) h.0, undotted w h.1)
-  where
-    is_false : (t : Bool) → not t ≡ true → t ≡ false
-    is_false true e = absurd cc
-    is_false false e = refl
+undotted (b ∷ w) e = let h = and_parts (not (b == 46)) (no_dot w) e in (not-true (b == 46) h.0, undotted w h.1)
 
 pub number_undotted : (n : ℕ) → n < 2 ^ 64 → NoDot (decimal n)
 number_undotted n lt = digits (decimal n) (decimal_is_IsNumeral n lt).0.1
