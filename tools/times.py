@@ -2,8 +2,9 @@
 """Runs the gate, and prints when each of its steps ended and what each part of it cost.
 
 `tools/times.sh` calls it at the top of the repository, for the whole gate or, with names, for these crates and those below them. Behind the output of `rt ci` come the processor seconds, own and those of children, of
-libraries (programs too), of tests and of edits with the checks that they begin with, of what ran, and of `rt` itself; then a table of the ten
-dearest crates of each kind. With `--kept` what earlier runs on this machine passed is taken, and costs nothing.
+libraries (programs too), of tests and of edits with the checks that they begin with, of what ran, and of `rt` itself; then the longest way
+from a lowest library to a last test, which one processor goes along, and a table of the ten dearest crates of each kind. With `--kept` what
+earlier runs on this machine passed is taken, and costs nothing.
 """
 import collections
 import importlib.machinery
@@ -93,6 +94,20 @@ def table():
     return "\n".join(rows)
 
 
+def longest_way():
+    """Returns the dearest chain of crates of crates.txt, each above the one before, and its seconds: libraries, and the tests of the last."""
+    lines = [line.split("#")[0].partition(":") for line in open("crates.txt", encoding="utf-8")]
+    below, ways = {name.split()[0]: names.split() for name, _, names in lines if name.strip()}, {}
+
+    def way(name):
+        if name not in ways:
+            seconds, names = max((way(it) for it in below[name] if it in below), default=(0, []))
+            ways[name] = seconds + SPENT["libraries"][name], [*names, name]
+        return ways[name]
+
+    return max((way(it)[0] + SPENT["tests"][it], way(it)[1]) for it in below)
+
+
 def main(words):
     rt = loaded()
     flags = [] if "--kept" in words or "--anew" not in (rt.__doc__ or "") else ["--anew"]
@@ -109,6 +124,8 @@ def main(words):
     sums["rt itself"] = own.ru_utime + own.ru_stime
     print(f"\nminutes by the clock {past / 60:.1f}; processor seconds {sum(sums.values()):.0f}:")
     print("; ".join(f"{it} {seconds:.0f}" for it, seconds in sums.items()))
+    seconds, names = longest_way()
+    print(f"the longest way takes {seconds / 60:.1f} minutes of one processor: {' '.join(names)}")
     print(table())
     return status
 

@@ -2,7 +2,7 @@
 ghost use Rattle.std.specs.Prelude.{◌≡◌, ◌⊎◌, false, true, Ok as Well, Err as Wrong, codes};
 ghost use Rattle.wx_error.specs.declared.runtime.RuntimeError.TheVariants.{ProcessDeadOnArrival};
 
-use crate::trial::{Setup, behind_first, created, dir_verdict, text_by};
+use crate::trial::{Setup, behind_first, text_by};
 use std::alloc::Global;
 use std::process::Abort;
 use std::test::Fail;
@@ -12,6 +12,7 @@ use wx_config::Filterer;
 use wx_control::{Flag, Id, Job};
 use wx_error::RuntimeError;
 use wx_events::{Event, Priority, Signal};
+use wx_follow_trial::{created, dir_verdict};
 use wx_hooks::{ActionHandler, ErrorHook};
 use wx_job::JobTaskContext;
 use wx_journal::HostFault;

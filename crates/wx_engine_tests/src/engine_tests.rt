@@ -1,10 +1,11 @@
 // Tests of an engine that begins with its default settings, and of one whose queue is full.
-use crate::trial::{engine_with, hooks_of, root, text_of};
+use crate::trial::{engine_with, text_of};
 use std::alloc::Global;
 use std::test::Fail;
 use wx_engine::{SendRefused, Watchexec};
 use wx_events::{Event, Priority, Tag};
 use wx_follow::ScriptHooks;
+use wx_follow_trial::{hooks_of, root};
 use wx_text::{List, Text};
 
 /// An urgent event arrives behind another one, and is handed first and at once.

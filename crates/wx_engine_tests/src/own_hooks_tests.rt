@@ -1,7 +1,7 @@
 // Hooks as a user writes them, and runs with them: their texts are worked out by hand.
 ghost use Rattle.std.specs.Prelude.{◌≡◌, ◌^◌, [], false, None, OnErr};
 
-use crate::trial::{Setup, behind_first, command_of, created, text_by};
+use crate::trial::{Setup, behind_first, text_by};
 use std::alloc::Global;
 use std::process::Abort;
 use std::test::Fail;
@@ -10,6 +10,7 @@ use wx_config::Change;
 use wx_control::{Id, Job};
 use wx_error::{CriticalError, RuntimeError};
 use wx_events::{Event, Priority, Signal};
+use wx_follow_trial::{command_of, created};
 use wx_hooks::{ActionHandler, ChangeRefused, ErrorHook, Hooks};
 use wx_job::{JobHooks, JobTaskContext};
 use wx_journal::{Entry, HostFault};

@@ -1,11 +1,12 @@
 // Changes of settings near the last revision, which no script reaches: the expected texts are worked out by hand.
 use crate::own_hooks_tests::{Does, Own, Run, expect_runs};
-use crate::trial::{root, text_of};
+use crate::trial::text_of;
 use std::alloc::Global;
 use std::test::Fail;
 use wx_config::Config;
 use wx_control::Flag;
 use wx_engine::Watchexec;
+use wx_follow_trial::root;
 use wx_hooks::ChangeRefused;
 use wx_text::Memory;
 

@@ -1,7 +1,7 @@
 // An executor that awaits the tickets of a handler while turns go on.
 ghost use Rattle.std.specs.Prelude.{◌≡◌, false};
 
-use crate::trial::{behind_first, created, root, text_in, world_of};
+use crate::trial::{behind_first, text_in};
 use futures::Future;
 use futures::executor::{LocalPool, LocalSpawner};
 use futures::task::{Context, Poll};
@@ -12,6 +12,7 @@ use wx_command::Spawnable;
 use wx_control::{Flag, Id, Job, Ticket};
 use wx_engine::Watchexec;
 use wx_events::{ProcessEnd, Signal};
+use wx_follow_trial::{created, root, world_of};
 use wx_hooks::{ActionHandler, TurnFault, Turned, World};
 use wx_job::{Host, Outside};
 use wx_journal::{HostFault, SpawnTag, TurnKind};

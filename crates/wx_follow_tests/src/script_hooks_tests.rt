@@ -1,11 +1,11 @@
 // Hooks that follow a script, asked for what the filter answers: the expected values are worked out by hand.
 //
 // A run is a text. Each line asks the filter about the event of a name, or about a directory, with what it answers behind ` = `.
-use crate::trial::{dir_verdict, event_verdict, hooks_of};
 use std::alloc::Global;
 use std::process::Abort;
 use std::test::Fail;
 use wx_follow::ScriptHooks;
+use wx_follow_trial::{dir_verdict, event_verdict, hooks_of};
 use wx_job::JobHooks;
 use wx_text::{Memory, Text};
 use wx_words::number_of;

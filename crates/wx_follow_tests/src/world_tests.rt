@@ -3,7 +3,6 @@
 // A run is a text. Each line asks the world or one of its backends for something, with what it answers behind ` = `.
 ghost use Rattle.std.specs.Prelude.{◌≤◌};
 
-use crate::trial::world_of;
 use std::alloc::Global;
 use std::process::Abort;
 use std::test::Fail;
@@ -11,6 +10,7 @@ use wx_command::{SpawnOptions, Spawnable};
 use wx_control::{Flag, Id};
 use wx_events::ProcessEnd;
 use wx_follow::{ScriptBackend, ScriptWorld};
+use wx_follow_trial::world_of;
 use wx_hooks::World;
 use wx_job::Host;
 use wx_journal::SpawnTag;
