@@ -3,16 +3,14 @@ use crate::cases::{Case, Part};
 use std::alloc::Global;
 use std::io;
 use wx_bytes::{MemSink, MemSource};
-use wx_replay::{Status, wx_main};
-use wx_text::{Memory, Text};
+use wx_replay::{Status, replay};
+use wx_text::Memory;
 
 /// What is written for a script, and how its run ends.
 pub fn replayed(alloc: Global, script: &[u8]) -> Result<(MemSink, Status), Memory> {
-    let mut words = Vec::new(alloc);
-    words.push(Text::from_slice(alloc, b"replay")?)?;
     let mut source = MemSource::new(alloc, script)?;
     let mut sink = MemSink::new(alloc);
-    let status = wx_main(alloc, words.as_slice(), &mut source, &mut sink);
+    let status = replay(alloc, &mut source, &mut sink);
     Ok((sink, status))
 }
 

@@ -51,6 +51,18 @@ module _ (P Q : Script → Type 0) (at : ℕ) (give : (s : Script) (kind : TurnK
         ]
       ]
 
+-- what holds of the script of no step, and stays so behind a turn and behind a line of acts, holds of each flood's script
+module _ (P : Script → Type 0) (give : (at : ℕ) (s : Script) (kind : TurnKind) → is_last kind ≡ false → P s → P (given at kind s)) (act : (s : Script) (acts : List ScriptAct) → P s → P (with_acts acts s)) (begin : (steps : ℕ) → P (begun steps)) where
+  stays : (n : ℕ) (f : Flood) → P f.script → P (flooded n f).script
+  stays zero f is = is
+  stays (suc n) f is =
+      let g = flooded n f in
+      let at = g.script.last + number 20000000 (next g.state) in
+      comes_so P P at (give at) act (number 8 (next (next g.state))) (record g { state = next (next g.state) }) (stays n f is)
+
+  pub holds_of : (steps seed : ℕ) → P (flood_script steps seed)
+  holds_of steps seed = stays steps (record { state = seed; script = begun steps }) (begin steps)
+
 -- ---- its moments
 
 stepped_last : (f : Flood) → (stepped f).script.last ≡ f.script.last + number 20000000 (next f.state)

@@ -1,5 +1,5 @@
 // The summary of a run.
-ghost use Rattle.std.specs.Prelude.{◌≡◌, ◌+◌, ◌++◌, length, IfOk, OnOk};
+ghost use Rattle.std.specs.Prelude.{◌≡◌, ◌+◌, ◌++◌, IfOk, OnOk};
 ghost use Rattle.wx_flood.specs.Summaries.{counted, counts_of, count_line, rows, with_lines, summary};
 
 use std::alloc::Global;

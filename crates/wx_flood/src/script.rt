@@ -1,5 +1,5 @@
 // The script of a flood.
-ghost use Rattle.std.specs.Prelude.{◌≡◌, ◌+◌, ◌≤◌, ◌<◌, ◌^◌, length, IfOk, OnOk};
+ghost use Rattle.std.specs.Prelude.{◌≡◌, ◌+◌, ◌≤◌, ◌<◌, ◌^◌, IfOk, OnOk};
 ghost use Rattle.wx_script.specs.Follows.{IsScript};
 ghost use Rattle.wx_flood.specs.Draws.{next, number};
 ghost use Rattle.wx_flood.specs.Floods.{priority_of, ask_of, event_of, program, creating, asking, given, arrives, acting, works, steps_job, ends_child, comes, stepped, begun, flood_script};

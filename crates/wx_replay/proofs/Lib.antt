@@ -1,4 +1,4 @@
 pub mod ReplayLaws
 mod LinkLaws
 mod StillLaws
-mod WordLaws
+mod WriteLemmas

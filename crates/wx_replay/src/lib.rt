@@ -1,10 +1,12 @@
-//! Replays of scripts: reading one, running it, and writing the journal of its run.
+//! Scripts are run, and replayed: one is read and run, and the journal of its run is written.
 #![tactic(auto)]
 
 mod replaying;
+mod running;
 mod status;
-mod top;
+mod writing;
 
 pub use replaying::replay;
+pub use running::{Ran, run_script};
 pub use status::Status;
-pub use top::wx_main;
+pub use writing::write_out;

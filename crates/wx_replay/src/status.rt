@@ -1,13 +1,13 @@
 // How the program ends.
 ghost use Rattle.std.specs.Prelude.{◌≡◌};
-ghost use Rattle.wx_replay.specs.Replays.{code_of};
+ghost use Rattle.wx_replay.specs.Writes.{code_of};
 
 /// How a call of the program ended.
 #[derive(Clone, Copy, Debug, PartialEq, Eq)]
 pub enum Status {
-    /// A run ended with Ok, and its journal was written.
+    /// A run ended with Ok, and what is due of it was written.
     Done,
-    /// A run ended with an error other than want of memory, and its journal was written.
+    /// A run ended with an error other than want of memory, and what is due of it was written.
     Critical,
     /// The words ask for nothing that there is.
     Usage,

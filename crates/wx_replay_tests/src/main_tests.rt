@@ -1,49 +1,29 @@
-// Calls of `wx_main`: other words, a script that is too long, reads and writes that fail, and the numbers of statuses. What runs of scripts
-// write stands in the folder `data` of `wx_examples`.
+// Replays: a script that is too long, reads and writes that fail, and the numbers of statuses. What runs of scripts write stands in the
+// folder `data` of `wx_examples`.
 use std::alloc::Global;
 use std::process::Abort;
 use wx_bytes::{LIMIT, MemSink, MemSource};
-use wx_replay::{Status, wx_main};
-use wx_text::{Memory, Text};
+use wx_replay::{Status, replay};
+use wx_text::Memory;
 
-/// These words, of which a space stands between two.
-fn words_of(alloc: Global, line: &[u8]) -> Result<Vec<Text>, Memory> {
-    let mut words = Vec::new(alloc);
-    for word in line.split(|byte| *byte == b' ') {
-        if !word.is_empty() {
-            words.push(Text::from_slice(alloc, word)?)?;
-        }
-    }
-    Ok(words)
-}
-
-/// What these words write for a script, and how they end.
-pub(crate) fn run(alloc: Global, line: &[u8], script: &[u8]) -> Result<(MemSink, Status), Memory> {
-    let words = words_of(alloc, line)?;
+/// What is written for a script, and how its run ends.
+pub(crate) fn run(alloc: Global, script: &[u8]) -> Result<(MemSink, Status), Memory> {
     let mut source = MemSource::new(alloc, script)?;
     let mut sink = MemSink::new(alloc);
-    let status = wx_main(alloc, words.as_slice(), &mut source, &mut sink);
+    let status = replay(alloc, &mut source, &mut sink);
     Ok((sink, status))
 }
 
-/// Ends the test where this isn't so of this script, or of these words.
+/// Ends the test where this isn't so of this script.
 pub(crate) fn expect_so(rt: &impl Abort, so: bool, script: &[u8]) {
     assert!(rt; so, "of {script:?}");
 }
 
 /// Holds what is written for this script to be this text, and the run to end so.
 fn expect_text(rt: &impl Abort, alloc: Global, script: &[u8], text: &[u8], want: Status) {
-    let (sink, status) = run(alloc, b"replay", script).expect(rt, "memory for a run");
+    let (sink, status) = run(alloc, script).expect(rt, "memory for a run");
     expect_so(rt, sink.text().as_slice() == text, script);
     expect_so(rt, status == want, script);
-    drop(sink);
-}
-
-/// These words ask for nothing that there is.
-fn expect_usage(rt: &impl Abort, alloc: Global, line: &[u8]) {
-    let (sink, status) = run(alloc, line, b"turn 0 work\n").expect(rt, "memory for a run");
-    expect_so(rt, sink.text().as_slice().is_empty(), line);
-    expect_so(rt, status == Status::Usage, line);
     drop(sink);
 }
 
@@ -78,23 +58,6 @@ fn the_limit(rt: HostRuntime) {
     );
 }
 
-const OTHER_WORDS: [&[u8]; 7] = [
-    b"",
-    b"flood 07 1",
-    b"Replay",
-    b"replay x",
-    b"replay replay",
-    b"repla",
-    b"replays",
-];
-
-#[test]
-fn other_words(rt: HostRuntime) {
-    for line in &OTHER_WORDS {
-        expect_usage(&rt, rt.alloc(), line);
-    }
-}
-
 /// Ends the test where this isn't so where this call fails.
 fn expect_at(rt: &impl Abort, so: bool, call: u64) {
     assert!(rt; so, "at {call}");
@@ -108,10 +71,10 @@ fn failing_source(rt: &impl Abort, alloc: Global, call: u64) -> MemSource {
 }
 
 /// A run in which this read fails.
-fn expect_no_read(rt: &impl Abort, alloc: Global, words: &[Text], call: u64) {
+fn expect_no_read(rt: &impl Abort, alloc: Global, call: u64) {
     let mut source = failing_source(rt, alloc, call);
     let mut sink = MemSink::new(alloc);
-    let status = wx_main(alloc, words, &mut source, &mut sink);
+    let status = replay(alloc, &mut source, &mut sink);
     expect_at(rt, status == Status::ReadFault, call);
     expect_at(rt, sink.text().as_slice().is_empty(), call);
     expect_at(rt, source.faults() == 1, call);
@@ -121,10 +84,9 @@ fn expect_no_read(rt: &impl Abort, alloc: Global, words: &[Text], call: u64) {
 
 #[test]
 fn a_failed_read_writes_nothing(rt: HostRuntime) {
-    let words = words_of(rt.alloc(), b"replay").expect(&rt, "words");
     // in pieces of 5 these are four reads, of which the last finds the end
     for call in [1, 2, 3, 4] {
-        expect_no_read(&rt, rt.alloc(), words.as_slice(), call);
+        expect_no_read(&rt, rt.alloc(), call);
     }
 }
 
@@ -135,10 +97,10 @@ fn failing_sink(rt: &impl Abort, alloc: Global, call: u64) -> MemSink {
 }
 
 /// A run in which this write fails, and these bytes were written.
-fn expect_no_write(rt: &impl Abort, alloc: Global, words: &[Text], call: u64, held: &[u8]) {
+fn expect_no_write(rt: &impl Abort, alloc: Global, call: u64, held: &[u8]) {
     let mut source = MemSource::new(alloc, b"no\n").expect(rt, "a source");
     let mut sink = failing_sink(rt, alloc, call);
-    let status = wx_main(alloc, words, &mut source, &mut sink);
+    let status = replay(alloc, &mut source, &mut sink);
     expect_at(rt, status == Status::WriteFault, call);
     expect_at(rt, sink.text().as_slice() == held, call);
     expect_at(rt, sink.faults() == 1, call);
@@ -148,10 +110,9 @@ fn expect_no_write(rt: &impl Abort, alloc: Global, words: &[Text], call: u64, he
 
 #[test]
 fn a_failed_write_leaves_a_front(rt: HostRuntime) {
-    let words = words_of(rt.alloc(), b"replay").expect(&rt, "words");
-    expect_no_write(&rt, rt.alloc(), words.as_slice(), 1, b"");
-    expect_no_write(&rt, rt.alloc(), words.as_slice(), 2, b"bad ");
-    expect_no_write(&rt, rt.alloc(), words.as_slice(), 3, b"bad line");
+    expect_no_write(&rt, rt.alloc(), 1, b"");
+    expect_no_write(&rt, rt.alloc(), 2, b"bad ");
+    expect_no_write(&rt, rt.alloc(), 3, b"bad line");
 }
 
 const CODES: [(Status, u8); 7] = [

@@ -61,7 +61,7 @@ fn steps_behind(journal: &[u8], applied: &[u8]) -> u64 {
 
 /// Holds the steps behind each line of this row to be some, and to be enough, or not.
 fn expect_steps(rt: &impl Abort, alloc: Global, row: &Row, enough: bool) {
-    let (sink, _) = run(alloc, b"replay", row.0).expect(rt, "memory for a run");
+    let (sink, _) = run(alloc, row.0).expect(rt, "memory for a run");
     for (applied, most) in row.1 {
         let steps = steps_behind(sink.text().as_slice(), applied);
         expect_so(rt, steps > 0, row.0);
@@ -110,7 +110,7 @@ fn with_steps(alloc: Global, front: &[u8], steps: u32) -> Result<Text, Memory> {
 /// nothing more to do.
 fn settles(alloc: Global, lines: &[u8], front: &[u8]) -> Result<bool, Memory> {
     let script = with_turns(alloc, lines)?;
-    let (sink, _) = run(alloc, b"replay", script.as_slice())?;
+    let (sink, _) = run(alloc, script.as_slice())?;
     let journal = cut(sink.text().as_slice(), 10).map_or(b"".as_slice(), |parts| parts.1);
     for steps in 1..17 {
         if journal == with_steps(alloc, front, steps)?.as_slice() {

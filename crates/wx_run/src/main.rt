@@ -1,4 +1,4 @@
-//! Runs scripts of events, and writes the journal of each run.
+//! Runs scripts of events, and writes the journal of each run, or its summary where the script is drawn.
 #![tactic(auto)]
 
 use log::{Log, warn};
@@ -8,8 +8,9 @@ use std::process::ExitCode;
 use std::{env, io};
 use wx_bytes::{StdSink, StdSource};
 use wx_refusal::{KeepingSource, Refusal, refusal};
-use wx_replay::{Status, wx_main};
+use wx_replay::Status;
 use wx_text::{Memory, Text};
+use wx_top::wx_main;
 
 /// The words of the command line, without the program's name. There are none where one of them is no text.
 fn words(rt: &HostRuntime) -> Result<Vec<Text>, Memory> {
@@ -50,7 +51,8 @@ fn warn_of(rt: &impl Log, status: Status, why: Option<Refusal<'_>>) {
         Status::Critical => {
             warn!(rt; "status 1: the run ended with an error, which the end line on standard output tells")
         }
-        Status::Usage => warn!(rt; "status 2: call it so: wx_run replay < SCRIPT"),
+        Status::Usage =>
+            warn!(rt; "status 2: call it so: wx_run replay < SCRIPT, or wx_run flood N SEED with N up to 100000"),
         Status::NoScript => warn_of_script(rt, why),
         Status::ReadFault => warn!(rt; "status 4: standard input could not be read"),
         Status::WriteFault => warn!(rt; "status 5: standard output could not be written whole"),

@@ -1,67 +1,20 @@
+use Rattle.std.proofs.Common.{◌∙◌, sym}
 use Rattle.std.proofs.lemmas.Result.{IfOk-weaker}
-use Rattle.std.proofs.Common.{◌∙◌, sym, ap, subst, true, Some, List}
-use Rattle.wx_journal.specs.declared.entry.Entry.{Entry}
-use Rattle.wx_journal.specs.Told.{tells, is_turn, is_world, anywhere}
-use Rattle.wx_machine.specs.Answer.{Answers}
-use Rattle.wx_machine.specs.Start.{Start}
 use Rattle.wx_print.proofs.OneSpelling.{one_spelling}
-use Rattle.wx_script.specs.FollowLaws.{follows_turns, follows_answers, wished_follows}
-use Rattle.wx_file_turns.specs.FewSteps.{FewSteps}
-use Rattle.wx_machine.specs.Journal.{Verdict}
-use Rattle.wx_script.specs.Acted.{dirs}
-use Rattle.wx_script.specs.Answered.{AreAnswered}
-use Rattle.wx_script.specs.Turns.{Given, turns_of}
-use Rattle.wx_replay.specs.Replays.{IsReplay, IsWritten}
-use Rattle.wx_replay.specs.Still.{first_tree}
-use Rattle.wx_replay.proofs.LinkLaws.{ask_none, starts_calm}
-use Rattle.wx_replay.proofs.StillLaws.{first_named, foreseen, none_rises}
+use Rattle.wx_replay.specs.Replays.{IsReplay}
+use Rattle.wx_replay.specs.Writes.{IsWritten}
 use Rattle.wx_replay.proofs.replaying.play.Goals as goal
 
 pub returns-clause-text : goal.returns-clause-text
-returns-clause-text c = IfOk-weaker c.shown-out.result _ (λ r. IsReplay c.args.script.now r.0 r.1) (λ r whole.
-    let j : List Entry = c.main-answer.new.journal.past in
-    let kept = wished_follows c.args.script.now _ j c.in_ok-hooks.ensures.plan (c.main-answer.ensures.rule (sym c.short-short_hooks.ensures ∙ whole.1) c.in_ok-hooks.ensures.stands) in
-    let shown = whole.2 in
-    let turns = follows_turns c.args.script.now _ c.main-answer.new.world.told.past j
-    (c.main-answer.ensures.world_plan ∙ c.in_ok-world.ensures.plan)
-    c.main-answer.new.world.follows
-    (c.main-answer.ensures.turns ∙ ap (λ (before : List Entry). tells (anywhere is_turn) j (Some (turns_of before))) c.in_ok-world.ensures.told) in
-    record {
-      journal = j;
-      answer = c.main-answer.result;
-      ready = _;
-      answers = subst (λ (s : Start). Answers s j c.main-answer.result) c.in_ok-engine.ensures c.main-answer.ensures.answer;
-      follows = record {
-        turns = turns;
-        acts = kept.0;
-        filtered = kept.1;
-        judged = kept.2;
-        wished = kept.3;
-        polled = kept.4;
-        hooked = kept.5;
-        answers = follows_answers c.args.script.now _ c.main-answer.new.world.told.past j
-            (c.main-answer.ensures.world_plan ∙ c.in_ok-world.ensures.plan)
-            (λ k. (c.main-answer.new.world.answered (sym c.short-short_world.ensures ∙ whole.0) k).0)
-            (c.main-answer.ensures.world ∙ ap (λ (before : List Entry). tells is_world j (Some before)) c.in_ok-world.ensures.told);
-      };
-      fits = shown.fits;
-      text_is = shown.text_is;
-      only = λ other said f g e. one_spelling other j said c.main-answer.result f shown.fits.0 g shown.fits.1 (sym e ∙ shown.text_is);
-      status_is = shown.status_is;
-      few = λ still.
-          let start = c.in_ok-engine.ensures in
-          let asks = ask_none c.args.script.now.turns c.args.script.now.last c.args.script.now.actions j still.turns still.acts turns kept.0 in
-          let calm = starts_calm start j still.follow asks (subst (λ (lines : List Verdict). AreAnswered dirs lines j) still.dirs kept.2) in
-          let plan = c.in_ok-world.ensures.plan in
-          let end_plan = c.main-answer.ensures.world_plan ∙ plan in
-          subst (λ (s : Start). FewSteps s (first_tree c.args.script.now) j) start (c.main-answer.ensures.settles (first_tree c.args.script.now) (λ n q. true) (record {
-            named = first_named c.args.script.now c.requires.placed;
-            foresees = foreseen c.args.script.now _ _ _ _ _ _ _ c.in_ok-world.ensures.told (ap (λ (g : Given). g.edits) plan) c.in_ok-world.world.first (c.in_ok-world.ensures.watches ∙ still.watches) still.stamps;
-            no_fault = none_rises _ _ _ c.args.script.now.failing_looks c.main-answer.new.world.tree.calm (ap (λ (g : Given). g.fails) end_plan) still.looks;
-            calm = calm;
-          }));
-    }
-    ) c.shown-out.ensures
+returns-clause-text c = IfOk-weaker c.shown-out.result _ (λ r. IsReplay c.args.script.now r.0 r.1) (λ r shown. record {
+  journal = c.in_ok-ran.ran.journal.past;
+  answer = c.in_ok-ran.ran.answer;
+  run = c.in_ok-ran.ensures;
+  fits = shown.fits;
+  text_is = shown.text_is;
+  only = λ other said f g e. one_spelling other _ said _ f shown.fits.0 g shown.fits.1 (sym e ∙ shown.text_is);
+  status_is = shown.status_is;
+}) c.shown-out.ensures
 
 pub returns-clause-status : goal.returns-clause-status
-returns-clause-status c = IfOk-weaker c.shown-out.result _ (λ r. IsWritten r.1) (λ r whole. whole.2.written) c.shown-out.ensures
+returns-clause-status c = IfOk-weaker c.shown-out.result _ (λ r. IsWritten r.1) (λ r shown. shown.written) c.shown-out.ensures

@@ -1,0 +1,2 @@
+mod FloodLaws
+mod WordLaws

@@ -1,0 +1,3 @@
+pub mod Floods
+pub mod Requests
+pub mod Serves

@@ -1,0 +1,8 @@
+//! What the program does for its words: a row for each request that they may make.
+#![tactic(auto)]
+
+mod flooding;
+mod request;
+mod top;
+
+pub use top::wx_main;
