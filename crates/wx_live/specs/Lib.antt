@@ -1,0 +1,4 @@
+pub mod Drawn
+pub mod Lives
+pub mod Placed
+pub mod PlacedLaws
