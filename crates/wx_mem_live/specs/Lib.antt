@@ -1,0 +1,4 @@
+pub mod Drawing
+pub mod Unseen
+pub mod UnseenLaws
+pub mod Untold
