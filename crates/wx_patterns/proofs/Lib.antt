@@ -1,0 +1,5 @@
+pub mod FrontLemmas
+pub mod LastLemmas
+pub mod LawLemmas
+pub mod RowLemmas
+pub mod WordLemmas

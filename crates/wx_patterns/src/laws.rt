@@ -1,0 +1,9 @@
+// Laws of what is ignored.
+ghost use Rattle.wx_patterns.specs.Laws.{AllBelowIsIgnored, NoEventPassesBelow};
+
+/// What is at or below an ignored folder is ignored; an event that has paths, all of them there, doesn't pass.
+#[tactic(auto, using(crate::proofs::LawLemmas::all_below, crate::proofs::LawLemmas::no_event_below))]
+pub fn nothing_passes_below()
+    ensures paths { AllBelowIsIgnored }
+    ensures events { NoEventPassesBelow }
+{}

@@ -1,0 +1,14 @@
+//! A filter by patterns of paths that are to be ignored.
+#![tactic(auto)]
+
+mod fronts;
+mod ignoring;
+mod laws;
+mod parts;
+mod pattern;
+mod patterns;
+mod rows;
+
+pub use laws::nothing_passes_below;
+pub use pattern::Pattern;
+pub use patterns::{AddError, Patterns};
