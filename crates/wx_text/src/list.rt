@@ -164,7 +164,8 @@ impl<T> List<T> {
 
 impl<T: Copies + Drop> Copies for List<T> {
     fn copy(&self, alloc: Global) -> Result<Self, Memory> {
-        let mut items = Vec::new(alloc);
+        // Room for just these: a list that grows has room for four at least.
+        let mut items = Vec::with_capacity(alloc, self.items.len())?;
         for x in &self.items {
             let y = x.copy(alloc)?;
             items.push(y)?;
