@@ -52,7 +52,7 @@ impl Supply {
 fn reversed(alloc: Global, turns: &List<ScriptTurn>) -> Result<Vec<ScriptTurn>, Memory>
     ensures { IfOk result (λ items. items.items ≡ reverse turns.now) }
 {
-    let mut items = Vec::new(alloc);
+    let mut items = Vec::with_capacity(alloc, turns.len())?;
     for turn in turns.as_slice() {
         let copied = turn.copy(alloc)?;
         items.push(copied)?;

@@ -35,9 +35,9 @@ fn shown(alloc: Global, ran: &Ran) -> Result<(Text, Status), Memory>
 }
 
 /// Runs a script. The text is the journal of the run with its end line.
-fn play(alloc: Global, script: &Script) -> Result<(Text, Status), Memory>
-    requires { IsScript script.now }
-    ensures text { IfOk result (λ r. IsReplay script.now r.0 r.1) }
+fn play(alloc: Global, script: Script) -> Result<(Text, Status), Memory>
+    requires { IsScript script }
+    ensures text { IfOk result (λ r. IsReplay script r.0 r.1) }
     ensures status { IfOk result (λ r. IsWritten r.1) }
 {
     let ran = run_script(alloc, script)?;
@@ -63,7 +63,7 @@ fn reply(alloc: Global, bytes: &[u8]) -> Result<(Text, Status), Memory>
     ensures status { IfOk result (λ r. IsWritten r.1) }
 {
     match read_script(alloc, bytes)? {
-        Ok(script) => play(alloc, &script),
+        Ok(script) => play(alloc, script),
         Err(bad) => Ok((about_line(alloc, bad.0)?, Status::NoScript)),
     }
 }

@@ -77,15 +77,17 @@ fn unless_short(short_world: bool, short_hooks: bool, ran: Ran) -> Result<Ran, M
     Ok(ran)
 }
 
-/// Runs a script. It fails only for want of memory of the world and the hooks that follow it: what the run answered is told.
-pub fn run_script(alloc: Global, script: &Script) -> Result<Ran, Memory>
-    requires { IsScript script.now }
-    ensures { IfOk result (λ ran. IsRunOf script.now ran.journal.past ran.answer) }
+/// Runs a script, and lets it go before its first turn. It fails only for want of memory of the world and the hooks that follow it: what
+/// the run answered is told.
+pub fn run_script(alloc: Global, script: Script) -> Result<Ran, Memory>
+    requires { IsScript script }
+    ensures { IfOk result (λ ran. IsRunOf script ran.journal.past ran.answer) }
 {
     let mut journal = Journal::new(alloc)?;
-    let engine = engine_of(alloc, script)?;
-    let mut hooks = ScriptHooks::new(alloc, script)?;
-    let mut world = ScriptWorld::new(alloc, script)?;
+    let engine = engine_of(alloc, &script)?;
+    let mut hooks = ScriptHooks::new(alloc, &script)?;
+    let mut world = ScriptWorld::new(alloc, &script)?;
+    drop(script);
     let answer = engine.main(alloc, &mut world, &mut hooks, &mut journal);
     let short_world = world.short();
     let short_hooks = hooks.short();

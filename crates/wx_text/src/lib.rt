@@ -1,8 +1,10 @@
-//! Texts and lists, and want of memory.
+//! Texts, lists and boxes, and want of memory.
 #![tactic(auto)]
 
+mod boxed;
 mod list;
 mod text;
 
+pub use boxed::Boxed;
 pub use list::{Copies, List, Memory, copy_twice};
 pub use text::Text;

@@ -31,8 +31,7 @@ fn summary(alloc: Global, steps: u64, seed: u64) -> Result<Text, Memory>
     ensures { IfOk result (λ text. IsFlood steps seed text Done) }
 {
     let script = flood_script(alloc, steps, seed)?;
-    let ran = run_script(alloc, &script)?;
-    drop(script);
+    let ran = run_script(alloc, script)?;
     let text = summary_of_run(alloc, &ran);
     drop(ran);
     text

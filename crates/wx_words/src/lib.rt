@@ -1,6 +1,7 @@
 //! The words in which values are written. It offers want of memory again.
 #![tactic(auto, unfolding(crate::specs::Line::behind))]
 
+mod boxes;
 mod cursor;
 mod done;
 mod dotted;

@@ -6,7 +6,7 @@ use Rattle.wx_replay.specs.Writes.{IsWritten}
 use Rattle.wx_replay.proofs.replaying.play.Goals as goal
 
 pub returns-clause-text : goal.returns-clause-text
-returns-clause-text c = IfOk-weaker c.shown-out.result _ (λ r. IsReplay c.args.script.now r.0 r.1) (λ r shown. record {
+returns-clause-text c = IfOk-weaker c.shown-out.result _ (λ r. IsReplay c.args.script r.0 r.1) (λ r shown. record {
   journal = c.in_ok-ran.ran.journal.past;
   answer = c.in_ok-ran.ran.answer;
   run = c.in_ok-ran.ensures;
