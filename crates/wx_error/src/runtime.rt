@@ -5,7 +5,7 @@ use std::alloc::Global;
 use std::fmt;
 use thiserror::Error;
 use wx_events::{Event, Priority, Signal};
-use wx_text::{Copies, Memory, Text};
+use wx_text::{Boxed, Copies, Memory, Text};
 use wx_watch::{FsWatcherError, KeyboardWatcherError, Watcher};
 use wx_words::{Escaped, Spelled, Words, put_row, put_word, read_rows};
 
@@ -24,11 +24,11 @@ pub enum RuntimeError {
         about: Text,
         err: u32,
     },
-    /// The watching of files failed.
+    /// The watching of files failed. What failed stands in a box, since it is larger than what other errors hold.
     #[error("fswatcher {kind} {err}")]
     FsWatcher {
         kind: Watcher,
-        err: FsWatcherError,
+        err: Boxed<FsWatcherError>,
     },
     /// The reading of keys failed.
     #[error("keyboard {err}")]

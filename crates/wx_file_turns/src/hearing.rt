@@ -24,7 +24,7 @@ use wx_fs::Recursor;
 use wx_journal::{Entry, Journal};
 use wx_lane::{LaneItem, Topology, topology_messages};
 use wx_scan::Backend;
-use wx_text::{Copies, List, Memory};
+use wx_text::{Boxed, Copies, List, Memory};
 use wx_watch::{FsWatcherError, NotifyFault, Watcher};
 use wx_worker::{Hooks, Worker};
 
@@ -149,7 +149,7 @@ fn show_found<H: Hooks>(
         drop(fault);
         return Ok(());
     }
-    let err = FsWatcherError::Event(fault);
+    let err = Boxed::new(alloc, FsWatcherError::Event(fault))?;
     show_owed(
         alloc,
         RuntimeError::FsWatcher { kind, err },

@@ -279,7 +279,7 @@ fn wish_so(alloc: Global, wish: &Wish, hook: &mut ErrorHook) -> Result<(), Memor
             hook.elevate();
             Ok(())
         }
-        Wish::Critical(error) => hook.critical(alloc, error.copy(alloc)?),
+        Wish::Critical(error) => hook.critical(alloc, error.get().copy(alloc)?),
     }
 }
 

@@ -6,7 +6,7 @@ ghost use Rattle.wx_recursor.specs.Written.{handed_error, handed_fault, handed_i
 use std::alloc::Global;
 use wx_error::RuntimeError;
 use wx_recursor::{Identity, Look, ScanFault, ShownError};
-use wx_text::{List, Memory};
+use wx_text::{Boxed, List, Memory};
 use wx_watch::{
     EntryKind, FsWatcherError, Identity as HandedIdentity, ScanFault as HandedFault, Watcher,
 };
@@ -46,10 +46,11 @@ fn handed_fault(alloc: Global, fault: &ScanFault) -> Result<HandedFault, Memory>
     }
 }
 
-fn of_watching(kind: Watcher, err: FsWatcherError) -> RuntimeError
-    ensures { result ≡ FsWatcher kind err }
+fn of_watching(alloc: Global, kind: Watcher, err: FsWatcherError) -> Result<RuntimeError, Memory>
+    ensures { IfOk result (λ error. error ≡ FsWatcher kind err) }
 {
-    RuntimeError::FsWatcher { kind, err }
+    let err = Boxed::new(alloc, err)?;
+    Ok(RuntimeError::FsWatcher { kind, err })
 }
 
 /// The error, as it is handed out for this watcher. It fails only for want of memory.
@@ -59,22 +60,22 @@ fn handed_error(alloc: Global, kind: Watcher, error: ShownError) -> Result<Runti
     match error {
         ShownError::PathAdd(at, err) => {
             let path = at.path(alloc)?;
-            Ok(of_watching(kind, FsWatcherError::PathAdd { path, err }))
+            of_watching(alloc, kind, FsWatcherError::PathAdd { path, err })
         }
         ShownError::PathScan(at, fault) => {
             let path = at.path(alloc)?;
             let err = handed_fault(alloc, &fault)?;
-            Ok(of_watching(kind, FsWatcherError::PathScan { path, err }))
+            of_watching(alloc, kind, FsWatcherError::PathScan { path, err })
         }
         ShownError::PathRemove(at, err) => {
             let path = at.path(alloc)?;
-            Ok(of_watching(kind, FsWatcherError::PathRemove { path, err }))
+            of_watching(alloc, kind, FsWatcherError::PathRemove { path, err })
         }
         ShownError::TooManyWatches(fault) => {
-            Ok(of_watching(kind, FsWatcherError::TooManyWatches(fault)))
+            of_watching(alloc, kind, FsWatcherError::TooManyWatches(fault))
         }
         ShownError::TooManyHandles(fault) => {
-            Ok(of_watching(kind, FsWatcherError::TooManyHandles(fault)))
+            of_watching(alloc, kind, FsWatcherError::TooManyHandles(fault))
         }
         ShownError::Filter(error) => Ok(error),
     }

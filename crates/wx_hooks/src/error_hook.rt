@@ -8,7 +8,7 @@ use std::alloc::Global;
 use std::marker::Model;
 use wx_error::{CriticalError, RuntimeError};
 use wx_journal::{Entry, Wish};
-use wx_text::{Copies, Memory};
+use wx_text::{Boxed, Copies, Memory};
 
 /// A value twice: one stays, and one is moved out.
 #[derive(Drop, Debug)]
@@ -121,7 +121,7 @@ impl ErrorHook {
         ensures wish { OnOk result (self.new ≡ record self.old { wish = first_wish self.old.wish (Critical error) }) }
         ensures refused { OnErr result (self.new ≡ self.old) }
     {
-        let wish = make_twice(alloc, Wish::Critical(error))?;
+        let wish = make_twice(alloc, Wish::Critical(Boxed::new(alloc, error)?))?;
         set_once(&mut self.wish, wish);
         Ok(())
     }

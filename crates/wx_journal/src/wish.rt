@@ -2,7 +2,7 @@
 
 use std::alloc::Global;
 use wx_error::CriticalError;
-use wx_text::{Copies, Memory, Text};
+use wx_text::{Boxed, Copies, Memory, Text};
 use wx_words::{Spelled, Words, put_row, put_word, read_rows};
 
 /// What an error handler wishes, of an error that it was shown.
@@ -13,7 +13,7 @@ pub enum Wish {
     /// The run is to end with this error.
     Elevate,
     /// The run is to end with that error. `Exit` is to end it without one.
-    Critical(CriticalError),
+    Critical(Boxed<CriticalError>),
 }
 
 // Its parts are dropped by one call: docs/DESIGN.md, "What proofs cost".

@@ -31,7 +31,10 @@ pub fn is_exit(answer: &Result<bool, RuntimeError>) -> bool
 fn is_close(wish: &Wish) -> bool
     ensures { result ≡ is_close wish.now }
 {
-    matches!(wish, Wish::Critical(CriticalError::Exit))
+    match wish {
+        Wish::Critical(error) => matches!(error.get(), CriticalError::Exit),
+        Wish::Nothing | Wish::Elevate => false,
+    }
 }
 
 /// The error that a wish ends the run with. It fails only for want of memory.
@@ -40,12 +43,15 @@ fn ending(alloc: Global, error: &RuntimeError, wish: &Wish) -> Result<Option<Cri
     ensures wants { OnErr result (is_some (ending error.now wish.now) ≡ true) }
 {
     match wish {
-        Wish::Nothing | Wish::Critical(CriticalError::Exit) => Ok(None),
+        Wish::Nothing => Ok(None),
         Wish::Elevate => Ok(Some(CriticalError::Elevated {
             err: error.copy(alloc)?,
             help: None,
         })),
-        Wish::Critical(wished) => Ok(Some(wished.copy(alloc)?)),
+        Wish::Critical(wished) => match wished.get() {
+            CriticalError::Exit => Ok(None),
+            wished => Ok(Some(wished.copy(alloc)?)),
+        },
     }
 }
 
