@@ -1,2 +1,2 @@
-pub mod GreatestLemmas
 pub mod BagLaws
+pub mod WaitingLemmas

@@ -1,5 +1,5 @@
 pub mod SameBag
 pub mod Channel
 pub mod Refused
-pub mod Greatest
+pub mod Waiting
 pub mod Order

@@ -4,9 +4,11 @@ ghost use Rattle.prio_channel.specs.Channel.{open_empty, HasRoom, IsFull, AllAtM
 ghost use Rattle.prio_channel.specs.SameBag.{SameBag, Takes};
 ghost use Rattle.prio_channel.specs.Refused.{Refuses};
 ghost use Rattle.prio_channel.specs.declared.queue.TrySendError.TheVariants.{Closed, Full};
-ghost use Rattle.prio_channel.specs.Greatest.{IsGreatestAt};
 
+use crate::waiting::Waiting;
+use slab::Slab;
 use std::alloc::Global;
+use std::collections::BinaryHeap;
 use std::marker::Model;
 use wx_events::Priority;
 use wx_text::Memory;
@@ -21,40 +23,38 @@ pub enum TrySendError<T> {
 }
 
 /// A bounded queue of pairs of a value and a priority, from which a pair of the greatest priority
-/// comes first. Pairs of one priority come in any order. Contracts see the pairs as a list whose
-/// order means nothing, the size, and whether the queue is closed.
+/// comes first, and of equal ones that which was sent first. The values stand in slots, and a heap has
+/// the order in which they leave. Contracts see the pairs as a list whose order means nothing, the size,
+/// and whether the queue is closed.
 #[derive(Drop, Debug)]
 pub struct PrioQueue<T> {
-    items: Vec<(T, Priority)>,
+    waiting: BinaryHeap<Waiting>,
+    values: Slab<T>,
+    sent: u64,
     size: u32,
     closed: bool,
 }
 
 impl<T> Model for PrioQueue<T> {
-    ghost use Rattle.std.specs.Prelude.{◌≤◌, length};
-    ghost use Rattle.std.specs.Vec.{vec_capacity};
+    ghost use Rattle.std.specs.Prelude.{◌≡◌, ◌≤◌, length};
+    ghost use Rattle.std.specs.BinaryHeap.{IsHeap, heap_capacity, heap_items, heap_len};
+    ghost use Rattle.slab.specs.Slab.{slab_len};
     ghost use Rattle.prio_channel.specs.Channel.{Channel};
+    ghost use Rattle.prio_channel.specs.Waiting.{HaveSlots, pairs, waiting_cmp};
 
     ghost Value = { Channel T };
 
-    ghost view = { λ q. record { items = q.items.items; size = q.size; closed = q.closed } };
+    ghost view = { λ q. record { items = pairs q.values (heap_items q.waiting); size = q.size; closed = q.closed } };
 
-    ghost invariant = { λ q. (q.size ≤ vec_capacity q.items) × (length q.items.items ≤ q.size) × (1 ≤ q.size) × (q.size ≤ 65536) };
-}
-
-/// The index of a pair of greatest priority.
-fn greatest<T>(items: &[(T, Priority)]) -> usize
-    requires { 0 < length items.now }
-    ensures within { result < length items.now }
-    ensures greatest { IsGreatestAt items.now result }
-{
-    let mut best = 0;
-    for i in 0..items.len() {
-        if items[best].1.rank() < items[i].1.rank() {
-            best = i;
-        }
-    }
-    best
+    ghost invariant = { λ q.
+        IsHeap waiting_cmp (heap_items q.waiting)
+        × HaveSlots q.values (heap_items q.waiting)
+        × (slab_len q.values ≡ heap_len q.waiting)
+        × (heap_len q.waiting ≤ q.size)
+        × (q.size ≤ heap_capacity q.waiting)
+        × (q.size ≤ q.values.capacity)
+        × (1 ≤ q.size)
+        × (q.size ≤ 65536) };
 }
 
 impl<T> PrioQueue<T> {
@@ -66,7 +66,9 @@ impl<T> PrioQueue<T> {
         ensures { IfOk result (λ queue. queue ≡ open_empty size) }
     {
         Ok(PrioQueue {
-            items: Vec::with_capacity(alloc, size as usize)?,
+            waiting: BinaryHeap::with_capacity(alloc, size as usize)?,
+            values: Slab::with_capacity(alloc, size as usize)?,
+            sent: 0,
             size,
             closed: false,
         })
@@ -75,6 +77,7 @@ impl<T> PrioQueue<T> {
     /// Puts a pair in. Where the queue is closed, the answer is `Closed` with the pair; else, where
     /// the queue has as many pairs as its size, `Full` with the pair. Both leave the queue as it was.
     /// It takes no memory, and fails in no other way.
+    #[tactic(auto, using(crate::proofs::WaitingLemmas::pairs_length))]
     pub fn try_send(&mut self, value: T, priority: Priority) -> Result<(), TrySendError<T>>
         // What each answer says.
         ensures sent { OnOk result (SameBag self.new.items (self.old.items ++ (value, priority) ∷ [])) }
@@ -94,10 +97,19 @@ impl<T> PrioQueue<T> {
         if self.closed {
             return Err(TrySendError::Closed(value, priority));
         }
-        if self.items.len() >= self.size as usize {
+        if self.waiting.len() >= self.size as usize {
             return Err(TrySendError::Full(value, priority));
         }
-        self.items.push_reserved((value, priority));
+        let slot = self.values.insert_reserved(value);
+        let sequence = self.sent;
+        self.sent = sequence.wrapping_add(1);
+        self.waiting
+            .push(Waiting {
+                priority,
+                sequence,
+                slot,
+            })
+            .unwrap();
         Ok(())
     }
 
@@ -112,11 +124,8 @@ impl<T> PrioQueue<T> {
         ensures size { self.new.size ≡ self.old.size }
         ensures closed { self.new.closed ≡ self.old.closed }
     {
-        if self.items.is_empty() {
-            return None;
-        }
-        let best = greatest(self.items.as_slice());
-        Some(self.items.remove(best))
+        let Waiting { priority, slot, .. } = self.waiting.pop()?;
+        Some((self.values.remove(slot), priority))
     }
 
     /// Closes the queue: from now on nothing is put in. What is in stays.
@@ -136,11 +145,12 @@ impl<T> PrioQueue<T> {
     }
 
     /// How many pairs are in, which is never above the size.
+    #[tactic(auto, using(crate::proofs::WaitingLemmas::pairs_length))]
     pub fn len(&self) -> u32
         ensures count { result ≡ length self.now.items }
         ensures within { result ≤ self.now.size }
     {
-        self.items.len() as u32
+        self.waiting.len() as u32
     }
 
     /// How many pairs the queue may hold.
@@ -153,9 +163,10 @@ impl<T> PrioQueue<T> {
     }
 
     /// Whether no pair is in.
+    #[tactic(auto, using(crate::proofs::WaitingLemmas::pairs_length))]
     pub fn is_empty(&self) -> bool
         ensures { result ≡ (length self.now.items == 0) }
     {
-        self.items.is_empty()
+        self.waiting.is_empty()
     }
 }

@@ -11,6 +11,7 @@ use wx_words_trial::{first_wrong_pair, read_line};
 const CALLS: &str = "\
 2: 1 low, 2 urgent, 3 high, take, take, take, look = sent, sent, Full(3, High), 2 urgent, 1 low, none, open empty 0 of 2
 1: 1 normal, look, close, look, 2 urgent, look, take, 3 low, take = sent, open 1 of 1, closed, closed 1 of 1, Closed(2, Urgent), closed 1 of 1, 1 normal, Closed(3, Low), none
+4: 1 high, 2 low, 3 high, 4 high, take, 5 high, take, take, take, take, take = sent, sent, sent, sent, 1 high, sent, 3 high, 4 high, 5 high, 2 low, none
 ";
 
 /// What the queue shows.

@@ -1,15 +1,16 @@
-use Rattle.std.proofs.Common.{◌<◌, length, refl}
-use Rattle.std.proofs.lemmas.Option.{slice_get_read}
-use Rattle.prio_channel.proofs.BagLaws.{same-refl}
-use Rattle.prio_channel.proofs.GreatestLemmas.{greatest-here}
+use Rattle.std.proofs.Common.{rules}
+use Rattle.prio_channel.proofs.WaitingLemmas.{slots_taken, pairs_taken, pairs_at_most}
 use Rattle.prio_channel.proofs.queue.PrioQueue.try_recv.Goals as goal
 
+pub invariant_of-self-2 : goal.invariant_of-self-2
+invariant_of-self-2 g c =
+    let slots = slots_taken _ _ _ _ _ c.remove.ensures.updates c.in_ok-priority.ensures.permutation c.self.invariant.1 in
+    (search rules, slots, search rules, search rules, search rules, search rules, search rules, search rules)
+
 pub returns-clause-taken : goal.returns-clause-taken
-returns-clause-taken g c =
-    let lt : c.greatest-best.result < length c.self.inside.items.items = rw c.as_slice.ensures.value at c.greatest-best.ensures.within in
-    rw (c.remove.ensures.items, ← c.self.view_is)
-    (c.greatest-best.result, slice_get_read _ (length c.self.inside.items.items) _ _ refl lt c.remove.ensures.value, same-refl _)
+returns-clause-taken g c = rw (← c.self.view_is)
+    (pairs_taken _ _ _ _ _ _ c.remove.ensures.value c.remove.ensures.updates c.in_ok-priority.ensures.permutation c.self.invariant.1)
 
 pub returns-clause-greatest : goal.returns-clause-greatest
 returns-clause-greatest g c = rw (← c.self.view_is)
-    (greatest-here _ _ _ c.remove.ensures.value (rw c.as_slice.ensures.value at c.greatest-best.ensures.greatest))
+    (pairs_at_most c.self.inside.values c.in_ok-priority.field-0 _ (c.in_ok-priority.ensures.heap_order c.self.invariant.0).1)
