@@ -1,11 +1,13 @@
 // The controls that wait for a job.
-ghost use Rattle.std.specs.Prelude.{◌≡◌, ◌∷◌, ◌++◌, [], ◌+◌, ◌≤◌, ◌<◌, ◌^◌, ◌==◌, vec_len, vec_capacity, false, OnOk, OnErr, IfOk, IfSome, IfNone, MatchOption, option_map};
+ghost use Rattle.std.specs.Prelude.{◌≡◌, ◌∷◌, ◌++◌, [], ◌+◌, ◌≤◌, ◌<◌, ◌^◌, ◌==◌, false, OnOk, OnErr, IfOk, IfSome, IfNone, MatchOption, option_map};
+ghost use Rattle.std.specs.VecDeque.{deque_len, deque_capacity};
 ghost use Rattle.wx_control.specs.Waits.{IsEmpty, ticketed, picked, joined, headed, first_of, first_level, waiting_count};
 
 use crate::control::Control;
 use crate::flag::Flag;
 use crate::level::Level;
 use std::alloc::Global;
+use std::collections::VecDeque;
 use std::marker::Model;
 use wx_text::Memory;
 
@@ -30,13 +32,14 @@ pub struct Picked {
 /// their tickets, and how many more there is room for at every level.
 #[derive(Drop, Debug)]
 pub struct ThreeLists {
-    urgent: Vec<Waiting>,
-    high: Vec<Waiting>,
-    normal: Vec<Waiting>,
+    urgent: VecDeque<Waiting>,
+    high: VecDeque<Waiting>,
+    normal: VecDeque<Waiting>,
 }
 
 impl Model for ThreeLists {
-    ghost use Rattle.std.specs.Prelude.{map, min, ◌-◌, vec_len, vec_capacity};
+    ghost use Rattle.std.specs.Prelude.{map, min, ◌-◌};
+    ghost use Rattle.std.specs.VecDeque.{deque_len, deque_capacity};
     ghost use Rattle.wx_control.specs.Waits.{Waits, ticketed};
 
     ghost Value = { Waits };
@@ -45,7 +48,7 @@ impl Model for ThreeLists {
       urgent = map ticketed l.urgent.items;
       high = map ticketed l.high.items;
       normal = map ticketed l.normal.items;
-      spare = min (vec_capacity l.urgent - vec_len l.urgent) (min (vec_capacity l.high - vec_len l.high) (vec_capacity l.normal - vec_len l.normal));
+      spare = min (deque_capacity l.urgent - deque_len l.urgent) (min (deque_capacity l.high - deque_len l.high) (deque_capacity l.normal - deque_len l.normal));
     } };
 }
 
@@ -55,9 +58,9 @@ impl ThreeLists {
         ensures { IfOk result (λ lists. IsEmpty lists) }
     {
         Ok(ThreeLists {
-            urgent: Vec::new(alloc),
-            high: Vec::new(alloc),
-            normal: Vec::new(alloc),
+            urgent: VecDeque::new(alloc),
+            high: VecDeque::new(alloc),
+            normal: VecDeque::new(alloc),
         })
     }
 
@@ -108,9 +111,9 @@ impl ThreeLists {
             control,
         };
         match level {
-            Level::Urgent => self.urgent.push_reserved(waiting),
-            Level::High => self.high.push_reserved(waiting),
-            Level::Normal => self.normal.push_reserved(waiting),
+            Level::Urgent => self.urgent.push_back_reserved(waiting),
+            Level::High => self.high.push_back_reserved(waiting),
+            Level::Normal => self.normal.push_back_reserved(waiting),
         }
     }
 
@@ -118,13 +121,13 @@ impl ThreeLists {
     pub fn first(&self, grace: bool) -> Option<(u64, Control)>
         ensures { result ≡ first_of grace self.now }
     {
-        if let Some(waiting) = self.urgent.first() {
+        if let Some(waiting) = self.urgent.front() {
             return Some((waiting.ticket, waiting.control));
         }
-        if let Some(waiting) = self.high.first() {
+        if let Some(waiting) = self.high.front() {
             return Some((waiting.ticket, waiting.control));
         }
-        match self.normal.first() {
+        match self.normal.front() {
             Some(_) if grace => None,
             Some(waiting) => Some((waiting.ticket, waiting.control)),
             None => None,
@@ -175,30 +178,48 @@ impl ThreeLists {
 }
 
 /// Adds one at the end of a list. It fails only for want of memory, and nothing changes then.
-fn put_in(list: &mut Vec<Waiting>, waiting: Waiting) -> Result<(), Memory>
+fn put_in(list: &mut VecDeque<Waiting>, waiting: Waiting) -> Result<(), Memory>
     ensures ok { OnOk result (list.new.items ≡ list.old.items ++ waiting ∷ []) }
     ensures items { OnErr result (list.new.items ≡ list.old.items) }
-    ensures len { OnErr result (vec_len list.new ≡ vec_len list.old) }
-    ensures capacity { OnErr result (vec_capacity list.new ≡ vec_capacity list.old) }
+    ensures len { OnErr result (deque_len list.new ≡ deque_len list.old) }
+    ensures capacity { OnErr result (deque_capacity list.new ≡ deque_capacity list.old) }
 {
-    list.reserve(1)?;
-    list.push_reserved(waiting);
+    make_room(list)?;
+    list.push_back_reserved(waiting);
+    Ok(())
+}
+
+/// Takes room for at least one more, and for twice as many where there is none. It fails only for want of memory, and
+/// nothing changes then: `reserve_exact` promises that, and `reserve` doesn't.
+fn make_room(list: &mut VecDeque<Waiting>) -> Result<(), Memory>
+    ensures items { list.new.items ≡ list.old.items }
+    ensures len { deque_len list.new ≡ deque_len list.old }
+    ensures room { OnOk result (deque_len list.new < deque_capacity list.new) }
+    ensures kept { OnErr result (deque_capacity list.new ≡ deque_capacity list.old) }
+{
+    if list.len() < list.capacity() {
+        return Ok(());
+    }
+    list.reserve_exact(list.len().max(1))?;
     Ok(())
 }
 
 /// Takes the first of the list of this level.
-fn take_first(list: &mut Vec<Waiting>, level: Level) -> Picked
-    requires { (vec_len list.old == 0) ≡ false }
+fn take_first(list: &mut VecDeque<Waiting>, level: Level) -> Picked
+    requires { (deque_len list.old == 0) ≡ false }
     ensures items { list.old.items ≡ record { ticket = result.ticket; done = result.done; control = result.control } ∷ list.new.items }
     ensures level { result.level ≡ level }
-    ensures len { vec_len list.new + 1 ≡ vec_len list.old }
-    ensures capacity { vec_capacity list.new ≡ vec_capacity list.old }
+    ensures len { deque_len list.new + 1 ≡ deque_len list.old }
+    ensures capacity { deque_capacity list.new ≡ deque_capacity list.old }
 {
+    let Some(first) = list.pop_front() else {
+        unreachable!()
+    };
     let Waiting {
         ticket,
         done,
         control,
-    } = list.remove(0);
+    } = first;
     Picked {
         ticket,
         done,
