@@ -8,6 +8,7 @@ pub mod Entries
 pub mod Kinds
 pub mod Lines
 pub mod Names
+pub mod Owners
 pub mod Sorts
 pub mod Tags
 pub mod Told

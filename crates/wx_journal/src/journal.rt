@@ -1,10 +1,11 @@
 // The journal of a run.
-ghost use Rattle.std.specs.Prelude.{◌≡◌, ◌+◌, ◌<◌, ◌≤◌, ◌^◌, ◌==◌, if◌then◌else◌, List, false, [], ◌∷◌, length, reverse, OnOk, OnErr, IfOk};
+ghost use Rattle.std.specs.Prelude.{◌≡◌, ◌+◌, ◌<◌, ◌≤◌, ◌^◌, ◌==◌, if◌then◌else◌, List, false, [], ◌∷◌, length, reverse, slice_get, vec_len, vec_capacity, OnOk, OnErr, IfOk};
 ghost use Rattle.std.specs.List.{list_any};
 ghost use Rattle.wx_journal.specs.declared.entry.Entry.{Entry as AnEntry};
 ghost use Rattle.std.specs.Slice.Iter.{iter_rest};
 ghost use Rattle.wx_journal.specs.Names.{names_ticket, names_child, names_back, names_item, ticket_count, child_count, back_count, item_count, next_job, was_made, makes};
 ghost use Rattle.wx_journal.specs.Counted.{AreAllMade};
+ghost use Rattle.wx_journal.specs.Owners.{owners};
 
 use crate::entry::Entry;
 use std::alloc::Global;
@@ -16,10 +17,13 @@ use wx_text::Memory;
 /// The entries of a journal, in the order in which they came.
 pub type Entries<'a> = slice::Iter<'a, Entry>;
 
-/// The entries of a run so far. Contracts see the entries, the newest first, and the room that was taken for more.
+/// The entries of a run so far, and the job of each child that they spawn. Contracts see the entries, the newest first, and the
+/// room that was taken for more.
 #[derive(Drop, Debug)]
 pub struct Journal {
     entries: Vec<Entry>,
+    parents: Vec<Id>,
+    room: u64,
     tickets: u64,
     children: u64,
     backs: u64,
@@ -29,15 +33,20 @@ pub struct Journal {
 }
 
 impl Model for Journal {
-    ghost use Rattle.std.specs.Prelude.{reverse, ◌-◌, vec_len, vec_capacity};
+    ghost use Rattle.std.specs.Prelude.{reverse, ◌≡◌, ◌+◌, ◌≤◌, vec_len, vec_capacity};
     ghost use Rattle.wx_journal.specs.Written.{Written};
     ghost use Rattle.wx_journal.specs.Counted.{AreCounted};
+    ghost use Rattle.wx_journal.specs.Owners.{owners};
 
     ghost Value = { Written };
 
-    ghost view = { λ j. record { past = reverse j.entries.items; spare = vec_capacity j.entries - vec_len j.entries } };
+    ghost view = { λ j. record { past = reverse j.entries.items; spare = j.room } };
 
-    ghost invariant = { λ j. AreCounted j.tickets j.children j.backs j.items j.next_job j.gaps (reverse j.entries.items) };
+    ghost invariant = { λ j.
+        AreCounted j.tickets j.children j.backs j.items j.next_job j.gaps (reverse j.entries.items)
+        × (j.parents.items ≡ owners (reverse j.entries.items))
+        × (vec_len j.entries + j.room ≤ vec_capacity j.entries)
+        × (vec_len j.parents + j.room ≤ vec_capacity j.parents) };
 }
 
 impl Journal {
@@ -47,6 +56,8 @@ impl Journal {
     {
         Ok(Journal {
             entries: Vec::new(alloc),
+            parents: Vec::new(alloc),
+            room: 0,
             tickets: 0,
             children: 0,
             backs: 0,
@@ -64,7 +75,12 @@ impl Journal {
         ensures fits { length self.new.past + self.new.spare < 2 ^ 64 }
         ensures err { OnErr result (self.new ≡ self.old) }
     {
+        if n <= self.room {
+            return Ok(());
+        }
+        self.parents.reserve(n as usize)?;
         self.entries.reserve(n as usize)?;
+        self.room = n;
         Ok(())
     }
 
@@ -80,6 +96,8 @@ impl Journal {
         self.items = counted(self.entries.as_slice(), self.items, names_item(&entry));
         self.gaps = has_gaps(self.gaps, self.next_job, &entry);
         self.next_job = next_job(self.next_job, &entry);
+        keep_owner(&mut self.parents, &entry);
+        self.room -= 1;
         self.entries.push_reserved(entry);
     }
 
@@ -88,7 +106,7 @@ impl Journal {
         ensures spare { result ≡ self.now.spare }
         ensures fits { length self.now.past + self.now.spare < 2 ^ 64 }
     {
-        (self.entries.capacity() - self.entries.len()) as u64
+        self.room
     }
 
     /// How many tickets have a name: the next one has this name.
@@ -103,6 +121,18 @@ impl Journal {
         ensures { result ≡ child_count self.now.past }
     {
         self.children
+    }
+
+    /// The job for which the child of this name was spawned, or was to be. There is none exactly where no child has this name.
+    pub fn owner(&self, child: u64) -> Option<Id>
+        ensures { result ≡ slice_get (owners self.now.past) child }
+    {
+        let place = child as usize;
+        if place < self.parents.len() {
+            Some(self.parents[place])
+        } else {
+            None
+        }
     }
 
     /// How many backends have a name: the next one has this name.
@@ -209,6 +239,19 @@ fn any_makes(entries: &[Entry], id: Id) -> bool
     ensures { result ≡ list_any (makes id) entries.now }
 {
     entries.iter().any(|entry| makes(entry, id))
+}
+
+/// Keeps the job for which this entry spawns a child, where it does, in room that was taken.
+fn keep_owner(kept: &mut Vec<Id>, entry: &Entry)
+    requires { vec_len kept.old < vec_capacity kept.old }
+    ensures items { (p : List AnEntry) → kept.old.items ≡ owners p → kept.new.items ≡ owners (entry.now ∷ p) }
+    ensures len { vec_len kept.new ≤ vec_len kept.old + 1 }
+    ensures capacity { vec_capacity kept.new ≡ vec_capacity kept.old }
+{
+    match entry {
+        Entry::Spawn { job, .. } => kept.push_reserved(*job),
+        _ => {}
+    }
 }
 
 /// Whether an id was left out, behind this entry, where it was so before: one that makes a job above the next one does.

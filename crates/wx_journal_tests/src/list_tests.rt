@@ -77,6 +77,30 @@ letgo 3 full = 2 0 0 0 1 0
 brought 3 2 fail io 5 0 = 3 0 0 0 2 0
 heard 1 = 4 0 0 0 2 0";
 
+// A child of each of two jobs. The second wasn't spawned.
+const CHILDREN: &str = "\
+made 3
+spawn 0 3 default g--- 2 sh a%20b ok
+spawn 1 0 default g--- 2 sh a%20b fault 9";
+
+/// The number of the job for which this child was spawned.
+fn owner_of(journal: &Journal, child: u64) -> Option<u32> {
+    let id = journal.owner(child)?;
+    Some(id.0)
+}
+
+#[test]
+fn a_child_is_of_the_job_for_which_it_was_spawned(rt: HostRuntime) {
+    let mut journal = Journal::new(rt.alloc()).expect(&rt, "a journal");
+    for words in CHILDREN.lines() {
+        let found = read_entry(rt.alloc(), words).expect(&rt, "words");
+        list(&rt, &mut journal, found.expect(&rt, "an entry"));
+    }
+    assert_eq!(rt; owner_of(&journal, 0), Some(3));
+    assert_eq!(rt; owner_of(&journal, 1), Some(0));
+    assert_eq!(rt; owner_of(&journal, 2), None);
+}
+
 #[test]
 fn a_journal_counts(rt: HostRuntime) {
     for table in &[JOBS, BACKENDS, ITEMS] {

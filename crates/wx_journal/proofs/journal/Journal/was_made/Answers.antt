@@ -6,7 +6,7 @@ use Rattle.wx_journal.proofs.CountLaws.{unmade, any_reverse}
 use Rattle.wx_journal.proofs.journal.Journal.was_made.Goals as goal
 
 pub returns-then-self-id : goal.returns-then-self-id
-returns-then-self-id c = rw (← c.self.view_is) (sym (unmade c.args.id (reverse c.self.inside.entries.items) (omega (arith, c.self.invariant.job_kept, c.if-self-id.true))))
+returns-then-self-id c = rw (← c.self.view_is) (sym (unmade c.args.id (reverse c.self.inside.entries.items) (omega (arith, c.self.invariant.0.job_kept, c.if-self-id.true))))
 
 pub returns-else-not-self : goal.returns-else-not-self
 returns-else-not-self c =
