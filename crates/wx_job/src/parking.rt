@@ -2,6 +2,7 @@
 ghost use Rattle.std.specs.Prelude.{◌≡◌, ◌∷◌, ◌++◌, [], ◌+◌, ◌≤◌, length, OnOk, MatchOption};
 
 use std::alloc::Global;
+use std::collections::VecDeque;
 use std::marker::Model;
 use wx_control::Flag;
 use wx_text::Memory;
@@ -17,16 +18,17 @@ pub(crate) struct Parked {
 /// many more there is room for.
 #[derive(Drop, Debug)]
 pub(crate) struct Parking {
-    items: Vec<Parked>,
+    items: VecDeque<Parked>,
 }
 
 impl Model for Parking {
-    ghost use Rattle.std.specs.Prelude.{map, ◌-◌, vec_len, vec_capacity};
+    ghost use Rattle.std.specs.Prelude.{map, ◌-◌};
+    ghost use Rattle.std.specs.VecDeque.{deque_len, deque_capacity};
     ghost use Rattle.wx_job.specs.Parkings.{Tickets};
 
     ghost Value = { Tickets };
 
-    ghost view = { λ l. record { tickets = map (λ x. x.ticket) l.items.items; spare = vec_capacity l.items - vec_len l.items } };
+    ghost view = { λ l. record { tickets = map (λ x. x.ticket) l.items.items; spare = deque_capacity l.items - deque_len l.items } };
 }
 
 impl Parking {
@@ -35,7 +37,7 @@ impl Parking {
         ensures { result.tickets ≡ [] }
     {
         Parking {
-            items: Vec::new(alloc),
+            items: VecDeque::new(alloc),
         }
     }
 
@@ -55,7 +57,7 @@ impl Parking {
         ensures joins { self.new.tickets ≡ self.old.tickets ++ ticket ∷ [] }
         ensures room { self.old.spare ≤ self.new.spare + 1 }
     {
-        self.items.push_reserved(Parked { ticket, done });
+        self.items.push_back_reserved(Parked { ticket, done });
     }
 
     /// Takes the first one. There is none exactly where none is parked.
@@ -63,10 +65,7 @@ impl Parking {
         ensures taken { MatchOption result ((self.old.tickets ≡ []) × (self.new ≡ self.old)) (λ x. self.old.tickets ≡ x.ticket ∷ self.new.tickets) }
         ensures room { self.old.spare ≤ self.new.spare }
     {
-        if self.items.is_empty() {
-            return None;
-        }
-        Some(self.items.remove(0))
+        self.items.pop_front()
     }
 
     /// None is parked any more.
