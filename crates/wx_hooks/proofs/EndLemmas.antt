@@ -1,6 +1,8 @@
 -- The end of all jobs.
-use Rattle.std.proofs.Common.{◌≡◌, ℕ, zero, suc, ◌<◌, Bool, true, false, List, [], ◌∷◌, ◌++◌, length, get_or, take, drop, arith, refl, ap, sym, subst, ◌∙◌}
+use Rattle.std.proofs.Common.{◌≡◌, ℕ, Bool, true, false, List, [], ◌∷◌, ◌++◌, append_assoc, refl, ap, sym, subst, ◌∙◌}
 use Rattle.std.specs.Prelude.{Option, None, map}
+use Rattle.std.specs.List.{AllByRecursion}
+use Rattle.std.proofs.lemmas.List.{append-nil}
 use Rattle.wx_control.specs.declared.id.Id.{Id}
 use Rattle.wx_journal.specs.declared.entry.Entry.{Entry}
 use Rattle.wx_journal.specs.Names.{NamesItsOwn}
@@ -18,8 +20,8 @@ use Rattle.wx_machine.specs.Answer.{Dying, Alive}
 use Rattle.wx_machine.proofs.AllJobs.{none_by_end}
 use Rattle.wx_machine.proofs.EndLaws.{AreGone, end_leads, next_to_end, none_left, still_gone, dying_then, dying_ends}
 use Rattle.wx_machine.specs.Told.{TellsOn}
-use Rattle.wx_hooks.specs.JobsStand.{JobsStand, held_id}
-use Rattle.wx_hooks.proofs.JobsLemmas.{Changes, jobs_change}
+use Rattle.wx_hooks.specs.JobsStand.{HeldStands, JobsStand, AreDistinct, held_id}
+use Rattle.wx_hooks.proofs.JobsLemmas.{same_held, tasks_others}
 use Rattle.wx_hooks.proofs.QuietLemmas.{still_led}
 
 -- what the end of some jobs did
@@ -71,49 +73,39 @@ one_ended id before after p told n p' told' n' false alive is gone led =
 
 -- ---- one of the held jobs after the other
 
--- the first n jobs are gone
-pub record Ending (q : List Entry) (told : Option (List Entry)) (hs : List Held) (n : ℕ) (p : List Entry) (told' : Option (List Entry)) : Type 0 where
+-- these jobs are left, and those that came before them are gone
+pub record Ending (q : List Entry) (told : Option (List Entry)) (rest : List Held) (p : List Entry) (told' : Option (List Entry)) : Type 0 where
   pub done : Ended q told p told'
   pub own : NamesItsOwn p
-  pub jobs_are : JobsStand p hs
-  pub gone : AreGone p (take n (map held_id hs))
+  pub before : List Id
+  pub ids_are : set p ≡ before ++ map held_id rest
+  pub gone : AreGone p before
+  pub tasks_stand : AllByRecursion (HeldStands p) rest
+  pub ids_apart : AreDistinct (map held_id rest)
 
--- the list around a place
-around : (hs : List Held) (n : ℕ) (h : Held) → n < length hs → h ≡ get_or hs n h → map held_id hs ≡ take n (map held_id hs) ++ held_id h ∷ drop (suc n) (map held_id hs)
-around [] n h lt is = absurd (omega arith)
-around (x ∷ hs) zero h lt is = ap (λ j. j ∷ map held_id hs) (ap held_id (sym is))
-around (x ∷ hs) (suc n) h lt is = ap (λ js. held_id x ∷ js) (around hs n h (omega arith) is)
+gone_more : (p : List Entry) (before : List Id) (id : Id) → AreGone p before → lives id p ≡ false → AreGone p (before ++ id ∷ [])
+gone_more p [] id gone dead = (dead, tt)
+gone_more p (x ∷ before) id gone dead = (gone.0, gone_more p before id gone.1 dead)
 
-gone_more : (p : List Entry) (hs : List Held) (n : ℕ) (h : Held) → n < length hs → h ≡ get_or hs n h → AreGone p (take n (map held_id hs)) → lives (held_id h) p ≡ false → AreGone p (take (suc n) (map held_id hs))
-gone_more p [] n h lt is gone dead = absurd (omega arith)
-gone_more p (x ∷ hs) zero h lt is gone dead = (ap (λ (y : Held). lives (held_id y) p) (sym is) ∙ dead, tt)
-gone_more p (x ∷ hs) (suc n) h lt is gone dead = (gone.0, gone_more p hs n h (omega arith) is gone.1 dead)
+pub ending_starts : (q : List Entry) (told : Option (List Entry)) (hs : List Held) → NamesItsOwn q → JobsStand q hs → Ending q told hs q told
+ending_starts q told hs own jobs = record { done = ended_none q told; own = own; before = []; ids_are = sym jobs.ids_are; gone = tt; tasks_stand = jobs.tasks_stand; ids_apart = jobs.ids_apart }
 
-gone_all : (p : List Entry) (ids : List Id) (n : ℕ) → n ≡ length ids → AreGone p (take n ids) → AreGone p ids
-gone_all p [] n is gone = tt
-gone_all p (id ∷ ids) zero is gone = absurd (omega arith)
-gone_all p (id ∷ ids) (suc n) is gone = (gone.0, gone_all p ids n (omega arith) gone.1)
-
-length_ids : (hs : List Held) → length (map held_id hs) ≡ length hs
-length_ids [] = refl
-length_ids (h ∷ hs) = ap suc (length_ids hs)
-
-pub ending_starts : (q : List Entry) (told : Option (List Entry)) (hs : List Held) → NamesItsOwn q → JobsStand q hs → Ending q told hs 0 q told
-ending_starts q told hs own jobs = record { done = ended_none q told; own = own; jobs_are = jobs; gone = tt }
-
-pub ending_goes : (s : Start) (q : List Entry) (told : Option (List Entry)) (hs hs' : List Held) (n : ℕ) (h h' : Held) (p p' : List Entry) (told' told'' : Option (List Entry)) (m m' : ℕ) → Ending q told hs n p told'
-    → Changes hs hs' n h h' p' → LeavesOthers (held_id h) p p' → ((hooks : Option (List Entry)) → PlanLeads (end_plan (held_id h) p) p told' hooks m Done p' told'' hooks m') → Ending q told hs' (suc n) p' told''
-ending_goes s q told hs hs' n h h' p p' told' told'' m m' e change leaves led =
+pub ending_goes : (s : Start) (q : List Entry) (told : Option (List Entry)) (h : Held) (rest : List Held) (p p' : List Entry) (told' told'' : Option (List Entry)) (m m' : ℕ) → Ending q told (h ∷ rest) p told'
+    → LeavesOthers (held_id h) p p' → ((hooks : Option (List Entry)) → PlanLeads (end_plan (held_id h) p) p told' hooks m Done p' told'' hooks m') → Ending q told rest p' told''
+ending_goes s q told h rest p p' told' told'' m m' e leaves led =
     let still = (still_led (end_plan (held_id h) p) p told' None m Done p' told'' None m' (none_by_end (held_id h) p) (led None)).still in
-    let one = one_ended (held_id h) (take n (map held_id hs)) (drop (suc n) (map held_id hs)) p told' m p' told'' m' (lives (held_id h) p) refl (sym e.jobs_are.ids_are ∙ around hs n h change.within change.held) e.gone led in
-    let j = jobs_change p p' hs hs' n h h' e.jobs_are still leaves change in
-    let same : map held_id hs' ≡ map held_id hs = j.0 ∙ still.set_same ∙ sym e.jobs_are.ids_are in
+    let one = one_ended (held_id h) e.before (map held_id rest) p told' m p' told'' m' (lives (held_id h) p) refl e.ids_are e.gone led in
     record {
       done = ended_then q p p' told told' told'' e.done one.done;
       own = leaves.own;
-      jobs_are = record { ids_are = j.0; tasks_stand = j.1; ids_apart = rw same e.jobs_are.ids_apart };
-      gone = rw same (gone_more p' hs n h change.within change.held (still_gone s p p' (take n (map held_id hs)) one.done.dying e.gone) one.dead);
+      before = e.before ++ held_id h ∷ [];
+      ids_are = still.set_same ∙ e.ids_are ∙ sym (append_assoc e.before (held_id h ∷ []) (map held_id rest));
+      gone = gone_more p' e.before (held_id h) (still_gone s p p' e.before one.done.dying e.gone) one.dead;
+      tasks_stand = tasks_others (held_id h) p p' rest (λ x ne st. same_held p p' x (leaves.others (held_id x) ne) st) e.ids_apart.0 e.tasks_stand.1;
+      ids_apart = e.ids_apart.1;
     }
 
-pub ending_ends : (q : List Entry) (told : Option (List Entry)) (hs : List Held) (n : ℕ) (p : List Entry) (told' : Option (List Entry)) → n ≡ length hs → Ending q told hs n p told' → jobs p ≡ []
-ending_ends q told hs n p told' all e = none_left p (rw e.jobs_are.ids_are at (gone_all p (map held_id hs) n (all ∙ sym (length_ids hs)) e.gone))
+pub ending_ends : (q : List Entry) (told : Option (List Entry)) (rest : List Held) (p : List Entry) (told' : Option (List Entry)) → rest ≡ [] → Ending q told rest p told' → jobs p ≡ []
+ending_ends q told rest p told' none e =
+    let all : set p ≡ e.before = e.ids_are ∙ ap (λ (hs : List Held). e.before ++ map held_id hs) none ∙ append-nil e.before in
+    none_left p (subst (AreGone p) (sym all) e.gone)

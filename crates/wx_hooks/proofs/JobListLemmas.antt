@@ -1,12 +1,9 @@
 -- What is held in a list of jobs.
-use Rattle.std.proofs.Common.{◌≡◌, ◌≢◌, ℕ, zero, suc, ◌+◌, ◌<◌, ◌≤◌, Bool, true, false, cond, List, [], ◌∷◌, ◌++◌, length, get_or, drop, drop-cons, add-one, append_assoc, set as put, arith, refl, ap, sym, subst, ◌∙◌}
+use Rattle.std.proofs.Common.{◌≡◌, ◌≢◌, ℕ, zero, suc, ◌+◌, ◌<◌, Bool, true, false, cond, List, [], ◌∷◌, ◌++◌, length, get_or, set as put, arith, refl, ap, sym, ◌∙◌}
 use Rattle.std.specs.Prelude.{Option, None, Some, is_some, option_map, map, not, nat_lt, nat_le, ◌==◌}
-use Rattle.std.specs.List.{AllByRecursion, filter, find, insert, position, position_or_len, position_from}
-use Rattle.std.proofs.lemmas.List.{append-nil, drop_all}
-use Rattle.std.proofs.lemmas.Bool.{ltb-false, le-ltb, lt-ltb, leb-true, leb-false}
-use Rattle.std.proofs.lemmas.List.Sums.{prefix_len-le-length}
-use Rattle.std.proofs.lemmas.List.Quantifiers.{position-Some}
-use Rattle.std.proofs.lemmas.Iterator.Adapters.{position_from-zero}
+use Rattle.std.specs.List.{AllByRecursion, find, insert, position_or_len}
+use Rattle.std.proofs.lemmas.List.{append-nil}
+use Rattle.std.proofs.lemmas.Bool.{le-ltb, lt-ltb, leb-true, leb-false}
 use Rattle.wx_words.specs.OptionLaws.{neither}
 use Rattle.wx_control.specs.declared.id.Id.{Id}
 use Rattle.wx_job.specs.declared.task.JobTask.{JobTask}
@@ -33,17 +30,6 @@ with_put id (x ∷ hs) (suc n) h k p =
     let other : is_of id x ≡ false = p.before 0 (omega arith) in
     rw other (ap (λ xs. x ∷ xs) (with_put id hs n h k (record { within = omega (arith, p.within); held = p.held; mine = p.mine; before = λ i lt. p.before (suc i) (omega (arith, lt)) })))
 
-pub found_put : (t : Held → Bool) (hs : List Held) (n : ℕ) (h : Held) → Placed t hs n h → find t hs ≡ Some h
-found_put t [] n h p = absurd (omega (arith, p.within))
-found_put t (x ∷ hs) zero h p = let mine : t x ≡ true = subst (λ (y : Held). t y ≡ true) p.held p.mine in rw mine (ap (λ (y : Held). Some y) (sym p.held))
-found_put t (x ∷ hs) (suc n) h p =
-    let other : t x ≡ false = p.before 0 (omega arith) in
-    rw other (found_put t hs n h (record { within = omega (arith, p.within); held = p.held; mine = p.mine; before = λ i lt. p.before (suc i) (omega (arith, lt)) }))
-
--- the place of what is found
-pub placed_some : (t : Held → Bool) (hs : List Held) (n : ℕ) (h : Held) → position t hs ≡ Some n → h ≡ get_or hs n h → Placed t hs n h
-placed_some t hs n h e is = let at = position-Some t hs n h e in record { within = at.0; held = is; mine = rw (← is) at at.1; before = at.2 }
-
 placed_or : (t : Held → Bool) (x : Held) (hs : List Held) (h : Held) (b : Bool) → t x ≡ b → cond b (Some x) (find t hs) ≡ Some h → (find t hs ≡ Some h → (n : ℕ) × Placed t hs n h) → (n : ℕ) × Placed t (x ∷ hs) n h
 placed_or t x hs h true mine e later = let its : h ≡ x = cc in (0, record { within = omega arith; held = its; mine = rw its mine; before = λ i lt. absurd (omega (arith, lt)) })
 placed_or t x hs h false other e later = let p = later e in (suc p.0, record { within = omega (arith, p.1.within); held = p.1.held; mine = p.1.mine; before = earlier p.0 p.1.before })
@@ -57,20 +43,6 @@ placed t [] h e = absurd cc
 placed t (x ∷ hs) h e = placed_or t x hs h (t x) refl e (λ f. placed t hs h f)
 
 -- ---- what isn't there
-
-none_from : (t : Held → Bool) (i : ℕ) (hs : List Held) → position_from t i hs ≡ None → find t hs ≡ None
-none_from t i [] e = refl
-none_from t i (h ∷ hs) e = none_or t i h hs (t h) refl e (λ f. none_from t (i + 1) hs f)
-  where
-    none_or : (t : Held → Bool) (i : ℕ) (h : Held) (hs : List Held) (b : Bool) → t h ≡ b → cond b (Some i) (position_from t (i + 1) hs) ≡ None → (position_from t (i + 1) hs ≡ None → find t hs ≡ None) → cond b (Some h) (find t hs) ≡ None
-    none_or t i h hs true mine e later = absurd cc
-    none_or t i h hs false other e later = later e
-
--- what is there has a place
-pub has_place : (t : Held → Bool) (hs : List Held) → is_some (find t hs) ≡ true → position t hs ≡ None → ⊥
-has_place t hs there none =
-    let never : find t hs ≡ None = none_from t 0 hs (sym (position_from-zero t hs) ∙ none) in
-    let both : true ≡ false = sym there ∙ ap is_some never in cc
 
 -- where none is found the test passes at none
 pub none_at : (t : Held → Bool) (hs : List Held) → find t hs ≡ None → AllByRecursion (λ h. t h ≡ false) hs
@@ -123,23 +95,6 @@ length_with id (h ∷ hs) task = length_or (is_of id h) h (record h { task = tas
 
 -- ---- a job is added at its place
 
-pub place-le : (t : Held → Bool) (hs : List Held) → position_or_len t hs ≤ length hs
-place-le t hs = prefix_len-le-length (λ h. not (t h)) hs
-
-place_or : (b : Bool) (m n : ℕ) → cond b (Some m) None ≡ Some n → n ≡ m
-place_or true m n e = let is : m ≡ n = cc in sym is
-place_or false m n e = absurd cc
-
-pub place_some : (t : Held → Bool) (hs : List Held) (n : ℕ) → position t hs ≡ Some n → n ≡ position_or_len t hs
-place_some t hs n e = place_or (nat_lt (position_or_len t hs) (length hs)) (position_or_len t hs) n e
-
-place_end : (m n : ℕ) (b : Bool) → nat_lt m n ≡ b → m ≤ n → cond b (Some m) None ≡ None → n ≡ m
-place_end m n true lt le e = absurd cc
-place_end m n false lt le e = let most = ltb-false m n lt in omega (arith, most, le)
-
-pub place_none : (t : Held → Bool) (hs : List Held) → position t hs ≡ None → length hs ≡ position_or_len t hs
-place_none t hs e = place_end (position_or_len t hs) (length hs) (nat_lt (position_or_len t hs) (length hs)) refl (place-le t hs) e
-
 -- what is known of each and of the new one is known of all
 all_inserted : (P : Held → Type 0) (hs : List Held) (n : ℕ) (h : Held) → AllByRecursion P hs → P h → AllByRecursion P (insert hs n h)
 all_inserted P hs zero h all new = (new, all)
@@ -150,7 +105,7 @@ pub all_with : (P : Held → Type 0) (hs : List Held) (h : Held) → AllByRecurs
 all_with P hs h all new = all_inserted P hs (position_or_len (λ other. nat_le h.handle.id.0 other.handle.id.0) hs) h all new
 
 -- the ids have the new one at its place
-insert_later : (x h : Held) (hs : List Held) (n : ℕ) → insert (x ∷ hs) (1 + n) h ≡ x ∷ insert hs n h
+pub insert_later : (x h : Held) (hs : List Held) (n : ℕ) → insert (x ∷ hs) (1 + n) h ≡ x ∷ insert hs n h
 insert_later x h hs n = let more : 1 + n ≡ suc n = omega arith in ap (λ (m : ℕ). insert (x ∷ hs) m h) more
 
 ids_at : (x h : Held) (hs : List Held) (b : Bool) → nat_le h.handle.id.0 x.handle.id.0 ≡ b → x.handle.id ≡ held_id x → h.handle.id ≡ held_id h → held_id x ≢ held_id h → map held_id (with_held h hs) ≡ with_id (held_id h) (map held_id hs)
@@ -171,27 +126,8 @@ ids_with p (x ∷ hs) h stand mine ne = ids_at x h hs (nat_le h.handle.id.0 x.ha
 
 -- ---- the ids of those whose job isn't gone
 
-living_first : (b : Bool) (h : Held) (hs : List Held) → map handle_id (cond b (h ∷ filter is_here hs) (filter is_here hs)) ≡ map handle_id (cond b (h ∷ []) []) ++ map handle_id (filter is_here hs)
-living_first true h hs = refl
-living_first false h hs = refl
-
-living_cons : (h : Held) (hs : List Held) → living_ids (h ∷ hs) ≡ living_ids (h ∷ []) ++ living_ids hs
-living_cons h hs = living_first (is_here h) h hs
-
 pub living_gone : (h : Held) (ids : List Id) → is_here h ≡ false → ids ≡ ids ++ living_ids (h ∷ [])
 living_gone h ids is = rw is (sym (append-nil ids))
 
 pub living_here : (h : Held) (id : Id) (ids : List Id) → is_here h ≡ true → id ≡ h.handle.id → ids ++ id ∷ [] ≡ ids ++ living_ids (h ∷ [])
 living_here h id ids is same = rw (is, same) refl
-
--- those that are left, once this one joined
-pub living_next : (hs : List Held) (i : ℕ) (h : Held) (ids ids' : List Id) → i < length hs → h ≡ get_or hs i h → ids' ≡ ids ++ living_ids (h ∷ []) → ids ++ living_ids (drop i hs) ≡ living_ids hs → ids' ++ living_ids (drop (i + 1) hs) ≡ living_ids hs
-living_next hs i h ids ids' lt is grown before =
-    let first : drop i hs ≡ h ∷ drop (suc i) hs = drop-cons hs i h lt ∙ ap (λ (x : Held). x ∷ drop (suc i) hs) (sym is) in
-    let all : living_ids (drop i hs) ≡ living_ids (h ∷ []) ++ living_ids (drop (suc i) hs) = ap living_ids first ∙ living_cons h (drop (suc i) hs) in
-    ap (λ (xs : List Id). xs ++ living_ids (drop (i + 1) hs)) grown ∙ ap (λ k. (ids ++ living_ids (h ∷ [])) ++ living_ids (drop k hs)) (add-one i)
-    ∙ append_assoc ids (living_ids (h ∷ [])) (living_ids (drop (suc i) hs)) ∙ ap (λ (xs : List Id). ids ++ xs) (sym all) ∙ before
-
--- and at the end none is left
-pub living_all : (hs : List Held) (i : ℕ) (ids : List Id) → length hs ≤ i → ids ++ living_ids (drop i hs) ≡ living_ids hs → ids ≡ living_ids hs
-living_all hs i ids end all = sym (append-nil ids) ∙ ap (λ (rest : List Held). ids ++ living_ids rest) (sym (drop_all i hs end)) ∙ all

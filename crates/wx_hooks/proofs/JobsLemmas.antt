@@ -45,7 +45,7 @@ held_at p (x ∷ hs) (suc n) h lt is all = held_at p hs n h (omega arith) is all
 abbrev pub Reframes : Id → List Entry → List Entry → Type 0
 Reframes i p p' = (h : Held) → held_id h ≢ i → HeldStands p h → HeldStands p' h
 
-tasks_others : (i : Id) (p p' : List Entry) (hs : List Held) → Reframes i p p' → AllByRecursion (λ j. j ≢ i) (map held_id hs) → AllByRecursion (HeldStands p) hs → AllByRecursion (HeldStands p') hs
+pub tasks_others : (i : Id) (p p' : List Entry) (hs : List Held) → Reframes i p p' → AllByRecursion (λ j. j ≢ i) (map held_id hs) → AllByRecursion (HeldStands p) hs → AllByRecursion (HeldStands p') hs
 tasks_others i p p' [] frame ne s = tt
 tasks_others i p p' (h ∷ hs) frame ne s = (frame h ne.0 s.0, tasks_others i p p' hs frame ne.1 s.1)
 

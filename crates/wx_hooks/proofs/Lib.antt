@@ -1,3 +1,4 @@
+pub mod ByIdLemmas
 pub mod EndLemmas
 pub mod GivenIds
 pub mod HandlerLemmas

@@ -40,6 +40,11 @@ living_ids held = map (λ h. h.handle.id) (filter is_here held)
 abbrev pub runs_child : ℕ → Held → Bool
 runs_child c h = is_child c (running_of h.task)
 
+-- what is held is of a job whose child is this one, and runs
+abbrev pub runs_in : ℕ → Option Held → Bool
+runs_in c None = false
+runs_in c (Some h) = runs_child c h
+
 abbrev pub handle_id : Held → Id
 handle_id h = h.handle.id
 
@@ -83,3 +88,7 @@ parked_in (Some h) = parked_count h.task
 
 abbrev pub parked_at : Id → List Held → ℕ
 parked_at id held = parked_in (find (is_of id) held)
+
+-- each stands under the id of its handle
+abbrev pub AreUnderIds : List (Id × Held) → Type 0
+AreUnderIds entries = AllByRecursion (λ e. e.0 ≡ e.1.handle.id) entries

@@ -1,10 +1,10 @@
 // The jobs that a worker holds, and those that an action sees.
-ghost use Rattle.std.specs.Prelude.{◌≡◌, [], ◌∷◌, ◌++◌, ◌+◌, ◌*◌, ◌≤◌, true, is_some, length, nat_le, Some, option_map, IfOk, OnOk, OnErr};
+ghost use Rattle.std.specs.Prelude.{◌≡◌, [], ◌∷◌, ◌++◌, ◌+◌, ◌*◌, ◌≤◌, true, is_some, length, None, Some, option_map, IfOk, OnOk, OnErr};
 ghost use Rattle.std.specs.Borrow.{sem};
-ghost use Rattle.std.specs.List.{find, filter, list_any, position, position_or_len};
+ghost use Rattle.std.specs.List.{find, filter, list_any};
 ghost use Rattle.std.specs.Iterator.{YieldsFirstBy, item_count};
 ghost use Rattle.wx_journal.specs.Names.{NamesItsOwn};
-ghost use Rattle.wx_hooks.specs.HeldJobs.{is_of, is_here, living_ids, is_alive, runs_child, handles, handle_id, task_of, with_held, parked_at};
+ghost use Rattle.wx_hooks.specs.HeldJobs.{is_of, is_here, living_ids, is_alive, runs_in, handles, task_of, with_held, parked_at};
 ghost use Rattle.wx_hooks.specs.LentTask.{LendsTask};
 ghost use Rattle.wx_hooks.specs.EndsJobs.{EndsJobs};
 ghost use Rattle.wx_hooks.specs.JobsStand.{JobsStand};
@@ -12,16 +12,19 @@ ghost use Rattle.wx_machine.specs.Start.{Start};
 
 use crate::held::Held;
 use std::alloc::Global;
+use std::collections::{BTreeMap, btree_map};
 use std::marker::Model;
 use wx_control::{Id, Job};
 use wx_job::{Host, JobTask};
 use wx_journal::Journal;
 use wx_text::Memory;
 
-/// The jobs that a worker holds. Contracts see what is held of each, by rising id.
+/// The jobs that a worker holds, each under its id, and the id of one that lived when it was noted, by which it is found soon
+/// whether any lives. Contracts see what is held of each, by rising id.
 #[derive(Drop, Debug)]
 pub struct JobList {
-    items: Vec<Held>,
+    items: BTreeMap<Id, Held>,
+    noted: Id,
 }
 
 impl Model for JobList {
@@ -30,31 +33,12 @@ impl Model for JobList {
 
     ghost Value = { List Held };
 
-    ghost view = { λ j. j.items.items };
-}
+    ghost use Rattle.std.specs.BTreeMap.{values};
+    ghost use Rattle.wx_hooks.specs.HeldJobs.{AreUnderIds};
 
-/// The place of the job of this id, where it is among these.
-fn place_of(held: &[Held], id: Id) -> Option<usize>
-    ensures { result ≡ position (is_of id) held.now }
-{
-    held.iter().position(|held| held.handle.id().0 == id.0)
-}
+    ghost view = { λ j. values j.items };
 
-/// The place of the first job among these whose id isn't less than this.
-fn first_not_less(held: &[Held], id: Id) -> Option<usize>
-    ensures { result ≡ position (λ other. nat_le id.0 other.handle.id.0) held.now }
-{
-    held.iter().position(|held| id.0 <= held.handle.id().0)
-}
-
-/// The place of a job of this id among these: before the first whose id isn't less.
-fn place_for(held: &[Held], id: Id) -> usize
-    ensures { result ≡ position_or_len (λ other. nat_le id.0 other.handle.id.0) held.now }
-{
-    match first_not_less(held, id) {
-        Some(place) => place,
-        None => held.len(),
-    }
+    ghost invariant = { λ j. AreUnderIds j.items.entries };
 }
 
 /// Adds the id of a job behind these, where it isn't gone. It fails only for want of memory.
@@ -69,24 +53,14 @@ fn push_living(ids: &mut Vec<Id>, held: &Held) -> Result<(), Memory>
     Ok(())
 }
 
-/// The ids of those among these whose job isn't gone, in order. It fails only for want of memory.
-fn living_among(alloc: Global, held: &[Held]) -> Result<Vec<Id>, Memory>
-    ensures { IfOk result (λ ids. ids.items ≡ living_ids held.now) }
-{
-    let mut ids = Vec::new(alloc);
-    for one in held {
-        push_living(&mut ids, one)?;
-    }
-    Ok(ids)
-}
-
 impl JobList {
     /// No job. It takes no memory.
     pub fn new(alloc: Global) -> JobList
         ensures { result ≡ [] }
     {
         JobList {
-            items: Vec::new(alloc),
+            items: BTreeMap::new(alloc),
+            noted: Id(0),
         }
     }
 
@@ -101,7 +75,7 @@ impl JobList {
     pub fn get(&self, id: Id) -> Option<&Held>
         ensures { option_map (λ h. h.now) result ≡ find (is_of id) self.now }
     {
-        self.items.iter().find(|held| held.handle.id() == id)
+        self.items.get(&id)
     }
 
     /// Whether the job of this id is held, and isn't gone.
@@ -114,18 +88,41 @@ impl JobList {
         }
     }
 
-    /// Whether a job that is held isn't gone.
+    /// Whether a job that is held isn't gone. All are looked at only where the one that was noted is.
     pub fn any_lives(&self) -> bool
         ensures { result ≡ list_any is_here self.now }
     {
-        self.items.iter().any(|held| held.is_here())
+        if self.lives(self.noted) {
+            return true;
+        }
+        self.items.values().any(|held| held.is_here())
+    }
+
+    /// Notes a job that lives: the one that was noted, while it does, and then the next one by its id.
+    pub fn note_living(&mut self)
+        ensures { self.new ≡ self.old }
+    {
+        if self.lives(self.noted) {
+            return;
+        }
+        let next = self
+            .items
+            .range(self.noted..)
+            .find(|entry| entry.1.is_here());
+        if let Some((id, _)) = next {
+            self.noted = *id;
+        }
     }
 
     /// The ids of the jobs that aren't gone, rising. It fails only for want of memory.
     pub fn living(&self, alloc: Global) -> Result<Vec<Id>, Memory>
         ensures { IfOk result (λ ids. ids.items ≡ living_ids self.now) }
     {
-        living_among(alloc, self.items.as_slice())
+        let mut ids = Vec::new(alloc);
+        for held in self.items.values() {
+            push_living(&mut ids, held)?;
+        }
+        Ok(ids)
     }
 
     /// How many tickets are parked at the job of this id: none, where it isn't held.
@@ -138,12 +135,14 @@ impl JobList {
         }
     }
 
-    /// The id of the job whose child this is, where it runs.
-    pub fn parent(&self, child: u64) -> Option<Id>
-        ensures { result ≡ option_map handle_id (find (runs_child child) self.now) }
+    /// Whether this child is that of the job of this id, and runs.
+    pub fn runs(&self, id: Id, child: u64) -> bool
+        ensures { result ≡ runs_in child (find (is_of id) self.now) }
     {
-        let held = self.items.iter().find(|held| held.runs(child))?;
-        Some(held.handle.id())
+        match self.get(id) {
+            Some(held) => held.runs(child),
+            None => false,
+        }
     }
 
     /// The task of the job of this id, which is held. All else stays.
@@ -152,21 +151,22 @@ impl JobList {
         ensures* lends { sem 𝓛 (LendsTask self.entry id result) }
         ensures task { option_map task_of (find (is_of id) self.old) ≡ Some result.now }
     {
-        let Some(place) = place_of(self.items.as_slice(), id) else {
+        let Some(held) = self.items.get_mut(&id) else {
             unreachable!()
         };
-        let held = &mut self.items[place];
         &mut held.task
     }
 
-    /// Adds a job at the place of its id among rising ones. It fails only for want of memory, and adds none then.
+    /// Adds a job whose id isn't held, at the place of its id among rising ones. It fails only for want of memory, and adds
+    /// none then.
     pub fn add(&mut self, held: Held) -> Result<(), Memory>
+        requires new { find (is_of held.handle.id) self.old ≡ None }
         ensures added { OnOk result (self.new ≡ with_held held self.old) }
         ensures len { OnOk result (length self.new ≡ length self.old + 1) }
         ensures err { OnErr result (self.new ≡ self.old) }
     {
-        let place = place_for(self.items.as_slice(), held.handle.id());
-        self.items.insert(place, held)?;
+        let id = held.handle.id();
+        self.items.insert(id, held)?;
         Ok(())
     }
 
@@ -175,7 +175,7 @@ impl JobList {
         ensures here { self.new ≡ filter is_here self.old }
         ensures fewer { length self.new ≤ length self.old }
     {
-        self.items.retain(|held| held.is_here());
+        self.items.retain(|_, held| held.is_here());
     }
 
     /// The jobs, by rising id, each with the handle on it.
@@ -183,22 +183,23 @@ impl JobList {
         ensures { result ≡ handles self.now }
     {
         Jobs {
-            held: self.items.as_slice(),
+            held: self.items.values(),
         }
     }
 
-    /// The end of all jobs: each that lives is gone, by rising id, and its child is let go. It takes no memory: the room
-    /// for it was kept.
+    /// The end of all jobs: each that lives is gone, by rising id, and its child is let go. None is held any more. It takes
+    /// no memory: the room for it was kept.
     pub fn end_all<W: Host>(&mut self, host: &mut W, journal: &mut Journal)
         ghost start: { Start }
         requires stand { JobsStand journal.old.past self.old }
         requires own { NamesItsOwn journal.old.past }
         requires room { 2 * length self.old ≤ journal.old.spare }
         requires host_room { 2 * length self.old ≤ (W.seen host.old).spare }
-        ensures { EndsJobs start journal.old.past (W.seen host.old) journal.new.past (W.seen host.new) }
+        ensures ends { EndsJobs start journal.old.past (W.seen host.old) journal.new.past (W.seen host.new) }
+        ensures left { self.new ≡ [] }
     {
-        for place in 0..self.items.len() {
-            self.items[place].task.end(host, journal);
+        while let Some((_, mut held)) = self.items.pop_first() {
+            held.task.end(host, journal);
         }
     }
 }
@@ -206,7 +207,7 @@ impl JobList {
 /// The jobs that an action sees, by rising id, each with the handle on it. Contracts see those that are left.
 #[derive(Drop, Debug)]
 pub struct Jobs<'a> {
-    held: &'a [Held],
+    held: btree_map::Values<'a, Id, Held>,
 }
 
 impl<'a> Model for Jobs<'a> {
@@ -218,7 +219,7 @@ impl<'a> Model for Jobs<'a> {
 
     ghost use Rattle.wx_hooks.specs.HeldJobs.{handles};
 
-    ghost view = { λ j. handles j.held.now };
+    ghost view = { λ j. handles j.held };
 }
 
 impl<'a> Iterator for Jobs<'a> {
@@ -229,8 +230,7 @@ impl<'a> Iterator for Jobs<'a> {
     ghost remaining = { item_count (λ rest. rest) };
 
     fn next(&mut self) -> Option<(Id, &'a Job)> {
-        let (held, rest) = self.held.split_first()?;
-        self.held = rest;
+        let held = self.held.next()?;
         Some((held.handle.id(), &held.handle))
     }
 }

@@ -1,15 +1,32 @@
-use Rattle.std.proofs.Common.{◌≡◌, List, arith, ap, ◌∙◌}
-use Rattle.std.specs.Prelude.{nat_le}
-use Rattle.std.specs.List.{insert, position_or_len}
+use Rattle.std.proofs.Common.{◌≡◌, arith, length, ap, ◌∙◌}
+use Rattle.std.specs.Prelude.{None}
+use Rattle.std.specs.List.{find}
+use Rattle.std.specs.Map.{lookup, values_of}
+use Rattle.std.specs.BTreeMap.{insert_entry, is_at}
+use Rattle.std.proofs.lemmas.Map.Entries.{length-values_of}
 use Rattle.wx_control.specs.declared.id.Id.{Id}
-use Rattle.wx_hooks.specs.declared.held.Held.{Held}
-use Rattle.wx_hooks.proofs.JobListLemmas.{place-le}
+use Rattle.wx_hooks.specs.HeldJobs.{is_of, with_held}
+use Rattle.wx_hooks.proofs.ByIdLemmas.{id_cmp, found_by_id, added, under_added}
 use Rattle.wx_hooks.proofs.job_list.JobList.add.Goals as goal
 
-pub insert-requires : goal.insert-requires
-insert-requires c = omega (arith, c.place_for-place.ensures, place-le (λ other. nat_le c.id.result.0 other.handle.id.0) c.as_slice.result.now, c.as_slice.ensures.len)
+pub invariant_of-self-2 : goal.invariant_of-self-2
+invariant_of-self-2 c =
+    let es = c.self.inside.items.entries in
+    let none : find (is_of c.args.held.handle.id) (values_of es) ≡ None = ap (find (is_of c.args.held.handle.id)) c.self.view_is ∙ c.requires.new in
+    let is : c.insert.new.self.entries ≡ insert_entry id_cmp es c.args.held.handle.id c.args.held = c.in_ok-insert.ensures.entries ∙ ap (λ (i : Id). insert_entry id_cmp es i c.args.held) c.id-id.ensures in
+    rw is (under_added c.args.held es c.self.invariant none)
 
 pub returns-clause-added : goal.returns-clause-added
 returns-clause-added c =
-    let place : c.place_for-place.result ≡ position_or_len (λ other. nat_le c.args.held.handle.id.0 other.handle.id.0) c.args.self.now = c.place_for-place.ensures ∙ ap (λ (hs : List Held). position_or_len (λ other. nat_le c.id.result.0 other.handle.id.0) hs) (c.as_slice.ensures.value ∙ c.self.view_is) ∙ ap (λ (i : Id). position_or_len (λ (other : Held). nat_le i.0 other.handle.id.0) c.args.self.now) c.id.ensures in
-    c.in_ok-insert.ensures.items ∙ ap (λ (hs : List Held). insert hs c.place_for-place.result c.args.held) c.self.view_is ∙ ap (λ n. insert c.args.self.now n c.args.held) place
+    let es = c.self.inside.items.entries in
+    let none : find (is_of c.args.held.handle.id) (values_of es) ≡ None = ap (find (is_of c.args.held.handle.id)) c.self.view_is ∙ c.requires.new in
+    let is : c.insert.new.self.entries ≡ insert_entry id_cmp es c.args.held.handle.id c.args.held = c.in_ok-insert.ensures.entries ∙ ap (λ (i : Id). insert_entry id_cmp es i c.args.held) c.id-id.ensures in
+    ap values_of is ∙ added c.args.held es c.self.invariant none ∙ ap (with_held c.args.held) c.self.view_is
+
+pub returns-clause-len : goal.returns-clause-len
+returns-clause-len c =
+    let es = c.self.inside.items.entries in
+    let none : find (is_of c.args.held.handle.id) (values_of es) ≡ None = ap (find (is_of c.args.held.handle.id)) c.self.view_is ∙ c.requires.new in
+    let gone : c.in_ok-insert.field-0 ≡ None = c.in_ok-insert.ensures.old ∙ ap (λ (i : Id). lookup (is_at (id_cmp i)) es) c.id-id.ensures ∙ found_by_id c.args.held.handle.id es c.self.invariant ∙ none in
+    let grown = rw gone at c.in_ok-insert.ensures.len in
+    omega (arith, grown, length-values_of c.insert.new.self.entries, length-values_of es, ap length c.self.view_is)

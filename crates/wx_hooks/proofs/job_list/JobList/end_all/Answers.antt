@@ -1,48 +1,67 @@
-use Rattle.std.proofs.Common.{◌≡◌, ◌≤◌, ◌+◌, length, set, length-set, add-one, arith, refl, ap, ◌∙◌}
+use Rattle.std.proofs.Common.{◌≡◌, ◌∷◌, List, length, suc, arith, ap, subst}
 use Rattle.std.specs.Prelude.{None}
+use Rattle.std.specs.List.{AllByRecursion}
+use Rattle.std.specs.Map.{values_of}
 use Rattle.wx_machine.proofs.Sound.{leads_counted}
 use Rattle.wx_machine.proofs.SteadyLemmas.{steady_none, steady_then}
 use Rattle.wx_machine.proofs.FaultLaws.{counts_end}
-use Rattle.wx_hooks.proofs.EndLemmas.{ending_starts, ending_goes, ending_ends}
+use Rattle.wx_hooks.specs.declared.held.Held.{Held}
+use Rattle.wx_hooks.specs.HeldJobs.{AreUnderIds}
+use Rattle.wx_hooks.specs.JobsStand.{HeldStands}
+use Rattle.wx_hooks.proofs.ByIdLemmas.{emptied}
+use Rattle.wx_hooks.proofs.EndLemmas.{Ending, ending_starts, ending_goes, ending_ends}
 use Rattle.wx_hooks.proofs.job_list.JobList.end_all.Goals as goal
 
-pub loop-place-init : goal.loop-place-init
-loop-place-init g c = record {
-  ending = ending_starts c.args.journal.now.past (g.W.Outside.seen c.args.host.now).shown.told c.self.inside.items.items c.requires.1.1.0 (rw c.self.view_is c.requires.1.0);
-  count = refl;
+pub loop-held-init : goal.loop-held-init
+loop-held-init g c = record {
+  ending = ending_starts c.args.journal.now.past (g.W.Outside.seen c.args.host.now).shown.told (values_of c.self.inside.items.entries) c.requires.1.1.0 (rw c.self.view_is c.requires.1.0);
+  under = c.self.invariant;
   journal_room = let room = c.requires.1.1.1.0 in omega (arith, ap length c.self.view_is, room);
   host_room = let room = c.requires.1.1.1.1 in omega (arith, ap length c.self.view_is, room);
   faults = omega arith;
   kept = steady_none;
 }
 
-pub loop-place-preserved : goal.loop-place-preserved
-loop-place-preserved g c =
-    let i = c.loop-place.invariant in
-    let hs = c.loop-place.self-inside.items.items in
-    let h = c.index_mut.result.now in
-    let within : c.loop-place.place + 1 ≤ length hs = omega (arith, c.loop-place-test.true, c.len-place-end.ensures, c.self.inside.items.ok.0, i.count) in
-    let count : length (set hs c.loop-place.place (record h { task = c.end.new.self })) ≡ length hs = length-set hs c.loop-place.place _ in
+pub end-requires : goal.end-requires
+end-requires g c =
+    let i = c.loop-held.invariant in
+    let is : values_of c.loop-held.self-inside.items.entries ≡ c.in-Some.held ∷ values_of c.pop_first.new.self.entries = ap values_of c.in-Some.ensures.removal in
+    let many : length (values_of c.loop-held.self-inside.items.entries) ≡ suc (length (values_of c.pop_first.new.self.entries)) = ap length is in
+    let stand = subst (λ (hs : List Held). AllByRecursion (HeldStands c.loop-held.journal.past) hs) is i.ending.tasks_stand in
+    record { stands = stand.0.task_stands; room = record { in_journal = omega (arith, many, i.journal_room); in_host = omega (arith, many, i.host_room) } }
+
+pub loop-held-preserved : goal.loop-held-preserved
+loop-held-preserved g c =
+    let i = c.loop-held.invariant in
+    let h = c.in-Some.held in
+    let rest = values_of c.pop_first.new.self.entries in
+    let q = c.args.journal.now.past in
+    let told = (g.W.Outside.seen c.args.host.now).shown.told in
+    let p = c.loop-held.journal.past in
+    let told' = (g.W.Outside.seen c.loop-held.host).shown.told in
+    let is : values_of c.loop-held.self-inside.items.entries ≡ h ∷ rest = ap values_of c.in-Some.ensures.removal in
+    let many : length (values_of c.loop-held.self-inside.items.entries) ≡ suc (length rest) = ap length is in
     record {
-      ending = rw add-one (ending_goes g.start c.args.journal.now.past (g.W.Outside.seen c.args.host.now).shown.told hs _ c.loop-place.place h (record h { task = c.end.new.self }) c.loop-place.journal.past c.end.new.journal.past (g.W.Outside.seen c.loop-place.host).shown.told (g.W.Outside.seen c.end.new.host).shown.told _ _ i.ending
-          (record { within = omega (arith, within); held = c.index_mut.ensures.value; items = refl; handle_same = refl; job_same = c.end.ensures.job; task_stands = c.end.ensures.stands })
-          (c.end.ensures.leaves.others i.ending.own) (λ hooks. (c.end.ensures.leads hooks).led));
-      count = count ∙ i.count;
-      journal_room = omega (arith, count, i.journal_room, c.end.ensures.spends.in_journal);
-      host_room = omega (arith, count, i.host_room, c.end.ensures.spends.in_host);
+      ending = ending_goes g.start q told h rest p c.end.new.journal.past told' (g.W.Outside.seen c.end.new.host).shown.told _ _ (subst (λ (hs : List Held). Ending q told hs p told') is i.ending) (c.end.ensures.leaves.others i.ending.own) (λ hooks. (c.end.ensures.leads hooks).led);
+      under = (subst AreUnderIds c.in-Some.ensures.removal i.under).1;
+      journal_room = omega (arith, many, i.journal_room, c.end.ensures.spends.in_journal);
+      host_room = omega (arith, many, i.host_room, c.end.ensures.spends.in_host);
       faults = omega (arith, i.faults, (leads_counted _ _ _ _ _ _ _ _ _ _ (c.end.ensures.leads None).led).later);
       kept = steady_then i.kept c.end.ensures.spends.steady;
     }
 
 pub returns : goal.returns
 returns g c =
-    let i = c.loop-place.invariant in
-    let all : c.loop-place.place ≡ length c.loop-place.self-inside.items.items = omega (arith, c.loop-place-test.false, c.loop-place.auto.place-end, c.len-place-end.ensures, c.self.inside.items.ok.0, i.count) in
+    let i = c.loop-held.invariant in
+    let none = emptied c.loop-held.self-inside.items.entries c.pop_first.new.self.entries c.in_default.ensures.unchanged c.in_default.ensures.variant.1 in
     record {
-      dying = i.ending.done.dying;
-      none = ending_ends _ _ _ _ _ _ all i.ending;
-      told = i.ending.done.world_told;
-      follows = λ due hooks. i.ending.done.follows g.start due hooks;
-      kept = i.kept;
-      faults = counts_end _ _ _ _ i.ending.done.dying i.faults;
+      ends = record {
+        dying = i.ending.done.dying;
+        none = ending_ends _ _ _ _ _ (ap values_of none.0) i.ending;
+        told = i.ending.done.world_told;
+        follows = λ due hooks. i.ending.done.follows g.start due hooks;
+        kept = i.kept;
+        faults = counts_end _ _ _ _ i.ending.done.dying i.faults;
+      };
+      left = ap values_of none.1;
     }
