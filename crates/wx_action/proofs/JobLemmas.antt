@@ -68,7 +68,7 @@ pub record Lent (p : List Entry) (hs : List Held) (id : Id) (task : JobTask) : T
   pub id_is : held_id held ≡ id
   pub stood : HeldStands p held
 
-of_found : (p : List Entry) (hs : List Held) (id : Id) (h : Held) → AllByRecursion (HeldStands p) hs → find (is_of id) hs ≡ Some h → Lent p hs id h.task
+pub of_found : (p : List Entry) (hs : List Held) (id : Id) (h : Held) → AllByRecursion (HeldStands p) hs → find (is_of id) hs ≡ Some h → Lent p hs id h.task
 of_found p hs id h stands e =
     let at = placed (is_of id) hs h e in
     let stood : HeldStands p h = held_at p hs at.0 h at.1.within at.1.held stands in

@@ -1,5 +1,6 @@
 pub mod HandLemmas
 pub mod JobLemmas
+pub mod ParentLemmas
 pub mod PerformLemmas
 pub mod PlanLemmas
 pub mod ShownLemmas

@@ -3,7 +3,7 @@ use Rattle.std.proofs.Common.{◌≡◌, ◌≢◌, ℕ, ◌<◌, ◌≤◌, ◌
 use Rattle.std.proofs.Math.Arith.{lt_of_le-ne}
 use Rattle.std.proofs.lemmas.Bool.{le-ltb, ltb-true, ltb-false, eqb-false, or_parts}
 use Rattle.std.specs.Prelude.{Option, None, Some, Result, Ok, Err, map, nat_lt, ◌||◌, ◌⊎◌}
-use Rattle.std.specs.List.{filter, list_any, AllByRecursion}
+use Rattle.std.specs.List.{filter, find, list_any, AllByRecursion}
 use Rattle.wx_words.specs.EachLaws.{each_weaker, each_filter}
 use Rattle.wx_command.specs.declared.command.Command.{Command}
 use Rattle.wx_control.specs.declared.id.Id.{Id}
@@ -46,7 +46,7 @@ use Rattle.wx_action.specs.Perform.{AreCommanded, OwesPlan, OwesActs, Does, HasA
 use Rattle.wx_machine.specs.Kept.{StaysQuiet, More}
 use Rattle.wx_machine.specs.Leads.{FollowsAlone, Then}
 use Rattle.wx_machine.specs.Turns.{StaysInTurn}
-use Rattle.wx_hooks.specs.HeldJobs.{with_task, with_held}
+use Rattle.wx_hooks.specs.HeldJobs.{is_of, with_task, with_held}
 use Rattle.wx_hooks.proofs.JobListLemmas.{all_with, ids_with}
 use Rattle.wx_machine.proofs.AllJobs.{unseen_made, commanded_created, none_by_ask, turns_over}
 use Rattle.wx_machine.proofs.JobSets.{set_rising, may_unseen, lawful_made}
@@ -149,6 +149,20 @@ none_is id [] none = tt
 none_is id (x ∷ ids) none =
     let parts = or_parts (same x id) (list_any (λ job. same job id) ids) none in
     (λ e. (let both : true ≡ false = sym (rw e (self id)) ∙ parts.0 in absurd cc), none_is id ids parts.1)
+
+-- and none of them is found under it
+none_found : (p : List Entry) (id : Id) (hs : List Held) → AllByRecursion (HeldStands p) hs → AllByRecursion (λ j. j ≢ id) (map held_id hs) → find (is_of id) hs ≡ None
+none_found p id [] stand ne = refl
+none_found p id (h ∷ hs) stand ne =
+    let other : is_of id h ≡ false = other-is id h.handle.id (λ e. ne.0 (sym stand.0.handle_is ∙ sym e)) in
+    rw other (none_found p id hs stand.1 ne.1)
+
+-- the id of a job that is to be made isn't held
+pub fresh : (s : Start) (w : Worker) (held : Held) (rests : List Todo) (quit : Option QuitManner) (ids : List Id) (p : List Entry) → OwesActs s p (todo.Create held ∷ rests) quit ids → Stands s w p → find (is_of held.handle.id) w.jobs ≡ None
+fresh s w held rests quit ids p owes stands =
+    let f = first_make s p held rests quit ids owes.acts owes.lawful owes.may_change owes.is_todo owes.commanded owes.waiting owes.then owes.due in
+    let others : AllByRecursion (λ j. j ≢ f.id) (map held_id w.jobs) = rw stands.jobs_kept (none_is f.id (set p) (may_unseen p f.id f.may)) in
+    ap (λ (i : Id). find (is_of i) w.jobs) f.is_new.handle_id ∙ none_found p f.id w.jobs stands.tasks_kept others
 
 tasks_made : (p : List Entry) (id : Id) (hs : List Held) → AllByRecursion (λ j. j ≢ id) (map held_id hs) → AllByRecursion (HeldStands p) hs → AllByRecursion (HeldStands (Made id ∷ p)) hs
 tasks_made p id [] ne s = tt

@@ -1,5 +1,6 @@
 // The turns of jobs.
-ghost use Rattle.std.specs.Prelude.{◌≡◌, ℕ, ◌+◌, IfSome, IfNone, IfOk};
+ghost use Rattle.std.specs.Prelude.{◌≡◌, ℕ, ◌+◌, option_map, IfSome, IfNone, IfOk};
+ghost use Rattle.std.specs.List.{find};
 ghost use Rattle.wx_journal.specs.declared.entry.TurnKind.TheVariants.{Ask as AsksTurn, Change as ChangeTurn, Job as JobTurn, Ended as EndedTurn};
 ghost use Rattle.wx_journal.specs.declared.entry.Word.TheVariants.{Ignored};
 ghost use Rattle.wx_machine.specs.Kept.{Promised};
@@ -7,7 +8,7 @@ ghost use Rattle.wx_machine.specs.Steady.{HaveRoom};
 ghost use Rattle.wx_worker.specs.Serves.{Grows, Continues, Steps, Settles};
 ghost use Rattle.wx_hooks.specs.EndsJobs.{EndsJobs};
 ghost use Rattle.wx_machine.specs.Start.{Start};
-ghost use Rattle.wx_hooks.specs.HeldJobs.{parked_at};
+ghost use Rattle.wx_hooks.specs.HeldJobs.{parked_at, handle_id, runs_child};
 ghost use Rattle.wx_machine.specs.Due.{Open, agenda, says};
 ghost use Rattle.wx_worker.specs.Stands.{Stands, Ready, AtTurn, IsStepOf, end_room};
 
@@ -115,7 +116,9 @@ fn take_step<W: Host, H: Hooks>(
 {
     let room = step_room(worker, id)?;
     worker.reserve_calls(room, room, 16, host, hooks, journal)?;
-    step_of(alloc, worker, id, at, host, hooks, journal)
+    let stepped = step_of(alloc, worker, id, at, host, hooks, journal);
+    worker.jobs.note_living();
+    stepped
 }
 
 /// A turn of a job: it takes a step. It fails only for want of memory: then no entry was added,
@@ -141,6 +144,22 @@ pub fn job_turn<W: Host, H: Hooks>(
     take_step(alloc, worker, id, at, host, hooks, journal)
 }
 
+/// The id of the job whose child this is, where it runs: the job for which it was spawned.
+fn parent(worker: &Worker, child: u64, journal: &Journal) -> Option<Id>
+    ghost start: { Start }
+    requires { (at : ℕ) × AtTurn start worker.now at (EndedTurn child) journal.now.past }
+    ensures { result ≡ option_map handle_id (find (runs_child child) worker.now.jobs) }
+{
+    let Some(id) = journal.owner(child) else {
+        return None;
+    };
+    if worker.jobs.runs(id, child) {
+        Some(id)
+    } else {
+        None
+    }
+}
+
 /// Keeps the end of a child that a turn told, with the job that ran it, and answers the id of this. It takes no memory.
 pub fn keep_end(worker: &mut Worker, child: u64, at: u64, journal: &Journal) -> Option<Id>
     ghost start: { Start }
@@ -150,7 +169,7 @@ pub fn keep_end(worker: &mut Worker, child: u64, at: u64, journal: &Journal) -> 
     ensures none { IfNone result (agenda start journal.now.past ≡ says Ignored) }
     ensures room { end_room worker.new ≡ end_room worker.old }
 {
-    let Some(id) = worker.jobs.parent(child) else {
+    let Some(id) = parent(worker, child, journal) else {
         return None;
     };
     let task = worker.jobs.task_mut(id);

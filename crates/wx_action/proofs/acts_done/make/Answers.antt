@@ -6,13 +6,18 @@ use Rattle.wx_control.specs.declared.id.Id.{Id}
 use Rattle.wx_machine.specs.declared.quit.QuitManner.{QuitManner}
 use Rattle.wx_action.specs.Perform.{OwesActs}
 use Rattle.wx_worker.proofs.ServesLaws.{adds_none, adds}
-use Rattle.wx_action.proofs.PerformLemmas.{OneDone, made}
+use Rattle.wx_action.proofs.PerformLemmas.{OneDone, made, fresh}
 use Rattle.wx_action.proofs.acts_done.make.Goals as goal
 
 done : (g : _) (c : goal.After-push g) (rest : List Todo) (quit : Option QuitManner) (ids : List Id) → OwesActs g.start c.args.journal.now.past (todo.Create c.args.held ∷ rest) quit ids → OneDone g.start (record c.args.worker.now { jobs = c.add.new.self }) rest quit ids c.args.journal.now.past c.push.new.self.past
 done g c rest quit ids owes =
     made g.start c.args.worker.now _ c.args.held rest quit ids c.args.journal.now.past c.push.new.self.past owes c.requires.1.1.stands refl c.in_ok-add.ensures.added
     (rw (c.id-id.ensures, c.reserve_job.ensures.same) at c.push.ensures.past)
+
+pub add-requires : goal.add-requires
+add-requires g c =
+    let o = c.requires.1.0 in
+    record { new = fresh g.start c.args.worker.now c.args.held o.0 o.1 o.2 c.args.journal.now.past o.3 c.requires.1.1.stands }
 
 pub returns-in_default-clause-performs : goal.returns-in_default-clause-performs
 returns-in_default-clause-performs g c = record {

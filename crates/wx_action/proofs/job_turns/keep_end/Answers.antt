@@ -26,3 +26,6 @@ pub returns-in_default : goal.returns-in_default
 returns-in_default g c =
     let n = none_ended g.start c.args.worker.now c.args.at c.args.child c.args.journal.now.past c.requires (sym c.parent.ensures ∙ c.in_default.is) in
     record { stands = n.stands; some = tt; none = n.due; room = refl }
+
+pub parent-requires : goal.parent-requires
+parent-requires g c = (c.args.at, c.requires)

@@ -26,7 +26,7 @@ pub returns-in_err-reserve_calls-clause-continues : goal.returns-in_err-reserve_
 returns-in_err-reserve_calls-clause-continues g c = continues_room _ _ _ _ _ _ _ _ _ _ _ c.requires.1.1.1 c.reserve_calls.ensures.same c.reserve_calls.ensures.kept c.reserve_calls.ensures.host c.reserve_calls.ensures.hooks
 
 pub returns-clause-continues : goal.returns-clause-continues
-returns-clause-continues g c = continues_after _ _ _ _ _ _ _ _ _ _ _ _ _ _ _ c.reserve_calls.ensures.same c.reserve_calls.ensures.kept c.reserve_calls.ensures.host c.reserve_calls.ensures.hooks c.step_of.ensures.continues
+returns-clause-continues g c = rw c.note_living.ensures (continues_after _ _ _ _ _ _ _ _ _ _ _ _ _ _ _ c.reserve_calls.ensures.same c.reserve_calls.ensures.kept c.reserve_calls.ensures.host c.reserve_calls.ensures.hooks c.step_of-stepped.ensures.continues)
 
 pub returns-clause-steps : goal.returns-clause-steps
-returns-clause-steps g c = steps_after _ _ _ _ _ c.reserve_calls.ensures.same c.step_of.ensures.steps
+returns-clause-steps g c = steps_after _ _ _ _ _ c.reserve_calls.ensures.same c.step_of-stepped.ensures.steps
