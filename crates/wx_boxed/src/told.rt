@@ -7,7 +7,7 @@ use wx_journal::Entry;
 use wx_text::Memory;
 
 /// The entries that were told. Contracts see them, the newest first, and the room that was taken for more.
-#[derive(Drop, Debug)]
+#[derive(Drop)]
 pub(crate) struct Told {
     entries: Vec<Entry>,
 }

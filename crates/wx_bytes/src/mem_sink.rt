@@ -11,7 +11,6 @@ use std::alloc::Global;
 use wx_text::Text;
 
 /// A sink into memory.
-#[derive(Debug)]
 pub struct MemSink {
     text: Text,
     piece: usize,

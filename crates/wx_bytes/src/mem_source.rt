@@ -13,7 +13,6 @@ use wx_text::Memory;
 pub const CODE: u32 = 5;
 
 /// A source over bytes in memory.
-#[derive(Debug)]
 pub struct MemSource {
     bytes: Vec<u8>,
     position: usize,

@@ -8,6 +8,7 @@ use crate::keyboard::Keyboard;
 use crate::kind::FileEventKind;
 use crate::or_none::{OrNone, read_or_none};
 use crate::process::{ProcessEnd, Signal};
+use crate::showing::show;
 use crate::source::Source;
 use std::alloc::Global;
 use std::fmt;
@@ -83,14 +84,15 @@ impl fmt::Display for Tag {
     fn fmt<W: fmt::Write>(&self, f: &mut fmt::Formatter<W>) -> fmt::Result {
         match self {
             Tag::Path { path, file_type } => {
-                write!(f, "path {} {}", Escaped(path.text()), OrNone(file_type))
+                show(f, "path ", &Escaped(path.text()))?;
+                show(f, " ", &OrNone(file_type))
             }
-            Tag::FileEventKind(kind) => write!(f, "kind {kind}"),
-            Tag::Source(source) => write!(f, "source {source}"),
-            Tag::Keyboard(keyboard) => write!(f, "key {keyboard}"),
-            Tag::Process(id) => write!(f, "process {id}"),
-            Tag::Signal(signal) => write!(f, "signal {signal}"),
-            Tag::ProcessCompletion(end) => write!(f, "end {}", OrNone(end)),
+            Tag::FileEventKind(kind) => show(f, "kind ", kind),
+            Tag::Source(source) => show(f, "source ", source),
+            Tag::Keyboard(keyboard) => show(f, "key ", keyboard),
+            Tag::Process(id) => show(f, "process ", id),
+            Tag::Signal(signal) => show(f, "signal ", signal),
+            Tag::ProcessCompletion(end) => show(f, "end ", &OrNone(end)),
             Tag::Unknown => f.write_str("unknown"),
         }
     }

@@ -135,19 +135,24 @@ fn key_of(alloc: Global, word: &[u8]) -> Result<Option<Keyboard>, Memory>
     }
 }
 
+/// Shows a character as a part of a word.
+fn show_char<W: fmt::Write>(f: &mut fmt::Formatter<W>, c: char) -> fmt::Result {
+    if c.is_ascii_graphic() && c != '%' {
+        return f.write_char(c);
+    }
+    let mut buffer = [0; 4];
+    for b in c.encode_utf8(&mut buffer).as_bytes() {
+        write!(f, "%{b:02X}")?;
+    }
+    Ok(())
+}
+
 impl fmt::Display for KeyCode {
     fn fmt<W: fmt::Write>(&self, f: &mut fmt::Formatter<W>) -> fmt::Result {
         match self {
             KeyCode::Char(c) => {
                 f.write_str("char.")?;
-                if c.is_ascii_graphic() && *c != '%' {
-                    return f.write_char(*c);
-                }
-                let mut buffer = [0; 4];
-                for b in c.encode_utf8(&mut buffer).as_bytes() {
-                    write!(f, "%{b:02X}")?;
-                }
-                Ok(())
+                show_char(f, *c)
             }
             KeyCode::Enter => f.write_str("enter"),
             KeyCode::Escape => f.write_str("escape"),

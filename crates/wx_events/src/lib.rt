@@ -8,6 +8,7 @@ mod kind;
 mod or_none;
 mod priority;
 mod process;
+mod showing;
 mod source;
 
 pub use event::{Event, Tag};

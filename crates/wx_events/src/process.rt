@@ -4,6 +4,7 @@ ghost use Rattle.wx_words.specs.Dotted.{dotted};
 ghost use Rattle.wx_events.specs.Ends.{signal_word, signal_parts, end_parts};
 ghost use Rattle.wx_events.specs.Natives.{native};
 
+use crate::showing::show;
 use std::alloc::Global;
 use std::fmt;
 use std::num::{NonZeroI32, NonZeroI64};
@@ -110,7 +111,7 @@ fn put_signal(signal: Signal, out: &mut Text) -> Result<(), Memory>
 impl fmt::Display for Signal {
     fn fmt<W: fmt::Write>(&self, f: &mut fmt::Formatter<W>) -> fmt::Result {
         match self {
-            Signal::Custom(n) => write!(f, "custom.{n}"),
+            Signal::Custom(n) => show(f, "custom.", n),
             _ => f.write_str(self.word()),
         }
     }
@@ -120,10 +121,10 @@ impl fmt::Display for ProcessEnd {
     fn fmt<W: fmt::Write>(&self, f: &mut fmt::Formatter<W>) -> fmt::Result {
         match self {
             ProcessEnd::Success => f.write_str("success"),
-            ProcessEnd::ExitError(n) => write!(f, "error.{}", n.get()),
-            ProcessEnd::ExitSignal(signal) => write!(f, "signal.{signal}"),
-            ProcessEnd::ExitStop(n) => write!(f, "stop.{}", n.get()),
-            ProcessEnd::Exception(n) => write!(f, "exception.{}", n.get()),
+            ProcessEnd::ExitError(n) => show(f, "error.", &n.get()),
+            ProcessEnd::ExitSignal(signal) => show(f, "signal.", signal),
+            ProcessEnd::ExitStop(n) => show(f, "stop.", &n.get()),
+            ProcessEnd::Exception(n) => show(f, "exception.", &n.get()),
             ProcessEnd::Continued => f.write_str("continued"),
         }
     }

@@ -8,7 +8,7 @@ use wx_print::lost;
 use wx_text::{Memory, Text};
 
 /// How often a run did what a summary counts.
-#[derive(Clone, Copy, Debug, PartialEq, Eq)]
+#[derive(Clone, Copy, PartialEq, Eq)]
 struct Counts {
     turns: u64,
     queued: u64,

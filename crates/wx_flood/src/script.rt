@@ -23,7 +23,7 @@ const LONGEST: u64 = 20_000_000;
 const GRACE: u64 = 5_000_000;
 
 /// A flood so far: the state of its draws, and its script.
-#[derive(Drop, Debug)]
+#[derive(Drop)]
 struct Flood {
     state: u64,
     script: Script,

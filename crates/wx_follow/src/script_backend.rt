@@ -18,7 +18,6 @@ use wx_words::TextPath;
 
 /// A backend that polls, and of which those calls fail that a script says. They are counted from its make, `watch`, `unwatch` and
 /// `next` together. It is exact where links aren't followed and no call is to fail.
-#[derive(Debug)]
 pub struct ScriptBackend {
     alloc: Global,
     poller: Poller,

@@ -33,7 +33,6 @@ use wx_words::TextPath;
 /// short, quit, and leave out the acts behind it. Where it is wanted for an answer they are short, and answer the error
 /// `Memory`. Where it is wanted for a wish they are short, and wish nothing. Where it is wanted for what is spawned they are
 /// short, leave that as it was, and answer `Memory`. They tell their entries.
-#[derive(Debug)]
 pub struct ScriptHooks {
     alloc: Global,
     actions: List<List<ScriptAct>>,

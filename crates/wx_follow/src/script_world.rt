@@ -46,7 +46,6 @@ use wx_words::TextPath;
 /// The changes before the first turn are made ahead, with the world. Where memory is wanted for a later one it is short, and leaves
 /// out the others that are made with it. Where it is wanted for a backend, to say why there is none, or to say what a backend brought,
 /// it is short, and answers `Memory`.
-#[derive(Debug)]
 pub struct ScriptWorld {
     alloc: Global,
     turns: List<ScriptTurn>,

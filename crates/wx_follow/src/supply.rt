@@ -7,7 +7,7 @@ use wx_script::ScriptTurn;
 use wx_text::{Copies, List, Memory};
 
 /// The turns that are left, each twice: one is given, and one is told. Contracts see them in order.
-#[derive(Drop, Debug)]
+#[derive(Drop)]
 pub(crate) struct Supply {
     giving: Vec<ScriptTurn>,
     telling: Vec<ScriptTurn>,

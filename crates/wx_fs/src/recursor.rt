@@ -35,7 +35,7 @@ use wx_watch::{WatchedPath, Watcher};
 use wx_words::TextPath;
 
 /// What a step or a replay shows, in order, and whether it asks for a rebuild of the backend.
-#[derive(Drop, Debug)]
+#[derive(Drop)]
 pub struct StepResult {
     pub errors: List<RuntimeError>,
     pub rebuild_backend: bool,

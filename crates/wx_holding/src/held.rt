@@ -10,7 +10,6 @@ use wx_recursor::{BackendPlace, GuardWatch, Retry, ShownError, Work};
 use wx_tree::{Place, Root};
 
 /// What a recursor holds beside its backend.
-#[derive(Debug)]
 pub struct Held {
     pub roots: Vec<Root>,
     pub filter: u32,

@@ -10,7 +10,7 @@ use wx_text::Memory;
 /// The window of a worker: the names and the events, in the order in which they passed. With each event there is room
 /// to hand it: for its name twice, and for the act that ends the run twice, since two entries are made of a batch.
 /// Contracts see the names, the events, and for how many more there is room, capped by the room for acts.
-#[derive(Drop, Debug)]
+#[derive(Drop)]
 pub struct Batch {
     pub(crate) names: Vec<u64>,
     pub(crate) second_names: Vec<u64>,

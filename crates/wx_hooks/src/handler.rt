@@ -27,6 +27,7 @@ use crate::held::Held;
 use crate::ids::IdCount;
 use crate::job_list::{JobList, Jobs};
 use std::alloc::Global;
+use std::fmt;
 use std::marker::Model;
 use wx_command::Command;
 use wx_config::Change;
@@ -98,7 +99,7 @@ impl From<Memory> for ChangeRefused {
 }
 
 /// What has to be done for an act. Nothing has to be for a quit.
-#[derive(Drop, Debug)]
+#[derive(Drop)]
 pub enum Todo {
     /// This job was created, and is to be kept.
     Create(Held),
@@ -109,7 +110,7 @@ pub enum Todo {
 }
 
 /// The names and the acts once more, for the entry that the handler hands out.
-#[derive(Drop, Debug)]
+#[derive(Drop)]
 struct Second {
     names: Vec<u64>,
     acts: Vec<Act>,
@@ -118,7 +119,7 @@ struct Second {
 /// Shows a batch and the jobs to an action, and collects what it asks for. Contracts see the journal so far, the revision of
 /// the settings when the handler was called, the names and the events of the batch, the acts so far, and whether `hand` was
 /// called.
-#[derive(Drop, Debug)]
+#[derive(Drop)]
 pub struct ActionHandler<'a> {
     journal: &'a Journal,
     held: &'a JobList,
@@ -143,6 +144,16 @@ impl<'a> Model for ActionHandler<'a> {
     ghost view = { λ h. record { past = h.journal.now.past; revision = h.revision; names = h.names.items; events = h.events; acts = h.acts.items; handed = is_none h.second } };
 
     ghost invariant = { λ h. IsKept h.journal.now.past h.held.now h.names.items h.events h.ids.0 h.acts.items (vec_capacity h.acts) h.second h.todo.items × IsRevisionKept h.revision h.acts.items h.last };
+}
+
+impl<'a> fmt::Debug for ActionHandler<'a> {
+    fn fmt<W: fmt::Write>(&self, f: &mut fmt::Formatter<W>) -> fmt::Result {
+        write!(
+            f,
+            "ActionHandler {{ events: {:?}, acts: {:?} }}",
+            self.events, self.acts
+        )
+    }
 }
 
 /// Whether an act is a quit.

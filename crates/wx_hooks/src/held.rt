@@ -6,7 +6,6 @@ use wx_control::Job;
 use wx_job::JobTask;
 
 /// What is held of a job: a handle on it, for the action handler, and its task.
-#[derive(Debug)]
 pub struct Held {
     pub handle: Job,
     pub task: JobTask,

@@ -4,7 +4,7 @@ ghost use Rattle.std.specs.Prelude.{◌≡◌, ◌+◌, ◌-◌, ◌^◌, ◌<�
 use wx_control::Id;
 
 /// The id of the next new job, which is above each that was given. There are 2^32 - 1 ids, so it goes no further.
-#[derive(Clone, Copy, Debug, PartialEq, Eq)]
+#[derive(Clone, Copy, PartialEq, Eq)]
 pub struct IdCount(u32);
 
 impl IdCount {

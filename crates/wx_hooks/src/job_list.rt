@@ -21,7 +21,7 @@ use wx_text::Memory;
 
 /// The jobs that a worker holds, each under its id, and the id of one that lived when it was noted, by which it is found soon
 /// whether any lives. Contracts see what is held of each, by rising id.
-#[derive(Drop, Debug)]
+#[derive(Drop)]
 pub struct JobList {
     items: BTreeMap<Id, Held>,
     noted: Id,
@@ -205,7 +205,7 @@ impl JobList {
 }
 
 /// The jobs that an action sees, by rising id, each with the handle on it. Contracts see those that are left.
-#[derive(Drop, Debug)]
+#[derive(Drop)]
 pub struct Jobs<'a> {
     held: btree_map::Values<'a, Id, Held>,
 }

@@ -25,7 +25,7 @@ use wx_words::TextPath;
 pub struct TurnFault(pub u32);
 
 /// A turn that the world gave.
-#[derive(Drop, Debug)]
+#[derive(Drop)]
 pub struct Turned {
     pub turn: Turn,
     /// The flag that the last control of an ask raises when it is over, where one was made with the ask.

@@ -8,7 +8,6 @@ use wx_text::{Memory, Text};
 
 /// Where the entries of a list are, by their keys: of each key where the last one ends, and of each entry where the one of its
 /// key before it ends. An end is 0 where there is none.
-#[derive(Debug)]
 pub(crate) struct Chains {
     heads: BTreeMap<Text, usize>,
     before: Vec<usize>,

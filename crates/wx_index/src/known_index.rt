@@ -17,7 +17,6 @@ use wx_tree::Place;
 use wx_words::TextPath;
 
 /// Where what is known stands in its list, by path and by identity.
-#[derive(Debug)]
 pub(crate) struct KnownIndex {
     paths: Chains,
     identities: Chains,

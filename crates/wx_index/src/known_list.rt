@@ -17,7 +17,7 @@ use wx_text::{Copies, Memory};
 use wx_tree::{Place, Root};
 
 /// What is known, in order. Contracts see the list. An index finds its entries, as long as there is memory for that.
-#[derive(Drop, Debug)]
+#[derive(Drop)]
 pub struct KnownList {
     items: Vec<Known>,
     index: Option<KnownIndex>,

@@ -18,7 +18,6 @@ use wx_text::{Copies, Memory, Text};
 use wx_tree::{Place, Root};
 
 /// Where owners stand in their list, by path, and their paths and all paths above them.
-#[derive(Debug)]
 pub(crate) struct OwnerIndex {
     paths: Chains,
     above: BTreeSet<Text>,

@@ -17,7 +17,7 @@ use wx_text::{Copies, Memory};
 use wx_tree::{Place, Root};
 
 /// Owners, in order. Contracts see the list. An index finds its entries, as long as there is memory for that.
-#[derive(Drop, Debug)]
+#[derive(Drop)]
 pub struct OwnerList {
     items: Vec<Owner>,
     index: Option<OwnerIndex>,

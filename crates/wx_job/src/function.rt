@@ -3,7 +3,6 @@ use wx_control::Flag;
 use wx_machine::Function;
 
 /// A begun function, and the flag of its ticket.
-#[derive(Debug)]
 pub(crate) struct Begun {
     pub function: Function,
     pub done: Flag,

@@ -3,7 +3,7 @@ use wx_control::Flag;
 use wx_machine::Grace;
 
 /// A grace that stands, and the flag of its ticket.
-#[derive(Drop, Debug)]
+#[derive(Drop)]
 pub(crate) struct Standing {
     pub grace: Grace,
     pub done: Flag,

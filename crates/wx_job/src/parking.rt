@@ -8,7 +8,7 @@ use wx_control::Flag;
 use wx_text::Memory;
 
 /// A ticket that is parked until the child ends, and its flag.
-#[derive(Drop, Debug)]
+#[derive(Drop)]
 pub(crate) struct Parked {
     pub ticket: u64,
     pub done: Flag,
@@ -16,7 +16,7 @@ pub(crate) struct Parked {
 
 /// The tickets that are parked until the child ends, in the order in which they were picked. Contracts see them, and how
 /// many more there is room for.
-#[derive(Drop, Debug)]
+#[derive(Drop)]
 pub(crate) struct Parking {
     items: VecDeque<Parked>,
 }

@@ -28,7 +28,6 @@ use wx_machine::{Choice, CommandState, Stepped, child_of};
 use wx_text::{Copies, Memory};
 
 /// A job, with the child that it drives. It stands for its job in a journal where it keeps what the journal says of it.
-#[derive(Debug)]
 pub struct JobTask {
     pub(crate) id: Id,
     pub(crate) command: SharedCommand,

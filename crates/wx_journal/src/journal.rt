@@ -19,7 +19,7 @@ pub type Entries<'a> = slice::Iter<'a, Entry>;
 
 /// The entries of a run so far, and the job of each child that they spawn. Contracts see the entries, the newest first, and the
 /// room that was taken for more.
-#[derive(Drop, Debug)]
+#[derive(Drop)]
 pub struct Journal {
     entries: Vec<Entry>,
     parents: Vec<Id>,

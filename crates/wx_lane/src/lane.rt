@@ -12,7 +12,6 @@ use wx_text::Memory;
 use wx_watch::NotifyFault;
 
 /// What a backend brought.
-#[derive(Debug)]
 pub struct LaneItem {
     pub name: u64,
     /// The number of the backend.
@@ -39,7 +38,7 @@ impl Drop for LaneItem {
 }
 
 /// What backends brought, in order, until each is done with. Contracts see the items, and how many events may wait.
-#[derive(Drop, Debug)]
+#[derive(Drop)]
 pub struct Lane {
     items: Vec<LaneItem>,
     size: u32,

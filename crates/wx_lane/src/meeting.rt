@@ -8,7 +8,7 @@ use wx_text::Text;
 use wx_words::TextPath;
 
 /// How far the place to which the parts of a path have led so far meets another.
-#[derive(Clone, Copy, Debug)]
+#[derive(Clone, Copy)]
 pub struct Meeting {
     /// How many parts, from the front on, both share.
     pub shared: u128,

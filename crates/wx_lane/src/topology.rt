@@ -37,7 +37,7 @@ impl Drop for Topology {
 }
 
 /// What is said of each of some paths.
-#[derive(Clone, Copy, Debug)]
+#[derive(Clone, Copy)]
 enum Said {
     Create,
     Remove,

@@ -4,7 +4,7 @@ use crate::grace::Grace;
 use wx_control::Control;
 
 /// What a step of a job picks.
-#[derive(Clone, Copy, Debug, PartialEq, Eq)]
+#[derive(Clone, Copy, PartialEq, Eq)]
 pub enum Choice {
     /// The poll of the function that was begun.
     Poll(Function),
@@ -20,7 +20,7 @@ pub enum Choice {
 }
 
 /// What a step did.
-#[derive(Clone, Copy, Debug, PartialEq, Eq)]
+#[derive(Clone, Copy, PartialEq, Eq)]
 pub enum Stepped {
     /// It did a case.
     Did,

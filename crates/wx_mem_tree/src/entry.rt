@@ -9,7 +9,6 @@ use wx_tree::{Node, Place};
 use wx_words::TextPath;
 
 /// What stands at a path.
-#[derive(Debug)]
 pub struct MemEntry {
     pub path: Place,
     pub node: Node,

@@ -15,7 +15,7 @@ use wx_tree::{Node, Place};
 use wx_words::TextPath;
 
 /// A call on the scanner that is to fail: which one, counted from 0, and with which code.
-#[derive(Clone, Copy, Debug, PartialEq, Eq)]
+#[derive(Clone, Copy, PartialEq, Eq)]
 pub struct FailingLook {
     pub call: u64,
     pub code: u32,
@@ -25,7 +25,6 @@ pub struct FailingLook {
 /// where their target says, taken from their directory, `..` in it being the directory before it. What is listed behind a link is
 /// named below the path that was asked for. A path that leads through more than 40 links leads nowhere, and what is no
 /// directory has no entries: so a look fails only where it was ordered to.
-#[derive(Debug)]
 pub struct MemTree {
     alloc: Global,
     entries: Vec<MemEntry>,

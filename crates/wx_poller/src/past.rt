@@ -8,7 +8,7 @@ use wx_notify::Notify;
 use wx_watch::NotifyFault;
 
 /// What was brought so far, the newest first. It takes no bytes: only contracts see it.
-#[derive(Drop, Debug)]
+#[derive(Drop)]
 pub struct Past {
     pub ghost brought: { List (Result ANotify AFault) },
 }

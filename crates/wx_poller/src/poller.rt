@@ -26,7 +26,6 @@ use wx_words::TextPath;
 
 /// A backend that polls. It keeps what it saw last: each registered path, and the direct entries of a directory. When it is asked
 /// what happened, it looks again at all of these, and tells what differs. It is exact where links aren't followed.
-#[derive(Debug)]
 pub struct Poller {
     alloc: Global,
     follow: bool,

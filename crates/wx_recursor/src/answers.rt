@@ -6,7 +6,7 @@ use wx_tree::Place;
 use wx_watch::NotifyFault;
 
 /// What one look at a path finds.
-#[derive(Drop, Debug)]
+#[derive(Drop)]
 pub enum Look {
     Absent,
     /// A link, where links aren't followed.
@@ -19,7 +19,7 @@ pub enum Look {
 }
 
 /// What the look at an item finds.
-#[derive(Drop, Debug)]
+#[derive(Drop)]
 pub enum Found {
     /// Nothing is there.
     Missing,
@@ -36,7 +36,7 @@ pub enum Found {
 }
 
 /// Where a guard is to be.
-#[derive(Drop, Debug)]
+#[derive(Drop)]
 pub enum GuardFound {
     /// No directory stands above the root.
     Nowhere,
@@ -46,7 +46,6 @@ pub enum GuardFound {
 }
 
 /// What a call of watch answers, and after its Ok the second look.
-#[derive(Debug)]
 pub enum Watched {
     Kept(Look),
     Failed(NotifyFault),
@@ -63,7 +62,7 @@ impl Drop for Watched {
 }
 
 /// How it ends that a path is to be registered.
-#[derive(Clone, Copy, Debug, PartialEq, Eq)]
+#[derive(Clone, Copy, PartialEq, Eq)]
 pub enum AddResult {
     /// Its registration stands.
     Stands,
@@ -76,7 +75,7 @@ pub enum AddResult {
 }
 
 /// Where the backend is.
-#[derive(Clone, Copy, Debug, PartialEq, Eq)]
+#[derive(Clone, Copy, PartialEq, Eq)]
 pub enum BackendPlace {
     Installed,
     Lent,

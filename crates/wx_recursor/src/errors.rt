@@ -6,7 +6,7 @@ use wx_tree::Place;
 use wx_watch::NotifyFault;
 
 /// Why a look at a path fails.
-#[derive(Drop, Debug)]
+#[derive(Drop)]
 pub enum ScanFault {
     NotFound,
     /// The look failed, with this code.
@@ -16,7 +16,7 @@ pub enum ScanFault {
 }
 
 /// An error that a step shows.
-#[derive(Drop, Debug)]
+#[derive(Drop)]
 pub enum ShownError {
     /// A path couldn't be watched.
     PathAdd(Place, NotifyFault),

@@ -7,7 +7,7 @@ use wx_text::{Copies, Memory};
 use wx_tree::Place;
 
 /// As what a path is known.
-#[derive(Drop, Debug)]
+#[derive(Drop)]
 pub enum Identity {
     /// A directory, by its canonical path.
     Canonical(Place),
@@ -16,7 +16,7 @@ pub enum Identity {
 }
 
 /// A path under its identity: one that is owned, or that of a registration, by which it is watched.
-#[derive(Drop, Debug)]
+#[derive(Drop)]
 pub struct Known {
     pub path: Place,
     pub identity: Identity,

@@ -3,7 +3,7 @@ use crate::known::Identity;
 use wx_tree::{Place, Root};
 
 /// A path that a root owns, and whether the root has seen it since the last reconcile.
-#[derive(Drop, Debug)]
+#[derive(Drop)]
 pub struct Owner {
     pub root: Root,
     pub path: Place,
@@ -11,7 +11,6 @@ pub struct Owner {
 }
 
 /// A directory that is watched until the root is there.
-#[derive(Debug)]
 pub struct GuardWatch {
     pub root: Root,
     pub path: Place,

@@ -3,7 +3,7 @@ use wx_text::List;
 use wx_tree::{Place, Root};
 
 /// What a root has queued.
-#[derive(Drop, Debug)]
+#[derive(Drop)]
 pub enum Item {
     /// The guard of the root is set again.
     Guard(Root),
@@ -16,7 +16,7 @@ pub enum Item {
 }
 
 /// What is queued.
-#[derive(Drop, Debug)]
+#[derive(Drop)]
 pub enum Work {
     Plain(Item),
     /// A path that changed in some way, and the roots that owned it.
@@ -24,7 +24,7 @@ pub enum Work {
 }
 
 /// A path that the next reconcile queues for this root.
-#[derive(Drop, Debug)]
+#[derive(Drop)]
 pub struct Retry {
     pub root: Root,
     pub path: Place,

@@ -14,7 +14,7 @@ use wx_text::{Copies, Memory, Text};
 use wx_words::TextPath;
 
 /// What a run left: its journal, and what it answered.
-#[derive(Drop, Debug)]
+#[derive(Drop)]
 pub struct Ran {
     pub journal: Journal,
     pub answer: Result<(), CriticalError>,

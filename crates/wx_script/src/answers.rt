@@ -9,7 +9,6 @@ use wx_text::{Copies, List, Memory};
 use wx_watch::NotifyFault;
 
 /// The answers to the calls of each kind, in order.
-#[derive(Debug)]
 pub struct Answers {
     /// To the spawns of children.
     pub spawns: List<Result<(), HostFault>>,
@@ -103,7 +102,7 @@ fn copied_make(
 }
 
 /// How many answers of each kind were used.
-#[derive(Clone, Copy, Default, Debug)]
+#[derive(Clone, Copy, Default)]
 pub struct Used {
     pub spawns: usize,
     pub signals: usize,

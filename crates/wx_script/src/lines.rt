@@ -18,7 +18,7 @@ use wx_watch::{NotifyFault, WatchedPath, Watcher};
 use wx_words::{Spelled, TextPath, Words, read_result, read_rows, read_to_end};
 
 /// What a line of a script says.
-#[derive(Drop, Debug)]
+#[derive(Drop)]
 pub enum Line {
     /// Nothing, as an empty line and one that begins with `#`.
     Nothing,

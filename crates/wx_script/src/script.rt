@@ -16,7 +16,7 @@ use wx_watch::{WatchedPath, Watcher};
 use wx_words::{Spelled, TextPath, Words, put_row, read_rows};
 
 /// What the world is to do when it is asked for a turn.
-#[derive(Drop, Debug)]
+#[derive(Drop)]
 pub enum ScriptTurn {
     /// It gives this turn.
     Turn(Turn),
@@ -34,7 +34,7 @@ impl Copies for ScriptTurn {
 }
 
 /// A change of the tree of files.
-#[derive(Drop, Debug)]
+#[derive(Drop)]
 pub enum TreeEdit {
     /// This stands at the path, in the place of what stood there.
     Node(TextPath, Node),
@@ -66,14 +66,14 @@ fn copied_node(alloc: Global, node: &Node) -> Result<Node, Memory>
 }
 
 /// A call that is to fail: which one, counted from 0, and with which code.
-#[derive(Clone, Copy, Debug)]
+#[derive(Clone, Copy)]
 pub struct FailingCall {
     pub call: u64,
     pub code: u32,
 }
 
 /// Which job is created by an act of a script.
-#[derive(Clone, Copy, Debug)]
+#[derive(Clone, Copy)]
 pub enum Wanted {
     /// A new one. It gets its name in the run.
     New,
@@ -95,7 +95,6 @@ impl Spelled for Wanted {
 }
 
 /// An act of a script.
-#[derive(Debug)]
 pub enum ScriptAct {
     /// The handler asks for this.
     One(Act<Wanted>),
@@ -150,7 +149,6 @@ impl Spelled for ScriptAct {
 }
 
 /// A run written down in advance: what the engine starts from, and what its world and its hooks do.
-#[derive(Debug)]
 pub struct Script {
     /// How long events are collected, in nanoseconds.
     pub throttle: u64,

@@ -25,7 +25,7 @@ use wx_scan::{Backend, DirCheck, Scanner};
 use wx_text::Memory;
 
 /// What a step shows, in order, whether it asks for a rebuild of the backend, and whether nothing is left that could be let go.
-#[derive(Drop, Debug)]
+#[derive(Drop)]
 pub struct Shown {
     pub errors: Vec<ShownError>,
     pub asks_rebuild: bool,

@@ -7,7 +7,7 @@ use std::fmt;
 use std::marker::Model;
 
 /// A value in a box, which contracts see as the value: so a type is small, of which some values are large.
-#[derive(Drop, Debug)]
+#[derive(Drop)]
 pub struct Boxed<T> {
     inner: Box<T>,
 }
@@ -51,6 +51,12 @@ impl<T: Drop> Boxed<T> {
 impl<T: Copies + Drop> Copies for Boxed<T> {
     fn copy(&self, alloc: Global) -> Result<Boxed<T>, Memory> {
         Boxed::new(alloc, self.get().copy(alloc)?)
+    }
+}
+
+impl<T: fmt::Debug> fmt::Debug for Boxed<T> {
+    fn fmt<W: fmt::Write>(&self, f: &mut fmt::Formatter<W>) -> fmt::Result {
+        self.get().fmt(f)
     }
 }
 

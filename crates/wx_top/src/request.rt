@@ -7,7 +7,7 @@ use wx_text::Text;
 use wx_words::number_of;
 
 /// What the words of a call ask for.
-#[derive(Clone, Copy, Debug, PartialEq, Eq)]
+#[derive(Clone, Copy, PartialEq, Eq)]
 pub(crate) enum Request {
     /// A script is to be read and run, and the journal of its run is to be written.
     Replay,

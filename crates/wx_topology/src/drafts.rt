@@ -16,7 +16,6 @@ use wx_text::{Copies, Memory};
 use wx_tree::Place;
 
 /// What a call makes of what is held.
-#[derive(Debug)]
 pub struct Draft {
     /// Nothing is owned at or below these any more.
     pub cleared: Vec<Place>,

@@ -2,7 +2,7 @@
 use wx_words::TextPath;
 
 /// What stands at a path.
-#[derive(Drop, Debug)]
+#[derive(Drop)]
 pub enum Node {
     Dir,
     /// A file, with a stamp that is another one where the file was changed.

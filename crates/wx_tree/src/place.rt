@@ -9,7 +9,7 @@ use wx_text::{Copies, Memory, Text};
 use wx_words::TextPath;
 
 /// An absolute path, which contracts see as its parts, the last one first.
-#[derive(Drop, Debug)]
+#[derive(Drop)]
 pub struct Place {
     parts: Vec<Text>,
 }

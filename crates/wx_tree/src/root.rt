@@ -7,7 +7,7 @@ use std::alloc::Global;
 use wx_text::{Copies, Memory};
 
 /// A path that is to be watched, and whether all below it is too.
-#[derive(Drop, Debug)]
+#[derive(Drop)]
 pub struct Root {
     pub path: Place,
     pub recursive: bool,

@@ -3,14 +3,13 @@ use wx_text::List;
 use wx_tree::{Place, Root};
 
 /// A directory that is watched until the root is there.
-#[derive(Drop, Debug)]
+#[derive(Drop)]
 pub struct Guarded {
     pub root: Root,
     pub path: Place,
 }
 
 /// What is seen of an item.
-#[derive(Debug)]
 pub enum Saw {
     /// A candidate that is absent, refused, or no directory.
     Lost,

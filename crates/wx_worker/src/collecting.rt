@@ -28,7 +28,7 @@ use wx_machine::is_unseen;
 use wx_text::{Copies, Memory};
 
 /// What a Work turn collected.
-#[derive(Clone, Copy, Debug, PartialEq, Eq)]
+#[derive(Clone, Copy, PartialEq, Eq)]
 pub enum Collected {
     /// The queue was closed: the run is to end.
     Stop,
@@ -43,7 +43,7 @@ pub enum Collected {
 }
 
 /// What a Work turn did.
-#[derive(Clone, Copy, Debug, PartialEq, Eq)]
+#[derive(Clone, Copy, PartialEq, Eq)]
 pub enum Worked {
     /// The run goes on.
     On,

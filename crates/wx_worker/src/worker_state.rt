@@ -31,7 +31,6 @@ use wx_text::{List, Memory};
 /// What an engine keeps between turns: its settings, the queue, how many events have a name, the window, the moment at
 /// which the window's first event was taken, in nanoseconds, the jobs that a handler sees, by rising name, whether a graceful quit
 /// was asked for, and whether the end of the keyboard's input was read since keyboard events last went on, or since the start.
-#[derive(Debug)]
 pub struct Worker {
     pub config: Config,
     pub queue: PrioQueue<Named>,
