@@ -12,7 +12,7 @@ use wx_text::Text;
 pub const LIMIT: usize = 16_777_216;
 
 /// Why a source gave no text.
-#[derive(Clone, Copy, PartialEq, Eq)]
+#[derive(Clone, Copy, Debug, PartialEq, Eq)]
 pub enum Unread {
     /// A read failed.
     Fault,

@@ -10,7 +10,7 @@ use wx_watch::{NotifyFault, NotifyFaultKind};
 use wx_words::TextPath;
 
 /// A call on the backend that is to fail: which one, counted from 0, and how.
-#[derive(Drop, Debug)]
+#[derive(Drop)]
 struct FailingCall {
     call: u64,
     kind: NotifyFaultKind,
@@ -18,7 +18,7 @@ struct FailingCall {
 
 /// Watches what it is told to, and brings nothing. Its calls fail where they are told to. It keeps what it was told to watch no
 /// more, in order.
-#[derive(Drop, Debug)]
+#[derive(Drop)]
 pub struct FailingBackend {
     alloc: Global,
     pub registered: Vec<TextPath>,

@@ -10,7 +10,6 @@ use wx_text::List;
 use wx_words::TextPath;
 
 /// A tree of files in memory, in whose place another one stands from a look on. It doesn't tell its tree.
-#[derive(Debug)]
 pub struct Changing {
     pub tree: MemTree,
     /// What stands there later.

@@ -10,7 +10,6 @@ use wx_words::TextPath;
 
 /// Refuses these directories, and at a call, counted from 0. It fails at one directory, and at a call. It keeps what it was asked
 /// about.
-#[derive(Debug)]
 pub struct Refusing {
     pub alloc: Global,
     pub under: Vec<Place>,
