@@ -1,6 +1,6 @@
 // What polls.
 ghost use Rattle.std.specs.Option.{option_or};
-ghost use Rattle.std.specs.Prelude.{◌≡◌, ℕ, List as AList, [], ◌∷◌, ◌++◌, not, true, if◌then◌else◌, IfOk, OnOk, OnErr};
+ghost use Rattle.std.specs.Prelude.{◌≡◌, ◌==◌, ℕ, List as AList, [], ◌∷◌, ◌++◌, length, not, true, if◌then◌else◌, IfOk, OnOk, OnErr};
 ghost use Rattle.wx_poller.specs.Changes.{changes};
 ghost use Rattle.wx_poller.specs.Fitting.{Agrees, Answers, IsTold};
 ghost use Rattle.wx_poller.specs.Listings.{IsMap, seen_at};
@@ -138,6 +138,20 @@ impl Poller {
         ensures { result ≡ self.now.faults }
     {
         self.faults
+    }
+
+    /// Whether it found something that it didn't bring yet.
+    pub fn pends(&self) -> bool
+        ensures { result ≡ not (length self.now.pending == 0) }
+    {
+        !self.pending.is_empty()
+    }
+
+    /// Of how many paths it keeps what it saw last.
+    pub fn listed(&self) -> usize
+        ensures { result ≡ length self.now.listing.entries }
+    {
+        self.listing.len()
     }
 
     /// Says what failed, and counts it, but for want of memory.
