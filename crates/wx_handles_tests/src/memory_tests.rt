@@ -1,18 +1,18 @@
-// Where memory is refused. `rt try --test --fail-alloc N` refuses the Nth allocation.
+// Where memory is refused: `tools/refused_memory.py --sends` refuses each allocation once.
 ghost use Rattle.std.specs.Prelude.{◌≡◌, [], IfOk, IfSome};
 
 use crate::trial::{job_of, next_turn};
 use std::alloc::{Alloc, Global};
 use std::process::Abort;
 use std::sync::Wait;
-use wx_control::{Id, Job, Refused};
-use wx_handles::{HandlePass, SplitRefused, ThreadWorld};
+use wx_control::{Ask, Control, Id, Job, Refused};
+use wx_handles::{HandlePass, Item, Sent, SplitRefused, ThreadWorld};
 use wx_hooks::World;
 use wx_job::Outside;
 use wx_mem_live::MemLive;
 use wx_text::{List, Memory};
 
-/// A world with room for four items, and its first handle.
+/// A world with room for ten items, and its first handle.
 fn new_world<R: Wait + Copy>(
     rt: R,
     alloc: Global,
@@ -20,7 +20,7 @@ fn new_world<R: Wait + Copy>(
     ensures { IfOk result (λ made. made.1.pass.queue ≡ (⟦<ThreadWorld<R, MemLive> as Outside>⟧.seen made.0).plan.queue) }
 {
     let live = MemLive::new(alloc)?;
-    ThreadWorld::<R, MemLive>::new(rt, alloc, live, 10, 1, 4)
+    ThreadWorld::<R, MemLive>::new(rt, alloc, live, 10, 1, 10)
 }
 
 /// Such a world, made again where memory is refused.
@@ -60,14 +60,38 @@ fn start<R: Wait + Copy>(alloc: Global, job: &Job, pass: &mut HandlePass<R>) -> 
 }
 
 /// Sends a key, and again where memory is refused.
-fn key<R: Wait + Copy>(alloc: Global, pass: &mut HandlePass<R>) -> bool
+fn key<R: Wait + Copy>(alloc: Global, pass: &mut HandlePass<R>, key: u8) -> bool
     ensures { pass.new.pass.queue ≡ pass.old.pass.queue }
 {
-    match pass.keys(alloc, b"q") {
+    match pass.keys(alloc, &[key]) {
         Ok(()) => true,
-        Err(Refused::Memory) => pass.keys(alloc, b"q").is_ok(),
+        Err(Refused::Memory) => pass.keys(alloc, &[key]).is_ok(),
         Err(Refused::Full) => false,
     }
+}
+
+/// Asks for two starts, and sends three keys between them. The list of what was sent begins with an ask, and grows with one.
+fn asks_and_keys<R: Wait + Copy>(alloc: Global, job: &Job, pass: &mut HandlePass<R>) -> bool
+    ensures { pass.new.pass.queue ≡ pass.old.pass.queue }
+{
+    let one = start(alloc, job, pass);
+    let two = key(alloc, pass, b'a');
+    let three = key(alloc, pass, b'b');
+    let four = key(alloc, pass, b'c');
+    let five = start(alloc, job, pass);
+    one && two && three && four && five
+}
+
+/// Sends five keys. The list of what was sent begins with a key, and grows with one.
+fn five_keys<R: Wait + Copy>(alloc: Global, pass: &mut HandlePass<R>) -> bool
+    ensures { pass.new.pass.queue ≡ pass.old.pass.queue }
+{
+    let one = key(alloc, pass, b'd');
+    let two = key(alloc, pass, b'e');
+    let three = key(alloc, pass, b'f');
+    let four = key(alloc, pass, b'g');
+    let five = key(alloc, pass, b'h');
+    one && two && three && four && five
 }
 
 /// Takes a turn, in room that is asked for again where memory is refused.
@@ -78,6 +102,16 @@ fn turn<W: World>(world: &mut W) -> bool
         Some(_) => true,
         None => next_turn(world).is_some(),
     }
+}
+
+/// Takes three such turns.
+fn three_turns<W: World>(world: &mut W) -> bool
+    ensures { (W.seen world.new).plan ≡ (W.seen world.old).plan }
+{
+    let one = turn(world);
+    let two = turn(world);
+    let three = turn(world);
+    one && two && three
 }
 
 /// A job, made again where memory is refused.
@@ -98,7 +132,50 @@ fn room<R: Wait + Copy>(alloc: Global) -> Option<Vec<HandlePass<R>>>
     }
 }
 
-/// Each call is tried again where memory was refused: what was refused stands in no list, and nothing that was sent is lost.
+/// What is sent, in order: by which handle, its number among those of this handle, and its letter.
+const SENDS: [(u32, u64, u8); 10] = [
+    (0, 0, b'S'),
+    (0, 1, b'a'),
+    (0, 2, b'b'),
+    (0, 3, b'c'),
+    (0, 4, b'S'),
+    (1, 0, b'd'),
+    (1, 1, b'e'),
+    (1, 2, b'f'),
+    (1, 3, b'g'),
+    (1, 4, b'h'),
+];
+
+/// A key, or `S` for an ask for a start of job 0.
+fn letter_of(item: &Item) -> u8 {
+    match item {
+        Item::Ask(Id(0), ask) if *ask == Ask::One(Control::Start) => b'S',
+        Item::Keys(bytes) => match bytes.as_slice() {
+            [key] => *key,
+            _ => b'?',
+        },
+        _ => b'?',
+    }
+}
+
+/// Whether these are just those.
+fn are(sent: &[Sent<Item>], wanted: &[(u32, u64, u8)]) -> bool {
+    if sent.len() != wanted.len() {
+        return false;
+    }
+    for (place, (pass, seq, letter)) in wanted.iter().enumerate() {
+        let Some(one) = sent.get(place) else {
+            return false;
+        };
+        if (one.pass, one.seq) != (*pass, *seq) || letter_of(&one.item) != *letter {
+            return false;
+        }
+    }
+    true
+}
+
+/// Each call is tried again where memory was refused: what was refused stands in no list, and what was sent was given or is left, in
+/// order.
 #[test]
 fn nothing_is_lost_where_memory_is_refused(rt: HostRuntime) {
     let alloc = rt.alloc();
@@ -106,19 +183,20 @@ fn nothing_is_lost_where_memory_is_refused(rt: HostRuntime) {
     let job = job(alloc).expect(&rt, "a job");
     let (mut world, mut first) = world(rt, alloc).expect(&rt, "a world");
     let mut second = split(&mut world).expect(&rt, "a handle");
-    assert!(rt; start(alloc, &job, &mut first));
-    assert!(rt; key(alloc, &mut second));
-    assert!(rt; turn(&mut world));
-    assert!(rt; key(alloc, &mut first));
-    assert!(rt; turn(&mut world));
+    assert!(rt; asks_and_keys(alloc, &job, &mut first));
+    assert!(rt; three_turns(&mut world));
+    assert!(rt; five_keys(alloc, &mut second));
+    assert!(rt; three_turns(&mut world));
     passes.push(first).expect(&rt, "room for a handle");
     passes.push(second).expect(&rt, "room for a handle");
     let given = world
         .finish(List::from_vec(passes))
         .ok()
         .expect(&rt, "both handles");
-    assert_eq!(rt; (given.given.len(), given.left.len()), (2, 1));
     let sent = given.sent.as_slice();
     assert_eq!(rt; sent.len(), 2);
-    assert_eq!(rt; (sent[0].len(), sent[1].len()), (2, 1));
+    assert!(rt; are(sent[0].as_slice(), &SENDS[..5]));
+    assert!(rt; are(sent[1].as_slice(), &SENDS[5..]));
+    assert!(rt; are(given.given.as_slice(), &SENDS[..6]));
+    assert!(rt; are(given.left.as_slice(), &SENDS[6..]));
 }
