@@ -24,7 +24,7 @@ NUMBERS = [*range(1, 12), *range(12, 60, 6), *range(60, 200, 20), *range(200, 60
 SENDS = "crates/wx_handles_tests/src"
 SENDS_TEST = "nothing_is_lost_where_memory_is_refused"
 SENDS_BOUNDS = "R: AllocGlobal + Abort + Wait + Copy"
-SENDS_MOST = 250
+SENDS_MOST = 100
 SENDS_ROOT = """//! One test, where memory is refused.
 #![tactic(auto)]
 
