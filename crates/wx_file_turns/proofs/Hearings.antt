@@ -3,6 +3,7 @@ use Rattle.std.proofs.Common.{◌≡◌, ◌≤◌, ◌+◌, ℕ, Bool, true, fa
 use Rattle.std.specs.Prelude.{◌⊎◌, Option, None, Some, Result, Ok, Err, IfErr, IsErrAnd, OnOk}
 use Rattle.wx_scan.specs.declared.backend.Backend.{Ghosts}
 use Rattle.wx_watch.specs.declared.notify_fault.NotifyFault.{NotifyFault}
+use Rattle.wx_watch.specs.declared.source_errors.FsWatcherError.{FsWatcherError}
 use Rattle.wx_watch.specs.declared.source_errors.FsWatcherError.TheVariants.{Event as EventFault}
 use Rattle.wx_watch.specs.declared.watched.Watcher.{Watcher}
 use Rattle.wx_tree.specs.declared.root.Root.{Root}
@@ -73,8 +74,8 @@ pub closed_open : (s : Start) (w : Worker) (p : List Entry) (kind : Watcher) (fa
 closed_open s w p kind fault owes shut = owes.due ∙ ap (λ (b : Bool). after_fault b kind (Some fault) Open) (sym owes.stands.closed_kept ∙ shut)
 
 -- and else it is to be shown
-pub fault_shows : (s : Start) (w : Worker) (p : List Entry) (kind : Watcher) (fault : NotifyFault) → Owes s w p (after_fault (closed p) kind (Some fault) Open) → w.queue.closed ≡ false → Owes s w p (Comes (Shows (FsWatcher kind (EventFault fault))) Open)
-fault_shows s w p kind fault owes shut = record { stands = owes.stands; due = owes.due ∙ ap (λ (b : Bool). after_fault b kind (Some fault) Open) (sym owes.stands.closed_kept ∙ shut) }
+pub fault_shows : (s : Start) (w : Worker) (p : List Entry) (kind : Watcher) (fault : NotifyFault) (err : FsWatcherError) → err ≡ EventFault fault → Owes s w p (after_fault (closed p) kind (Some fault) Open) → w.queue.closed ≡ false → Owes s w p (Comes (Shows (FsWatcher kind err)) Open)
+fault_shows s w p kind fault err made owes shut = rw made (record { stands = owes.stands; due = owes.due ∙ ap (λ (b : Bool). after_fault b kind (Some fault) Open) (sym owes.stands.closed_kept ∙ shut) })
 
 pub error_shows : (s : Start) (w : Worker) (p q : List Entry) (error : RuntimeError) → q ≡ p → Owes s w p (Comes (Shows error) Open) → OwesShow s w error q
 error_shows s w p q error same owes = rw same (owes_show s w error p Open owes.stands owes.due)
