@@ -1,5 +1,5 @@
 -- The job of a child is found by the job for which it was spawned.
-use Rattle.std.proofs.Common.{◌≡◌, ℕ, zero, suc, ◌+◌, Bool, true, false, cond, List, [], ◌∷◌, ◌++◌, length, length-append, eqb-true, arith, refl, ap, sym, ◌∙◌}
+use Rattle.std.proofs.Common.{◌≡◌, ℕ, zero, suc, Bool, true, false, cond, List, [], ◌∷◌, ◌++◌, length, length-append, eqb-true, arith, refl, ap, sym, ◌∙◌}
 use Rattle.std.specs.Prelude.{Option, None, Some, is_some, option_map, slice_get, ◌==◌}
 use Rattle.std.specs.List.{AllByRecursion, find}
 use Rattle.wx_control.specs.declared.id.Id.{Id}
@@ -86,8 +86,8 @@ found_by c p hs h own all e =
     let mine : is_of (held_id h) h ≡ true = ap (λ i. same i (held_id h)) stood.handle_is ∙ self (held_id h) in
     let other = held_some (find (is_of (held_id h)) hs) (also (runs_child c) (is_of (held_id h)) hs h e mine) in
     let l = of_found p hs (held_id h) other.0 all other.1 in
-    let too : running_of other.0.task ≡ Some c = child-kept other.0.task p l.stood.task_stands ∙ ap (λ i. child i p) l.id_is ∙ runs in
-    let yes : runs_in c (find (is_of (held_id h)) hs) ≡ true = ap (runs_in c) other.1 ∙ child_is c (running_of other.0.task) too in
+    let too : running_of l.held.task ≡ Some c = child-kept l.held.task p l.stood.task_stands ∙ ap (λ i. child i p) l.id_is ∙ runs in
+    let yes : runs_in c (find (is_of (held_id h)) hs) ≡ true = ap (runs_in c) l.found ∙ child_is c (running_of l.held.task) too in
     let there : by_owner c hs (slice_get (owners p) c) ≡ Some (held_id h) = ap (by_owner c hs) at ∙ ap (λ b. cond b (Some (held_id h)) None) yes in
     ap (λ i. Some i) stood.handle_is ∙ sym there
 

@@ -4,8 +4,8 @@ use Rattle.wx_action.proofs.JobLemmas.{steps_after}
 use Rattle.wx_worker.proofs.Serving.{hooks_none, continues_room, continues_after}
 use Rattle.wx_action.proofs.job_turns.take_step.Goals as goal
 
-pub step_of-requires : goal.step_of-requires
-step_of-requires g c = λ κs lives. (
+pub step_of-stepped-requires : goal.step_of-stepped-requires
+step_of-stepped-requires g c = λ κs lives. (
   lives.0,
   (
     lives.1,
