@@ -1,0 +1,5 @@
+//! Tests of `wx_paced`.
+#![tactic(auto)]
+
+#[cfg(test)]
+mod tests;
