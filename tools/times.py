@@ -4,13 +4,14 @@
 `tools/times.sh` calls it at the top of the repository, for the whole gate or, with names, for these crates and those below them. Behind the output of `rt ci` come the processor seconds, own and those of children, of
 libraries (programs too), of tests and of edits with the checks that they begin with, of what ran, and of `rt` itself; then the longest way
 from a lowest library to a last test, which one processor goes along, and a table of the ten dearest crates of each kind. With `--kept` what
-earlier runs on this machine passed is taken, and costs nothing.
+earlier runs on this machine passed is taken, and costs nothing. A run that is ended by `kill` prints what it counted so far.
 """
 import collections
 import importlib.machinery
 import importlib.util
 import os
 import resource
+import signal
 import subprocess
 import sys
 import threading
@@ -111,6 +112,7 @@ def longest_way():
 def main(words):
     rt = loaded()
     flags = [] if "--kept" in words or "--anew" not in (rt.__doc__ or "") else ["--anew"]
+    signal.signal(signal.SIGTERM, lambda *_: sys.exit(143))
     subprocess.Popen, was = Popen, sys.stdout
     sys.stdout = Clocked(was)
     try:
