@@ -4,8 +4,11 @@ use Rattle.wx_notify.specs.declared.notify.Notify.{Notify}
 use Rattle.wx_watch.specs.declared.notify_fault.NotifyFault.{NotifyFault}
 use Rattle.wx_watch.specs.declared.watched.Watcher.{Watcher}
 use Rattle.wx_tree.specs.Trees.{Tree}
-use Rattle.wx_scan.specs.Backings.{Backing, IsExact, failed_by, is_memory}
+use Rattle.wx_scan.specs.Backings.{AllSpellPaths, Backing, Brings, BringsNoChange, IsExact, failed_by, is_memory}
 use Rattle.wx_scan.specs.Looked.{Looked, OnlyLooks}
+use Rattle.wx_poller.specs.Polled.{Fits, backing_of}
+use Rattle.wx_poller.specs.declared.poller.Poller.{Poller}
+use Rattle.wx_paced.specs.declared.paced.PacedPoller.{PacedPoller}
 use Rattle.wx_journal.specs.declared.entry.Entry.{Entry}
 use Rattle.wx_journal.specs.Told.{tell}
 use Rattle.wx_machine.specs.Progress.{Progress}
@@ -62,6 +65,22 @@ next_threaded {Fixed} {B} o backing fits item back result old new a b g = record
     faults = g.looked.faults;
   };
   fits_still = λ t x s k. g.fits_still t (record { exact = x.exact; told = x.told; no_fault = x.no_fault }) s k;
+}
+
+-- what a backend brings goes by its poller
+pub next_by_poller : {Plan : Type 0} (item back : ℕ) (result : Option (Result Notify NotifyFault)) (old asked new : PacedPoller) (a b : Seen Plan) → asked.poller ≡ old.poller → GivesNext (λ (x : PacedPoller). backing_of x.poller) (λ (x : PacedPoller). Fits x.poller) item back result asked new a b → GivesNext (λ (x : PacedPoller). backing_of x.poller) (λ (x : PacedPoller). Fits x.poller) item back result old new a b
+next_by_poller {Plan} item back result old asked new a b e g = record {
+  next = g.next;
+  answered = g.answered;
+  brings = subst (λ (p : Poller). Brings g.next (backing_of p) (backing_of new.poller)) e g.brings;
+  told = g.told;
+  host_faults = g.host_faults;
+  progress_kept = g.progress_kept;
+  room = g.room;
+  plan_kept = g.plan_kept;
+  place_kept = g.place_kept;
+  looked = g.looked;
+  fits_still = subst (λ (p : Poller). (t : Tree) → IsExact (backing_of p) a.looked b.looked t → AllSpellPaths t (backing_of p).registrations → Fits p t → Fits new.poller t × BringsNoChange g.next) e g.fits_still;
 }
 
 -- ---- what was heard

@@ -1,3 +1,4 @@
+pub mod Asked
 pub mod Marked
 pub mod Rounds
 pub mod Threaded

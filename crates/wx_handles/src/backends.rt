@@ -1,15 +1,18 @@
 // Backends of a world with handles.
-ghost use Rattle.std.specs.Prelude.{◌≡◌, ◌≤◌, ◌⊎◌, [], false, not};
+ghost use Rattle.std.specs.Prelude.{◌≡◌, ◌≤◌, ◌<◌, ◌⊎◌, [], IfOk, false, not};
 ghost use Rattle.wx_scan.specs.Backings.{failed_by, is_memory};
 ghost use Rattle.wx_watch.specs.declared.notify_fault.NotifyFaultKind.TheVariants.{Memory as OutOfMemory};
 ghost use Rattle.wx_poller.specs.Polled.{backing_of, Fits};
+ghost use Rattle.wx_paced.specs.Pace.{pends};
+ghost use Rattle.wx_paced.specs.declared.paced.PacedPoller.{PacedPoller as APoller};
 ghost use Rattle.wx_hooks.specs.Given.{GivesBackend, GivesNext, unheard};
+ghost use Rattle.wx_handles.specs.Asked.{IsAsked};
 
 use std::alloc::Global;
 use wx_journal::{Entry, Word};
 use wx_live::Live;
 use wx_notify::Notify;
-use wx_poller::Poller;
+use wx_paced::PacedPoller;
 use wx_scan::Backend;
 use wx_text::{Copies, List, Memory};
 use wx_watch::{NotifyFault, NotifyFaultKind, Watcher};
@@ -21,13 +24,14 @@ pub(crate) fn made_backend<L: Live>(
     back: u64,
     watcher: Watcher,
     follow: bool,
-) -> Result<Poller, NotifyFault>
+) -> Result<PacedPoller, NotifyFault>
     requires { 1 ≤ (L.seen live.old).spare }
-    ensures gives { GivesBackend backing_of Fits back watcher follow result (L.seen live.old) (L.seen live.new) }
+    ensures gives { GivesBackend (λ (b : APoller). backing_of b.poller) (λ (b : APoller). Fits b.poller) back watcher follow result (L.seen live.old) (L.seen live.new) }
+    ensures at_once { IfOk result (λ b. b.due ≡ 0) }
     ensures only_memory { failed_by (λ kind. not (is_memory kind)) result ≡ false }
     ensures drawn { L.drawn live.new ≡ L.drawn live.old }
 {
-    match Poller::new(alloc, follow) {
+    match PacedPoller::new(alloc, follow) {
         Ok(poller) => {
             live.note(Entry::Make {
                 back,
@@ -55,10 +59,12 @@ pub(crate) fn heard<L: Live>(
     live: &mut L,
     item: u64,
     name: u64,
-    back: &mut Poller,
+    back: &mut PacedPoller,
 ) -> Option<Result<Notify, NotifyFault>>
     requires { 1 ≤ (L.seen live.old).spare }
-    ensures gives { GivesNext backing_of Fits item name result back.old back.new (L.seen live.old) (L.seen live.new) }
+    ensures gives { GivesNext (λ (b : APoller). backing_of b.poller) (λ (b : APoller). Fits b.poller) item name result back.old back.new (L.seen live.old) (L.seen live.new) }
+    ensures asked { IsAsked back.old.moment result back.old back.new }
+    ensures idle { pends back.old.poller ≡ false → back.old.moment < back.old.due → (L.seen live.new).looked ≡ (L.seen live.old).looked }
     ensures drawn { L.drawn live.new ≡ L.drawn live.old }
 {
     let Some(next) = back.next(live) else {

@@ -1,5 +1,6 @@
 // The marks of the turns that were given.
 ghost use Rattle.std.specs.Prelude.{◌≡◌, ◌∷◌, ◌+◌, ◌≤◌, [], OnOk};
+ghost use Rattle.wx_handles.specs.Marked.{latest};
 
 use crate::mark::Mark;
 use std::alloc::Global;
@@ -48,5 +49,15 @@ impl Marks {
         ensures room { self.new.spare + 1 ≡ self.old.spare }
     {
         self.marks.push_reserved(mark);
+    }
+
+    /// The moment of the last turn, or 0 before any.
+    pub fn latest(&self) -> u64
+        ensures { result ≡ latest self.now.past }
+    {
+        match self.marks.as_slice() {
+            [.., last] => last.at,
+            [] => 0,
+        }
     }
 }

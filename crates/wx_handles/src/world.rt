@@ -2,9 +2,14 @@
 ghost use Rattle.std.specs.Prelude.{◌≡◌, ◌+◌, ◌<◌, ◌≤◌, ◌↔◌, ◌++◌, [], All, Err, IfErr, IfOk, IsErr, IsOk, List, MatchResult, Some, false, length, reverse, slice_get, true, ℕ};
 ghost use Rattle.wx_journal.specs.declared.entry.Entry.{Entry as AnEntry};
 ghost use Rattle.wx_journal.specs.Told.{anywhere, is_turn, tells};
-ghost use Rattle.wx_hooks.specs.Given.{GivesTurn, gives_last};
+ghost use Rattle.wx_poller.specs.Polled.{Fits, backing_of};
+ghost use Rattle.wx_paced.specs.Pace.{pends};
+ghost use Rattle.wx_paced.specs.declared.paced.PacedPoller.{PacedPoller as APoller};
+ghost use Rattle.wx_hooks.specs.Given.{GivesBackend, GivesNext, GivesTurn, gives_last};
 ghost use Rattle.wx_queue.specs.Rule.{of};
 ghost use Rattle.wx_live.specs.Drawn.{NoneLeft, with_moment};
+ghost use Rattle.wx_handles.specs.Asked.{IsAsked};
+ghost use Rattle.wx_handles.specs.Marked.{latest};
 ghost use Rattle.wx_handles.specs.Rounds.{are_rounds, is_round, place_in};
 ghost use Rattle.wx_handles.specs.Threaded.{Based, Begins, Own, Parted, own, threaded, unsettled, with_handle};
 ghost use Rattle.wx_handles.specs.ThreadedLaws.{threaded_looks};
@@ -25,8 +30,8 @@ use wx_job::{Host, Outside};
 use wx_journal::{Entry, HostFault, Journal, SpawnTag};
 use wx_live::Live;
 use wx_notify::Notify;
+use wx_paced::PacedPoller;
 use wx_pass::{Given, HandlePass, Items, SplitRefused};
-use wx_poller::Poller;
 use wx_scan::{EntryKind, Looks, ScanError, Scanner};
 use wx_text::{List, Memory};
 use wx_watch::{NotifyFault, Watcher};
@@ -275,7 +280,7 @@ impl<R: Wait + Copy, L: Live + Drop> Host for ThreadWorld<R, L> {
 }
 
 impl<R: Wait + Copy, L: Live + Drop> World for ThreadWorld<R, L> {
-    type Back = Poller;
+    type Back = PacedPoller;
 
     ghost only_looks = { λ x y e. threaded_looks (L.Outside.seen x.live) (L.Outside.seen y.live) (L.Looks.looked y.live) (L.Looks.rest x.live, own x.turns x.jobs (L.drawn x.base.value) x.marks x.items x.left) (L.Looks.rest y.live, own y.turns y.jobs (L.drawn y.base.value) y.marks y.items y.left) (L.only_looks x.live y.live) e };
 
@@ -307,21 +312,33 @@ impl<R: Wait + Copy, L: Live + Drop> World for ThreadWorld<R, L> {
         }
     }
 
+    /// Makes a backend that polls at its own pace, and may list at once.
     fn make_backend(
         &mut self,
         back: u64,
         kind: Watcher,
         follow: bool,
-    ) -> Result<Poller, NotifyFault> {
+    ) -> Result<PacedPoller, NotifyFault>
+        requires { 1 ≤ (⟦<ThreadWorld<R, L> as Outside>⟧.seen self.old).spare }
+        ensures gives { GivesBackend (λ (b : APoller). backing_of b.poller) (λ (b : APoller). Fits b.poller) back kind follow result (⟦<ThreadWorld<R, L> as Outside>⟧.seen self.old) (⟦<ThreadWorld<R, L> as Outside>⟧.seen self.new) }
+        ensures at_once { IfOk result (λ b. b.due ≡ 0) }
+    {
         made_backend(self.alloc, &mut self.live, back, kind, follow)
     }
 
+    /// Asks the backend what it brings next, at the moment of the last turn.
     fn listen(
         &mut self,
         item: u64,
         name: u64,
-        back: &mut Poller,
-    ) -> Option<Result<Notify, NotifyFault>> {
+        back: &mut PacedPoller,
+    ) -> Option<Result<Notify, NotifyFault>>
+        requires { 1 ≤ (⟦<ThreadWorld<R, L> as Outside>⟧.seen self.old).spare }
+        ensures gives { GivesNext (λ (b : APoller). backing_of b.poller) (λ (b : APoller). Fits b.poller) item name result back.old back.new (⟦<ThreadWorld<R, L> as Outside>⟧.seen self.old) (⟦<ThreadWorld<R, L> as Outside>⟧.seen self.new) }
+        ensures asked { IsAsked (latest self.old.marks.past) result back.old back.new }
+        ensures idle { pends back.old.poller ≡ false → latest self.old.marks.past < back.old.due → (L.seen self.new.live).looked ≡ (L.seen self.old.live).looked }
+    {
+        back.set_moment(self.marks.latest());
         heard(self.alloc, &mut self.live, item, name, back)
     }
 

@@ -120,7 +120,7 @@ impl Backend for PacedPoller {
         ensures fits { (t : Tree) → IsExact (backing_of self.old.poller) (S.looked scan.old) (S.looked scan.new) t → AllSpellPaths t (backing_of self.old.poller).registrations → Fits self.old.poller t → Fits self.new.poller t × BringsNoChange result }
         ensures moment { self.new.moment ≡ self.old.moment }
         ensures gives { pends self.old.poller ≡ true → Brought result self.old.poller self.new.poller × (self.new.due ≡ self.old.due) }
-        ensures waits { pends self.old.poller ≡ false → self.old.moment < self.old.due → (result ≡ None) × (self.new ≡ self.old) }
+        ensures waits { pends self.old.poller ≡ false → self.old.moment < self.old.due → (result ≡ None) × (self.new ≡ self.old) × (S.looked scan.new ≡ S.looked scan.old) }
         ensures lists { pends self.old.poller ≡ false → self.old.due ≤ self.old.moment → Brought result self.old.poller self.new.poller × (self.new.due ≡ due_after self.old.moment (length self.new.poller.listing.entries)) }
     {
         if self.poller.pends() {

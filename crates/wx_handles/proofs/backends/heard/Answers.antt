@@ -17,7 +17,7 @@ returns-in_default-clause-gives g c =
       plan_kept = h.plan_kept;
       place_kept = h.place_kept;
       looked = h.looked;
-      fits_still = λ t x s k. c.in_default.ensures.fits t (exact_heard (backing_of c.args.back.now) _ _ _ _ t h.before h.after x) s k;
+      fits_still = λ t x s k. c.in_default.ensures.fits t (exact_heard (backing_of c.args.back.now.poller) _ _ _ _ t h.before h.after x) s k;
     }
 
 pub returns-clause-gives : goal.returns-clause-gives
@@ -34,5 +34,5 @@ returns-clause-gives g c =
       plan_kept = h.plan_kept;
       place_kept = h.place_kept;
       looked = h.looked;
-      fits_still = λ t x s k. c.in-Some.ensures.fits t (exact_heard (backing_of c.args.back.now) _ _ _ _ t h.before h.after x) s k;
+      fits_still = λ t x s k. c.in-Some.ensures.fits t (exact_heard (backing_of c.args.back.now.poller) _ _ _ _ t h.before h.after x) s k;
     }
