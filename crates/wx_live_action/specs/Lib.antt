@@ -1,0 +1,2 @@
+pub mod LiveActs
+pub mod LiveLaws
