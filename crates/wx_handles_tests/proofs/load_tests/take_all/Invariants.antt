@@ -1,0 +1,5 @@
+use Rattle.std.proofs.Common.{◌≡◌}
+use Rattle.wx_handles_tests.proofs.load_tests.take_all.Given as goal
+
+abbrev pub invariant-loop : goal.invariant-loop
+invariant-loop g l = (g.W.Outside.seen l.world).plan ≡ (g.W.Outside.seen l.initial.world).plan
