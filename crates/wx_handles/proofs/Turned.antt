@@ -1,5 +1,6 @@
 -- One turn more of a world.
-use Rattle.std.proofs.Common.{◌≡◌, ℕ, Option, None, Some, List, [], ◌∷◌, length, reverse, refl, sym, ap, ◌∙◌, arith}
+use Rattle.std.proofs.Common.{◌≡◌, ℕ, true, Option, None, Some, List, [], ◌∷◌, length, reverse, refl, sym, ap, ◌∙◌, arith}
+use Rattle.std.specs.List.{list_all}
 use Rattle.std.proofs.lemmas.List.{length-reverse}
 use Rattle.wx_journal.specs.declared.entry.Entry.{Entry}
 use Rattle.wx_queue.specs.declared.parcel.Sent.{Sent}
@@ -8,7 +9,7 @@ use Rattle.wx_pass.specs.declared.item.Item.TheVariants.{Ask, Keys}
 use Rattle.wx_handles.specs.declared.mark.Mark.{Mark}
 use Rattle.wx_handles.specs.declared.mark.Plain.{Plain}
 use Rattle.wx_handles.specs.declared.mark.Plain.TheVariants.{Ended, Work, Job, Listen, File, Last}
-use Rattle.wx_handles.specs.Turns.{given_before, item_count, item_kind, items_in, items_of, kind_of, one_item, plain_kind, turn_at, turns_by}
+use Rattle.wx_handles.specs.Turns.{given_before, is_own, item_count, item_kind, items_in, items_of, kind_of, one_item, plain_kind, turn_at, turns_by}
 
 -- ---- the items among the turns
 
@@ -37,3 +38,26 @@ items_by (m ∷ marks) given e = items_step m.plain m.at marks given (λ g h. it
 
 pub items_by_marks : (marks : List Mark) (given : List (Sent Item)) → item_count marks ≡ length given → items_in (turns_by marks (reverse given)) ≡ items_of (reverse given)
 items_by_marks marks given e = items_by marks (reverse given) (e ∙ sym (length-reverse given))
+
+-- ---- their kinds
+
+plain_own : (plain : Plain) (at : ℕ) → is_own (turn_at at (plain_kind plain)) ≡ true
+plain_own (Ended child) at = refl
+plain_own Work at = refl
+plain_own (Job id) at = refl
+plain_own Listen at = refl
+plain_own File at = refl
+plain_own Last at = refl
+
+item_own : (item : Item) (at : ℕ) → is_own (turn_at at (item_kind item)) ≡ true
+item_own (Ask id ask) at = refl
+item_own (Keys bytes) at = refl
+
+turn_own : (p : Option Plain) (at : ℕ) (given : List (Sent Item)) → is_own (turn_at at (kind_of p given)) ≡ true
+turn_own (Some plain) at given = plain_own plain at
+turn_own None at [] = refl
+turn_own None at (s ∷ given) = item_own s.item at
+
+pub own_by_marks : (marks : List Mark) (given : List (Sent Item)) → list_all is_own (turns_by marks given) ≡ true
+own_by_marks [] given = refl
+own_by_marks (m ∷ marks) given = rw (turn_own m.plain m.at given) (own_by_marks marks (given_before m.plain given))

@@ -1,5 +1,6 @@
 -- What a world with handles is seen as.
 use Rattle.std.specs.Prelude.{◌≡◌, ◌+◌, ℕ, false, true, None, Some, List, [], min, reverse}
+use Rattle.std.specs.List.{list_all}
 use Rattle.atomic_table.specs.Seated.{TableId}
 use Rattle.wx_scan.specs.Looked.{Looked}
 use Rattle.wx_journal.specs.declared.entry.Entry.{Entry}
@@ -10,7 +11,7 @@ use Rattle.wx_pass.specs.declared.item.Item.{Item}
 use Rattle.wx_live.specs.Drawn.{Drawn}
 use Rattle.wx_handles.specs.Marked.{Marked}
 use Rattle.wx_handles.specs.Rounds.{are_rounds}
-use Rattle.wx_handles.specs.Turns.{count_given, drawn_by, items_in, items_of, turns_by}
+use Rattle.wx_handles.specs.Turns.{are_behind, count_given, drawn_by, is_own, items_in, items_of, turns_by}
 
 -- What no call of `World` changes: how many turns it gives, how many jobs are in its round, what its outside had drawn, which queue it has,
 -- and how many handles it made.
@@ -69,12 +70,14 @@ pub record Begins {Fixed : Type 0} (count ids : ℕ) (drawn : Drawn) (a : Seen F
 
 -- What turns say: of what was drawn since a world began, of what its queue gave, and of its round. All lists have the newest first. The
 -- items among the turns are those that the queue gave; the others that are no ends and not the last are rounds; and the last turns come
--- when all others were given.
+-- when all others were given. No turn failed, and there are none of other kinds.
 pub record TurnsTell (base : Based) (turns : List Entry) (left : ℕ) (drawn : Drawn) (given : List (Sent Item)) : Type 0 where
   pub draws : drawn ≡ drawn_by turns base.drew
   pub items : items_in turns ≡ items_of given
   pub rounds : are_rounds base.jobs turns ≡ true
   pub counts : left + count_given turns ≡ base.turns
+  pub last : are_behind base.turns turns ≡ true
+  pub own : list_all is_own turns ≡ true
 
 -- A world was taken apart, into an outside, of which this was drawn, and its queue.
 pub record Parted {Fixed : Type 0} (b : Seen Based) (a : Seen Fixed) (drawn : Drawn) (items : TakingEnd Item) : Type 0 where

@@ -1,5 +1,5 @@
 -- The turns of a world with handles, by their marks and by what the queue gave.
-use Rattle.std.specs.Prelude.{ℕ, Bool, true, false, suc, if◌then◌else◌, Option, None, Some, List, [], ◌∷◌}
+use Rattle.std.specs.Prelude.{ℕ, ◌==◌, ◌&&◌, Bool, true, false, suc, if◌then◌else◌, Option, None, Some, List, [], ◌∷◌}
 use Rattle.wx_journal.specs.declared.entry.Entry.{Entry}
 use Rattle.wx_journal.specs.declared.entry.Entry.TheVariants.{Turn as Turned}
 use Rattle.wx_journal.specs.declared.entry.TurnKind.{TurnKind}
@@ -105,3 +105,23 @@ one_given (_) n = n
 abbrev pub count_given : List Entry → ℕ
 count_given [] = 0
 count_given (e ∷ es) = one_given e (count_given es)
+
+abbrev pub is_behind : ℕ → Entry → ℕ → Bool
+is_behind turns (Turned t) n = if is_last t.kind then n == turns else true
+is_behind turns (_) n = true
+
+-- each last one of these turns stands behind so many that are not the last
+abbrev pub are_behind : ℕ → List Entry → Bool
+are_behind turns [] = true
+are_behind turns (e ∷ es) = is_behind turns e (count_given es) && are_behind turns es
+
+-- a turn that such a world gives: an item of the queue, the end of a child, one of the round, or the last
+abbrev pub is_own_kind : TurnKind → Bool
+is_own_kind (turn.Arrive event priority) = false
+is_own_kind (turn.Signal signal) = false
+is_own_kind (turn.Change change) = false
+is_own_kind (_) = true
+
+abbrev pub is_own : Entry → Bool
+is_own (Turned t) = is_own_kind t.kind
+is_own (_) = false

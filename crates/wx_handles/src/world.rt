@@ -13,7 +13,7 @@ ghost use Rattle.wx_handles.specs.Marked.{latest};
 ghost use Rattle.wx_handles.specs.Rounds.{are_rounds, is_round, place_in};
 ghost use Rattle.wx_handles.specs.Threaded.{Based, Begins, Own, Parted, own, threaded, unsettled, with_handle};
 ghost use Rattle.wx_handles.specs.ThreadedLaws.{threaded_looks};
-ghost use Rattle.wx_handles.specs.Turns.{count_given, drawn_by, is_item, item_count, items_in, items_of, kind_drawn, turns_by};
+ghost use Rattle.wx_handles.specs.Turns.{are_behind, count_given, drawn_by, is_item, item_count, items_in, items_of, kind_drawn, turns_by};
 
 use crate::backends::{heard, made_backend};
 use crate::mark::Plain;
@@ -56,6 +56,7 @@ pub struct ThreadWorld<R: Wait + Copy, L: Live + Drop> {
     ghost at: { place ≡ place_in jobs (turns_by marks.past (reverse items.given)) },
     ghost rounds: { are_rounds jobs (turns_by marks.past (reverse items.given)) ≡ true },
     ghost counted: { left + count_given (turns_by marks.past (reverse items.given)) ≡ turns },
+    ghost last: { are_behind turns (turns_by marks.past (reverse items.given)) ≡ true },
 }
 
 // Its parts are dropped by one call: docs/DESIGN.md, "What proofs cost".
