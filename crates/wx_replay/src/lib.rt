@@ -6,7 +6,7 @@ mod running;
 mod status;
 mod writing;
 
-pub use replaying::replay;
+pub use replaying::{replay, shown};
 pub use running::{Ran, run_script};
 pub use status::Status;
 pub use writing::write_out;

@@ -26,8 +26,8 @@ fn status_of(answer: &Result<(), CriticalError>) -> Result<Status, Memory>
     }
 }
 
-/// The text of the journal of a run with its end line, and the status of the run.
-fn shown(alloc: Global, ran: &Ran) -> Result<(Text, Status), Memory>
+/// The text of the journal of a run with its end line, and the status of the run. It fails for want of memory, also where the run did.
+pub fn shown(alloc: Global, ran: &Ran) -> Result<(Text, Status), Memory>
     ensures { IfOk result (λ r. IsShown ran.now.journal.past ran.now.answer r.0 r.1) }
 {
     let status = status_of(&ran.answer)?;
