@@ -1,0 +1,6 @@
+mod Given
+mod Heard
+mod Listed
+mod Parts
+mod Runs
+mod Sided
