@@ -1,0 +1,59 @@
+// A live outside over the system, with a folder of its own.
+ghost use Rattle.std.specs.Prelude.{◌≡◌, ◌≤◌};
+
+use std::alloc::{AllocGlobal, Global};
+use std::process::{self, Processes};
+use std::rt::{Clock, Env, Files, HostRuntime};
+use wx_command::{SpawnOptions, Spawnable};
+use wx_control::Id;
+use wx_events::ProcessEnd;
+use wx_job::Host;
+use wx_journal::{HostFault, SpawnTag};
+use wx_live_parts::{LiveParts, current_folder};
+use wx_scan::ScanError;
+use wx_text::{List, Memory, Text};
+use wx_words::TextPath;
+
+/// What runs the tests.
+pub(crate) type Parts = LiveParts<HostRuntime>;
+
+/// A live outside in the folder of the program, where that is known.
+pub(crate) fn new_parts(rt: HostRuntime) -> Result<Parts, ScanError> {
+    let folder = current_folder(&rt)?;
+    Ok(LiveParts::new(rt, folder))
+}
+
+/// What spawns these words.
+pub(crate) fn spawnable(alloc: Global, words: &[&[u8]]) -> Result<Spawnable, Memory> {
+    let mut texts = List::new(alloc);
+    for word in words {
+        texts.push(Text::from_slice(alloc, word)?)?;
+    }
+    Ok(Spawnable {
+        words: texts,
+        options: SpawnOptions::default(),
+    })
+}
+
+/// Spawns a shell of this name that runs a script.
+pub(crate) fn spawn_shell(
+    alloc: Global,
+    parts: &mut Parts,
+    child: u64,
+    script: &str,
+) -> Result<bool, Memory> {
+    let what = spawnable(alloc, &[b"sh", b"-c", script.as_bytes()])?;
+    Ok(parts.spawn(child, Id(0), what, SpawnTag::Default).is_ok())
+}
+
+/// Runs a script to its end, and answers how it ended.
+pub(crate) fn run_shell(
+    alloc: Global,
+    parts: &mut Parts,
+    script: &str,
+) -> Result<Option<ProcessEnd>, Memory> {
+    if !spawn_shell(alloc, parts, 1_000_000, script)? {
+        return Ok(None);
+    }
+    Ok(parts.wait(1_000_000).ok())
+}
