@@ -1,20 +1,16 @@
-// A live outside over the system, with a folder of its own.
-ghost use Rattle.std.specs.Prelude.{◌≡◌, ◌≤◌};
-
-use std::alloc::{AllocGlobal, Global};
-use std::process::{self, Processes};
-use std::rt::{Clock, Env, Files, HostRuntime};
+// What the tests share: a live outside over the system, and shells that it runs.
+use std::alloc::Global;
+use std::rt::HostRuntime;
 use wx_command::{SpawnOptions, Spawnable};
 use wx_control::Id;
 use wx_events::ProcessEnd;
 use wx_job::Host;
-use wx_journal::{HostFault, SpawnTag};
+use wx_journal::SpawnTag;
 use wx_live_parts::{LiveParts, current_folder};
 use wx_scan::ScanError;
 use wx_text::{List, Memory, Text};
-use wx_words::TextPath;
 
-/// What runs the tests.
+/// The live outside of the tests.
 pub(crate) type Parts = LiveParts<HostRuntime>;
 
 /// A live outside in the folder of the program, where that is known.
