@@ -1,6 +1,7 @@
 //! What the program does for its words: a row for each request that they may make.
 #![tactic(auto)]
 
+mod commanding;
 mod flooding;
 mod request;
 mod top;

@@ -2,6 +2,8 @@
 use crate::word_tests::{call, expect_so, unread};
 use std::alloc::Global;
 use std::process::Abort;
+use std::sync::Wait;
+use std::thread::Threads;
 use wx_bytes::MemSink;
 use wx_replay::Status;
 use wx_text::Text;
@@ -40,9 +42,13 @@ fn a_flood_is_summed_up(rt: HostRuntime) {
 }
 
 /// The summary of this flood, which ends well and reads nothing.
-fn summary(rt: &impl Abort, alloc: Global, line: &[u8]) -> Text {
+fn summary<R: Abort + Threads + Wait + Copy + Send + Sync>(
+    rt: &R,
+    alloc: Global,
+    line: &[u8],
+) -> Text {
     let mut source = unread(rt, alloc);
-    let (sink, status) = call(alloc, line, &mut source, MemSink::new(alloc)).expect(
+    let (sink, status) = call(rt, alloc, line, &mut source, MemSink::new(alloc)).expect(
         rt,
         "memory for a call",
     );
@@ -77,7 +83,7 @@ fn a_failed_write_leaves_a_front_of_a_summary(rt: HostRuntime) {
     let at = vec![in rt.alloc(); 3].expect(&rt, "a number");
     let sink = MemSink::new(rt.alloc()).in_pieces(4).failing(at);
     let mut source = unread(&rt, rt.alloc());
-    let (sink, status) = call(rt.alloc(), b"flood 1 0", &mut source, sink).expect(
+    let (sink, status) = call(&rt, rt.alloc(), b"flood 1 0", &mut source, sink).expect(
         &rt,
         "memory for a call",
     );

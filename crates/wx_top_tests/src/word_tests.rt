@@ -1,7 +1,10 @@
 // Tests of the words of a call: which of them ask for something.
 use std::alloc::Global;
 use std::process::Abort;
+use std::sync::Wait;
+use std::thread::Threads;
 use wx_bytes::{MemSink, MemSource};
+use wx_mem_live::MemLive;
 use wx_replay::Status;
 use wx_text::{Memory, Text};
 use wx_top::wx_main;
@@ -18,14 +21,17 @@ fn words_of(alloc: Global, line: &[u8]) -> Result<Vec<Text>, Memory> {
 }
 
 /// Calls with these words: what was written, and how the call ended.
-pub(crate) fn call(
+pub(crate) fn call<R: Threads + Wait + Copy + Send + Sync>(
+    rt: &R,
     alloc: Global,
     line: &[u8],
     source: &mut MemSource,
     mut sink: MemSink,
 ) -> Result<(MemSink, Status), Memory> {
     let words = words_of(alloc, line)?;
-    let status = wx_main(alloc, words.as_slice(), source, &mut sink);
+    let mut outside = MemLive::new(alloc)?;
+    let status = wx_main(rt, alloc, words.as_slice(), source, &mut sink, &mut outside);
+    drop(outside);
     Ok((sink, status))
 }
 
@@ -42,7 +48,7 @@ pub(crate) fn expect_so(rt: &impl Abort, so: bool, line: &[u8]) {
     assert!(rt; so, "of {line:?}");
 }
 
-const OTHER_WORDS: [&[u8]; 20] = [
+const OTHER_WORDS: [&[u8]; 33] = [
     b"",
     b"Replay",
     b"replay x",
@@ -63,12 +69,29 @@ const OTHER_WORDS: [&[u8]; 20] = [
     b"flood 100001 1",
     b"flood 18446744073709551616 1",
     b"flood 1 18446744073709551616",
+    b"live",
+    b"live --",
+    b"live true",
+    b"Live -- true",
+    b"lives -- true",
+    b"live - true",
+    b"live --turns",
+    b"live --turns 4",
+    b"live --turns 4 --",
+    b"live --turns 4 true",
+    b"live --turns -- true",
+    b"live --turns 04 -- true",
+    b"live --turns 4194305 -- true",
 ];
 
 /// These words ask for nothing, and nothing is read or written.
-fn expect_usage(rt: &impl Abort, alloc: Global, line: &[u8]) {
+fn expect_usage<R: Abort + Threads + Wait + Copy + Send + Sync>(
+    rt: &R,
+    alloc: Global,
+    line: &[u8],
+) {
     let mut source = unread(rt, alloc);
-    let (sink, status) = call(alloc, line, &mut source, MemSink::new(alloc)).expect(
+    let (sink, status) = call(rt, alloc, line, &mut source, MemSink::new(alloc)).expect(
         rt,
         "memory for a call",
     );
@@ -93,7 +116,15 @@ fn a_space_in_a_word_makes_no_two_words(rt: HostRuntime) {
     words.push(word).expect(&rt, "words");
     let mut source = unread(&rt, rt.alloc());
     let mut sink = MemSink::new(rt.alloc());
-    let status = wx_main(rt.alloc(), words.as_slice(), &mut source, &mut sink);
+    let mut outside = MemLive::new(rt.alloc()).expect(&rt, "an outside");
+    let status = wx_main(
+        &rt,
+        rt.alloc(),
+        words.as_slice(),
+        &mut source,
+        &mut sink,
+        &mut outside,
+    );
     assert!(rt; status == Status::Usage);
     assert!(rt; sink.text().as_slice().is_empty());
 }
@@ -102,11 +133,62 @@ fn a_space_in_a_word_makes_no_two_words(rt: HostRuntime) {
 fn a_replay_reads_and_writes(rt: HostRuntime) {
     let mut source = MemSource::new(rt.alloc(), b"turn 0 wrok\n").expect(&rt, "a source");
     let sink = MemSink::new(rt.alloc());
-    let (sink, status) = call(rt.alloc(), b"replay", &mut source, sink).expect(
+    let (sink, status) = call(&rt, rt.alloc(), b"replay", &mut source, sink).expect(
         &rt,
         "memory for a call",
     );
     assert!(rt; status == Status::NoScript);
     assert!(rt; sink.text().as_slice() == b"bad line 1\n".as_slice());
     drop(sink);
+}
+
+/// How many lines that were written begin so.
+fn count(sink: &MemSink, front: &[u8]) -> usize {
+    sink.text()
+        .as_slice()
+        .split(|byte| *byte == 10)
+        .filter(|line| line.starts_with(front))
+        .count()
+}
+
+#[test]
+fn a_command_is_spawned_once_where_nothing_changes(rt: HostRuntime) {
+    let alloc = rt.alloc();
+    let mut source = MemSource::new(alloc, b"").expect(&rt, "a source");
+    let (sink, status) = call(
+        &rt,
+        alloc,
+        b"live --turns 4 -- a",
+        &mut source,
+        MemSink::new(alloc),
+    )
+    .expect(&rt, "memory for a call");
+    assert!(rt; status == Status::Done);
+    assert_eq!(rt; count(&sink, b"spawn "), 1);
+    assert_eq!(rt; count(&sink, b"spawn 0 0 default ---- 1 a ok"), 1);
+    drop(sink);
+    drop(source);
+}
+
+/// Words that ask for a command, and the number of turns of its run, the last one too.
+const COMMANDS: [(&[u8], usize); 3] = [
+    (b"live --turns 4 -- a", 5),
+    (b"live --turns 0 -- a b --", 1),
+    (b"live --turns 10 -- live --turns 3 -- a", 11),
+];
+
+#[test]
+fn a_command_runs_for_so_many_turns(rt: HostRuntime) {
+    let alloc = rt.alloc();
+    for (line, turns) in &COMMANDS {
+        let mut source = MemSource::new(alloc, b"").expect(&rt, "a source");
+        let (sink, status) = call(&rt, alloc, line, &mut source, MemSink::new(alloc)).expect(
+            &rt,
+            "memory for a call",
+        );
+        expect_so(&rt, status == Status::Done, line);
+        expect_so(&rt, count(&sink, b"turn ") == *turns, line);
+        drop(sink);
+        drop(source);
+    }
 }
