@@ -359,9 +359,10 @@ def reaction():
             time.sleep(2 if files == 0 else 10 if folders == 10 else 60)
             took = []
             for k in range(50):
+                count = len(run.pids())
                 run.write("a", f"{k}")
-                took.append(run.starts(2 + k, 30))
-                time.sleep(0.3 + 0.013 * (k % 7))
+                took.append(run.starts(count + 1, 30))
+                time.sleep(0.5 + 0.013 * (k % 7))
             used = spent(run.process.pid)
             time.sleep(10)
             used = spent(run.process.pid) - used

@@ -31,14 +31,16 @@ pub(crate) fn spawnable(alloc: Global, words: &[&[u8]]) -> Result<Spawnable, Mem
     })
 }
 
-/// Spawns a shell of this name that runs a script.
+/// Spawns a shell of this name that runs a script. No signal is ignored there: `nohup`, and a shell that starts the tests in the background,
+/// hand that on.
 pub(crate) fn spawn_shell(
     alloc: Global,
     parts: &mut Parts,
     child: u64,
     script: &str,
 ) -> Result<bool, Memory> {
-    let what = spawnable(alloc, &[b"sh", b"-c", script.as_bytes()])?;
+    let words: [&[u8]; 5] = [b"env", b"--default-signal", b"sh", b"-c", script.as_bytes()];
+    let what = spawnable(alloc, &words)?;
     Ok(parts.spawn(child, Id(0), what, SpawnTag::Default).is_ok())
 }
 
