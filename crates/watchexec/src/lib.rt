@@ -1,4 +1,4 @@
-//! The names of the Rust crate `watchexec` that exist here, where they stand there.
+//! The names of the Rust crate `watchexec` that exist here, where they stand there, and in `live` those of a world over the system.
 #![tactic(auto)]
 
 pub use watchexec_supervisor::{command, job};
@@ -34,6 +34,14 @@ pub mod error {
 /// What judges events and directories.
 pub mod filter {
     pub use wx_config::{ChangeableFilterer, Filterer};
+}
+
+/// A world over the system whose keys and jobs are used from threads: its outside, the folder that the program runs in, the world, and
+/// its handles.
+pub mod live {
+    pub use wx_handles::ThreadWorld;
+    pub use wx_live_parts::{LiveParts, current_folder};
+    pub use wx_pass::HandlePass;
 }
 
 /// What paths have in common, and what events come to for a command.
