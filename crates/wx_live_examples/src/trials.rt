@@ -1,0 +1,99 @@
+// The trials.
+
+/// A change of what stands at a name of the folder.
+#[derive(Clone, Copy)]
+pub enum Change {
+    /// A file is written.
+    Write,
+    /// A new folder is made.
+    Folder,
+    /// A file that was written outside takes the place.
+    Save,
+    /// The file is removed.
+    Remove,
+}
+
+/// A trial: a run of a command over a folder that holds a file `old`.
+pub struct Trial {
+    pub shows: &'static str,
+    /// What is run, with the file that it makes longer as its argument.
+    pub program: &'static str,
+    /// What happens while it runs. Each change is made again where the command doesn't run again within a while.
+    pub changes: &'static [(Change, &'static str)],
+    /// Whether a `q` ends the run. Else the input ends alone.
+    pub quits: bool,
+    pub turns: u64,
+    /// For each of these beginnings and parts, some line of the journal has both.
+    pub lines: &'static [(&'static str, &'static str)],
+    /// How often the command runs at least.
+    pub runs: usize,
+}
+
+/// More turns than a run takes that a `q` ends.
+const MANY: u64 = 4000;
+
+pub const TRIALS: &[Trial] = &[
+    Trial {
+        shows: "a file is written",
+        program: "sh",
+        changes: &[(Change::Write, "new")],
+        quits: true,
+        turns: MANY,
+        lines: &[("offer ", "/new ")],
+        runs: 2,
+    },
+    Trial {
+        shows: "a file is written in a new folder",
+        program: "sh",
+        changes: &[(Change::Folder, "below"), (Change::Write, "below/new")],
+        quits: true,
+        turns: MANY,
+        lines: &[("offer ", "/below "), ("offer ", "/below/new ")],
+        runs: 3,
+    },
+    Trial {
+        shows: "a file is saved by a rename",
+        program: "sh",
+        changes: &[(Change::Save, "old")],
+        quits: true,
+        turns: MANY,
+        lines: &[("offer ", "/old ")],
+        runs: 2,
+    },
+    Trial {
+        shows: "a file is removed",
+        program: "sh",
+        changes: &[(Change::Remove, "old")],
+        quits: true,
+        turns: MANY,
+        lines: &[("offer ", "/old ")],
+        runs: 2,
+    },
+    Trial {
+        shows: "a file is written whose name has a space and a line feed",
+        program: "sh",
+        changes: &[(Change::Write, "a b\nc")],
+        quits: true,
+        turns: MANY,
+        lines: &[("offer ", "/a%20b%0Ac ")],
+        runs: 2,
+    },
+    Trial {
+        shows: "a command that isn't there",
+        program: "/nowhere/sh",
+        changes: &[],
+        quits: true,
+        turns: MANY,
+        lines: &[("spawn 0 ", " fault 2"), ("turn ", " keys 1 113")],
+        runs: 0,
+    },
+    Trial {
+        shows: "the input ends, and then the turns",
+        program: "sh",
+        changes: &[],
+        quits: false,
+        turns: 200,
+        lines: &[("turn ", " keys 0"), ("turn ", " last")],
+        runs: 1,
+    },
+];
