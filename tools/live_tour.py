@@ -279,9 +279,10 @@ def an_interrupt():
 
 
 def take_terminal(terminal):
-    """Makes a terminal that of this session."""
+    """Makes a terminal that of this session, and takes interrupts as usual, also where this tool runs in the background."""
     import fcntl
     import termios
+    signal.signal(signal.SIGINT, signal.SIG_DFL)
     fcntl.ioctl(terminal, termios.TIOCSCTTY, 0)
 
 

@@ -27,7 +27,12 @@ pub struct Trial {
     pub lines: &'static [(&'static str, &'static str)],
     /// How often the command runs at least.
     pub runs: usize,
+    /// How often it runs at most.
+    pub most: usize,
 }
+
+/// More often than the command can run.
+const ANY: usize = 1_000_000;
 
 /// More turns than a run takes that a `q` ends.
 const MANY: u64 = 4000;
@@ -41,6 +46,7 @@ pub const TRIALS: &[Trial] = &[
         turns: MANY,
         lines: &[("offer ", "/new ")],
         runs: 2,
+        most: ANY,
     },
     Trial {
         shows: "a file is written in a new folder",
@@ -50,6 +56,7 @@ pub const TRIALS: &[Trial] = &[
         turns: MANY,
         lines: &[("offer ", "/below "), ("offer ", "/below/new ")],
         runs: 3,
+        most: ANY,
     },
     Trial {
         shows: "a file is saved by a rename",
@@ -59,6 +66,7 @@ pub const TRIALS: &[Trial] = &[
         turns: MANY,
         lines: &[("offer ", "/old ")],
         runs: 2,
+        most: ANY,
     },
     Trial {
         shows: "a file is removed",
@@ -68,6 +76,7 @@ pub const TRIALS: &[Trial] = &[
         turns: MANY,
         lines: &[("offer ", "/old ")],
         runs: 2,
+        most: ANY,
     },
     Trial {
         shows: "a file is written whose name has a space and a line feed",
@@ -77,6 +86,7 @@ pub const TRIALS: &[Trial] = &[
         turns: MANY,
         lines: &[("offer ", "/a%20b%0Ac ")],
         runs: 2,
+        most: ANY,
     },
     Trial {
         shows: "a command that isn't there",
@@ -86,6 +96,7 @@ pub const TRIALS: &[Trial] = &[
         turns: MANY,
         lines: &[("spawn 0 ", " fault 2"), ("turn ", " keys 1 113")],
         runs: 0,
+        most: ANY,
     },
     Trial {
         shows: "the input ends, and then the turns",
@@ -95,5 +106,16 @@ pub const TRIALS: &[Trial] = &[
         turns: 200,
         lines: &[("turn ", " keys 0"), ("turn ", " last")],
         runs: 1,
+        most: 1,
+    },
+    Trial {
+        shows: "forty turns in which nothing changes",
+        program: "sh",
+        changes: &[],
+        quits: false,
+        turns: 40,
+        lines: &[("spawn 0 0 default ", " ok"), ("end ok lost 0", "")],
+        runs: 1,
+        most: 1,
     },
 ];

@@ -82,8 +82,9 @@ fn is_so(journal: &str, trial: &Trial) -> bool {
         }
     }
     let last = journal.lines().last().unwrap_or("");
+    let runs = count(journal, "spawn ", " ok");
     last.starts_with("end ok ")
-        && count(journal, "spawn ", " ok") >= trial.runs
+        && (trial.runs <= runs && runs <= trial.most)
         && (trial.runs == 0 || !has_line(journal, "", " fault "))
 }
 

@@ -24,8 +24,8 @@ use wx_text::{Copies, List, Memory};
 use wx_words::TextPath;
 
 /// A live outside over the system. Its children are real processes, its files real files, and its moments those of a clock that never
-/// goes back. A rest lasts 50 ms where the round before it found nothing to do, and ends early where a child has ended. It tells nothing
-/// of its entries.
+/// goes back. A rest lasts 50 ms where nothing was done in the round before it and no event brought in the last four, and ends early where
+/// a child has ended. It tells nothing of its entries.
 pub struct LiveParts<R: Processes + Files + Clock + AllocGlobal + Copy + Drop> {
     alloc: Global,
     folder: TextPath,
@@ -142,26 +142,32 @@ impl<R: Processes + Files + Clock + AllocGlobal + Copy + Drop> Host for LivePart
         what: Spawnable,
         _tag: SpawnTag,
     ) -> Result<(), HostFault> {
+        self.round.act();
         self.children.spawn(child, &what)
     }
 
     fn signal(&mut self, child: u64, number: i32) -> Result<(), HostFault> {
+        self.round.act();
         self.children.signal(child, number)
     }
 
     fn kill(&mut self, child: u64) -> Result<(), HostFault> {
+        self.round.act();
         self.children.kill(child)
     }
 
     fn wait(&mut self, child: u64) -> Result<ProcessEnd, HostFault> {
+        self.round.act();
         self.children.wait(child)
     }
 
     fn drop_child(&mut self, child: u64) {
+        self.round.act();
         self.children.let_go(child);
     }
 
     fn raise(&mut self, _ticket: u64, flag: &Flag) {
+        self.round.act();
         flag.raise();
     }
 

@@ -32,6 +32,8 @@ enum Happens {
     LookToListen,
     /// A turn about files looked at the tree.
     LookAtTree,
+    /// Keys were read.
+    Keys,
 }
 
 fn turn(kind: TurnKind) -> Entry {
@@ -70,6 +72,7 @@ fn tell_round(alloc: Global, parts: &mut Parts, path: &TextPath, happens: Happen
             let _ = parts.stamp(path);
             parts.note(Entry::Word(Word::Quiet));
         }
+        Happens::Keys => parts.note(turn(TurnKind::Keys(List::new(alloc)))),
         Happens::Nothing | Happens::LookAtTree => parts.note(Entry::Word(Word::Quiet)),
     }
     parts.note(turn(TurnKind::File));
@@ -89,7 +92,7 @@ fn time_of(alloc: Global, parts: &mut Parts, path: &TextPath, happens: Happens, 
 }
 
 #[test]
-fn a_rest_waits_where_the_round_found_nothing_to_do(rt: HostRuntime) -> Result<(), Fail> {
+fn a_rest_waits_where_nothing_was_done(rt: HostRuntime) -> Result<(), Fail> {
     let alloc = rt.alloc();
     let mut parts = new_parts(rt)?;
     let path = TextPath::new(Text::from_slice(alloc, b"/")?);
@@ -97,10 +100,16 @@ fn a_rest_waits_where_the_round_found_nothing_to_do(rt: HostRuntime) -> Result<(
         let time = time_of(alloc, &mut parts, &path, happens, 3);
         assert!(rt; 3 * REST <= time);
     }
-    for happens in [Happens::Event, Happens::LookAtTree] {
+    for (happens, more) in [
+        (Happens::Event, 3),
+        (Happens::LookAtTree, 0),
+        (Happens::Keys, 0),
+    ] {
         let time = time_of(alloc, &mut parts, &path, happens, MANY);
         assert!(rt; time < MANY * REST);
-        // the next round found nothing
+        // so many rests more aren't taken, and the next one is
+        let behind = time_of(alloc, &mut parts, &path, Happens::Nothing, more);
+        assert!(rt; behind < more.max(1) * REST);
         let next = time_of(alloc, &mut parts, &path, Happens::Nothing, 1);
         assert!(rt; REST <= next);
     }
@@ -142,6 +151,8 @@ fn a_rest_is_whole_beside_a_child_that_runs(rt: HostRuntime) -> Result<(), Fail>
     let mut parts = new_parts(rt)?;
     let spawned = spawn_shell(alloc, &mut parts, 0, "exec sleep 20");
     expect_yes(&rt, spawned, "the child");
+    // a spawn is something that was done
+    assert!(rt; time_of_rests(&mut parts, 2) < 2 * REST);
     assert!(rt; REST <= time_of_rests(&mut parts, 1));
     parts.drop_child(0);
     drop(parts);
