@@ -151,27 +151,27 @@ def a_file_is_written():
     return f"the command starts again after {first:.3f} s, and where it is written again after {second:.3f} s"
 
 
+def change_and_write(run, change, name):
+    """Makes a change, waits until the command was started for it, and writes this file. Returns how long the next start took."""
+    run.ready()
+    change()
+    run.starts(2)
+    count = run.settled()
+    run.write(name, "other")
+    seconds = run.starts(count + 1)
+    run.quit()
+    return seconds
+
+
 def a_directory_is_made():
     with Live() as run:
-        run.ready()
-        (run.folder / "d").mkdir()
-        run.starts(2)
-        count = run.settled()
-        run.write("d/f")
-        seconds = run.starts(count + 1)
-        run.quit()
+        seconds = change_and_write(run, lambda: (run.folder / "d").mkdir(), "d/f")
     return f"it starts again, and for a file in it after {seconds:.3f} s"
 
 
 def a_directory_is_renamed():
     with Live(fill=tree(1, 1)) as run:
-        run.ready()
-        (run.folder / "d0000").rename(run.folder / "e")
-        run.starts(2)
-        count = run.settled()
-        run.write("e/f0", "other")
-        seconds = run.starts(count + 1)
-        run.quit()
+        seconds = change_and_write(run, lambda: (run.folder / "d0000").rename(run.folder / "e"), "e/f0")
     return f"it starts again, and for a file under the new name after {seconds:.3f} s"
 
 
