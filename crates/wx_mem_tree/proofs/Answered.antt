@@ -1,12 +1,11 @@
 -- What is found is what the tree answers.
-use Rattle.std.proofs.Common.{◌≡◌, ℕ, true, List, refl, ap, sym, ◌∙◌}
+use Rattle.std.proofs.Common.{◌≡◌, ℕ, true, List, refl, ap, ◌∙◌}
 use Rattle.std.specs.Prelude.{Some, map}
 use Rattle.std.proofs.lemmas.Bool.{both_ways}
 use Rattle.wx_watch.specs.declared.scan_fault.EntryKind.TheVariants.{Directory, NonFollowedSymlink, Other}
 use Rattle.wx_tree.specs.Paths.{Path}
 use Rattle.wx_tree.specs.Places.{spelled}
 use Rattle.wx_tree.specs.Trees.{IsListing, is_directory_node, is_there_node, node_at}
-use Rattle.wx_tree.specs.declared.node.Node.{Node}
 use Rattle.wx_tree.specs.declared.node.Node.TheVariants.{Dir, File, Link}
 use Rattle.wx_scan.specs.Told.{kind_of}
 use Rattle.wx_mem_tree.specs.declared.entry.MemEntry.{MemEntry}

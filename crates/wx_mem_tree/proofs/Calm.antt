@@ -1,5 +1,5 @@
 -- A look fails only where it was ordered to.
-use Rattle.std.proofs.Common.{◌≡◌, ℕ, Bool, true, false, cond, Option, None, Some, List, [], ◌∷◌, ◌++◌, refl, sym, ◌∙◌}
+use Rattle.std.proofs.Common.{◌≡◌, ℕ, true, false, Option, List, [], ◌∷◌, ◌++◌, refl}
 use Rattle.std.specs.Prelude.{is_some}
 use Rattle.wx_mem_tree.specs.declared.mem_tree.FailingLook.{FailingLook}
 use Rattle.wx_mem_tree.specs.Entries.{code_of, none_fails}

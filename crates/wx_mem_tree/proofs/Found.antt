@@ -1,12 +1,11 @@
 -- What is found in the list of entries is what the tree has.
-use Rattle.std.proofs.Common.{◌≡◌, ℕ, suc, zero, ◌≤◌, Bool, true, false, cond, List, [], ◌∷◌, length, drop, arith, refl, ap, sym, ◌∙◌, inl, inr}
-use Rattle.std.specs.Prelude.{◌&&◌, Option, None, Some}
+use Rattle.std.proofs.Common.{◌≡◌, ℕ, suc, zero, ◌≤◌, Bool, true, false, List, [], ◌∷◌, length, drop, arith, refl, ap, sym, ◌∙◌, inl, inr}
+use Rattle.std.specs.Prelude.{◌&&◌, Option, Some}
 use Rattle.std.proofs.lemmas.Bool.{cases_Bool, both_ways, or_parts}
 use Rattle.wx_tree.specs.Paths.{Path, same}
 use Rattle.wx_tree.specs.Trees.{Tree, node_at}
-use Rattle.wx_tree.specs.declared.node.Node.{Node}
 use Rattle.wx_tree.proofs.PathLemmas.{same-true}
-use Rattle.wx_scan.specs.Told.{SpellsPath, has_link_above, is_link_node, is_name}
+use Rattle.wx_scan.specs.Told.{SpellsPath, has_link_above, is_link_node}
 use Rattle.wx_mem_tree.specs.declared.entry.MemEntry.{MemEntry}
 use Rattle.wx_mem_tree.specs.Entries.{found_at, has_link_on, is_link_at, node_found, tree_of}
 
@@ -54,8 +53,5 @@ no_link_here es p with_last found h w f g =
     both_ways (is_link_at (tree_of es) p) k (found_link es p ∙ (sym f ∙ g))
 
 -- what is found for a path of the tree
-pub absent : (es : List MemEntry) (p q : Path) → q ≡ p → found_at q es ≡ None → node_at (tree_of es) p ≡ None
-absent es p q e f = found_node p es None (ap (λ x. found_at x es) (sym e) ∙ f)
-
-pub found_there : (es : List MemEntry) (p q : Path) (x : MemEntry) → q ≡ p → found_at q es ≡ Some x → found_at p es ≡ Some x
-found_there es p q x e f = ap (λ y. found_at y es) (sym e) ∙ f
+pub node_there : (es : List MemEntry) (p q : Path) → q ≡ p → node_found (found_at q es) ≡ node_at (tree_of es) p
+node_there es p q e = ap (λ x. node_found (found_at x es)) e ∙ sym (node_is_found p es)

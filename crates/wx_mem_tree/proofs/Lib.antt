@@ -1,3 +1,4 @@
+mod Placed
 mod Found
 mod Once
 mod Answered

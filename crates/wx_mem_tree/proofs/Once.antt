@@ -1,16 +1,16 @@
 -- Each path comes once, and the entries of a directory are its listing.
-use Rattle.std.proofs.Common.{◌≡◌, Bool, true, false, cond, Result, Ok, Err, List, [], ◌∷◌, ◌++◌, refl, ap, sym, ◌∙◌, inl, inr}
-use Rattle.std.specs.Prelude.{◌⊎◌, OnErr, OnOk, Some, filter, not}
+use Rattle.std.proofs.Common.{◌≡◌, Bool, true, false, cond, Result, Ok, Err, List, [], ◌∷◌, refl, ap, sym, ◌∙◌, inl, inr}
+use Rattle.std.specs.Prelude.{OnErr, OnOk, Some, filter, not}
 use Rattle.wx_text.specs.declared.list.Memory.{Memory}
 use Rattle.std.proofs.lemmas.Bool.{and_parts, cases_Bool, both_ways, not-true, or_parts}
 use Rattle.wx_tree.specs.Lists.{In, AllOnce}
-use Rattle.wx_tree.specs.Paths.{Path, has_entry, holds, same}
-use Rattle.wx_tree.specs.Trees.{IsListing, Tree, is_there, is_there_node, node_at}
+use Rattle.wx_tree.specs.Paths.{Path, has_entry, same}
+use Rattle.wx_tree.specs.Trees.{IsListing, is_there, is_there_node}
 use Rattle.wx_tree.specs.declared.node.Node.{Node}
 use Rattle.wx_tree.specs.declared.node.Node.TheVariants.{Dir, File, Link}
 use Rattle.wx_tree.proofs.PathLemmas.{same-true, same-refl}
 use Rattle.wx_mem_tree.specs.declared.entry.MemEntry.{MemEntry}
-use Rattle.wx_mem_tree.specs.Entries.{are_once, entries_of, is_at, put_node, tree_of, without_path, without_stamp}
+use Rattle.wx_mem_tree.specs.Entries.{are_once, entries_of, is_at, put_node, tree_of, without_stamp}
 
 abbrev PathsOnce : List MemEntry → Type 0
 PathsOnce [] = Unit {0}

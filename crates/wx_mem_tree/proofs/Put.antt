@@ -1,44 +1,52 @@
 -- A node is put in place.
-use Rattle.std.proofs.Common.{◌≡◌, ℕ, suc, ◌<◌, ◌≤◌, ◌++◌, cond, true, false, Some, get_or, List, [], ◌∷◌, length, slice_set, slice_index_or, refl, ap, sym, ◌∙◌, arith, inl, inr}
+use Rattle.std.proofs.Common.{◌≡◌, ℕ, ◌++◌, Result, Ok, Err, Option, true, None, Some, List, [], ◌∷◌, slice_set, slice_index_or, refl, ap, sym, ◌∙◌, inl, inr}
 use Rattle.std.proofs.lemmas.Bool.{cases_Bool}
+use Rattle.std.proofs.lemmas.Option.{same_Some}
+use Rattle.std.specs.Prelude.{OnOk}
+use Rattle.wx_text.specs.declared.list.Memory.{Memory}
 use Rattle.wx_tree.specs.Paths.{Path, same}
+use Rattle.wx_tree.specs.Places.{place}
+use Rattle.wx_mem_tree.specs.declared.index.EntryIndex.{EntryIndex}
 use Rattle.wx_tree.specs.Trees.{TreeEntry, node_at}
 use Rattle.wx_tree.specs.declared.node.Node.{Node}
 use Rattle.wx_tree.specs.declared.node.Node.TheVariants.{Dir, File, Link}
 use Rattle.wx_scan.specs.Told.{is_file_node}
 use Rattle.wx_mem_tree.specs.declared.entry.MemEntry.{MemEntry}
-use Rattle.wx_mem_tree.specs.Entries.{index_of, put_node, tree_of, without_stamp}
+use Rattle.wx_mem_tree.specs.Indexed.{AreIndexed, place_of}
+use Rattle.wx_mem_tree.proofs.Placed.{later, nowhere, placed_put}
+use Rattle.wx_mem_tree.specs.Entries.{put_node, tree_of, without_stamp}
 
 -- where an entry of this path stands its node is another one now
-put_first : (p : Path) (n : Node) (es : List MemEntry) (d : MemEntry) → index_of p es < length es → slice_set es (index_of p es) (record { path = (get_or es (index_of p es) d).path; node = n }) ≡ put_node p n es
-put_first p n [] d lt = absurd (omega arith)
-put_first p n (e ∷ es) d lt =
+pub put_there : (p : Path) (n : Node) (es : List MemEntry) (k : ℕ) (d : MemEntry) → place_of p es ≡ Some k → d ≡ slice_index_or es k d → slice_set es k (record { path = d.path; node = n }) ≡ put_node p n es
+put_there p n [] k d h at = absurd cc
+put_there p n (e ∷ es) k d h at =
     elim (cases_Bool (same e.path p)) [
-      | inl a ↦ rw a refl
+      | inl a ↦
+          let f : 0 ≡ k = same_Some 0 k (rw a at h) in
+          let g : d ≡ e = at ∙ ap (λ i. slice_index_or (e ∷ es) i d) (sym f) in
+          rw (a, ← f, g) refl
       | inr a ↦
-          let f : index_of p (e ∷ es) ≡ suc (index_of p es) = (rw a refl) in
-          let within : index_of p es < length es = omega (arith, f, lt) in
-          rw a (ap (λ ys. e ∷ ys) (put_first p n es d within))
+          let j = later (place_of p es) k (rw a at h) in
+          let g : d ≡ slice_index_or es j.0 d = at ∙ ap (λ i. slice_index_or (e ∷ es) i d) j.2 in
+          rw (a, j.2) (ap (λ ys. e ∷ ys) (put_there p n es j.0 d j.1 g))
     ]
-
-pub put_there : (p : Path) (n : Node) (es : List MemEntry) (k : ℕ) (d : MemEntry) → k ≡ index_of p es → k < length es → d ≡ slice_index_or es k d → slice_set es k (record { path = d.path; node = n }) ≡ put_node p n es
-put_there p n es k d e lt at =
-    let within : index_of p es < length es = omega (arith, e, lt) in
-    let first = put_first p n es d within in
-    let f : get_or es (index_of p es) d ≡ d = ap (λ i. get_or es i d) (sym e) ∙ sym at in
-    ap (λ i. slice_set es i (record { path = d.path; node = n })) e ∙ (ap (λ x. slice_set es (index_of p es) (record { path = x.path; node = n })) (sym f) ∙ first)
 
 -- and where none stands it stands behind all others
-pub put_behind : (p : Path) (n : Node) (es : List MemEntry) → length es ≤ index_of p es → es ++ record { path = p; node = n } ∷ [] ≡ put_node p n es
-put_behind p n [] over = refl
-put_behind p n (e ∷ es) over =
+pub put_behind : (p : Path) (n : Node) (es : List MemEntry) → place_of p es ≡ None → es ++ record { path = p; node = n } ∷ [] ≡ put_node p n es
+put_behind p n [] h = refl
+put_behind p n (e ∷ es) h =
     elim (cases_Bool (same e.path p)) [
-      | inl a ↦ (let f : index_of p (e ∷ es) ≡ 0 = (rw a refl) in absurd (omega (arith, f, over)))
-      | inr a ↦
-          let f : index_of p (e ∷ es) ≡ suc (index_of p es) = (rw a refl) in
-          let past : length es ≤ index_of p es = omega (arith, f, over) in
-          rw a (ap (λ ys. e ∷ ys) (put_behind p n es past))
+      | inl a ↦ (let f : Some 0 ≡ None = (rw a at h) in absurd cc)
+      | inr a ↦ rw a (ap (λ ys. e ∷ ys) (put_behind p n es (nowhere (place_of p es) (rw a at h))))
     ]
+
+pub put_last : (r : Result (Unit {0}) Memory) (p : Path) (n : Node) (es fs : List MemEntry) → place_of p es ≡ None → OnOk r (fs ≡ es ++ record { path = p; node = n } ∷ []) → OnOk r (fs ≡ put_node p n es)
+put_last (Ok u) p n es fs h ok = ok ∙ put_behind p n es h
+put_last (Err m) p n es fs h ok = tt
+
+-- another node leaves its entry where it is
+pub still_indexed : (p : Path) (n : Node) (es fs : List MemEntry) (k : ℕ) (index : Option EntryIndex) → place_of p es ≡ Some k → fs ≡ put_node p n es → AreIndexed es index → AreIndexed fs index
+still_indexed p n es fs k index h f is = λ x e bytes b. is x e bytes b ∙ (sym (placed_put (place bytes) p n es k h) ∙ ap (place_of (place bytes)) (sym f))
 
 -- A new stamp of a file leaves the tree, in which stamps don't count.
 pub restamped : (p : Path) (stamp : ℕ) (es : List MemEntry) → is_file_node (node_at (tree_of es) p) ≡ true → tree_of (put_node p (File stamp) es) ≡ tree_of es

@@ -1,5 +1,5 @@
 -- A tree in memory: a list of what stands where, each path once.
-use Rattle.std.specs.Prelude.{◌≡◌, ◌≤◌, length, ℕ, suc, Bool, true, false, not, ◌||◌, ◌&&◌, ◌==◌, if◌then◌else◌, Option, None, Some, option_map, List, [], ◌∷◌, filter}
+use Rattle.std.specs.Prelude.{◌≤◌, length, ℕ, Bool, true, false, not, ◌||◌, ◌&&◌, ◌==◌, if◌then◌else◌, Option, None, Some, List, [], ◌∷◌, filter}
 use Rattle.wx_tree.specs.Paths.{Path, has_entry, holds, same}
 use Rattle.wx_tree.specs.Trees.{Tree, TreeEntry, node_at}
 use Rattle.wx_tree.specs.declared.node.Node.{Node}
@@ -53,11 +53,6 @@ is_at p (e ∷ es) = same e.path p || is_at p es
 abbrev pub are_once : List MemEntry → Bool
 are_once [] = true
 are_once (e ∷ es) = not (is_at e.path es) && are_once es
-
--- how many entries stand before the one at the path
-abbrev pub index_of : Path → List MemEntry → ℕ
-index_of p [] = 0
-index_of p (e ∷ es) = if same e.path p then 0 else suc (index_of p es)
 
 -- this stands at the path now, in place of what stood there
 abbrev pub put_node : Path → Node → List MemEntry → List MemEntry

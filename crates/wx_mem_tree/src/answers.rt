@@ -5,7 +5,8 @@ ghost use Rattle.wx_tree.specs.Paths.{Path, same};
 ghost use Rattle.wx_tree.specs.Places.{spelled};
 ghost use Rattle.wx_mem_tree.specs.Entries.{are_once, entries_of, stamp_at, tree_of};
 
-use crate::entry::{MemEntry, entries_of};
+use crate::entry::entries_of;
+use crate::index::Indexed;
 use crate::links::found;
 use std::alloc::Global;
 use wx_scan::{EntryKind, ScanError};
@@ -18,7 +19,7 @@ pub fn kind_at(
     alloc: Global,
     path: &TextPath,
     follow: bool,
-    entries: &[MemEntry],
+    entries: &Indexed<'_>,
 ) -> Result<EntryKind, ScanError>
     ensures told { follow ≡ false → (p : Path) → SpellsPath (tree_of entries.now) p path.now → is_fault result ≡ false → IsKind result (tree_of entries.now) p }
     ensures calm { is_fault result ≡ false }
@@ -35,7 +36,7 @@ pub fn kind_at(
 pub fn canonical_at(
     alloc: Global,
     path: &TextPath,
-    entries: &[MemEntry],
+    entries: &Indexed<'_>,
 ) -> Result<TextPath, ScanError>
     ensures told { (p : Path) → SpellsPath (tree_of entries.now) p path.now → is_fault result ≡ false → Unlinked (IsCanonical result) (tree_of entries.now) p }
     ensures calm { is_fault result ≡ false }
@@ -59,10 +60,10 @@ fn listed_behind(
     alloc: Global,
     asked: &Place,
     directory: &Place,
-    entries: &[MemEntry],
+    entries: &Indexed<'_>,
 ) -> Result<List<TextPath>, Memory> {
     let mut paths = List::new(alloc);
-    for entry in entries {
+    for entry in entries.entries {
         if directory.has_entry(&entry.path) {
             paths.push(moved(alloc, asked, &entry.path)?)?;
         }
@@ -75,12 +76,12 @@ fn listed(
     alloc: Global,
     asked: &Place,
     directory: &Place,
-    entries: &[MemEntry],
+    entries: &Indexed<'_>,
 ) -> Result<List<TextPath>, Memory>
     ensures { same asked.now directory.now ≡ true → IfOk result (λ paths. paths ≡ map spelled (entries_of directory.now entries.now)) }
 {
     if asked.is_same(directory) {
-        entries_of(alloc, directory, entries)
+        entries_of(alloc, directory, entries.entries)
     } else {
         listed_behind(alloc, asked, directory, entries)
     }
@@ -90,7 +91,7 @@ fn listed(
 pub fn listed_at(
     alloc: Global,
     path: &TextPath,
-    entries: &[MemEntry],
+    entries: &Indexed<'_>,
 ) -> Result<List<TextPath>, ScanError>
     requires { are_once entries.now ≡ true }
     ensures told { (p : Path) → SpellsPath (tree_of entries.now) p path.now → is_fault result ≡ false → Unlinked (IsListed result) (tree_of entries.now) p }
@@ -106,7 +107,7 @@ pub fn listed_at(
 }
 
 /// The stamp of a file.
-pub fn stamp_at(alloc: Global, path: &TextPath, entries: &[MemEntry]) -> Result<u64, ScanError>
+pub fn stamp_at(alloc: Global, path: &TextPath, entries: &Indexed<'_>) -> Result<u64, ScanError>
     ensures told { (p : Path) → SpellsPath (tree_of entries.now) p path.now → is_fault result ≡ false → Unlinked (IsStamp (stamp_at entries.now) result) (tree_of entries.now) p }
     ensures calm { is_fault result ≡ false }
 {

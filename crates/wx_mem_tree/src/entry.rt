@@ -1,8 +1,10 @@
 // What stands where.
-ghost use Rattle.std.specs.Prelude.{◌≡◌, Some, map, IfNone, IfOk, IfSome, OnErr, OnOk};
+ghost use Rattle.std.specs.Prelude.{◌≡◌, None, Some, [], ◌∷◌, ◌++◌, map, IfNone, IfOk, IfSome, OnErr, OnOk};
 ghost use Rattle.wx_tree.specs.Places.{spelled};
-ghost use Rattle.wx_mem_tree.specs.Entries.{entries_of, found_at, index_of, put_node, without_path};
+ghost use Rattle.wx_mem_tree.specs.Entries.{entries_of, found_at, put_node, without_path};
+ghost use Rattle.wx_mem_tree.specs.Indexed.{AreIndexed, place_of};
 
+use crate::index::{EntryIndex, Indexed, grown};
 use std::alloc::Global;
 use wx_text::{List, Memory};
 use wx_tree::{Node, Place};
@@ -21,50 +23,75 @@ impl Drop for MemEntry {
     }
 }
 
-/// What stands at this path.
-pub fn found_at<'a>(path: &Place, entries: &'a [MemEntry]) -> Option<&'a MemEntry>
-    ensures none { IfNone result (found_at path.now entries.now ≡ None) }
-    ensures some { IfSome result (λ e. found_at path.now entries.now ≡ Some e.now) }
+/// What stands at this path. It fails only for want of memory.
+pub fn found_at<'a>(
+    alloc: Global,
+    path: &Place,
+    entries: &Indexed<'a>,
+) -> Result<Option<&'a MemEntry>, Memory>
+    ensures none { IfOk result (λ found. IfNone found (found_at path.now entries.now ≡ None)) }
+    ensures some { IfOk result (λ found. IfSome found (λ e. found_at path.now entries.now ≡ Some e.now)) }
 {
-    let mut rest = entries;
-    while let [first, after @ ..] = rest {
-        if first.path.is_same(path) {
-            return Some(first);
-        }
-        rest = after;
+    match entries.place(alloc, path)? {
+        Some(at) => Ok(entries.entries.get(at)),
+        None => Ok(None),
     }
-    None
 }
 
-/// How many entries stand before the one of this path, or how many there are where it has none.
-fn index_of(path: &Place, entries: &[MemEntry]) -> usize
-    ensures { result ≡ index_of path.now entries.now }
+/// Where the entry of this path stands, where there is one. It fails only for want of memory.
+fn place_at(
+    alloc: Global,
+    path: &Place,
+    entries: &[MemEntry],
+    index: &Option<EntryIndex>,
+) -> Result<Option<usize>, Memory>
+    requires { AreIndexed entries.now index.now }
+    ensures { IfOk result (λ place. place ≡ place_of path.now entries.now) }
 {
-    let mut index = 0;
-    let mut rest = entries;
-    while let [first, after @ ..] = rest {
-        if first.path.is_same(path) {
-            return index;
-        }
-        index += 1;
-        rest = after;
-    }
-    index
+    Indexed { entries, index }.place(alloc, path)
+}
+
+/// Adds an entry behind all others. Its path has none yet. It fails only for want of memory, and adds none then.
+fn add(
+    alloc: Global,
+    entries: &mut Vec<MemEntry>,
+    index: &mut Option<EntryIndex>,
+    entry: MemEntry,
+) -> Result<(), Memory>
+    requires indexed { AreIndexed entries.old.items index.old }
+    requires new { place_of entry.path entries.old.items ≡ None }
+    ensures ok { OnOk result (entries.new.items ≡ entries.old.items ++ entry ∷ []) }
+    ensures err { OnErr result (entries.new.items ≡ entries.old.items) }
+    ensures indexed { AreIndexed entries.new.items index.new }
+{
+    let more = grown(alloc, index.take(), &entry.path, entries.len());
+    entries.push(entry)?;
+    *index = more;
+    Ok(())
 }
 
 /// Puts a node at this path, in the place of what stands there, or behind all others. It fails only for want of memory, and
 /// changes nothing then.
-pub fn put_node(entries: &mut Vec<MemEntry>, path: Place, node: Node) -> Result<(), Memory>
+pub fn put_node(
+    alloc: Global,
+    entries: &mut Vec<MemEntry>,
+    index: &mut Option<EntryIndex>,
+    path: Place,
+    node: Node,
+) -> Result<(), Memory>
+    requires { AreIndexed entries.old.items index.old }
     ensures ok { OnOk result (entries.new.items ≡ put_node path node entries.old.items) }
     ensures err { OnErr result (entries.new.items ≡ entries.old.items) }
+    ensures indexed { AreIndexed entries.new.items index.new }
 {
-    let at = index_of(&path, entries.as_slice());
-    if at < entries.len() {
-        entries[at].node = node;
-        return Ok(());
+    match place_at(alloc, &path, entries.as_slice(), index) {
+        Ok(Some(at)) => {
+            entries[at].node = node;
+            Ok(())
+        }
+        Ok(None) => add(alloc, entries, index, MemEntry { path, node }),
+        Err(Memory) => Err(Memory),
     }
-    entries.push(MemEntry { path, node })?;
-    Ok(())
 }
 
 /// Takes this path away, and all below it.

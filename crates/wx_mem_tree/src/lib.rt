@@ -3,6 +3,7 @@
 
 mod answers;
 mod entry;
+mod index;
 mod links;
 mod mem_tree;
 

@@ -7,6 +7,7 @@ ghost use Rattle.wx_tree.specs.Trees.{node_at};
 ghost use Rattle.wx_mem_tree.specs.Entries.{IsWithin, found_at, has_link_on, node_found, tree_of};
 
 use crate::entry::{MemEntry, found_at};
+use crate::index::Indexed;
 use std::alloc::Global;
 use wx_paths::normalize;
 use wx_scan::ScanError;
@@ -18,14 +19,14 @@ use wx_words::TextPath;
 const LINKS: u32 = 40;
 
 /// Whether a link stands at this path.
-fn is_link(path: &Place, entries: &[MemEntry]) -> bool
-    ensures { result ≡ is_link_node (node_found (found_at path.now entries.now)) }
+fn is_link(alloc: Global, path: &Place, entries: &Indexed<'_>) -> Result<bool, Memory>
+    ensures { IfOk result (λ is. is ≡ is_link_node (node_found (found_at path.now entries.now))) }
 {
-    match found_at(path, entries) {
-        None => false,
+    match found_at(alloc, path, entries)? {
+        None => Ok(false),
         Some(entry) => match entry.node {
-            Node::Link(_) => true,
-            Node::Dir | Node::File(_) => false,
+            Node::Link(_) => Ok(true),
+            Node::Dir | Node::File(_) => Ok(false),
         },
     }
 }
@@ -35,19 +36,19 @@ fn link_level(
     alloc: Global,
     path: &Place,
     with_last: bool,
-    entries: &[MemEntry],
+    entries: &Indexed<'_>,
 ) -> Result<Option<usize>, Memory>
     ensures within { IfOk result (λ found. IsWithin found path.now) }
     ensures none { has_link_on with_last (tree_of entries.now) path.now ≡ false → IfOk result (λ found. found ≡ None) }
 {
     let mut level = path.depth();
     while level > 0 {
-        if is_link(&path.up(alloc, level)?, entries) {
+        if is_link(alloc, &path.up(alloc, level)?, entries)? {
             return Ok(Some(level));
         }
         level -= 1;
     }
-    if with_last && is_link(path, entries) {
+    if with_last && is_link(alloc, path, entries)? {
         return Ok(Some(0));
     }
     Ok(None)
@@ -58,13 +59,13 @@ fn followed(
     alloc: Global,
     path: &Place,
     level: usize,
-    entries: &[MemEntry],
+    entries: &Indexed<'_>,
 ) -> Result<Place, Memory>
     requires { level ≤ length path.now }
 {
     let link = path.up(alloc, level)?;
     let mut text = Text::new(alloc);
-    if let Some(entry) = found_at(&link, entries) {
+    if let Some(entry) = found_at(alloc, &link, entries)? {
         if let Node::Link(target) = &entry.node {
             put_target(alloc, &link, target, &mut text)?;
         }
@@ -96,7 +97,7 @@ fn all_followed(
     path: Place,
     level: usize,
     with_last: bool,
-    entries: &[MemEntry],
+    entries: &Indexed<'_>,
 ) -> Result<Place, ScanError>
     requires { level ≤ length path }
     ensures { is_fault result ≡ false }
@@ -116,7 +117,7 @@ fn resolved(
     alloc: Global,
     path: Place,
     with_last: bool,
-    entries: &[MemEntry],
+    entries: &Indexed<'_>,
 ) -> Result<Place, ScanError>
     ensures ok { has_link_on with_last (tree_of entries.now) path ≡ false → IfOk result (λ found. found ≡ path) }
     ensures err { has_link_on with_last (tree_of entries.now) path ≡ false → IfErr result (λ error. error ≡ OutOfMemory) }
@@ -128,12 +129,24 @@ fn resolved(
     }
 }
 
+/// What stands at this path.
+fn there<'a>(alloc: Global, place: &Place, entries: &Indexed<'a>) -> Result<&'a MemEntry, ScanError>
+    ensures ok { IfOk result (λ entry. found_at place.now entries.now ≡ Some entry.now) }
+    ensures err { IfErr result (λ error. IsAbsent error (node_found (found_at place.now entries.now))) }
+    ensures calm { is_fault result ≡ false }
+{
+    match found_at(alloc, place, entries)? {
+        None => Err(ScanError::NotFound),
+        Some(entry) => Ok(entry),
+    }
+}
+
 /// What stands at a path, behind links.
 pub fn found<'a>(
     alloc: Global,
     path: &TextPath,
     with_last: bool,
-    entries: &'a [MemEntry],
+    entries: &Indexed<'a>,
 ) -> Result<&'a MemEntry, ScanError>
     ensures ok { (p : Path) → SpellsPath (tree_of entries.now) p path.now → has_link_on with_last (tree_of entries.now) p ≡ false → IfOk result (λ entry. found_at p entries.now ≡ Some entry.now) }
     ensures err { (p : Path) → SpellsPath (tree_of entries.now) p path.now → has_link_on with_last (tree_of entries.now) p ≡ false → IfErr result (λ error. IsAbsent error (node_at (tree_of entries.now) p)) }
@@ -141,9 +154,6 @@ pub fn found<'a>(
 {
     match resolved(alloc, Place::new(alloc, path)?, with_last, entries) {
         Err(error) => Err(error),
-        Ok(place) => match found_at(&place, entries) {
-            None => Err(ScanError::NotFound),
-            Some(entry) => Ok(entry),
-        },
+        Ok(place) => there(alloc, &place, entries),
     }
 }

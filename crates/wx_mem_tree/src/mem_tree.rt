@@ -3,10 +3,12 @@ ghost use Rattle.std.specs.Prelude.{◌≡◌, ◌∷◌, ◌++◌, [], true, fa
 ghost use Rattle.wx_scan.specs.Looked.{Looked, LooksOnce, Rose};
 ghost use Rattle.wx_scan.specs.Told.{is_fault};
 ghost use Rattle.wx_tree.specs.Places.{place};
+ghost use Rattle.wx_mem_tree.specs.Indexed.{AreIndexed};
 ghost use Rattle.wx_mem_tree.specs.Entries.{Unlooked, are_once, code_of, looked_of, none_fails, put_node, unlooked, without_path};
 
 use crate::answers::{canonical_at, kind_at, listed_at, stamp_at};
 use crate::entry::{MemEntry, put_node, take_path};
+use crate::index::{EntryIndex, Indexed, index_of_all};
 use std::alloc::Global;
 use std::mem;
 use wx_scan::{EntryKind, Looks, ScanError, Scanner};
@@ -28,10 +30,12 @@ pub struct FailingLook {
 pub struct MemTree {
     alloc: Global,
     entries: Vec<MemEntry>,
+    index: Option<EntryIndex>,
     failing: List<FailingLook>,
     looks: u64,
     faults: u64,
     pub ghost once: { are_once entries.items ≡ true },
+    pub ghost indexed: { AreIndexed entries.items index },
     pub ghost calm: { (if none_fails failing then faults else 0) ≡ 0 },
 }
 
@@ -41,6 +45,7 @@ impl Drop for MemTree {
         let MemTree {
             alloc: _,
             entries: _,
+            index: _,
             failing: _,
             looks: _,
             faults: _,
@@ -56,6 +61,7 @@ impl MemTree {
         Ok(MemTree {
             alloc,
             entries: Vec::new(alloc),
+            index: Some(EntryIndex::new(alloc)),
             failing: List::new(alloc),
             looks: 0,
             faults: 0,
@@ -71,7 +77,7 @@ impl MemTree {
         ensures counts { (self.new.looks ≡ self.old.looks) × (self.new.faults ≡ self.old.faults) }
     {
         let at = Place::new(self.alloc, &path)?;
-        put_node(&mut self.entries, at, node)
+        put_node(self.alloc, &mut self.entries, &mut self.index, at, node)
     }
 
     /// Takes a path away, and all below it. It fails only for want of memory, and changes nothing then.
@@ -82,6 +88,7 @@ impl MemTree {
         ensures counts { (self.new.looks ≡ self.old.looks) × (self.new.faults ≡ self.old.faults) }
     {
         let at = Place::new(self.alloc, path)?;
+        self.index = None;
         take_path(&mut self.entries, &at);
         Ok(())
     }
@@ -93,6 +100,7 @@ impl MemTree {
         ensures counts { (self.new.looks ≡ self.old.looks) × (self.new.faults ≡ self.old.faults) }
     {
         mem::swap(&mut self.entries, &mut other.entries);
+        mem::swap(&mut self.index, &mut other.index);
     }
 
     /// The call of this number, counted from 0, is to fail with this code. Of two for one call the first stands. It fails
@@ -113,6 +121,26 @@ impl MemTree {
         ensures { result ≡ self.now.looks }
     {
         self.looks
+    }
+
+    /// Makes an index where there is none, as long as there is memory for it.
+    fn keep_index(&mut self)
+        ensures rest { unlooked self.new.entries.items self.new.failing ≡ unlooked self.old.entries.items self.old.failing }
+        ensures counts { (self.new.looks ≡ self.old.looks) × (self.new.faults ≡ self.old.faults) }
+    {
+        if self.index.is_none() {
+            self.index = index_of_all(self.alloc, self.entries.as_slice());
+        }
+    }
+
+    /// The entries, with what finds them.
+    fn indexed(&self) -> Indexed<'_>
+        ensures { result ≡ self.now.entries.items }
+    {
+        Indexed {
+            entries: self.entries.as_slice(),
+            index: &self.index,
+        }
     }
 
     /// Counts a look, and answers this, or that the look is to fail.
@@ -167,22 +195,26 @@ impl Looks for MemTree {
 
 impl Scanner for MemTree {
     fn classify(&mut self, path: &TextPath, follow: bool) -> Result<EntryKind, ScanError> {
-        let answer = kind_at(self.alloc, path, follow, self.entries.as_slice());
+        self.keep_index();
+        let answer = kind_at(self.alloc, path, follow, &self.indexed());
         self.noted(answer)
     }
 
     fn canonicalize(&mut self, path: &TextPath) -> Result<TextPath, ScanError> {
-        let answer = canonical_at(self.alloc, path, self.entries.as_slice());
+        self.keep_index();
+        let answer = canonical_at(self.alloc, path, &self.indexed());
         self.noted(answer)
     }
 
     fn scan(&mut self, path: &TextPath) -> Result<List<TextPath>, ScanError> {
-        let answer = listed_at(self.alloc, path, self.entries.as_slice());
+        self.keep_index();
+        let answer = listed_at(self.alloc, path, &self.indexed());
         self.noted(answer)
     }
 
     fn stamp(&mut self, path: &TextPath) -> Result<u64, ScanError> {
-        let answer = stamp_at(self.alloc, path, self.entries.as_slice());
+        self.keep_index();
+        let answer = stamp_at(self.alloc, path, &self.indexed());
         self.noted(answer)
     }
 }

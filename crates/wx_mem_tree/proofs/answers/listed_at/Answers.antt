@@ -1,5 +1,5 @@
 use Rattle.std.specs.Prelude.{true, ◌≡◌}
-use Rattle.std.proofs.Common.{ap, ◌∙◌, sym, subst}
+use Rattle.std.proofs.Common.{◌∙◌}
 use Rattle.wx_tree.specs.Paths.{same}
 use Rattle.wx_tree.proofs.PathLemmas.{same-refl}
 use Rattle.wx_scan.proofs.LookLemmas.{spells_place}

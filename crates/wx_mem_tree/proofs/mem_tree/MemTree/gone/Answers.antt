@@ -1,6 +1,4 @@
 use Rattle.std.proofs.Common.{◌∙◌, ap}
-use Rattle.std.specs.Prelude.{not}
-use Rattle.wx_tree.specs.Paths.{holds}
 use Rattle.wx_mem_tree.specs.Entries.{are_once}
 use Rattle.wx_mem_tree.proofs.Once.{kept_once}
 use Rattle.wx_mem_tree.proofs.mem_tree.MemTree.gone.Goals as goal
