@@ -1,4 +1,5 @@
 mod Placed
+mod Listed
 mod Found
 mod Once
 mod Answered

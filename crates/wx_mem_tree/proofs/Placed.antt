@@ -79,7 +79,7 @@ is_eq-true Less h = cc
 is_eq-true Equal h = refl
 is_eq-true Greater h = cc
 
-apart_at : (k q : List ℕ) → (q ≡ k → ⊥) → is_eq (slice_cmp nat_cmp k q) ≡ false
+pub apart_at : (k q : List ℕ) → (q ≡ k → ⊥) → is_eq (slice_cmp nat_cmp k q) ≡ false
 apart_at k q apart =
     elim (cases_Bool (is_eq (slice_cmp nat_cmp k q))) [
       | inl a ↦ absurd (apart (sym (exact_bytes k q (is_eq-true (slice_cmp nat_cmp k q) a))))

@@ -13,6 +13,8 @@ use Rattle.wx_tree.specs.declared.node.Node.TheVariants.{Dir, File, Link}
 use Rattle.wx_scan.specs.Told.{is_file_node}
 use Rattle.wx_mem_tree.specs.declared.entry.MemEntry.{MemEntry}
 use Rattle.wx_mem_tree.specs.Indexed.{AreIndexed, place_of}
+use Rattle.wx_mem_tree.specs.Children.{children_of}
+use Rattle.wx_mem_tree.proofs.Listed.{children_put}
 use Rattle.wx_mem_tree.proofs.Placed.{later, nowhere, placed_put}
 use Rattle.wx_mem_tree.specs.Entries.{put_node, tree_of, without_stamp}
 
@@ -46,7 +48,11 @@ put_last (Err m) p n es fs h ok = tt
 
 -- another node leaves its entry where it is
 pub still_indexed : (p : Path) (n : Node) (es fs : List MemEntry) (k : ℕ) (index : Option EntryIndex) → place_of p es ≡ Some k → fs ≡ put_node p n es → AreIndexed es index → AreIndexed fs index
-still_indexed p n es fs k index h f is = λ x e bytes b. is x e bytes b ∙ (sym (placed_put (place bytes) p n es k h) ∙ ap (place_of (place bytes)) (sym f))
+still_indexed p n es fs k index h f is = λ x e.
+    let was = is x e in (
+      λ bytes b. was.0 bytes b ∙ (sym (placed_put (place bytes) p n es k h) ∙ ap (place_of (place bytes)) (sym f)),
+      λ bytes b. was.1 bytes b ∙ (sym (children_put 0 (place bytes) p n es k h) ∙ ap (children_of (place bytes)) (sym f)),
+    )
 
 -- A new stamp of a file leaves the tree, in which stamps don't count.
 pub restamped : (p : Path) (stamp : ℕ) (es : List MemEntry) → is_file_node (node_at (tree_of es) p) ≡ true → tree_of (put_node p (File stamp) es) ≡ tree_of es

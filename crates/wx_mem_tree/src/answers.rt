@@ -63,10 +63,9 @@ fn listed_behind(
     entries: &Indexed<'_>,
 ) -> Result<List<TextPath>, Memory> {
     let mut paths = List::new(alloc);
-    for entry in entries.entries {
-        if directory.has_entry(&entry.path) {
-            paths.push(moved(alloc, asked, &entry.path)?)?;
-        }
+    let inside = entries_of(alloc, directory, entries)?;
+    for path in inside.as_slice() {
+        paths.push(moved(alloc, asked, &Place::new(alloc, path)?)?)?;
     }
     Ok(paths)
 }
@@ -81,7 +80,7 @@ fn listed(
     ensures { same asked.now directory.now ≡ true → IfOk result (λ paths. paths ≡ map spelled (entries_of directory.now entries.now)) }
 {
     if asked.is_same(directory) {
-        entries_of(alloc, directory, entries.entries)
+        entries_of(alloc, directory, entries)
     } else {
         listed_behind(alloc, asked, directory, entries)
     }

@@ -1,7 +1,9 @@
 // What stands where.
-ghost use Rattle.std.specs.Prelude.{◌≡◌, None, Some, [], ◌∷◌, ◌++◌, map, IfNone, IfOk, IfSome, OnErr, OnOk};
+ghost use Rattle.std.specs.Prelude.{◌≡◌, None, Some, [], ◌∷◌, ◌++◌, List as ListOf, map, slice_get, IfNone, IfOk, IfSome, OnErr, OnOk};
 ghost use Rattle.wx_tree.specs.Places.{spelled};
 ghost use Rattle.wx_mem_tree.specs.Entries.{entries_of, found_at, put_node, without_path};
+ghost use Rattle.wx_mem_tree.specs.Children.{paths_at, with_path};
+ghost use Rattle.wx_tree.specs.Paths.{Path};
 ghost use Rattle.wx_mem_tree.specs.Indexed.{AreIndexed, place_of};
 
 use crate::index::{EntryIndex, Indexed, grown};
@@ -101,8 +103,8 @@ pub fn take_path(entries: &mut Vec<MemEntry>, path: &Place)
     entries.retain(|e| !path.holds(&e.path));
 }
 
-/// The direct entries of this path.
-pub fn entries_of(
+/// The direct entries of this path, looked for in all.
+fn all_entries_of(
     alloc: Global,
     path: &Place,
     entries: &[MemEntry],
@@ -118,4 +120,49 @@ pub fn entries_of(
         rest = after;
     }
     Ok(paths)
+}
+
+/// Adds the path of the entry that stands there, where there is one. It fails only for want of memory.
+fn push_path(
+    alloc: Global,
+    at: usize,
+    entries: &[MemEntry],
+    out: &mut List<TextPath>,
+) -> Result<(), Memory>
+    ensures { OnOk result ((ps : ListOf Path) → out.new ++ map spelled ps ≡ out.old ++ map spelled (with_path (slice_get entries.now at) ps)) }
+{
+    match entries.get(at) {
+        Some(entry) => out.push(entry.path.path(alloc)?),
+        None => Ok(()),
+    }
+}
+
+/// The paths of the entries that stand there.
+fn paths_at(alloc: Global, places: &[usize], entries: &[MemEntry]) -> Result<List<TextPath>, Memory>
+    ensures { IfOk result (λ paths. paths ≡ map spelled (paths_at places.now entries.now)) }
+{
+    let mut paths = List::new(alloc);
+    let mut rest = places;
+    while let [first, after @ ..] = rest {
+        push_path(alloc, *first, entries, &mut paths)?;
+        rest = after;
+    }
+    Ok(paths)
+}
+
+/// The direct entries of this path.
+pub fn entries_of(
+    alloc: Global,
+    path: &Place,
+    entries: &Indexed<'_>,
+) -> Result<List<TextPath>, Memory>
+    ensures { IfOk result (λ paths. paths ≡ map spelled (entries_of path.now entries.now)) }
+{
+    match entries.index {
+        Some(index) => {
+            let bytes = path.path(alloc)?;
+            paths_at(alloc, index.children(bytes.text()), entries.entries)
+        }
+        None => all_entries_of(alloc, path, entries.entries),
+    }
 }

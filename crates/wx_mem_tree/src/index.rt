@@ -2,9 +2,11 @@
 ghost use Rattle.std.specs.Prelude.{◌≡◌, [], ◌∷◌, ◌++◌, true, List, None, Some, length, IfOk};
 ghost use Rattle.wx_tree.specs.Places.{place, spelled};
 ghost use Rattle.wx_mem_tree.specs.Entries.{are_once};
+ghost use Rattle.wx_mem_tree.specs.Children.{children_in};
 ghost use Rattle.wx_mem_tree.specs.Indexed.{AreFound, AreIndexed, place_in, place_of};
 ghost use Rattle.wx_mem_tree.specs.declared.entry.MemEntry.{MemEntry as AnEntry};
 
+use crate::children::Children;
 use crate::entry::MemEntry;
 use std::alloc::Global;
 use std::collections::BTreeMap;
@@ -12,15 +14,19 @@ use std::marker::Model;
 use wx_text::{Copies, Memory, Text};
 use wx_tree::Place;
 
-/// Where each entry stands in its list, by the bytes of its path.
+/// Where each entry stands in its list, by the bytes of its path, and where those stand that are directly below a path.
 pub(crate) struct EntryIndex {
     places: BTreeMap<Text, usize>,
+    children: Children,
 }
 
 // Its parts are dropped by one call: docs/DESIGN.md, "What proofs cost".
 impl Drop for EntryIndex {
     fn drop(self) {
-        let EntryIndex { places: _ } = self;
+        let EntryIndex {
+            places: _,
+            children: _,
+        } = self;
     }
 }
 
@@ -31,6 +37,7 @@ impl EntryIndex {
     {
         EntryIndex {
             places: BTreeMap::new(alloc),
+            children: Children::new(alloc),
         }
     }
 
@@ -41,14 +48,25 @@ impl EntryIndex {
         self.places.get(bytes).copied()
     }
 
+    /// Where the direct entries of the path with these bytes stand.
+    pub(crate) fn children(&self, bytes: &Text) -> &[usize]
+        ensures { result.now ≡ children_in self.now.children bytes.now }
+    {
+        self.children.of(bytes)
+    }
+
     /// The entry of a path that has none is added there, at the end. It fails only for want of memory.
     fn with(self, alloc: Global, path: &Place, at: usize) -> Result<EntryIndex, Memory>
         ensures { IfOk result (λ index. (es : List AnEntry) (e : AnEntry) → AreFound es self → e.path ≡ path.now → place_of path.now es ≡ None → at ≡ length es → AreFound (es ++ e ∷ []) index) }
     {
-        let EntryIndex { mut places } = self;
+        let EntryIndex {
+            mut places,
+            children,
+        } = self;
+        let children = children.with(alloc, path, at)?;
         let bytes = path.path(alloc)?;
         places.insert(bytes.text().copy(alloc)?, at)?;
-        Ok(EntryIndex { places })
+        Ok(EntryIndex { places, children })
     }
 }
 

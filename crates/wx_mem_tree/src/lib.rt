@@ -2,6 +2,7 @@
 #![tactic(auto)]
 
 mod answers;
+mod children;
 mod entry;
 mod index;
 mod links;
