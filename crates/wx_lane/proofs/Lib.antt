@@ -1,4 +1,5 @@
 mod HearLemmas
+pub mod KeptLemmas
 mod MeetLemmas
 pub mod MessageLemmas
 mod NextLemmas

@@ -1,5 +1,5 @@
--- No call makes more wait than may.
-use Rattle.std.proofs.Common.{◌≡◌, ℕ, suc, ◌≤◌, List, [], ◌∷◌, refl, ap, inl, inr}
+-- As many wait when one is heard.
+use Rattle.std.proofs.Common.{◌≡◌, ℕ, suc, List, [], ◌∷◌, refl, ap, inl, inr}
 use Rattle.std.specs.Prelude.{◌==◌}
 use Rattle.std.proofs.lemmas.Bool.{cases_Bool}
 use Rattle.wx_lane.specs.declared.lane.LaneItem.{LaneItem}
@@ -21,13 +21,10 @@ waiting-behind x xs ys h =
       | inr e ↦ rw e h
     ]
 
-waiting-hear : (name : ℕ) (xs : List LaneItem) → waiting (hear name xs) ≡ waiting xs
-waiting-hear name [] = refl
-waiting-hear name (x ∷ xs) =
+pub waiting_hear : (name : ℕ) (xs : List LaneItem) → waiting (hear name xs) ≡ waiting xs
+waiting_hear name [] = refl
+waiting_hear name (x ∷ xs) =
     elim (cases_Bool (x.name == name)) [
       | inl e ↦ rw e (waiting-hear_first (x ∷ xs))
-      | inr e ↦ rw e (waiting-behind x (hear name xs) xs (waiting-hear name xs))
+      | inr e ↦ rw e (waiting-behind x (hear name xs) xs (waiting_hear name xs))
     ]
-
-pub hear_within : (name n : ℕ) (xs ys : List LaneItem) → waiting xs ≤ n → ys ≡ hear name xs → waiting ys ≤ n
-hear_within name n xs ys h e = rw (e, waiting-hear name xs) h

@@ -3,3 +3,4 @@ pub mod Messages
 pub mod Public
 pub mod Lanes
 pub mod Meetings
+pub mod Kept
