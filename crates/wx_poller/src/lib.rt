@@ -7,6 +7,7 @@ mod listed;
 mod listing;
 mod looking;
 mod past;
+mod pending;
 mod poller;
 mod seen;
 

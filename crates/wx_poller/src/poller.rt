@@ -16,6 +16,7 @@ use crate::covering::{is_registered, lone_paths, unregister};
 use crate::listed::{list_all, list_at};
 use crate::listing::{Listing, put_new, take_away};
 use crate::past::Past;
+use crate::pending::Pending;
 use std::alloc::Global;
 use std::collections::BTreeMap;
 use wx_notify::Notify;
@@ -31,7 +32,7 @@ pub struct Poller {
     follow: bool,
     registered: Vec<TextPath>,
     listing: Listing,
-    pending: List<Notify>,
+    pending: Pending,
     faults: u64,
     past: Past,
 }
@@ -127,7 +128,7 @@ impl Poller {
             follow,
             registered: Vec::new(alloc),
             listing: BTreeMap::new(alloc),
-            pending: List::new(alloc),
+            pending: Pending::new(alloc),
             faults: 0,
             past: Past::new(),
         })
@@ -202,8 +203,8 @@ impl Poller {
             Err(error) => Err(error),
             Ok(listing) => match changes(self.alloc, &self.listing, &listing) {
                 Err(Memory) => Err(ScanError::Memory),
-                Ok(pending) => {
-                    self.pending = pending;
+                Ok(events) => {
+                    self.pending = Pending::of(events);
                     self.listing = listing;
                     Ok(())
                 }

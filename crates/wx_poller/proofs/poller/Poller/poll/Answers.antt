@@ -52,7 +52,7 @@ pub returns-in-Ok-changes-clause-polls : goal.returns-in-Ok-changes-clause-polls
 returns-in-Ok-changes-clause-polls g c = record { follow = refl; registered = refl; brought = refl; faults = refl }
 
 pub returns-in-Ok-changes-clause-changes : goal.returns-in-Ok-changes-clause-changes
-returns-in-Ok-changes-clause-changes g c = c.in-Ok-changes.ensures.changes
+returns-in-Ok-changes-clause-changes g c = c.of.ensures ∙ c.in-Ok-changes.ensures.changes
 
 pub returns-in-Ok-changes-clause-maps : goal.returns-in-Ok-changes-clause-maps
 returns-in-Ok-changes-clause-maps g c = c.in-Ok-changes.ensures.maps
