@@ -390,10 +390,106 @@ def large():
     return "; ".join(told)
 
 
+# A command that writes into an ignored folder, and a file beside its sources.
+WRITES = "mkdir -p target/deep; date > target/out; date > target/deep/out; date > built.tmp; true"
+
+
+def ignoring(*patterns):
+    """The words that say what is ignored."""
+    return [word for pattern in patterns for word in ("--ignore", pattern)]
+
+
+def starts_for(run, name):
+    """Whether the command starts again where this file is written."""
+    count = run.settled()
+    (run.folder / name).parent.mkdir(parents=True, exist_ok=True)
+    run.write(name, str(time.time()))
+    return run.settled() > count
+
+
+def what_it_writes_is_ignored():
+    with Live(then=WRITES, words=ignoring("target", "*.tmp")) as run:
+        run.ready()
+        expect(run.settled() == 1, f"{len(run.pids())} starts where nothing else changed")
+        expect(starts_for(run, "a.txt"), "no start for a source")
+        expect(not starts_for(run, "b.tmp"), "a start for an ignored file")
+        expect(not starts_for(run, "target/c.txt"), "a start for a file in an ignored folder")
+        lines = run.quit()
+    expect(any(it.startswith("dir ") and it.endswith("/target reject") for it in lines), "the folder was judged")
+    expect(not any("/target/" in it for it in lines if it.startswith("offer ")), "an offer from below it")
+    with Live(then=WRITES) as run:
+        run.ready()
+        time.sleep(2)
+        count = len(run.pids())
+        run.quit()
+    expect(count > 3, f"{count} starts without patterns")
+    return f"one start, and again for a source alone; without patterns {count} starts in the same while"
+
+
+def two_folders(folder):
+    """Fills a folder with a folder in a folder, and one more."""
+    (folder / "d/e").mkdir(parents=True)
+    (folder / "e").mkdir()
+
+
+def patterns():
+    """Each row: the patterns, files for which the command starts, and files for which it doesn't."""
+    rows = [
+        (["*.log", "!keep.log"], ["keep.log", "d/keep.log"], ["a.log", "d/a.log"]),
+        (["/out"], ["d/out", "outer"], ["out"]),
+        (["out/"], ["outer"], ["out", "d/out", "e/out/f"]),
+        (["**/made"], ["maker"], ["made", "d/made", "d/e/made"]),
+        (["d/**/made"], ["made", "e/made"], ["d/made", "d/e/made"]),
+        (["d/**"], ["e"], ["d/f", "d/e/f"]),
+        (["a b*"], ["ab"], ["a b", "d/a bc"]),
+    ]
+    count = 0
+    for lines, seen, unseen in rows:
+        with Live(then="true", fill=two_folders, words=ignoring(*lines)) as run:
+            run.ready()
+            for name in seen:
+                expect(starts_for(run, name), f"{lines}: no start for {name}")
+            for name in unseen:
+                expect(not starts_for(run, name), f"{lines}: a start for {name}")
+            run.quit()
+        count += len(seen) + len(unseen)
+    return f"{count} files, each as the patterns say"
+
+
+def an_ignored_folder_costs_nothing():
+    def fill(folder):
+        (folder / "target").mkdir()
+        tree(100, 100)(folder / "target")
+    used, first = [], []
+    for words in (ignoring("target"), []):
+        with Live(then="true", fill=fill, words=words) as run:
+            run.ready()
+            time.sleep(2 if words else 30)
+            before = spent(run.process.pid)
+            first.append(before)
+            time.sleep(10)
+            used.append((spent(run.process.pid) - before) * 10)
+            lines = run.quit()
+            if words:
+                expect(not any("/target/" in it for it in lines), "something below it was looked at")
+    expect(used[0] < 2 and used[0] * 3 < used[1], f"{used[0]:.1f} % of a processor at rest, and {used[1]:.1f} % without patterns")
+    return f"10,000 files: {first[0]:.2f} s until it rests and {used[0]:.1f} % at rest; without patterns {first[1]:.1f} s and {used[1]:.1f} %"
+
+
+def bad_patterns():
+    told = []
+    for line in ("/", "a//b", "../a"):
+        ran = subprocess.run([PROGRAM, "live", "--ignore", "fine", "--ignore", line, "--", "true"], capture_output=True, text=True, stdin=subprocess.DEVNULL)
+        expect(ran.returncode == 2 and not ran.stdout and line in ran.stderr and ran.stderr.count("\n") == 1, f"{line}: {ran}")
+        told.append(ran.stderr.strip())
+    return "; ".join(told)
+
+
 SHORT = [
     a_file_is_written, a_directory_is_made, a_directory_is_renamed, the_folder_is_removed, a_thousand_files_change,
     the_command_ignores_terminate, the_command_ends_by_itself, q_ends_it, the_input_ends, an_interrupt, no_such_command,
-    a_folder_that_cannot_be_read, names, an_atomic_save, the_output_is_full,
+    a_folder_that_cannot_be_read, names, an_atomic_save, the_output_is_full, what_it_writes_is_ignored, patterns, bad_patterns,
+    an_ignored_folder_costs_nothing,
 ]
 TRIALS = {it.__name__: it for it in [*SHORT, reaction, large]}
 

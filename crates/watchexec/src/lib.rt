@@ -34,6 +34,7 @@ pub mod error {
 /// What judges events and directories.
 pub mod filter {
     pub use wx_config::{ChangeableFilterer, Filterer};
+    pub use wx_patterns::{AddError, Pattern, Patterns};
 }
 
 /// A world over the system whose keys and jobs are used from threads: its outside, the folder that the program runs in, the world, and

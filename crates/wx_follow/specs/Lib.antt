@@ -1,3 +1,4 @@
 pub mod Backed
 pub mod Edits
+pub mod Filtering
 pub mod Unseen

@@ -2,6 +2,7 @@
 #![tactic(auto)]
 
 mod editing;
+mod filtering;
 mod replies;
 mod script_backend;
 mod script_hooks;

@@ -9,8 +9,10 @@ ghost use Rattle.wx_script.specs.Acted.{is_made, AreMade, performed, with_create
 ghost use Rattle.wx_script.specs.FollowLaws.{leaves_wished, uses_over, hands_among, filters_among, dirs_among, errors_among, polls_among, hooks_over};
 ghost use Rattle.wx_script.specs.Follows.{wished_of};
 ghost use Rattle.wx_script.specs.declared.script.ScriptAct.TheVariants.{One};
+ghost use Rattle.wx_follow.specs.Filtering.{ignores_by};
 
-use crate::replies::{line, next, passed};
+use crate::filtering::{patterns_of, verdict_on_dir, verdict_on_event};
+use crate::replies::{either, line, next, passed};
 use std::alloc::Global;
 use wx_command::{Command, Spawnable};
 use wx_config::Change;
@@ -20,13 +22,15 @@ use wx_events::{Event, Priority};
 use wx_hooks::{ActionHandler, CreateRefused, ErrorHook, GetRefused, Hooks};
 use wx_job::{JobHooks, JobTaskContext};
 use wx_journal::{Act, Entry, HostFault, Journal, Wish};
+use wx_patterns::Patterns;
 use wx_script::{Script, ScriptAct, Wanted};
-use wx_text::{Copies, List, Memory, Text, copy_twice};
+use wx_text::{Copies, List, Memory, Text};
 use wx_words::TextPath;
 
 /// Hooks that ask in each call of the action handler for the next acts of a script, and for nothing after them, and answer each
-/// call of the filter about an event by the next answer of the script, and let every event after them pass. So they do with
-/// directories, by the script's answers about these. Of each error they wish what the script does next, and nothing after that.
+/// call of the filter about an event by the next answer of the script, and each after them by the script's patterns: an event
+/// passes that has no path, or one that isn't ignored. So they do with directories, by the script's answers about these, and a
+/// directory passes that isn't ignored. Of each error they wish what the script does next, and nothing after that.
 /// Each poll of a begun function is answered as the script says next, and those after that find it ready. Each call of a spawn
 /// hook appends the next words of the script to those of what is spawned, and none after them. Functions and error handlers of
 /// jobs do nothing. Where memory is wanted for an act, or a change is refused since the revision can't be raised, they are
@@ -47,6 +51,7 @@ pub struct ScriptHooks {
     polled: usize,
     hooks: List<List<Text>>,
     hooked: usize,
+    patterns: Patterns,
     told: Journal,
     is_short: bool,
 }
@@ -68,6 +73,7 @@ impl Drop for ScriptHooks {
             polled: _,
             hooks: _,
             hooked: _,
+            patterns: _,
             told: _,
             is_short: _,
         } = self;
@@ -77,8 +83,8 @@ impl Drop for ScriptHooks {
 impl ScriptHooks {
     /// Hooks that follow this script, before the first call. It fails only for want of memory.
     pub fn new(alloc: Global, script: &Script) -> Result<ScriptHooks, Memory>
-        ensures plan { IfOk result (λ hooks. record { actions = hooks.actions; filters = hooks.filters; dirs = hooks.dirs; errors = hooks.errors; polls = hooks.polls; hooks = hooks.hooks } ≡ wished_of script.now) }
-        ensures stands { IfOk result (λ hooks. AreUsed hands hooks.actions hooks.used [] × AreUsed filters hooks.filters hooks.asked [] × AreUsed dirs hooks.dirs hooks.judged [] × AreUsed errors hooks.errors hooks.shown [] × AreUsed polls hooks.polls hooks.polled [] × AreHooksUsed hooks.hooks hooks.hooked []) }
+        ensures plan { IfOk result (λ hooks. record { actions = hooks.actions; filters = hooks.filters; dirs = hooks.dirs; errors = hooks.errors; polls = hooks.polls; hooks = hooks.hooks; ignores = ignores_by hooks.patterns } ≡ wished_of script.now) }
+        ensures stands { IfOk result (λ hooks. AreUsed hands hooks.actions hooks.used [] × AreUsed (filters (ignores_by hooks.patterns)) hooks.filters hooks.asked [] × AreUsed (dirs (ignores_by hooks.patterns)) hooks.dirs hooks.judged [] × AreUsed errors hooks.errors hooks.shown [] × AreUsed polls hooks.polls hooks.polled [] × AreHooksUsed hooks.hooks hooks.hooked []) }
         ensures told { IfOk result (λ hooks. hooks.told.past ≡ []) }
         ensures short { IfOk result (λ hooks. hooks.is_short ≡ false) }
     {
@@ -88,6 +94,7 @@ impl ScriptHooks {
         let errors = script.errors.copy(alloc)?;
         let polls = script.polls.copy(alloc)?;
         let hooks = script.hooks.copy(alloc)?;
+        let patterns = patterns_of(alloc, script)?;
         let told = Journal::new(alloc)?;
         Ok(ScriptHooks {
             alloc,
@@ -103,6 +110,7 @@ impl ScriptHooks {
             polled: 0,
             hooks,
             hooked: 0,
+            patterns,
             told,
             is_short: false,
         })
@@ -119,13 +127,13 @@ impl ScriptHooks {
 impl JobHooks for ScriptHooks {
     ghost Plan = { Wished };
 
-    ghost seen = { λ s. record { plan = record { actions = s.actions; filters = s.filters; dirs = s.dirs; errors = s.errors; polls = s.polls; hooks = s.hooks }; told = Some s.told.past; spare = s.told.spare; short = s.is_short; place = [] } };
+    ghost seen = { λ s. record { plan = record { actions = s.actions; filters = s.filters; dirs = s.dirs; errors = s.errors; polls = s.polls; hooks = s.hooks; ignores = ignores_by s.patterns }; told = Some s.told.past; spare = s.told.spare; short = s.is_short; place = [] } };
 
     ghost rule = { λ plan p e. IsWished plan p e };
 
     ghost spawn_rule = { λ plan p given e. LeavesWords plan.hooks p given e };
 
-    ghost stands = { λ s p. AreUsed hands s.actions s.used p × AreUsed filters s.filters s.asked p × AreUsed dirs s.dirs s.judged p × AreUsed errors s.errors s.shown p × AreUsed polls s.polls s.polled p × AreHooksUsed s.hooks s.hooked p };
+    ghost stands = { λ s p. AreUsed hands s.actions s.used p × AreUsed (filters (ignores_by s.patterns)) s.filters s.asked p × AreUsed (dirs (ignores_by s.patterns)) s.dirs s.judged p × AreUsed errors s.errors s.shown p × AreUsed polls s.polls s.polled p × AreHooksUsed s.hooks s.hooked p };
 
     fn reserve(&mut self, n: u64) -> Result<(), Memory> {
         self.told.reserve(n)
@@ -179,7 +187,7 @@ impl JobHooks for ScriptHooks {
 
     ghost spawn_rule_is_rule = { λ plan p job n left command runs words. leaves_wished plan p job n left command runs words };
 
-    ghost stands_other = { λ s p e _ other stands. (uses_over hands (anywhere is_hooks) hands_among s.actions s.used p e other stands.0, uses_over filters (anywhere is_hooks) filters_among s.filters s.asked p e other stands.1, uses_over dirs (anywhere is_hooks) dirs_among s.dirs s.judged p e other stands.2, uses_over errors (anywhere is_hooks) errors_among s.errors s.shown p e other stands.3, uses_over polls (anywhere is_hooks) polls_among s.polls s.polled p e other stands.4, hooks_over s.hooks s.hooked p e other stands.5) };
+    ghost stands_other = { λ s p e _ other stands. (uses_over hands (anywhere is_hooks) hands_among s.actions s.used p e other stands.0, uses_over (filters (ignores_by s.patterns)) (anywhere is_hooks) (filters_among (ignores_by s.patterns)) s.filters s.asked p e other stands.1, uses_over (dirs (ignores_by s.patterns)) (anywhere is_hooks) (dirs_among (ignores_by s.patterns)) s.dirs s.judged p e other stands.2, uses_over errors (anywhere is_hooks) errors_among s.errors s.shown p e other stands.3, uses_over polls (anywhere is_hooks) polls_among s.polls s.polled p e other stands.4, hooks_over s.hooks s.hooked p e other stands.5) };
 }
 
 impl Hooks for ScriptHooks {
@@ -187,14 +195,18 @@ impl Hooks for ScriptHooks {
         &mut self,
         n: u32,
         name: u64,
-        _event: &Event,
-        _priority: Priority,
+        event: &Event,
+        priority: Priority,
     ) -> Result<bool, RuntimeError> {
-        let usual = Ok(true);
-        let due = line(&self.filters, self.asked, &usual);
-        let (answer, told, short) = answer_and_told(self.alloc, due);
-        drop(usual);
-        self.is_short = self.is_short || short;
+        let (answer, told, short) = verdict_on_event(
+            self.alloc,
+            &self.filters,
+            self.asked,
+            &self.patterns,
+            event,
+            priority,
+        );
+        self.is_short = either(self.is_short, short);
         self.asked = passed(&self.filters, self.asked);
         self.told.push(Entry::Filter {
             n,
@@ -205,11 +217,14 @@ impl Hooks for ScriptHooks {
     }
 
     fn check_dir(&mut self, n: u32, path: TextPath) -> Result<bool, RuntimeError> {
-        let usual = Ok(true);
-        let due = line(&self.dirs, self.judged, &usual);
-        let (answer, told, short) = answer_and_told(self.alloc, due);
-        drop(usual);
-        self.is_short = self.is_short || short;
+        let (answer, told, short) = verdict_on_dir(
+            self.alloc,
+            &self.dirs,
+            self.judged,
+            &self.patterns,
+            &path,
+        );
+        self.is_short = either(self.is_short, short);
         self.judged = passed(&self.dirs, self.judged);
         self.told.push(Entry::Dir {
             n,
@@ -292,20 +307,6 @@ fn wish_or_short(alloc: Global, wish: &Wish, hook: &mut ErrorHook) -> bool
     match wish_so(alloc, wish, hook) {
         Ok(()) => false,
         Err(_) => true,
-    }
-}
-
-/// The answer of a filter twice, to be given and to be told, or that there was no memory, and that this was so.
-fn answer_and_told(
-    alloc: Global,
-    answer: &Result<bool, RuntimeError>,
-) -> (Result<bool, RuntimeError>, Result<bool, RuntimeError>, bool)
-    ensures told { result.1 ≡ result.0 }
-    ensures answer { result.2 ≡ false → result.0 ≡ answer.now }
-{
-    match copy_twice(alloc, answer) {
-        Ok((given, told)) => (given, told, false),
-        Err(_) => (Err(RuntimeError::Memory), Err(RuntimeError::Memory), true),
     }
 }
 

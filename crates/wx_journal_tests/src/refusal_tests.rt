@@ -20,7 +20,7 @@ fn expect_lines(rt: &impl Abort, alloc: Global, table: &[(&[u8], &str)]) {
 }
 
 // Lines that have no form, or no line feed.
-const UNFORMED: [(&[u8], &str); 19] = [
+const UNFORMED: [(&[u8], &str); 21] = [
     (
         b"turn 0 work\nturn 0 lst\n",
         "line 2 `turn 0 lst`: no line has this form",
@@ -69,6 +69,15 @@ const UNFORMED: [(&[u8], &str); 19] = [
     (
         b"turn 0 last 1\n",
         "line 1 `turn 0 last 1`: no line has this form",
+    ),
+    // what is no pattern, and more than one
+    (
+        b"ignore a//b\n",
+        "line 1 `ignore a//b`: the pattern has no part, or a part of it is empty, . or ..",
+    ),
+    (
+        b"ignore a b\n",
+        "line 1 `ignore a b`: no line has this form",
     ),
     // no line feed, whatever the line says
     (

@@ -210,12 +210,19 @@ fn before_first_no(answers: &[Result<bool, RuntimeError>]) -> u64 {
     before
 }
 
-/// How many answers of the filter about events and about directories the script has, and how many of the latter stand before the
-/// first that excludes one.
+/// How many answers of the filter about events and about directories the script has, how many of the latter stand before the first
+/// that excludes one, and how many patterns.
 fn dir_counts(script: &Script) -> [u64; 6] {
     let (filters, dirs) = (script.filters.len(), script.dirs.len());
     let before = before_first_no(script.dirs.as_slice());
-    [filters as u64, dirs as u64, before, 0, 0, 0]
+    [
+        filters as u64,
+        dirs as u64,
+        before,
+        script.ignores.len() as u64,
+        0,
+        0,
+    ]
 }
 
 const DIRS: [(&[u8], &[u64]); 6] = [
@@ -239,6 +246,45 @@ const DIRS: [(&[u8], &[u64]); 6] = [
 #[test]
 fn reads_lines_about_directories(rt: HostRuntime) {
     each_script(&rt, rt.alloc(), Counted::Dirs, &DIRS);
+}
+
+const IGNORES: [(&[u8], &[u64]); 4] = [
+    (b"ignore a\n", &[0, 0, 0, 1]),
+    (b"ignore !/a%20b/**/c/\n", &[0, 0, 0, 1]),
+    (b"ignore ...\nignore !!\nignore */?\n", &[0, 0, 0, 3]),
+    (
+        b"ignore a\nset size 2\ndir pass\nsend low 0\nignore a\nturn 0 work\nignore b\n",
+        &[0, 1, 1, 3],
+    ),
+];
+
+#[test]
+fn reads_lines_about_what_is_ignored(rt: HostRuntime) {
+    each_script(&rt, rt.alloc(), Counted::Dirs, &IGNORES);
+}
+
+const NO_IGNORES: [&[u8]; 16] = [
+    b"ignore\n",
+    b"ignore \n",
+    b"ignore a",
+    b"ignore a b\n",
+    b"ignore a \n",
+    b"ignore /\n",
+    b"ignore //\n",
+    b"ignore !\n",
+    b"ignore !/\n",
+    b"ignore .\n",
+    b"ignore ..\n",
+    b"ignore a//b\n",
+    b"ignore //a\n",
+    b"ignore a/../b\n",
+    b"ignore a/./b\n",
+    b"ignores a\n",
+];
+
+#[test]
+fn refuses_lines_about_what_is_ignored(rt: HostRuntime) {
+    each_is_bad(&rt, rt.alloc(), &NO_IGNORES);
 }
 
 const NO_DIRS: [&[u8]; 19] = [

@@ -18,23 +18,37 @@ use wx_replay::Status;
 use wx_text::{List, Memory, Text};
 use wx_words::TextPath;
 
-/// What a shell does: it makes a file longer by one byte.
-const SCRIPT: &str = "echo >> \"$0\"";
-
 /// The error that stands for want of memory.
 fn no_memory(_want: Memory) -> Error {
     Error::from(ErrorKind::OutOfMemory)
 }
 
-/// The command of a trial.
-fn command_of(alloc: Global, program: &str, mark: &str) -> Result<Command, Memory> {
-    let mut args = List::new(alloc);
-    for word in ["-c", SCRIPT, mark] {
-        args.push(Text::from_slice(alloc, word.as_bytes())?)?;
+/// These words as texts.
+fn texts(alloc: Global, words: &[&str]) -> Result<List<Text>, Memory> {
+    let mut texts = List::new(alloc);
+    for word in words {
+        texts.push(Text::from_slice(alloc, word.as_bytes())?)?;
     }
+    Ok(texts)
+}
+
+/// What a shell is given: what it does, the name by which it knows that, and its argument.
+fn args_of(alloc: Global, script: &str, name: &str, arg: &str) -> Result<List<Text>, Memory> {
+    let mut args = List::new(alloc);
+    args.push(Text::from_slice(alloc, b"-c")?)?;
+    args.push(Text::from_slice(alloc, script.as_bytes())?)?;
+    args.push(Text::from_slice(alloc, name.as_bytes())?)?;
+    args.push(Text::from_slice(alloc, arg.as_bytes())?)?;
+    Ok(args)
+}
+
+/// The command of a trial.
+fn command_of(alloc: Global, trial: &Trial, places: &Places) -> Result<Command, Memory> {
+    let (mark, folder) = (places.mark.as_str(), places.folder.as_str());
+    let args = args_of(alloc, trial.script, mark, folder)?;
     Ok(Command {
         program: Program::Exec {
-            prog: Text::from_slice(alloc, program.as_bytes())?,
+            prog: Text::from_slice(alloc, trial.program.as_bytes())?,
             args,
         },
         options: SpawnOptions::default(),
@@ -95,7 +109,8 @@ pub fn fails<
 >(rt: &R, places: &Places, trial: &Trial, source: &mut S) -> io::Result<Option<MemSink>> {
     let alloc = rt.alloc();
     make_folder(rt, places.folder.as_str())?;
-    let command = command_of(alloc, trial.program, places.mark.as_str()).map_err(no_memory)?;
+    let command = command_of(alloc, trial, places).map_err(no_memory)?;
+    let ignores = texts(alloc, trial.ignores).map_err(no_memory)?;
     let Some(folder) = absolute(alloc, places.folder.as_bytes()).map_err(no_memory)? else {
         return Err(Error::from(ErrorKind::InvalidFilename));
     };
@@ -105,6 +120,7 @@ pub fn fails<
         rt,
         alloc,
         trial.turns,
+        ignores.as_slice(),
         &command,
         source,
         &mut sink,

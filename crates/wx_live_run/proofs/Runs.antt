@@ -27,18 +27,18 @@ use Rattle.wx_live_run.proofs.Listed.{fits_by_items, keys_by_items, listed, thos
 
 -- A world with handles was made over an outside of which this was drawn, served the run, and was taken apart; and the one handle sent what was
 -- read. What the queue gave is a front of that.
-pub live_run : {S Fixed : Type 0} (turns : ℕ) (command : Command) (folder : List ℕ) (left : S → Option (List ℕ)) (faults : S → ℕ) (a b : S) (x y : Handle) (drawn drawn' : Drawn) (l l' : Seen Fixed) (w w' : Seen Based) (items : TakingEnd Item) (journal : List Entry) (answer : Answer)
+pub live_run : {S Fixed : Type 0} (turns : ℕ) (ignores : List (List ℕ)) (command : Command) (folder : List ℕ) (left : S → Option (List ℕ)) (faults : S → ℕ) (a b : S) (x y : Handle) (drawn drawn' : Drawn) (l l' : Seen Fixed) (w w' : Seen Based) (items : TakingEnd Item) (journal : List Entry) (answer : Answer)
     → ((path : List ℕ) → drawn.folder ≡ Some path → folder ≡ path)
     → Begins turns 1 drawn l w
     → w'.plan ≡ w.plan
-    → IsRunSide folder command w w' journal answer
+    → IsRunSide folder ignores command w w' journal answer
     → Parted w' l' drawn' items
     → x.pass.number ≡ 0
     → x.pass.sent ≡ []
     → HasRead left faults a b x y true
     → (rest : List (Sent Item)) × (y.pass.sent ≡ items.given ++ rest)
-    → IsLiveRun turns command left faults a b l.shown.told l'.shown.told drawn drawn' journal answer
-live_run {S} {Fixed} turns command folder left faults a b x y drawn drawn' l l' w w' items journal answer folder_is begins plan side parted number none read given =
+    → IsLiveRun turns ignores command left faults a b l.shown.told l'.shown.told drawn drawn' journal answer
+live_run {S} {Fixed} turns ignores command folder left faults a b x y drawn drawn' l l' w w' items journal answer folder_is begins plan side parted number none read given =
     let those : List Entry = parted.told.0 in
     let tell = parted.told.2 in
     let mine = listed 1 turns drawn journal in
@@ -69,25 +69,25 @@ live_run {S} {Fixed} turns command folder left faults a b x y drawn drawn' l l' 
     }
 
 -- where no side failed, and the outside was asked for its folder before
-pub live_left : {S Fixed : Type 0} (turns : ℕ) (command : Command) (folder : List ℕ) (left : S → Option (List ℕ)) (faults : S → ℕ) (a b : S) (x y : Handle) (had drawn drawn' : Drawn) (at : ℕ) (k l l' : Seen Fixed) (w w' : Seen Based) (items : TakingEnd Item) (journal : Written) (heard : Result (Unit {0}) Memory) (ran : Result Answer Memory) (r : Result Ran Memory)
+pub live_left : {S Fixed : Type 0} (turns : ℕ) (ignores : List (List ℕ)) (command : Command) (folder : List ℕ) (left : S → Option (List ℕ)) (faults : S → ℕ) (a b : S) (x y : Handle) (had drawn drawn' : Drawn) (at : ℕ) (k l l' : Seen Fixed) (w w' : Seen Based) (items : TakingEnd Item) (journal : Written) (heard : Result (Unit {0}) Memory) (ran : Result Answer Memory) (r : Result Ran Memory)
     → ((path : List ℕ) → had.folder ≡ Some path → folder ≡ path)
     → OnlyDraws at k l
     → drawn ≡ had
     → Begins turns 1 drawn l w
     → w'.plan ≡ w.plan
-    → IfOk ran (λ answer. IsRunSide folder command w w' journal.past answer)
+    → IfOk ran (λ answer. IsRunSide folder ignores command w w' journal.past answer)
     → Parted w' l' drawn' items
     → x.pass.number ≡ 0
     → x.pass.sent ≡ []
     → HasRead left faults a b x y (is_end heard)
     → (rest : List (Sent Item)) × (y.pass.sent ≡ items.given ++ rest)
     → IfOk r (λ o. (is_end heard ≡ true) × (ran ≡ Ok o.answer) × (o.journal ≡ journal))
-    → IfOk r (λ o. IsLiveRun turns command left faults a b k.shown.told l'.shown.told had drawn' o.journal.past o.answer)
-live_left turns command folder left faults a b x y had drawn drawn' at k l l' w w' items journal heard ran (Ok o) folder_is draws same begins plan side parted number none read given is =
-    let mine = subst (λ (r : Result Answer Memory). IfOk r (λ answer. IsRunSide folder command w w' journal.past answer)) is.1 side in
+    → IfOk r (λ o. IsLiveRun turns ignores command left faults a b k.shown.told l'.shown.told had drawn' o.journal.past o.answer)
+live_left turns ignores command folder left faults a b x y had drawn drawn' at k l l' w w' items journal heard ran (Ok o) folder_is draws same begins plan side parted number none read given is =
+    let mine = subst (λ (r : Result Answer Memory). IfOk r (λ answer. IsRunSide folder ignores command w w' journal.past answer)) is.1 side in
     let all = subst (λ (over : Bool). HasRead left faults a b x y over) is.0 read in
-    let so = live_run turns command folder left faults a b x y drawn drawn' l l' w w' items journal.past o.answer (λ path e. folder_is path (sym (ap (λ (d : Drawn). d.folder) same) ∙ e)) begins plan mine parted number none all given in
-    let here = subst (λ (j : Written). IsLiveRun turns command left faults a b l.shown.told l'.shown.told drawn drawn' j.past o.answer) (sym is.2) so in
-    let told = subst (λ (s : Shown). IsLiveRun turns command left faults a b s.told l'.shown.told drawn drawn' o.journal.past o.answer) draws.shown_kept here in
-    subst (λ (d : Drawn). IsLiveRun turns command left faults a b k.shown.told l'.shown.told d drawn' o.journal.past o.answer) same told
-live_left turns command folder left faults a b x y had drawn drawn' at k l l' w w' items journal heard ran (Err want) folder_is draws same begins plan side parted number none read given is = tt
+    let so = live_run turns ignores command folder left faults a b x y drawn drawn' l l' w w' items journal.past o.answer (λ path e. folder_is path (sym (ap (λ (d : Drawn). d.folder) same) ∙ e)) begins plan mine parted number none all given in
+    let here = subst (λ (j : Written). IsLiveRun turns ignores command left faults a b l.shown.told l'.shown.told drawn drawn' j.past o.answer) (sym is.2) so in
+    let told = subst (λ (s : Shown). IsLiveRun turns ignores command left faults a b s.told l'.shown.told drawn drawn' o.journal.past o.answer) draws.shown_kept here in
+    subst (λ (d : Drawn). IsLiveRun turns ignores command left faults a b k.shown.told l'.shown.told d drawn' o.journal.past o.answer) same told
+live_left turns ignores command folder left faults a b x y had drawn drawn' at k l l' w w' items journal heard ran (Err want) folder_is draws same begins plan side parted number none read given is = tt

@@ -13,6 +13,8 @@ use Rattle.wx_journal.specs.declared.entry.TurnKind.{TurnKind}
 use Rattle.wx_journal.specs.declared.entry.TurnKind.TheVariants.{Ask, Keys}
 use Rattle.wx_journal.specs.Lines.{Answer}
 use Rattle.wx_journal.specs.Told.{is_world, tells}
+use Rattle.wx_paths.specs.Paths.{components}
+use Rattle.wx_patterns.specs.Lines.{patterns_of}
 use Rattle.wx_machine.specs.Answer.{Answers}
 use Rattle.wx_machine.specs.Start.{Start}
 use Rattle.wx_handles.specs.Rounds.{are_rounds}
@@ -79,15 +81,15 @@ pub record HearsKeys {S : Type 0} (left : S → Option (List ℕ)) (faults : S �
 
 -- ---- the whole run
 
--- The journal is that of a run over the folder of the live outside, with its answer. Each batch was handed as the rule says, and all other
--- calls on the hooks came to their defaults. The outside was told just its calls, and gave the ends and moments of the turns. The turns bring
+-- The journal is that of a run over the folder of the live outside, with its answer. Each batch was handed as the rule says, the filter
+-- answered by what these lines ignore below the folder, and all other calls on the hooks came to their defaults. The outside was told just its calls, and gave the ends and moments of the turns. The turns bring
 -- keys that were read, ends, and the round of one job; and a last turn comes behind so many others.
-pub record IsLiveRun {S : Type 0} (turns : ℕ) (command : Command) (left : S → Option (List ℕ)) (faults : S → ℕ) (a b : S) (told told' : Option (List Entry)) (drawn drawn' : Drawn) (journal : List Entry) (answer : Answer) : Type 0 where
+pub record IsLiveRun {S : Type 0} (turns : ℕ) (ignores : List (List ℕ)) (command : Command) (left : S → Option (List ℕ)) (faults : S → ℕ) (a b : S) (told told' : Option (List Entry)) (drawn drawn' : Drawn) (journal : List Entry) (answer : Answer) : Type 0 where
   pub folder : List ℕ
   pub folder_is : (path : List ℕ) → drawn.folder ≡ Some path → folder ≡ path
   pub ready : Flag
   pub answers : Answers (live_start ready folder) journal answer
-  pub acts : ArePlain (AsksAsLive command) journal
+  pub acts : ArePlain (components folder) (patterns_of ignores) (AsksAsLive command) journal
   pub told_is : told' ≡ tells is_world journal told
   pub drawn_is : drawn' ≡ drawn_by journal drawn
   pub kinds : list_all fits_live journal ≡ true
@@ -96,8 +98,8 @@ pub record IsLiveRun {S : Type 0} (turns : ℕ) (command : Command) (left : S �
   pub keys : HearsKeys left faults a b (keys_of journal)
 
 -- the text is the journal of such a run, with its answer, and the status is that of this answer
-pub record IsLive {S : Type 0} (turns : ℕ) (command : Command) (left : S → Option (List ℕ)) (faults : S → ℕ) (a b : S) (told told' : Option (List Entry)) (drawn drawn' : Drawn) (text : List ℕ) (status : Status) : Type 0 where
+pub record IsLive {S : Type 0} (turns : ℕ) (ignores : List (List ℕ)) (command : Command) (left : S → Option (List ℕ)) (faults : S → ℕ) (a b : S) (told told' : Option (List Entry)) (drawn drawn' : Drawn) (text : List ℕ) (status : Status) : Type 0 where
   pub journal : List Entry
   pub answer : Answer
-  pub run : IsLiveRun turns command left faults a b told told' drawn drawn' journal answer
+  pub run : IsLiveRun turns ignores command left faults a b told told' drawn drawn' journal answer
   pub shown : IsShown journal answer text status

@@ -63,12 +63,13 @@ fn run_world<R: Threads + Wait + Copy + Send + Sync, S: Source + Send, L: Live +
     rt: &R,
     alloc: Global,
     turns: u64,
+    ignores: &[Text],
     command: &Command,
     source: &mut S,
     mut outside: L,
 ) -> Result<(L, Result<Ran, Memory>), Memory>
     ensures place { IfOk result (λ back. (L.seen back.0).place ≡ (L.seen outside).place) }
-    ensures ran { IfOk result (λ back. IfOk back.1 (λ ran. IsLiveRun turns command.now S.left S.faults source.old source.new (L.seen outside).shown.told (L.seen back.0).shown.told (L.drawn outside) (L.drawn back.0) ran.journal.past ran.answer)) }
+    ensures ran { IfOk result (λ back. IfOk back.1 (λ ran. IsLiveRun turns ignores.now command.now S.left S.faults source.old source.new (L.seen outside).shown.told (L.seen back.0).shown.told (L.drawn outside) (L.drawn back.0) ran.journal.past ran.answer)) }
 {
     let folder = outside.folder()?;
     let mut journal = Journal::new(alloc)?;
@@ -80,6 +81,7 @@ fn run_world<R: Threads + Wait + Copy + Send + Sync, S: Source + Send, L: Live +
         source,
         &mut pass,
         &folder,
+        ignores,
         command,
         &mut world,
         &mut journal,
@@ -94,13 +96,14 @@ fn run_live<R: Threads + Wait + Copy + Send + Sync, S: Source + Send, L: Live>(
     rt: &R,
     alloc: Global,
     turns: u64,
+    ignores: &[Text],
     command: &Command,
     source: &mut S,
     live: &mut L,
 ) -> Result<Ran, Memory>
-    ensures { IfOk result (λ ran. IsLiveRun turns command.now S.left S.faults source.old source.new (L.seen live.old).shown.told (L.seen live.new).shown.told (L.drawn live.old) (L.drawn live.new) ran.journal.past ran.answer) }
+    ensures { IfOk result (λ ran. IsLiveRun turns ignores.now command.now S.left S.faults source.old source.new (L.seen live.old).shown.told (L.seen live.new).shown.told (L.drawn live.old) (L.drawn live.new) ran.journal.past ran.answer) }
 {
-    let (back, ran) = run_world(rt, alloc, turns, command, source, Lent::new(live))?;
+    let (back, ran) = run_world(rt, alloc, turns, ignores, command, source, Lent::new(live))?;
     is_back(back.into_live());
     ran
 }
@@ -110,21 +113,23 @@ fn reply<R: Threads + Wait + Copy + Send + Sync, S: Source + Send, L: Live>(
     rt: &R,
     alloc: Global,
     turns: u64,
+    ignores: &[Text],
     command: &Command,
     source: &mut S,
     live: &mut L,
 ) -> Result<(Text, Status), Memory>
-    ensures { IfOk result (λ r. IsLive turns command.now S.left S.faults source.old source.new (L.seen live.old).shown.told (L.seen live.new).shown.told (L.drawn live.old) (L.drawn live.new) r.0 r.1) }
+    ensures { IfOk result (λ r. IsLive turns ignores.now command.now S.left S.faults source.old source.new (L.seen live.old).shown.told (L.seen live.new).shown.told (L.drawn live.old) (L.drawn live.new) r.0 r.1) }
 {
-    let ran = run_live(rt, alloc, turns, command, source, live)?;
+    let ran = run_live(rt, alloc, turns, ignores, command, source, live)?;
     let out = shown(alloc, &ran);
     drop(ran);
     out
 }
 
 /// Watches the folder of a live outside, runs a command there and again at each change, and writes the journal of the run when it has
-/// ended. The keys are the bytes of the source, which a second thread reads; the run goes on for so many turns, or until a `q` ends it,
-/// and this call until the reader has stopped too.
+/// ended. Paths below the folder are ignored by those of the lines `ignores` that are patterns, as `Patterns` does. The keys are the
+/// bytes of the source, which a second thread reads; the run goes on for so many turns, or until a `q` ends it, and this call until
+/// the reader has stopped too.
 ///
 /// `Done` comes where all of it was written, `Critical` where that is of a run that ended with an error, `WriteFault` where a write failed,
 /// which leaves a front part of the text, and `Memory` where there was none, and then nothing was written. No other status comes.
@@ -132,6 +137,7 @@ pub fn live<R: Threads + Wait + Copy + Send + Sync, S: Source + Send, K: Sink, L
     rt: &R,
     alloc: Global,
     turns: u64,
+    ignores: &[Text],
     command: &Command,
     source: &mut S,
     sink: &mut K,
@@ -139,9 +145,9 @@ pub fn live<R: Threads + Wait + Copy + Send + Sync, S: Source + Send, K: Sink, L
 ) -> Status
     ensures usage { result ≢ Status.Usage }
     ensures unread { result ≢ Status.ReadFault }
-    ensures written { Writes (IsLive turns command.now S.left S.faults source.old source.new (L.seen live.old).shown.told (L.seen live.new).shown.told (L.drawn live.old) (L.drawn live.new)) K.held K.faults sink.old sink.new result }
+    ensures written { Writes (IsLive turns ignores.now command.now S.left S.faults source.old source.new (L.seen live.old).shown.told (L.seen live.new).shown.told (L.drawn live.old) (L.drawn live.new)) K.held K.faults sink.old sink.new result }
 {
-    match reply(rt, alloc, turns, command, source, live) {
+    match reply(rt, alloc, turns, ignores, command, source, live) {
         Ok((text, status)) => write_out(sink, text.as_slice(), status),
         Err(Memory) => Status::Memory,
     }

@@ -1,6 +1,8 @@
 // The two sides that run beside each other.
 ghost use Rattle.std.specs.Prelude.{◌≡◌, [], false, true, IfOk};
 ghost use Rattle.wx_machine.specs.Start.{is_absolute};
+ghost use Rattle.wx_paths.specs.Paths.{components};
+ghost use Rattle.wx_patterns.specs.Lines.{patterns_of};
 ghost use Rattle.wx_live_run.specs.Sides.{IsRunSide};
 ghost use Rattle.wx_reader.specs.Reads.{HasRead, is_end};
 
@@ -16,9 +18,10 @@ use wx_job::Outside;
 use wx_journal::Journal;
 use wx_live_action::LiveAction;
 use wx_pass::HandlePass;
+use wx_patterns::Patterns;
 use wx_plain::PlainHooks;
 use wx_reader::read_keys;
-use wx_text::{Copies, Memory};
+use wx_text::{Copies, Memory, Text};
 use wx_words::TextPath;
 
 /// What a run answered whose hooks weren't short.
@@ -34,11 +37,27 @@ fn unless_short(
     Ok(answer)
 }
 
+/// The patterns of these lines, below this folder. It fails only for want of memory.
+fn patterns_of(alloc: Global, folder: &TextPath, ignores: &[Text]) -> Result<Patterns, Memory>
+    ensures base { IfOk result (λ patterns. patterns.base ≡ components folder.now) }
+    ensures patterns { IfOk result (λ patterns. patterns.patterns ≡ patterns_of ignores.now) }
+{
+    let mut patterns = Patterns::new(alloc, folder.copy(alloc)?)?;
+    match patterns.add_all(ignores) {
+        Ok(()) => Ok(patterns),
+        Err(memory) => {
+            drop(patterns);
+            Err(memory)
+        }
+    }
+}
+
 /// Runs the command over the turns of this world. It fails only for want of memory of the engine and its hooks: what the run answered is
 /// told.
 fn run_side<W: World>(
     alloc: Global,
     folder: &TextPath,
+    ignores: &[Text],
     command: &Command,
     world: &mut W,
     journal: &mut Journal,
@@ -47,11 +66,12 @@ fn run_side<W: World>(
     requires empty { journal.old.past ≡ [] }
     ensures plan { (W.seen world.new).plan ≡ (W.seen world.old).plan }
     ensures place { (W.seen world.new).place ≡ (W.seen world.old).place }
-    ensures ran { IfOk result (λ answer. IsRunSide folder.now command.now (W.seen world.old) (W.seen world.new) journal.new.past answer) }
+    ensures ran { IfOk result (λ answer. IsRunSide folder.now ignores.now command.now (W.seen world.old) (W.seen world.new) journal.new.past answer) }
 {
+    let patterns = patterns_of(alloc, folder, ignores)?;
     let engine = engine_of(alloc, folder)?;
     let chooser = LiveAction::new(alloc, command.copy(alloc)?);
-    let mut hooks = PlainHooks::new(chooser);
+    let mut hooks = PlainHooks::new(chooser, patterns);
     let answer = engine.main(alloc, world, &mut hooks, journal);
     let short = hooks.short();
     drop(hooks);
@@ -65,6 +85,7 @@ pub(crate) fn both_sides<R: Threads + Wait + Copy + Send + Sync, S: Source + Sen
     source: &mut S,
     pass: &mut HandlePass<R>,
     folder: &TextPath,
+    ignores: &[Text],
     command: &Command,
     world: &mut W,
     journal: &mut Journal,
@@ -77,12 +98,12 @@ pub(crate) fn both_sides<R: Threads + Wait + Copy + Send + Sync, S: Source + Sen
     ensures read { HasRead S.left S.faults source.old source.new pass.old pass.new (is_end result.0) }
     ensures plan { (W.seen world.new).plan ≡ (W.seen world.old).plan }
     ensures place { (W.seen world.new).place ≡ (W.seen world.old).place }
-    ensures ran { IfOk result.1 (λ answer. IsRunSide folder.now command.now (W.seen world.old) (W.seen world.new) journal.new.past answer) }
+    ensures ran { IfOk result.1 (λ answer. IsRunSide folder.now ignores.now command.now (W.seen world.old) (W.seen world.new) journal.new.past answer) }
 {
     let waits = *rt;
     join_mut(
         rt,
         &mut || read_keys(waits, alloc, source, pass),
-        &mut || run_side(alloc, folder, command, world, journal),
+        &mut || run_side(alloc, folder, ignores, command, world, journal),
     )
 }

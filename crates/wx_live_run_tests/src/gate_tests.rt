@@ -41,7 +41,16 @@ fn a_key_is_heard_between_the_spawn_and_the_third_round(rt: HostRuntime) {
     let (mut outside, mut source) = gates(alloc).expect(&rt, "flags");
     let mut sink = MemSink::new(alloc);
     let runs = command(alloc).expect(&rt, "a command");
-    let status = live(&rt, alloc, 100, &runs, &mut source, &mut sink, &mut outside);
+    let status = live(
+        &rt,
+        alloc,
+        100,
+        &[],
+        &runs,
+        &mut source,
+        &mut sink,
+        &mut outside,
+    );
     assert!(rt; status == Status::Done);
     assert!(rt; source.has_seen);
     assert_eq!(rt; outside.seen, 2);

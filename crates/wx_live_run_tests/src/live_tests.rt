@@ -67,7 +67,16 @@ fn the_command_is_spawned_once_and_the_outside_is_told_just_its_calls(rt: HostRu
     let mut source = MemSource::new(alloc, b"").expect(&rt, "a source");
     let mut sink = MemSink::new(alloc);
     let runs = command(alloc).expect(&rt, "a command");
-    let status = live(&rt, alloc, 4, &runs, &mut source, &mut sink, &mut outside);
+    let status = live(
+        &rt,
+        alloc,
+        4,
+        &[],
+        &runs,
+        &mut source,
+        &mut sink,
+        &mut outside,
+    );
     assert!(rt; status == Status::Done);
     assert_eq!(rt; count(sink.text(), b"spawn ", b""), 1);
     let spawned = b"spawn 0 0 default ---- 1 a ok".as_slice();
@@ -93,7 +102,16 @@ fn a_failed_write_leaves_a_front_of_the_journal(rt: HostRuntime) {
     let mut source = MemSource::new(alloc, b"").expect(&rt, "a source");
     let mut sink = MemSink::new(alloc).in_pieces(6).failing(at);
     let runs = command(alloc).expect(&rt, "a command");
-    let status = live(&rt, alloc, 4, &runs, &mut source, &mut sink, &mut outside);
+    let status = live(
+        &rt,
+        alloc,
+        4,
+        &[],
+        &runs,
+        &mut source,
+        &mut sink,
+        &mut outside,
+    );
     assert!(rt; status == Status::WriteFault);
     assert!(rt; sink.text().as_slice() == b"begin ".as_slice());
     drop(runs);

@@ -14,7 +14,7 @@ use Rattle.wx_paths.specs.FrontLaws.{begins_with-trans}
 use Rattle.wx_patterns.specs.declared.pattern.Pattern.{Pattern}
 use Rattle.wx_patterns.specs.Lists.{is_empty, some_front}
 use Rattle.wx_patterns.specs.Ignoring.{hidden_by, below, ignored, passes}
-use Rattle.wx_patterns.specs.Laws.{AllBelowIsIgnored, NoEventPassesBelow}
+use Rattle.wx_patterns.specs.Laws.{AllBelowIsIgnored, NoEventPassesBelow, NoneIgnoreNothing, NoneLetEventsPass}
 
 -- what holds of a front of a list holds of one of each list that begins with it
 pub some_front-more : (q : List (List ℕ) → Bool) (xs ys : List (List ℕ)) → begins_with ys xs ≡ true → some_front q xs ≡ true → some_front q ys ≡ true
@@ -55,3 +55,18 @@ no_event_below base patterns folder event e some all =
     let test : (List ℕ × Option FileType) → Bool = λ path. not (ignored base patterns path.0) in
     let P : (List ℕ × Option FileType) → Type 0 = λ path. starts_with path.0 folder ≡ true in
     rw some (none_of test P (λ path lies. ap not (all_below base patterns folder path.0 e lies)) (paths event.tags) all)
+
+-- what holds of no front holds of none of a list
+pub no_front : (q : List (List ℕ) → Bool) → ((front : List (List ℕ)) → q front ≡ false) → (names : List (List ℕ)) → some_front q names ≡ false
+no_front q none [] = refl
+no_front q none (x ∷ names) = rw (none (x ∷ []), no_front (λ front. q (x ∷ front)) (λ front. none (x ∷ front)) names) refl
+
+pub none_ignore : NoneIgnoreNothing
+none_ignore base path = no_front (hidden_by []) (λ front. refl) (below base (components path))
+
+all_pass : (base : List (List ℕ)) (named : List (List ℕ × Option FileType)) → (is_empty named || list_any (λ path. not (ignored base [] path.0)) named) ≡ true
+all_pass base [] = refl
+all_pass base (path ∷ named) = rw (none_ignore base path.0) refl
+
+pub none_let_pass : NoneLetEventsPass
+none_let_pass base event = all_pass base (paths event.tags)

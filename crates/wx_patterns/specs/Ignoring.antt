@@ -1,10 +1,11 @@
 -- Which paths are ignored, and which events pass.
-use Rattle.std.specs.Prelude.{◌≡◌, ℕ, Bool, false, not, ◌||◌, if◌then◌else◌, Option, None, Some, List, [], ◌∷◌, length, drop, Result, Ok, Err}
+use Rattle.std.specs.Prelude.{◌≡◌, ℕ, Bool, true, false, not, ◌||◌, if◌then◌else◌, Option, None, Some, List, [], ◌∷◌, length, drop, Result, Ok, Err}
 use Rattle.std.specs.List.{list_any}
 use Rattle.std.specs.Option.{option_or}
 use Rattle.wx_error.specs.declared.runtime.RuntimeError.{RuntimeError}
 use Rattle.wx_error.specs.declared.runtime.RuntimeError.TheVariants.{Memory}
 use Rattle.wx_events.specs.declared.event.Event.{Event}
+use Rattle.wx_events.specs.declared.priority.Priority.{Priority}
 use Rattle.wx_keys.specs.Tags.{paths}
 use Rattle.wx_paths.specs.Paths.{begins_with, components}
 use Rattle.wx_patterns.specs.declared.pattern.Pattern.{Pattern}
@@ -35,6 +36,11 @@ ignored base patterns path = some_front (hidden_by patterns) (below base (compon
 -- an event passes that has no path, or one that isn't ignored
 abbrev pub passes : List (List ℕ) → List Pattern → Event → Bool
 passes base patterns event = is_empty (paths event.tags) || list_any (λ path. not (ignored base patterns path.0)) (paths event.tags)
+
+-- so does one that may be listed, where it isn't
+abbrev pub lets_listed : List (List ℕ) → List Pattern → Option (Event × Priority) → Bool
+lets_listed base patterns None = true
+lets_listed base patterns (Some x) = passes base patterns x.0
 
 -- this is the answer, or there was no memory
 abbrev pub Answers : Bool → Result Bool RuntimeError → Type 0

@@ -1,5 +1,5 @@
 -- Laws of what is ignored.
-use Rattle.std.specs.Prelude.{◌≡◌, ℕ, true, false, List}
+use Rattle.std.specs.Prelude.{◌≡◌, ℕ, true, false, List, []}
 use Rattle.std.specs.List.{All}
 use Rattle.wx_events.specs.declared.event.Event.{Event}
 use Rattle.wx_keys.specs.Tags.{paths}
@@ -15,3 +15,11 @@ AllBelowIsIgnored = (base : List (List ℕ)) (patterns : List Pattern) (folder p
 -- an event that has paths, all at or below an ignored folder, doesn't pass
 abbrev pub NoEventPassesBelow : Type 0
 NoEventPassesBelow = (base : List (List ℕ)) (patterns : List Pattern) (folder : List ℕ) (event : Event) → ignored base patterns folder ≡ true → is_empty (paths event.tags) ≡ false → All (λ path. starts_with path.0 folder ≡ true) (paths event.tags) → passes base patterns event ≡ false
+
+-- no patterns ignore nothing
+abbrev pub NoneIgnoreNothing : Type 0
+NoneIgnoreNothing = (base : List (List ℕ)) (path : List ℕ) → ignored base [] path ≡ false
+
+-- so by no patterns each event passes
+abbrev pub NoneLetEventsPass : Type 0
+NoneLetEventsPass = (base : List (List ℕ)) (event : Event) → passes base [] event ≡ true

@@ -45,3 +45,8 @@ is_fixed line = is_absolute (unmarked line) || list_any is_slash (body line)
 -- The pattern of a line. One that isn't fixed stands as if `**/` were before it.
 abbrev pub pattern_of : List ℕ → Pattern
 pattern_of line = record { negated = is_negated line; parts = if is_fixed line then parts 47 (body line) else codes "**" ∷ parts 47 (body line) }
+
+-- the patterns of those of these lines that are one
+abbrev pub patterns_of : List (List ℕ) → List Pattern
+patterns_of [] = []
+patterns_of (line ∷ lines) = if is_pattern line then pattern_of line ∷ patterns_of lines else patterns_of lines

@@ -9,6 +9,6 @@ mod pattern;
 mod patterns;
 mod rows;
 
-pub use laws::nothing_passes_below;
-pub use pattern::Pattern;
+pub use laws::{all_passes_without_patterns, nothing_passes_below};
+pub use pattern::{Pattern, is_pattern};
 pub use patterns::{AddError, Patterns};

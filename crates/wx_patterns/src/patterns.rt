@@ -2,7 +2,7 @@
 ghost use Rattle.std.specs.Prelude.{◌≡◌, ◌↔◌, ◌++◌, ◌∷◌, [], false, not, Err, IfOk, OnErr, OnOk};
 ghost use Rattle.wx_paths.specs.Paths.{components};
 ghost use Rattle.wx_patterns.specs.Ignoring.{Answers, ignored, passes};
-ghost use Rattle.wx_patterns.specs.Lines.{is_pattern, pattern_of};
+ghost use Rattle.wx_patterns.specs.Lines.{is_pattern, pattern_of, patterns_of};
 
 use crate::ignoring::is_ignored;
 use crate::pattern::{Pattern, is_pattern, read_pattern};
@@ -72,6 +72,21 @@ impl Patterns {
         }
         let pattern = read_pattern(self.alloc, line.as_slice())?;
         self.patterns.push(pattern)?;
+        Ok(())
+    }
+
+    /// Adds those of these lines that are patterns behind the others, in order. It fails only for want of memory; then some of them
+    /// may stand.
+    pub fn add_all(&mut self, lines: &[Text]) -> Result<(), Memory>
+        ensures ok { OnOk result (self.new.patterns ≡ self.old.patterns ++ patterns_of lines.now) }
+        ensures base { self.new.base ≡ self.old.base }
+    {
+        for line in lines {
+            match self.add(line) {
+                Ok(()) | Err(AddError::Bad) => {}
+                Err(AddError::Memory) => return Err(Memory),
+            }
+        }
         Ok(())
     }
 

@@ -110,7 +110,7 @@ fn create_and_change(alloc: Global, handler: &mut ActionHandler<'_>) -> Result<(
 }
 
 /// Runs, what is asked for at each batch, and whether an act is refused.
-const RUNS: [(Run, Does, bool); 6] = [
+const RUNS: [(Run, Does, bool); 8] = [
     (
         (
             "an event passes",
@@ -134,6 +134,24 @@ const RUNS: [(Run, Does, bool); 6] = [
             "a directory passes",
             "node dir /\nnode dir /w\nnode dir /w/b\nturn 0 file\nturn 0 file\nturn 0 file\nturn 0 file\nturn 0 file\nturn 0 file\n",
             "dir 0 /w/b pass\n",
+        ),
+        Does::Nothing,
+        false,
+    ),
+    (
+        (
+            "an event of ignored paths is rejected",
+            "turn 0 arrive normal 2 path /w/a.tmp file path /w/out/b file\nturn 0 work\nturn 10 work\n",
+            "filter 0 0 reject\n",
+        ),
+        Does::Nothing,
+        false,
+    ),
+    (
+        (
+            "an ignored directory isn't entered",
+            "node dir /\nnode dir /w\nnode dir /w/out\nnode dir /w/out/b\nturn 0 file\nturn 0 file\nturn 0 file\nturn 0 file\nturn 0 file\nturn 0 file\n",
+            "dir 0 /w/out reject\n",
         ),
         Does::Nothing,
         false,

@@ -8,9 +8,11 @@ use wx_engine::{ScriptWorld, Watchexec};
 use wx_follow_trial::{root, world_of};
 use wx_hooks::Hooks;
 use wx_journal::Journal;
+use wx_patterns::Patterns;
 use wx_plain::{Chooses, PlainHooks};
 use wx_print::print_journal;
 use wx_text::{List, Memory, Text};
+use wx_words::TextPath;
 
 /// What the lines of the calls on hooks begin with.
 const CALLS: [&str; 9] = [
@@ -45,6 +47,24 @@ fn engine(alloc: Global) -> Result<Watchexec, Memory> {
     config.keyboard_events.replace(true);
     config.change_signal = u64::MAX;
     Watchexec::with_config(alloc, config, folder)
+}
+
+/// Patterns below `/w`, by which `out` and each name that ends with `.tmp` are ignored.
+fn patterns(alloc: Global) -> Result<Patterns, Memory> {
+    let base = TextPath::new(Text::from_slice(alloc, b"/w")?);
+    let mut lines = List::new(alloc);
+    lines.push(Text::from_slice(alloc, b"/out")?)?;
+    lines.push(Text::from_slice(alloc, b"*.tmp")?)?;
+    let mut patterns = Patterns::new(alloc, base)?;
+    let added = patterns.add_all(lines.as_slice());
+    drop(lines);
+    match added {
+        Ok(()) => Ok(patterns),
+        Err(want) => {
+            drop(patterns);
+            Err(want)
+        }
+    }
 }
 
 /// The text of a run in this world.
@@ -87,7 +107,7 @@ fn calls_of<A: Chooses + Drop>(
     lines: &str,
     chooser: A,
 ) -> Result<(Text, bool), Fail> {
-    let mut hooks = PlainHooks::new(chooser);
+    let mut hooks = PlainHooks::new(chooser, patterns(alloc)?);
     let mut world = world_of(alloc, lines.as_bytes())?;
     let text = text_in(alloc, &mut world, &mut hooks);
     drop(world);

@@ -40,6 +40,8 @@ pub enum Reason<'a> {
     NoAct { number: u64, word: Front<'a> },
     #[error("a turn brings at most 10 bytes of the keyboard")]
     Keys,
+    #[error("the pattern has no part, or a part of it is empty, . or ..")]
+    Pattern,
     #[error("a script gives no last turn")]
     LastTurn,
     #[error("out of order: set lines stand before send, turn and turnfault lines")]

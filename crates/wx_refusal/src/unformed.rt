@@ -125,6 +125,14 @@ fn why_no_turn<'a>(alloc: Global, words: &mut Words) -> Result<Reason<'a>, Memor
     }
 }
 
+/// Why a line that ignores a pattern has no form.
+fn why_no_pattern<'a>(alloc: Global, words: &mut Words) -> Result<Reason<'a>, Memory> {
+    match Text::read(alloc, words)? {
+        Some(_) if words.is_done() => Ok(Reason::Pattern),
+        _ => Ok(Reason::NoForm),
+    }
+}
+
 /// The lengths of the list that ends this line, in the forms that end with one and have no other.
 fn list_in(alloc: Global, line: &[u8]) -> Result<Option<Counted>, Memory> {
     let mut words = Words::new(line);
@@ -148,6 +156,7 @@ pub(crate) fn why_unformed<'a>(alloc: Global, line: &'a [u8]) -> Result<Reason<'
     match words.next() {
         Some(first) if is_word(first, b"action") => why_no_acts(alloc, &mut words),
         Some(first) if is_word(first, b"turn") => why_no_turn(alloc, &mut words),
+        Some(first) if is_word(first, b"ignore") => why_no_pattern(alloc, &mut words),
         _ => Ok(Reason::NoForm),
     }
 }

@@ -13,7 +13,10 @@ use Rattle.wx_journal.specs.Names.{was_made}
 use Rattle.wx_journal.specs.declared.entry.Act.TheVariants.{Create, Ask as Asks, Change, Quit, QuitGracefully}
 use Rattle.wx_journal.specs.declared.entry.Entry.{Entry}
 use Rattle.wx_journal.specs.declared.entry.Entry.TheVariants.{Turn as Turned, TurnFault, Hand, Changed, Applied, Dir}
+use Rattle.wx_patterns.specs.Ignoring.{ignored}
+use Rattle.wx_patterns.proofs.LawLemmas.{none_ignore}
 use Rattle.wx_machine.specs.Jobs.{is_there}
+use Rattle.wx_machine.specs.Journal.{Verdict}
 use Rattle.wx_machine.specs.Last.{without_last}
 use Rattle.wx_machine.specs.Quits.{is_quit}
 use Rattle.wx_machine.specs.Settings.{changes, first_changed, later, pending, settings, turn_changes}
@@ -26,6 +29,7 @@ use Rattle.wx_script.specs.declared.script.ScriptTurn.TheVariants.{Turn, Fault}
 use Rattle.wx_script.specs.declared.script.Wanted.TheVariants.{New}
 use Rattle.wx_script.specs.Acted.{dirs, hands, next_id, performed, with_act}
 use Rattle.wx_script.specs.Answered.{AreAnswered, answers_of, due_answer, due_answers}
+use Rattle.wx_script.specs.Ignored.{Ignores}
 use Rattle.wx_script.specs.Turns.{FollowsGiven, given, newest, turns_of}
 use Rattle.wx_replay.specs.Still.{act_asks_links, asks_links, turn_asks_links}
 
@@ -146,8 +150,8 @@ entries_ask_none lines [] l h a = tt
 entries_ask_none lines (Turned t ∷ p) l h a = (h.0, entries_ask_none lines p l h.1 a)
 entries_ask_none lines (TurnFault code ∷ p) l h a = (tt, entries_ask_none lines p l h.1 a)
 entries_ask_none lines (Hand n names acts ∷ p) l h a =
-    let same : acts ≡ due_answer hands lines p = first_same acts (due_answer hands lines p) (answers_of hands p) (due_answers hands lines p) a in
-    let rest = rest_same acts (due_answer hands lines p) (answers_of hands p) (due_answers hands lines p) a in
+    let same : acts ≡ due_answer hands lines p (Hand n names acts) = first_same acts (due_answer hands lines p (Hand n names acts)) (answers_of hands p) (due_answers hands lines p) a in
+    let rest = rest_same acts (due_answer hands lines p (Hand n names acts)) (answers_of hands p) (due_answers hands lines p) a in
     (subst (λ (xs : List Act). NoLinks (changes xs)) (sym same) (performed_links p [] (get_or lines (length (answers_of hands p)) []) refl (line_links lines (length (answers_of hands p)) l)), entries_ask_none lines p l h rest)
 entries_ask_none lines (_ ∷ p) l h a = (tt, entries_ask_none lines p l h a)
 
@@ -155,17 +159,22 @@ pub ask_none : (turns : List ScriptTurn) (last : ℕ) (lines : List (List Script
     → FollowsGiven turns last p → AreAnswered hands lines p → AskNone p
 ask_none turns last lines p t l follows a = entries_ask_none lines p l (subst AskNone (sym follows) (newest_links turns last (length (turns_of p)) t)) a
 
--- ---- a run is calm where no line says how directories are judged
+-- ---- a run is calm where no line says how directories are judged, or what is ignored
 
-pub run_is_calm : (s : Start) (p : List Entry) → s.config.follow_symlinks ≡ false → AskNone p → AreAnswered dirs [] p → AreCalm (λ n q. true) s p
-run_is_calm s [] off h a = tt
-run_is_calm s (Applied r ∷ p) off h a = (settings_links s p off h.1, run_is_calm s p off h.1 a)
-run_is_calm s (Dir n path answer ∷ p) off h a =
-    let same : answer ≡ due_answer dirs [] p = first_same answer (due_answer dirs [] p) (answers_of dirs p) (due_answers dirs [] p) a in
-    let rest = rest_same answer (due_answer dirs [] p) (answers_of dirs p) (due_answers dirs [] p) a in
-    (same ∙ get_or_past [] (length (answers_of dirs p)) (Ok true) (omega arith), run_is_calm s p off h.1 rest)
-run_is_calm s (_ ∷ p) off h a = (tt, run_is_calm s p off h.1 a)
+-- a directory passes of which no line says anything
+unsaid : (ignores : Ignores) (k : ℕ) (path : List ℕ) → ignores.patterns ≡ [] → get_or {A = Verdict} [] k (Ok (not (ignored ignores.base ignores.patterns path))) ≡ Ok true
+unsaid ignores k path none = get_or_past [] k _ (omega arith) ∙ rw (none, none_ignore ignores.base path) refl
+
+pub run_is_calm : (ignores : Ignores) (s : Start) (p : List Entry) → ignores.patterns ≡ [] → s.config.follow_symlinks ≡ false → AskNone p → AreAnswered (dirs ignores) [] p → AreCalm (λ n q. true) s p
+run_is_calm ignores s [] none off h a = tt
+run_is_calm ignores s (Applied r ∷ p) none off h a = (settings_links s p off h.1, run_is_calm ignores s p none off h.1 a)
+run_is_calm ignores s (Dir n path answer ∷ p) none off h a =
+    let due : Verdict = due_answer (dirs ignores) [] p (Dir n path answer) in
+    let same : answer ≡ due = first_same answer due (answers_of (dirs ignores) p) (due_answers (dirs ignores) [] p) a in
+    let rest = rest_same answer due (answers_of (dirs ignores) p) (due_answers (dirs ignores) [] p) a in
+    (same ∙ unsaid ignores (length (answers_of (dirs ignores) p)) path none, run_is_calm ignores s p none off h.1 rest)
+run_is_calm ignores s (_ ∷ p) none off h a = (tt, run_is_calm ignores s p none off h.1 a)
 
 -- so is one that starts as another by which links aren't followed
-pub starts_calm : {a b : Start} → a ≡ b → (p : List Entry) → b.config.follow_symlinks ≡ false → AskNone p → AreAnswered dirs [] p → AreCalm (λ n q. true) a p
-starts_calm {a} {b} same p off h answered = run_is_calm a p (ap (λ (s : Start). s.config.follow_symlinks) same ∙ off) h answered
+pub starts_calm : (ignores : Ignores) {a b : Start} → a ≡ b → (p : List Entry) → ignores.patterns ≡ [] → b.config.follow_symlinks ≡ false → AskNone p → AreAnswered (dirs ignores) [] p → AreCalm (λ n q. true) a p
+starts_calm ignores {a} {b} same p none off h answered = run_is_calm ignores a p none (ap (λ (s : Start). s.config.follow_symlinks) same ∙ off) h answered

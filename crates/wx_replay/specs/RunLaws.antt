@@ -59,9 +59,9 @@ no_fault (_ ∷ p) h = no_fault p h
 older : {Line Reply : Type 0} (kind : Calls Line Reply) (lines : List Line) (e : Entry) (p : List Entry) → AreAnswered kind lines (e ∷ p) → AreAnswered kind lines p
 older {Line} {Reply} kind lines e p = go (kind.pick e)
   where
-    go : (o : Option Reply) → with_answer o (answers_of kind p) ≡ cond (is_some o) (due_answer kind lines p ∷ due_answers kind lines p) (due_answers kind lines p) → AreAnswered kind lines p
+    go : (o : Option Reply) → with_answer o (answers_of kind p) ≡ cond (is_some o) (due_answer kind lines p e ∷ due_answers kind lines p) (due_answers kind lines p) → AreAnswered kind lines p
     go None same = same
-    go (Some answer) same = rest_same answer (due_answer kind lines p) (answers_of kind p) (due_answers kind lines p) same
+    go (Some answer) same = rest_same answer (due_answer kind lines p e) (answers_of kind p) (due_answers kind lines p) same
 
 before_end : {Line Reply : Type 0} (kind : Calls Line Reply) (lines : List Line) (q : List Entry) {p : List Entry} → Dying q p → AreAnswered kind lines p → AreAnswered kind lines q
 before_end kind lines q Alive answered = answered
@@ -70,10 +70,10 @@ before_end kind lines q (Dies e p dying admits) answered = before_end kind lines
 none_wished : (q : List Entry) → AreAnswered errors [] q → AreAnswered (calls Makes) [] q → wished q ≡ None
 none_wished [] shown made = refl
 none_wished (Show n error wish ∷ q) shown made =
-    let same = first_same wish (due_answer errors [] q) (answers_of errors q) (due_answers errors [] q) shown in
+    let same = first_same wish (due_answer errors [] q (Show n error wish)) (answers_of errors q) (due_answers errors [] q) shown in
     ap (ending error) (same ∙ get_or_past [] (length (answers_of errors q)) Nothing (omega arith))
 none_wished (Make back watcher follow answer ∷ q) shown made =
-    let same = first_same answer (due_answer (calls Makes) [] q) (answers_of (calls Makes) q) (due_answers (calls Makes) [] q) made in
+    let same = first_same answer (due_answer (calls Makes) [] q (Make back watcher follow answer)) (answers_of (calls Makes) q) (due_answers (calls Makes) [] q) made in
     ap (init_error watcher) (same ∙ get_or_past [] (length (answers_of (calls Makes) q)) (Ok tt) (omega arith))
 none_wished (_ ∷ q) shown made = refl
 

@@ -32,13 +32,14 @@ act_asks_links (_) = false
 abbrev pub first_tree : Script → Tree
 first_tree s = tree_of (tree_after (edits_of s) 1)
 
--- No line asks to follow links, says how a directory is judged, or which looks and watches fail; and after the first turn the tree changes
+-- No line asks to follow links, says how a directory is judged or what is ignored, or which looks and watches fail; and after the first turn the tree changes
 -- only in stamps of files that are there.
 pub record IsStill (s : Script) : Type 0 where
   pub follow : s.follow ≡ false
   pub turns : list_any turn_asks_links s.turns ≡ false
   pub acts : list_any (list_any act_asks_links) s.actions ≡ false
   pub dirs : s.dirs ≡ []
+  pub ignores : s.ignores ≡ []
   pub looks : s.failing_looks ≡ []
   pub watches : s.failing_watches ≡ []
   pub stamps : are_new_stamps (first_tree s) (drop 1 (edits_of s)) ≡ true

@@ -1,6 +1,6 @@
 // The run of a script.
 ghost use Rattle.std.specs.Prelude.{◌≡◌, false, IfOk};
-ghost use Rattle.wx_script.specs.Follows.{IsScript, config_of, folder_of, start_of};
+ghost use Rattle.wx_script.specs.Follows.{IsScript, config_of, start_of};
 ghost use Rattle.wx_replay.specs.Runs.{IsRunOf};
 
 use std::alloc::Global;
@@ -10,8 +10,7 @@ use wx_error::CriticalError;
 use wx_follow::{ScriptHooks, ScriptWorld};
 use wx_journal::Journal;
 use wx_script::Script;
-use wx_text::{Copies, Memory, Text};
-use wx_words::TextPath;
+use wx_text::{Copies, Memory};
 
 /// What a run left: its journal, and what it answered.
 #[derive(Drop)]
@@ -37,22 +36,12 @@ fn config_of(alloc: Global, script: &Script) -> Result<Config, Memory>
     Ok(config)
 }
 
-/// The folder that a script states, or the topmost one.
-fn folder_of(alloc: Global, script: &Script) -> Result<TextPath, Memory>
-    ensures { IfOk result (λ folder. folder ≡ folder_of script.now) }
-{
-    match &script.folder {
-        Some(folder) => folder.copy(alloc),
-        None => Ok(TextPath::new(Text::from_slice(alloc, b"/")?)),
-    }
-}
-
 /// The engine that a script states, to which all its events were sent.
 fn engine_of(alloc: Global, script: &Script) -> Result<Watchexec, Memory>
     requires { IsScript script.now }
     ensures { IfOk result (λ engine. engine ≡ start_of engine.config.fs_ready script.now) }
 {
-    let folder = folder_of(alloc, script)?;
+    let folder = script.folder_or_top(alloc)?;
     let config = config_of(alloc, script)?;
     let mut engine = Watchexec::with_config(alloc, config, folder)?;
     for (event, priority) in script.sends.as_slice() {

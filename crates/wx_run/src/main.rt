@@ -14,11 +14,11 @@ use std::thread::Threads;
 use std::{env, io};
 use wx_bytes::{Sink, Source, StdSink, StdSource};
 use wx_live_parts::{LiveParts, current_folder};
-use wx_refusal::{KeepingSource, Refusal, refusal};
+use wx_refusal::{Front, KeepingSource, Reason, Refusal, refusal};
 use wx_replay::Status;
 use wx_scan::ScanError;
 use wx_text::{Memory, Text};
-use wx_top::wx_main;
+use wx_top::{bad_pattern, wx_main};
 use wx_words::TextPath;
 
 /// The words of the command line, without the program's name. There are none where one of them is no text.
@@ -53,15 +53,26 @@ fn warn_of_script(rt: &impl Log, why: Option<Refusal<'_>>) {
     }
 }
 
-/// Names a status other than `Done` on standard error, in one line, and says where to look, or why a script is refused.
-fn warn_of(rt: &impl Log, status: Status, why: Option<Refusal<'_>>) {
+/// Says on standard error, in one line, what is wrong with these words.
+fn warn_of_usage(rt: &impl Log, words: &[Text]) {
+    match bad_pattern(words) {
+        Some(line) => {
+            let (line, why) = (Front(line.as_slice()), Reason::Pattern);
+            warn!(rt; "status 2: --ignore `{line}`: {why}")
+        }
+        None =>
+            warn!(rt; "status 2: call it so: wx_run live [--turns N] [--ignore PATTERN].. -- PROG ARGS.., wx_run replay < SCRIPT, or wx_run flood N SEED; N is at most 4194304 turns or 100000 steps, and there are at most 64 patterns"),
+    }
+}
+
+/// Names a status other than `Done` on standard error, in one line, and says where to look, or why words or a script are refused.
+fn warn_of(rt: &impl Log, status: Status, words: &[Text], why: Option<Refusal<'_>>) {
     match status {
         Status::Done => {}
         Status::Critical => {
             warn!(rt; "status 1: the run ended with an error, which the end line on standard output tells")
         }
-        Status::Usage =>
-            warn!(rt; "status 2: call it so: wx_run live [--turns N] -- PROG ARGS.., wx_run replay < SCRIPT, or wx_run flood N SEED; N is at most 4194304 turns or 100000 steps"),
+        Status::Usage => warn_of_usage(rt, words),
         Status::NoScript => warn_of_script(rt, why),
         Status::ReadFault => warn!(rt; "status 4: standard input could not be read"),
         Status::WriteFault => warn!(rt; "status 5: standard output could not be written whole"),
@@ -97,20 +108,23 @@ fn serve<
     R: Threads + Wait + Processes + Files + Clock + Env + AllocGlobal + Copy + Drop + Send + Sync,
     S: Source + Send,
     K: Sink,
->(rt: R, source: &mut S, sink: &mut K) -> Result<Option<Status>, Memory> {
-    let words = words(&rt)?;
-    let Some(folder) = folder(&rt, words.as_slice())? else {
+>(rt: R, words: &[Text], source: &mut S, sink: &mut K) -> Result<Option<Status>, Memory> {
+    let Some(folder) = folder(&rt, words)? else {
         return Ok(None);
     };
     let mut live = LiveParts::new(rt, folder);
     let alloc = rt.alloc();
-    Ok(Some(wx_main(&rt, alloc, words.as_slice(), source, sink, &mut live)))
+    Ok(Some(wx_main(&rt, alloc, words, source, sink, &mut live)))
 }
 
 fn main(rt: HostRuntime) -> ExitCode {
     let mut source = KeepingSource::new(rt.alloc(), StdSource::new(rt.reader()));
     let mut sink = StdSink::new(io::writer(&rt));
-    let status = match serve(rt, &mut source, &mut sink) {
+    let Ok(words) = words(&rt) else {
+        warn_of(&rt, Status::Memory, &[], None);
+        return ExitCode::from(Status::Memory.code());
+    };
+    let status = match serve(rt, words.as_slice(), &mut source, &mut sink) {
         Ok(Some(status)) => status,
         Ok(None) => {
             warn!(rt; "status 2: the current folder is gone, or its path is not UTF-8");
@@ -119,6 +133,6 @@ fn main(rt: HostRuntime) -> ExitCode {
         Err(Memory) => Status::Memory,
     };
     let why = why_refused(rt.alloc(), status, source.kept());
-    warn_of(&rt, status, why);
+    warn_of(&rt, status, words.as_slice(), why);
     ExitCode::from(status.code())
 }

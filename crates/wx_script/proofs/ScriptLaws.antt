@@ -17,7 +17,7 @@ use Rattle.wx_script.specs.declared.script.ScriptTurn.TheVariants.{Turn, Fault}
 use Rattle.wx_script.specs.Follows.{IsScript, edits_of, is_placed_edit}
 use Rattle.wx_script.specs.FollowLaws.{rises_turn, rises_fault, come_more}
 use Rattle.wx_script.specs.declared.lines.Line.{Line}
-use Rattle.wx_script.specs.declared.lines.Line.TheVariants.{Nothing, Throttle, Size, ErrorSize, Keyboard, Follow, JobSignals, Watcher, Folder, Path, Send, Turn as Turned, Fault as Failed, Acts, Filter, Dir, Wishes, Poll, Hook, Spawn, Signal, Kill, Wait, Edit, Make, FailScan, FailWatch}
+use Rattle.wx_script.specs.declared.lines.Line.TheVariants.{Nothing, Throttle, Size, ErrorSize, Keyboard, Follow, JobSignals, Watcher, Folder, Path, Send, Turn as Turned, Fault as Failed, Acts, Filter, Dir, Ignore, Wishes, Poll, Hook, Spawn, Signal, Kill, Wait, Edit, Make, FailScan, FailWatch}
 use Rattle.wx_script.specs.Lines.{can_bring, is_scripted, if_scripted, read_form, line_in}
 use Rattle.wx_script.specs.Scripts.{start, is_early, is_placed, edited_path, with_turn, accepts, step, begun_by, IsScriptOf}
 
@@ -113,6 +113,7 @@ accepts_lawful s t (Failed code) is come e =
 accepts_lawful s t (Acts acts) is come e = subst IsScript (some_same e) (record { size = is.size; error_size = is.error_size; sends = is.sends; folder = is.folder; comes = is.comes; rises = is.rises; placed = is.placed })
 accepts_lawful s t (Filter answer) is come e = subst IsScript (some_same e) (record { size = is.size; error_size = is.error_size; sends = is.sends; folder = is.folder; comes = is.comes; rises = is.rises; placed = is.placed })
 accepts_lawful s t (Dir answer) is come e = subst IsScript (some_same e) (record { size = is.size; error_size = is.error_size; sends = is.sends; folder = is.folder; comes = is.comes; rises = is.rises; placed = is.placed })
+accepts_lawful s t (Ignore pattern) is come e = subst IsScript (some_same e) (record { size = is.size; error_size = is.error_size; sends = is.sends; folder = is.folder; comes = is.comes; rises = is.rises; placed = is.placed })
 accepts_lawful s t (Wishes wish) is come e = subst IsScript (some_same e) (record { size = is.size; error_size = is.error_size; sends = is.sends; folder = is.folder; comes = is.comes; rises = is.rises; placed = is.placed })
 accepts_lawful s t (Poll ready) is come e = subst IsScript (some_same e) (record { size = is.size; error_size = is.error_size; sends = is.sends; folder = is.folder; comes = is.comes; rises = is.rises; placed = is.placed })
 accepts_lawful s t (Hook words) is come e = subst IsScript (some_same e) (record { size = is.size; error_size = is.error_size; sends = is.sends; folder = is.folder; comes = is.comes; rises = is.rises; placed = is.placed })

@@ -19,7 +19,8 @@ use Rattle.wx_machine.specs.History.{same, command}
 use Rattle.wx_machine.specs.Quits.{with_quit, with_graceful_quit}
 use Rattle.wx_machine.specs.Journal.{Verdict}
 use Rattle.wx_machine.specs.Jobs.{is_seen, is_there, next_created}
-use Rattle.wx_script.specs.Answered.{Calls, IsAnswered, answered_by}
+use Rattle.wx_script.specs.Answered.{Calls, IsAnswered, answered_as, answered_by}
+use Rattle.wx_script.specs.Ignored.{Ignores, usual_verdict}
 use Rattle.wx_script.specs.declared.script.ScriptAct.{ScriptAct}
 use Rattle.wx_script.specs.declared.script.ScriptAct.TheVariants.{One, GetOrCreate}
 use Rattle.wx_script.specs.declared.script.Wanted.TheVariants.{New}
@@ -59,23 +60,23 @@ hand_acts (Hand n names acts) = Some acts
 hand_acts (_) = None
 
 abbrev pub hands : Calls (List ScriptAct) (List Act)
-hands = record { pick = hand_acts; usual = []; says = λ p acts. performed p [] acts }
+hands = record { pick = hand_acts; usual = λ p e. []; says = λ p acts. performed p [] acts }
 
--- the calls of the filter about events: each is answered by its line, and those for which none is left let the event pass
+-- the calls of the filter about events: each is answered by its line, and those for which none is left by what is ignored
 abbrev pub verdict_of : Entry → Option Verdict
 verdict_of (Filter n name answer) = Some answer
 verdict_of (_) = None
 
-abbrev pub filters : Calls Verdict Verdict
-filters = answered_by verdict_of (Ok true)
+abbrev pub filters : Ignores → Calls Verdict Verdict
+filters ignores = answered_as verdict_of (usual_verdict ignores)
 
--- its calls about directories: each is answered by its line, and those for which none is left let the directory pass
+-- and so are its calls about directories
 abbrev pub dir_verdict_of : Entry → Option Verdict
 dir_verdict_of (Dir n path answer) = Some answer
 dir_verdict_of (_) = None
 
-abbrev pub dirs : Calls Verdict Verdict
-dirs = answered_by dir_verdict_of (Ok true)
+abbrev pub dirs : Ignores → Calls Verdict Verdict
+dirs ignores = answered_as dir_verdict_of (usual_verdict ignores)
 
 -- the calls of the error handler: each wishes what its line says, and those for which none is left wish nothing
 abbrev pub wish_of : Entry → Option Wish
@@ -131,12 +132,13 @@ pub record Wished : Type 0 where
   pub errors : List Wish
   pub polls : List Bool
   pub hooks : List (List (List ℕ))
+  pub ignores : Ignores
 
 -- their rule: each call of one of these kinds is answered what is due, and spawn hooks leave the words that are due
 pub record IsWished (plan : Wished) (p : List Entry) (e : Entry) : Type 0 where
   pub acts : IsAnswered hands plan.actions p e
-  pub verdict : IsAnswered filters plan.filters p e
-  pub judgement : IsAnswered dirs plan.dirs p e
+  pub verdict : IsAnswered (filters plan.ignores) plan.filters p e
+  pub judgement : IsAnswered (dirs plan.ignores) plan.dirs p e
   pub wish : IsAnswered errors plan.errors p e
   pub ready : IsAnswered polls plan.polls p e
   pub words : IsHooked plan.hooks p e

@@ -17,9 +17,10 @@ use Rattle.wx_script.specs.declared.script.ScriptTurn.{ScriptTurn}
 use Rattle.wx_script.specs.declared.script.ScriptTurn.TheVariants.{Turn, Fault}
 use Rattle.wx_script.specs.Answered.{Calls, with_answer, answers_of, due_answer, due_answers, IsAnswered, AreAnswered, AreUsed, AreAmong, answered_by}
 use Rattle.wx_script.specs.HostCalls.{HostCall, row, reply, calls, FollowsAnswers}
+use Rattle.wx_script.specs.Ignored.{Ignores}
 use Rattle.wx_script.specs.Acted.{hands, filters, dirs, errors, polls, LeavesWords, IsHooked, AreHooked, AreHooksUsed, Wished, IsWished}
 use Rattle.wx_script.specs.Turns.{comes, risen, Rises, Given, given, newest, turns_of, FollowsGiven}
-use Rattle.wx_script.specs.Follows.{given_of, wished_of, FollowsTurns}
+use Rattle.wx_script.specs.Follows.{given_of, ignores_of, wished_of, FollowsTurns}
 
 -- the calls among these entries
 abbrev among : (List Entry → Entry → Bool) → List Entry → List Entry
@@ -98,8 +99,8 @@ obeys_answered {Line} {Answer} calls all lines rule due _ (More e p before passe
     now true is = due p e (passes is)
     now false is = rw (all p e is) tt
 
-    go : (o : Option Answer) → IfSome o (λ answer. answer ≡ due_answer calls lines p) → AreAnswered calls lines p
-        → with_answer o (answers_of calls p) ≡ cond (is_some o) (due_answer calls lines p ∷ due_answers calls lines p) (due_answers calls lines p)
+    go : (o : Option Answer) → IfSome o (λ answer. answer ≡ due_answer calls lines p e) → AreAnswered calls lines p
+        → with_answer o (answers_of calls p) ≡ cond (is_some o) (due_answer calls lines p e ∷ due_answers calls lines p) (due_answers calls lines p)
     go None is so_far = so_far
     go (Some answer) is so_far = λ i. is i ∷ so_far i
 
@@ -109,13 +110,13 @@ pub hands_among : AreAmong hands (anywhere is_hooks)
 hands_among p (Hand n names acts) other = absurd cc
 hands_among p (_) other = refl
 
-pub filters_among : AreAmong filters (anywhere is_hooks)
-filters_among p (Filter n name answer) other = absurd cc
-filters_among p (_) other = refl
+pub filters_among : (ignores : Ignores) → AreAmong (filters ignores) (anywhere is_hooks)
+filters_among ignores p (Filter n name answer) other = absurd cc
+filters_among ignores p (_) other = refl
 
-pub dirs_among : AreAmong dirs (anywhere is_hooks)
-dirs_among p (Dir n path answer) other = absurd cc
-dirs_among p (_) other = refl
+pub dirs_among : (ignores : Ignores) → AreAmong (dirs ignores) (anywhere is_hooks)
+dirs_among ignores p (Dir n path answer) other = absurd cc
+dirs_among ignores p (_) other = refl
 
 pub errors_among : AreAmong errors (anywhere is_hooks)
 errors_among p (Show n error wish) other = absurd cc
@@ -193,11 +194,11 @@ come_more (y ∷ turns) x all one = go (comes y) all (λ e. come_more turns x e 
 
 -- what hooks that follow a script keep, by their rule
 pub wished_follows : (s : Script) (plan : Wished) (p : List Entry) → plan ≡ wished_of s → Obeys (λ q e. IsWished plan q e) [] p
-    → AreAnswered hands s.actions p × AreAnswered filters s.filters p × AreAnswered dirs s.dirs p × AreAnswered errors s.errors p × AreAnswered polls s.polls p × AreHooked s.hooks p
+    → AreAnswered hands s.actions p × AreAnswered (filters (ignores_of s)) s.filters p × AreAnswered (dirs (ignores_of s)) s.dirs p × AreAnswered errors s.errors p × AreAnswered polls s.polls p × AreHooked s.hooks p
 wished_follows s plan p is obeys = (
   subst (λ (w : Wished). AreAnswered hands w.actions p) is (obeys_answered hands hands_among plan.actions _ (λ q e due. due.acts) p obeys),
-  subst (λ (w : Wished). AreAnswered filters w.filters p) is (obeys_answered filters filters_among plan.filters _ (λ q e due. due.verdict) p obeys),
-  subst (λ (w : Wished). AreAnswered dirs w.dirs p) is (obeys_answered dirs dirs_among plan.dirs _ (λ q e due. due.judgement) p obeys),
+  subst (λ (w : Wished). AreAnswered (filters w.ignores) w.filters p) is (obeys_answered (filters plan.ignores) (filters_among plan.ignores) plan.filters _ (λ q e due. due.verdict) p obeys),
+  subst (λ (w : Wished). AreAnswered (dirs w.ignores) w.dirs p) is (obeys_answered (dirs plan.ignores) (dirs_among plan.ignores) plan.dirs _ (λ q e due. due.judgement) p obeys),
   subst (λ (w : Wished). AreAnswered errors w.errors p) is (obeys_answered errors errors_among plan.errors _ (λ q e due. due.wish) p obeys),
   subst (λ (w : Wished). AreAnswered polls w.polls p) is (obeys_answered polls polls_among plan.polls _ (λ q e due. due.ready) p obeys),
   subst (λ (w : Wished). AreHooked w.hooks p) is (obeys_hooked plan.hooks _ (λ q e due. due.words) p obeys),

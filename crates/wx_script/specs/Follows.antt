@@ -2,6 +2,8 @@
 use Rattle.std.specs.Prelude.{◌≡◌, ◌≤◌, ℕ, Bool, true, Option, None, Some, List, [], ◌∷◌, ◌++◌, length}
 use Rattle.std.specs.List.{list_all}
 use Rattle.wx_journal.specs.declared.entry.Entry.{Entry}
+use Rattle.wx_paths.specs.Paths.{components}
+use Rattle.wx_patterns.specs.Lines.{patterns_of}
 use Rattle.wx_config.specs.Defaults.{default_config}
 use Rattle.wx_control.specs.Flags.{Flag}
 use Rattle.wx_config.specs.declared.config.Config.{Config}
@@ -12,6 +14,7 @@ use Rattle.wx_script.specs.Scripts.{edited_path, is_placed}
 use Rattle.wx_script.specs.Turns.{any_fails, comes, Rises, Given, FollowsGiven}
 use Rattle.wx_script.specs.Answered.{AreAnswered}
 use Rattle.wx_script.specs.HostCalls.{FollowsAnswers}
+use Rattle.wx_script.specs.Ignored.{Ignores}
 use Rattle.wx_script.specs.Acted.{hands, filters, dirs, errors, polls, AreHooked, Wished}
 
 -- the folder of its engine
@@ -64,9 +67,13 @@ start_of ready s = record {
 abbrev pub given_of : Script → Given
 given_of s = record { turns = s.turns; last = s.last; answers = s.answers; edits = edits_of s; fails = any_fails s.failing_looks }
 
+-- what its filter ignores: below its folder, what its patterns say
+abbrev pub ignores_of : Script → Ignores
+ignores_of s = record { base = components (folder_of s); patterns = patterns_of s.ignores }
+
 -- what its hooks do
 abbrev pub wished_of : Script → Wished
-wished_of s = record { actions = s.actions; filters = s.filters; dirs = s.dirs; errors = s.errors; polls = s.polls; hooks = s.hooks }
+wished_of s = record { actions = s.actions; filters = s.filters; dirs = s.dirs; errors = s.errors; polls = s.polls; hooks = s.hooks; ignores = ignores_of s }
 
 -- the turns of the run are the script's first ones, and then last turns at its last moment
 abbrev pub FollowsTurns : Script → List Entry → Type 0
@@ -78,8 +85,8 @@ FollowsTurns s p = FollowsGiven s.turns s.last p
 pub record FollowsScript (s : Script) (p : List Entry) : Type 0 where
   pub turns : FollowsTurns s p
   pub acts : AreAnswered hands s.actions p
-  pub filtered : AreAnswered filters s.filters p
-  pub judged : AreAnswered dirs s.dirs p
+  pub filtered : AreAnswered (filters (ignores_of s)) s.filters p
+  pub judged : AreAnswered (dirs (ignores_of s)) s.dirs p
   pub wished : AreAnswered errors s.errors p
   pub polled : AreAnswered polls s.polls p
   pub hooked : AreHooked s.hooks p

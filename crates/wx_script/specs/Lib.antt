@@ -3,6 +3,7 @@ pub mod Answered
 pub mod FollowLaws
 pub mod Follows
 pub mod HostCalls
+pub mod Ignored
 pub mod Lines
 pub mod Scripts
 pub mod Turns

@@ -8,6 +8,7 @@ use Rattle.wx_words.specs.ToEnd.{read_to_end}
 use Rattle.wx_watch.specs.Watched.{watcher, watched}
 use Rattle.wx_keys.specs.Keys.{fits_read}
 use Rattle.wx_tree.specs.declared.node.Node.TheVariants as node
+use Rattle.wx_patterns.specs.Lines.{is_pattern}
 use Rattle.wx_journal.specs.Answers.{done, waited, verdict, backed, readied}
 use Rattle.wx_journal.specs.Wishes.{wish}
 use Rattle.wx_journal.specs.Kinds.{ranked, turn}
@@ -17,7 +18,7 @@ use Rattle.wx_script.specs.Wishes.{script_act}
 use Rattle.wx_script.specs.declared.script.FailingCall.{FailingCall}
 use Rattle.wx_script.specs.declared.script.TreeEdit.TheVariants.{Node, Gone}
 use Rattle.wx_script.specs.declared.lines.Line.{Line}
-use Rattle.wx_script.specs.declared.lines.Line.TheVariants.{Nothing, Throttle, Size, ErrorSize, Keyboard, Follow, JobSignals, Watcher, Folder, Path, Send, Turn as Turned, Fault, Acts, Filter, Dir, Wishes, Poll, Hook, Spawn, Signal, Kill, Wait, Edit, Make, FailScan, FailWatch}
+use Rattle.wx_script.specs.declared.lines.Line.TheVariants.{Nothing, Throttle, Size, ErrorSize, Keyboard, Follow, JobSignals, Watcher, Folder, Path, Send, Turn as Turned, Fault, Acts, Filter, Dir, Ignore, Wishes, Poll, Hook, Spawn, Signal, Kill, Wait, Edit, Make, FailScan, FailWatch}
 
 -- what a script can say that a turn brings: all but a last turn, and but more bytes than a read from the keyboard takes
 abbrev pub can_bring : TurnKind → Bool
@@ -28,6 +29,7 @@ can_bring (_) = true
 -- what a script can say
 abbrev pub is_scripted : Line → Bool
 is_scripted (Turned turn) = can_bring turn.kind
+is_scripted (Ignore pattern) = is_pattern pattern
 is_scripted (_) = true
 
 abbrev pub if_scripted : Line → Option Line
@@ -85,6 +87,7 @@ form_rows =
     ∷ (codes "turnfault", read_as Fault u32.read)
     ∷ (codes "filter", read_as Filter verdict.read)
     ∷ (codes "dir", read_as Dir verdict.read)
+    ∷ (codes "ignore", read_as Ignore text.read)
     ∷ (codes "error", read_as Wishes wish.read)
     ∷ (codes "poll", read_as Poll readied.read)
     ∷ (codes "hook", read_as Hook (list_of text).read)

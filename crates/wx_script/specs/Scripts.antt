@@ -14,11 +14,11 @@ use Rattle.wx_script.specs.declared.script.TreeEdit.TheVariants.{Node, Gone}
 use Rattle.wx_script.specs.HostCalls.{no_answers}
 use Rattle.wx_script.specs.Lines.{line_in}
 use Rattle.wx_script.specs.declared.lines.Line.{Line}
-use Rattle.wx_script.specs.declared.lines.Line.TheVariants.{Nothing, Throttle, Size, ErrorSize, Keyboard, Follow, JobSignals, Watcher, Folder, Path, Send, Turn as Turned, Fault as Failed, Acts, Filter, Dir, Wishes, Poll, Hook, Spawn, Signal, Kill, Wait, Edit, Make, FailScan, FailWatch}
+use Rattle.wx_script.specs.declared.lines.Line.TheVariants.{Nothing, Throttle, Size, ErrorSize, Keyboard, Follow, JobSignals, Watcher, Folder, Path, Send, Turn as Turned, Fault as Failed, Acts, Filter, Dir, Ignore, Wishes, Poll, Hook, Spawn, Signal, Kill, Wait, Edit, Make, FailScan, FailWatch}
 
 -- the script of no lines
 abbrev pub start : Script
-start = record { throttle = default_throttle; size = default_event_size; error_size = default_error_size; keyboard = false; follow = true; job_signals = false; watcher = Native; folder = None; paths = []; sends = []; turns = []; edits = []; pending = []; actions = []; filters = []; dirs = []; errors = []; polls = []; hooks = []; answers = no_answers; failing_looks = []; failing_watches = []; last = 0 }
+start = record { throttle = default_throttle; size = default_event_size; error_size = default_error_size; keyboard = false; follow = true; job_signals = false; watcher = Native; folder = None; paths = []; sends = []; turns = []; edits = []; pending = []; actions = []; filters = []; dirs = []; ignores = []; errors = []; polls = []; hooks = []; answers = no_answers; failing_looks = []; failing_watches = []; last = 0 }
 
 -- settings can stand where nothing was sent and no turn was given
 abbrev pub is_early : Script → Bool
@@ -54,6 +54,7 @@ accepts s (Failed code) = Some (with_turn s (Fault code))
 accepts s (Acts acts) = Some (record s { actions = s.actions ++ acts ∷ [] })
 accepts s (Filter answer) = Some (record s { filters = s.filters ++ answer ∷ [] })
 accepts s (Dir answer) = Some (record s { dirs = s.dirs ++ answer ∷ [] })
+accepts s (Ignore pattern) = Some (record s { ignores = s.ignores ++ pattern ∷ [] })
 accepts s (Wishes wish) = Some (record s { errors = s.errors ++ wish ∷ [] })
 accepts s (Poll ready) = Some (record s { polls = s.polls ++ ready ∷ [] })
 accepts s (Hook words) = Some (record s { hooks = s.hooks ++ words ∷ [] })

@@ -12,6 +12,7 @@ use wx_error::RuntimeError;
 use wx_events::{Event, Priority, ProcessEnd};
 use wx_journal::{HostFault, Turn, TurnKind, Wish, read_backed, read_ready, read_verdict};
 use wx_keys::fits_read;
+use wx_patterns::is_pattern;
 use wx_text::{List, Memory, Text};
 use wx_tree::Node;
 use wx_watch::{NotifyFault, WatchedPath, Watcher};
@@ -52,6 +53,8 @@ pub enum Line {
     Filter(Result<bool, RuntimeError>),
     /// The filter answers this about a directory.
     Dir(Result<bool, RuntimeError>),
+    /// The filter ignores what this pattern says, where no answer is left.
+    Ignore(Text),
     /// The error handler wishes this.
     Wishes(Wish),
     /// Whether a begun function is ready in one poll.
@@ -93,6 +96,7 @@ fn is_scripted(said: &Line) -> bool
 {
     match said {
         Line::Turn(turn) => can_bring(&turn.kind),
+        Line::Ignore(pattern) => is_pattern(pattern.as_slice()),
         _ => true,
     }
 }
@@ -161,6 +165,7 @@ fn take_form(alloc: Global, line: &mut Words) -> Result<Option<Line>, Memory>
         b"turnfault" (code) => Line::Fault(code),
         b"filter" (answer = read_verdict) => Line::Filter(answer),
         b"dir" (answer = read_verdict) => Line::Dir(answer),
+        b"ignore" (pattern) => Line::Ignore(pattern),
         b"error" (wish) => Line::Wishes(wish),
         b"poll" (ready = read_ready) => Line::Poll(ready),
         b"hook" (said = take_words) => said,

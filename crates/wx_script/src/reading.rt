@@ -187,6 +187,7 @@ fn add(alloc: Global, script: &mut Script, said: Line) -> Result<bool, Memory>
         Line::Acts(acts) => added(&mut script.actions, acts),
         Line::Filter(answer) => added(&mut script.filters, answer),
         Line::Dir(answer) => added(&mut script.dirs, answer),
+        Line::Ignore(pattern) => added(&mut script.ignores, pattern),
         Line::Wishes(wish) => added(&mut script.errors, wish),
         Line::Poll(ready) => added(&mut script.polls, ready),
         Line::Hook(words) => added(&mut script.hooks, words),

@@ -1,5 +1,6 @@
 // What is written down for a run.
 ghost use Rattle.std.specs.Prelude.{◌≡◌, IfOk, OnOk};
+ghost use Rattle.wx_script.specs.Follows.{folder_of};
 ghost use Rattle.wx_script.specs.Scripts.{start, with_turn};
 
 use crate::answers::Answers;
@@ -182,6 +183,8 @@ pub struct Script {
     pub filters: List<Result<bool, RuntimeError>>,
     /// What the filter answers about directories: to its first call about one, to its second, and so on.
     pub dirs: List<Result<bool, RuntimeError>>,
+    /// Patterns of paths below the folder. The filter ignores what they say where no answer is left.
+    pub ignores: List<Text>,
     /// What the error handler wishes: in its first call, in its second, and so on.
     pub errors: List<Wish>,
     /// Whether a begun function is ready: in the first poll of one, in the second, and so on.
@@ -218,6 +221,7 @@ impl Drop for Script {
             actions: _,
             filters: _,
             dirs: _,
+            ignores: _,
             errors: _,
             polls: _,
             hooks: _,
@@ -251,6 +255,7 @@ impl Script {
             actions: List::new(alloc),
             filters: List::new(alloc),
             dirs: List::new(alloc),
+            ignores: List::new(alloc),
             errors: List::new(alloc),
             polls: List::new(alloc),
             hooks: List::new(alloc),
@@ -258,6 +263,16 @@ impl Script {
             failing_looks: List::new(alloc),
             failing_watches: List::new(alloc),
             last: 0,
+        }
+    }
+
+    /// The folder that it states, or the topmost one. It fails only for want of memory.
+    pub fn folder_or_top(&self, alloc: Global) -> Result<TextPath, Memory>
+        ensures { IfOk result (λ folder. folder ≡ folder_of self.now) }
+    {
+        match &self.folder {
+            Some(folder) => folder.copy(alloc),
+            None => Ok(TextPath::new(Text::from_slice(alloc, b"/")?)),
         }
     }
 

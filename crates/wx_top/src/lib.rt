@@ -2,8 +2,10 @@
 #![tactic(auto)]
 
 mod commanding;
+mod faulty;
 mod flooding;
 mod request;
 mod top;
 
+pub use faulty::bad_pattern;
 pub use top::wx_main;

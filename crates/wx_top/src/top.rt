@@ -16,8 +16,9 @@ use wx_text::Text;
 
 /// Does what the words ask for: `replay` reads a script from the source to its end, runs it, and writes the journal of
 /// the run to the sink; `flood N SEED` runs a script of N drawn steps, and writes the summary of the run to the sink;
-/// `live -- PROG ARGS..`, or `live --turns N -- PROG ARGS..`, runs a command at each change of the folder of the live outside,
-/// with the source as its keyboard, and writes the journal of the run to the sink.
+/// `live -- PROG ARGS..` runs a command at each change of the folder of the live outside, with the source as its keyboard, and
+/// writes the journal of the run to the sink. Before the dashes may stand `--turns N`, and then up to 64 times `--ignore PATTERN`:
+/// the patterns say which paths below the folder are ignored.
 ///
 /// `Usage` comes for all other words, and then nothing is read or written. `NoScript` comes where the bytes are no
 /// script or more than `LIMIT`. `ReadFault` comes where a read failed, and `WriteFault` where a write did; the latter
@@ -38,8 +39,15 @@ pub fn wx_main<R: Threads + Wait + Copy + Send + Sync, S: Source + Send, K: Sink
     match asked(words) {
         Some(Request::Replay) => replay(alloc, source, sink),
         Some(Request::Flood { steps, seed }) => flood(alloc, steps, seed, sink),
-        Some(Request::Live { turns, before }) => {
-            command(rt, alloc, turns, &words[before..], source, sink, outside)
+        Some(
+            Request::Live {
+                turns,
+                from,
+                before,
+            },
+        ) => {
+            let (ignoring, commanded) = (&words[from..], &words[before..]);
+            command(rt, alloc, turns, ignoring, commanded, source, sink, outside)
         }
         None => Status::Usage,
     }

@@ -7,7 +7,7 @@ use wx_bytes::{MemSink, MemSource};
 use wx_mem_live::MemLive;
 use wx_replay::Status;
 use wx_text::{Memory, Text};
-use wx_top::wx_main;
+use wx_top::{bad_pattern, wx_main};
 
 /// These words, of which a space stands between two.
 fn words_of(alloc: Global, line: &[u8]) -> Result<Vec<Text>, Memory> {
@@ -48,7 +48,7 @@ pub(crate) fn expect_so(rt: &impl Abort, so: bool, line: &[u8]) {
     assert!(rt; so, "of {line:?}");
 }
 
-const OTHER_WORDS: [&[u8]; 33] = [
+const OTHER_WORDS: [&[u8]; 43] = [
     b"",
     b"Replay",
     b"replay x",
@@ -82,6 +82,16 @@ const OTHER_WORDS: [&[u8]; 33] = [
     b"live --turns -- true",
     b"live --turns 04 -- true",
     b"live --turns 4194305 -- true",
+    b"live --ignore",
+    b"live --ignore a",
+    b"live --ignore -- a",
+    b"live --ignore a --",
+    b"live --ignore / -- a",
+    b"live --ignore a/../b -- a",
+    b"live --ignore a --turns 4 -- a",
+    b"live --turns 4 --ignore -- a",
+    b"live --turns 4 --ignore a b -- a",
+    b"live --ignored a -- a",
 ];
 
 /// These words ask for nothing, and nothing is read or written.
@@ -171,9 +181,11 @@ fn a_command_is_spawned_once_where_nothing_changes(rt: HostRuntime) {
 }
 
 /// Words that ask for a command, and the number of turns of its run, the last one too.
-const COMMANDS: [(&[u8], usize); 3] = [
+const COMMANDS: [(&[u8], usize); 5] = [
     (b"live --turns 4 -- a", 5),
     (b"live --turns 0 -- a b --", 1),
+    (b"live --turns 3 --ignore out --ignore !/a*/ -- a", 4),
+    (b"live --turns 2 --ignore --ignore -- a --ignore", 3),
     (b"live --turns 10 -- live --turns 3 -- a", 11),
 ];
 
@@ -190,5 +202,61 @@ fn a_command_runs_for_so_many_turns(rt: HostRuntime) {
         expect_so(&rt, count(&sink, b"turn ") == *turns, line);
         drop(sink);
         drop(source);
+    }
+}
+
+/// The words that run a command for one turn and say so many times that a name is ignored.
+fn ignoring(alloc: Global, count: usize) -> Result<Text, Memory> {
+    let mut line = Text::from_slice(alloc, b"live --turns 1")?;
+    for _ in 0..count {
+        line.append(b" --ignore a")?;
+    }
+    line.append(b" -- a")?;
+    Ok(line)
+}
+
+#[test]
+fn at_most_64_patterns_may_be_said(rt: HostRuntime) {
+    let alloc = rt.alloc();
+    let most = ignoring(alloc, 64).expect(&rt, "words");
+    let mut source = MemSource::new(alloc, b"").expect(&rt, "a source");
+    let sink = MemSink::new(alloc);
+    let (sink, status) = call(&rt, alloc, most.as_slice(), &mut source, sink).expect(
+        &rt,
+        "memory for a call",
+    );
+    assert!(rt; status == Status::Done);
+    assert_eq!(rt; count(&sink, b"turn "), 2);
+    let more = ignoring(alloc, 65).expect(&rt, "words");
+    expect_usage(&rt, alloc, more.as_slice());
+    drop(more);
+    drop(sink);
+    drop(source);
+    drop(most);
+}
+
+/// Words, and the pattern among them that is none.
+const BAD_PATTERNS: [(&[u8], &[u8]); 9] = [
+    (b"live --ignore / -- a", b"/"),
+    (b"live --ignore !/ -- a", b"!/"),
+    (b"live --turns 4 --ignore a --ignore b//c -- a", b"b//c"),
+    (b"live --ignore .. --ignore . -- a", b".."),
+    // there is none
+    (b"live --ignore a -- a", b""),
+    (b"live -- a --ignore /", b""),
+    (b"live --turns --ignore / -- a", b""),
+    (b"replay --ignore /", b""),
+    (b"", b""),
+];
+
+#[test]
+fn the_first_word_is_told_that_is_no_pattern(rt: HostRuntime) {
+    for (line, bad) in &BAD_PATTERNS {
+        let words = words_of(rt.alloc(), line).expect(&rt, "words");
+        let told = match bad_pattern(words.as_slice()) {
+            Some(word) => word.as_slice(),
+            None => b"",
+        };
+        expect_so(&rt, told == *bad, line);
     }
 }

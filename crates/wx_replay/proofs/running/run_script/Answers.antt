@@ -2,6 +2,7 @@ use Rattle.std.proofs.lemmas.Result.{IfOk-weaker}
 use Rattle.std.proofs.Common.{◌∙◌, sym, ap, subst, true, Some, List}
 use Rattle.wx_journal.specs.declared.entry.Entry.{Entry}
 use Rattle.wx_journal.specs.Told.{tells, is_turn, is_world, anywhere}
+use Rattle.wx_patterns.specs.Lines.{patterns_of}
 use Rattle.wx_machine.specs.Answer.{Answers}
 use Rattle.wx_machine.specs.Start.{Start}
 use Rattle.wx_script.specs.FollowLaws.{follows_turns, follows_answers, wished_follows}
@@ -9,6 +10,7 @@ use Rattle.wx_file_turns.specs.FewSteps.{FewSteps}
 use Rattle.wx_machine.specs.Journal.{Verdict}
 use Rattle.wx_script.specs.Acted.{dirs}
 use Rattle.wx_script.specs.Answered.{AreAnswered}
+use Rattle.wx_script.specs.Follows.{ignores_of}
 use Rattle.wx_script.specs.Turns.{Given, turns_of}
 use Rattle.wx_replay.specs.Runs.{IsRunOf}
 use Rattle.wx_replay.specs.declared.running.Ran.{Ran}
@@ -44,7 +46,7 @@ returns c = IfOk-weaker c.unless_short.result _ (λ r. IsRunOf c.args.script r.j
       few = λ still.
           let start = c.in_ok-engine.ensures in
           let asks = ask_none c.args.script.turns c.args.script.last c.args.script.actions j still.turns still.acts turns kept.0 in
-          let calm = starts_calm start j still.follow asks (subst (λ (lines : List Verdict). AreAnswered dirs lines j) still.dirs kept.2) in
+          let calm = starts_calm (ignores_of c.args.script) start j (ap patterns_of still.ignores) still.follow asks (subst (λ (lines : List Verdict). AreAnswered (dirs (ignores_of c.args.script)) lines j) still.dirs kept.2) in
           let plan = c.in_ok-world.ensures.plan in
           let end_plan = c.main-answer.ensures.world_plan ∙ plan in
           subst (λ (s : Start). FewSteps s (first_tree c.args.script) j) start (c.main-answer.ensures.settles (first_tree c.args.script) (λ n q. true) (record {
