@@ -440,7 +440,7 @@ def patterns():
         (["out/"], ["outer"], ["out", "d/out", "e/out/f"]),
         (["**/made"], ["maker"], ["made", "d/made", "d/e/made"]),
         (["d/**/made"], ["made", "e/made"], ["d/made", "d/e/made"]),
-        (["d/**"], ["e"], ["d/f", "d/e/f"]),
+        (["d/**"], ["f"], ["d/f", "d/e/f"]),
         (["a b*"], ["ab"], ["a b", "d/a bc"]),
     ]
     count = 0
